@@ -1,13 +1,23 @@
-// A library with one function.
+//! What a program reads and writes: shelves that give files by name, and sinks that take bytes.
 #![tactic(auto)]
 
-ghost use Rattle.std.specs.Prelude.{◌≡◌};
-ghost use Rattle.asg_io.specs.Echo.{echo_of};
+mod fetch_log;
+mod memory_shelf;
+mod memory_sink;
+mod real_shelf;
+mod real_sink;
+mod shelf;
+mod sink;
 
-// The `ensures` clause is the contract: what `echo` returns is `echo_of` of its argument, a definition
-// in `specs/Echo.antt`, which a caller's clause can cite too.
-pub fn echo(x: usize) -> usize
-    ensures { result ≡ echo_of x }
-{
-    x
-}
+pub use memory_shelf::MemoryShelf;
+pub use memory_sink::MemorySink;
+pub use real_shelf::RealShelf;
+pub use real_sink::RealSink;
+pub use shelf::{FetchFault, Shelf};
+pub use sink::{PutFault, Sink};
+
+/// The answer of a call for which memory was wanting.
+pub type NoMemory = std::alloc::AllocError;
+
+#[cfg(test)]
+mod tests;

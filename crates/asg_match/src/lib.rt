@@ -1,13 +1,22 @@
-// A library with one function.
+// Matchings of rows with columns, and the rows that have too few columns.
 #![tactic(auto)]
 
-ghost use Rattle.std.specs.Prelude.{◌≡◌};
-ghost use Rattle.asg_match.specs.Echo.{echo_of};
+mod branches;
+mod cells;
+mod growth;
+mod pairing;
+mod pairs;
+mod path;
+mod search;
+#[cfg(test)]
+mod tests;
 
-// The `ensures` clause is the contract: what `echo` returns is `echo_of` of its argument, a definition
-// in `specs/Echo.antt`, which a caller's clause can cite too.
-pub fn echo(x: usize) -> usize
-    ensures { result ≡ echo_of x }
-{
-    x
-}
+pub use branches::Tree;
+pub use cells::Allowed;
+pub use growth::{Grown, augment};
+pub use pairing::{Pairing, Rows, perfect_or_hall, short_or_perfect};
+pub use pairs::Matching;
+use std::alloc::AllocError;
+
+/// There was not enough memory.
+pub type NoMemory = AllocError;

@@ -1,0 +1,13 @@
+use Rattle.std.proofs.Common.{ℕ, ◌<◌, get_or}
+use Rattle.asg_match.specs.Alternating.{IsClosed}
+use Rattle.asg_match.specs.Searched.{IsSearch, Extends}
+use Rattle.asg_match.proofs.search.grow.Given as goal
+
+-- the rows at the places so far are closed
+abbrev pub invariant-loop-place : goal.invariant-loop-place
+invariant-loop-place g l =
+    record {
+      search : IsSearch (g.A.Allowed.allows l.allowed) l.matching l.tree;
+      extends : Extends l.fn.tree l.tree;
+      closed : (k : ℕ) → k < l.place → IsClosed (g.A.Allowed.allows l.allowed) l.tree.came.items (get_or l.tree.rows.items k 0);
+    }

@@ -1,0 +1,95 @@
+ghost use Rattle.std.specs.Prelude.{◌≡◌, ℕ, ◌<◌, ◌↔◌, length, Some, None, List, Option, IfOk, IfSome, IfNone, replicate, slice_set};
+ghost use Rattle.asg_match.specs.Matching.{column_at, Matches, IsMatching, IsFree};
+
+use crate::NoMemory;
+use std::alloc::Global;
+use std::marker::Model;
+
+/// A matching of rows with columns, both below a side: each row has at most one column, and no two
+/// rows the same.
+#[derive(Drop)]
+pub struct Matching {
+    side: u32,
+    columns: Vec<Option<u32>>,
+    rows: Vec<Option<u32>>,
+}
+
+impl Model for Matching {
+    ghost use Rattle.std.specs.Prelude.{ℕ, List, Option};
+    ghost use Rattle.asg_match.specs.Paired.{IsPaired};
+
+    ghost Value = { List (Option ℕ) };
+
+    ghost view = { λ m. m.columns.items };
+
+    ghost invariant = { λ m. IsPaired m.side m.columns.items m.rows.items };
+}
+
+impl Matching {
+    /// The matching over a side in which no row has a column.
+    pub fn make(alloc: Global, side: u32) -> Result<Matching, NoMemory>
+        ensures empty { IfOk result (λ m. m ≡ replicate side None) }
+        ensures matching { IfOk result IsMatching }
+    {
+        let columns = vec![in alloc; None; side as usize]?;
+        let rows = vec![in alloc; None; side as usize]?;
+        Ok(Matching {
+            side,
+            columns,
+            rows,
+        })
+    }
+
+    /// How many rows there are, and how many columns.
+    pub fn side(&self) -> u32
+        ensures side { result ≡ length self.now }
+        ensures matching { IsMatching self.now }
+    {
+        self.side
+    }
+
+    /// The column of row `r`, or `None` exactly where it has none.
+    #[inline]
+    pub fn column_of(&self, r: u32) -> Option<u32>
+        requires { r < length self.now }
+        ensures value { result ≡ column_at self.now r }
+        ensures matching { IsMatching self.now }
+    {
+        self.columns[r as usize]
+    }
+
+    /// The row that has column `c`, or `None` exactly where no row has it.
+    #[inline]
+    pub fn row_of(&self, c: u32) -> Option<u32>
+        requires { c < length self.now }
+        ensures taken { IfSome result (λ r. Matches self.now r c) }
+        ensures free { IfNone result (IsFree self.now c) }
+        ensures matching { IsMatching self.now }
+    {
+        self.rows[c as usize]
+    }
+
+    /// Takes its column from row `r`, if it has one. Every other row keeps what it has.
+    pub fn clear(&mut self, r: u32)
+        requires { r < length self.old }
+        ensures { self.new ≡ slice_set self.old r None }
+    {
+        if let Some(c) = self.columns[r as usize] {
+            self.columns[r as usize] = None;
+            self.rows[c as usize] = None;
+        }
+    }
+
+    /// Gives column `c` to row `r`. The row has no column and no row has this one. Every other row
+    /// keeps what it has.
+    pub fn set(&mut self, r: u32, c: u32)
+        requires row_below { r < length self.old }
+        requires column_below { c < length self.old }
+        requires row_free { column_at self.old r ≡ None }
+        requires column_free { IsFree self.old c }
+        ensures { self.new ≡ slice_set self.old r (Some c) }
+    {
+        self.columns[r as usize] = Some(c);
+        self.rows[c as usize] = Some(r);
+    }
+}

@@ -1,13 +1,38 @@
-// A library with one function.
+//! The assignment problem: instances, choices of cells, their values, and Hall sets.
+//!
+//! An instance has rows, columns with capacities, the costs of its cells and a place rule. A choice
+//! gives each row one column or none. Everything here is a definition of the subject or a test of one:
+//! no solver stands in this crate.
 #![tactic(auto)]
 
-ghost use Rattle.std.specs.Prelude.{◌≡◌};
-ghost use Rattle.asg_model.specs.Echo.{echo_of};
+mod bands;
+mod choices;
+mod comparison;
+mod descents;
+mod edits;
+mod extremes;
+mod hall_sets;
+mod instances;
+pub mod laws;
+mod objectives;
+mod parts;
+mod sums;
+mod validity;
+mod valuation;
 
-// The `ensures` clause is the contract: what `echo` returns is `echo_of` of its argument, a definition
-// in `specs/Echo.antt`, which a caller's clause can cite too.
-pub fn echo(x: usize) -> usize
-    ensures { result ≡ echo_of x }
-{
-    x
-}
+pub use bands::Band;
+pub use choices::Choice;
+pub use comparison::better;
+pub use edits::Edit;
+pub use hall_sets::is_hall;
+pub use instances::Instance;
+pub use objectives::{Costs, Objective, Value};
+pub use parts::{Column, Cost, Place, PlaceRange, Row};
+pub use validity::is_valid;
+pub use valuation::value;
+
+/// Want of memory: the one error of the calls that take memory.
+pub type NoMemory = std::alloc::AllocError;
+
+#[cfg(test)]
+mod tests;

@@ -1,0 +1,13 @@
+pub mod Cells
+pub mod ValidRows
+pub mod Pairs
+pub mod Enumerated
+pub mod Steps
+pub mod DescendingLists
+pub mod LessLists
+pub mod Counting
+pub mod ExtremeBounds
+pub mod HallRows
+pub mod HallLaw
+pub mod BottleneckLaw
+pub mod CellMaps

@@ -1,0 +1,209 @@
+//! The worked square of three rows, judged.
+
+ghost use Rattle.std.specs.Prelude.{◌≡◌, ◌<◌, ◌≤◌, All, IfOk, length, unsigned_abs};
+ghost use Rattle.asg_model.specs.Instances.{IsCostInRange};
+ghost use Rattle.asg_model.specs.Counts.{placed_by};
+
+use super::*;
+use std::alloc::Global;
+use std::collections::BTreeMap;
+use std::test::Fail;
+
+// Puts a cell whose second part is twice its first.
+fn put(cells: &mut BTreeMap<(u32, u32), Cost>, row: u32, col: u32, a: i64) -> Result<(), NoMemory>
+    requires kept { All (λ cell. ((cell.0.0 < 3) × (cell.0.1 < 3)) × IsCostInRange cell.1) cells.old.entries }
+    requires row { row < 3 }
+    requires col { col < 3 }
+    requires small { unsigned_abs a ≤ 1000 }
+    ensures { All (λ cell. ((cell.0.0 < 3) × (cell.0.1 < 3)) × IsCostInRange cell.1) cells.new.entries }
+{
+    cells.insert((row, col), Cost { a, b: 2 * a })?;
+    Ok(())
+}
+
+// Puts a cell of the square with a digit as its cost.
+fn put_small(
+    cells: &mut BTreeMap<(u32, u32), Cost>,
+    row: u32,
+    col: u32,
+    a: i64,
+) -> Result<(), NoMemory>
+    requires { All (λ cell. ((cell.0.0 < 3) × (cell.0.1 < 3)) × IsCostInRange cell.1) cells.old.entries }
+    ensures { All (λ cell. ((cell.0.0 < 3) × (cell.0.1 < 3)) × IsCostInRange cell.1) cells.new.entries }
+{
+    if row < 3 && col < 3 && 0 <= a && a <= 9 {
+        put(cells, row, col, a)
+    } else {
+        Ok(())
+    }
+}
+
+// The cells `4 1 3 / 2 0 5 / 3 2 2`.
+fn cells(alloc: Global) -> Result<BTreeMap<(u32, u32), Cost>, NoMemory>
+    ensures { IfOk result (λ m. All (λ cell. ((cell.0.0 < 3) × (cell.0.1 < 3)) × IsCostInRange cell.1) m.entries) }
+{
+    let mut cells = BTreeMap::new(alloc);
+    for (row, col, a) in [
+        (0, 0, 4),
+        (0, 1, 1),
+        (0, 2, 3),
+        (1, 0, 2),
+        (1, 1, 0),
+        (1, 2, 5),
+        (2, 0, 3),
+        (2, 1, 2),
+        (2, 2, 2),
+    ] {
+        put_small(&mut cells, row, col, a)?;
+    }
+    Ok(cells)
+}
+
+// The square with this rule and these capacities; `third` tells whether its third row is active and its
+// third column open.
+fn square(alloc: Global, place: Place, cap: u32, third: bool) -> Result<Instance, NoMemory>
+    requires some { 1 ≤ cap }
+    requires few { cap ≤ 1000 }
+    requires least { 1 ≤ placed_by place 1 }
+    requires most { placed_by place 1 ≤ 3 }
+{
+    let cells = cells(alloc)?;
+    let _len = cells.len();
+    let rows = vec![in alloc;
+        Row {
+            id: 1,
+            active: true
+        },
+        Row {
+            id: 2,
+            active: true
+        },
+        Row {
+            id: 3,
+            active: third
+        },
+    ]?;
+    let columns = vec![in alloc;
+        Column {
+            id: 1,
+            cap,
+            usable: true
+        },
+        Column {
+            id: 2,
+            cap,
+            usable: true
+        },
+        Column {
+            id: 3,
+            cap,
+            usable: third
+        },
+    ]?;
+    Ok(Instance::with(rows, columns, cells, place))
+}
+
+// The choice of these columns.
+fn choice(alloc: Global, columns: [Option<u32>; 3]) -> Result<Choice, NoMemory>
+    ensures { IfOk result (λ c. length c ≡ 3) }
+{
+    let mut choice = Choice::make(alloc, 3)?;
+    choice.set(0, columns[0]);
+    choice.set(1, columns[1]);
+    choice.set(2, columns[2]);
+    Ok(choice)
+}
+
+// The numbers of a value of the square: of a list the first and the last.
+fn numbers(value: &Value) -> (i128, i128) {
+    match value {
+        Value::One(x) => (*x, 0),
+        Value::Two(x, y) => (*x, *y),
+        Value::Many(costs) => ends(costs.as_slice()),
+    }
+}
+
+// The first and the last of a list, 0 of none.
+fn ends(costs: &[i64]) -> (i128, i128) {
+    match costs {
+        [first, .., last] => (i128::from(*first), i128::from(*last)),
+        _ => (0, 0),
+    }
+}
+
+#[test]
+fn gives_values(rt: HostRuntime) -> Result<(), Fail> {
+    let alloc = rt.alloc();
+    let inst = square(alloc, Place::All, 1, true)?;
+    let choice = choice(alloc, [Some(1), Some(0), Some(2)])?;
+    assert!(rt; is_valid(&inst, &choice));
+    for (objective, want) in [
+        (Objective::Sum, (5, 0)),
+        (Objective::SumPair, (5, 10)),
+        (Objective::Capped(4), (4, 0)),
+        (Objective::Bottleneck, (2, 0)),
+        (Objective::BottleneckMax, (1, 0)),
+        (Objective::TimeCost, (2, 8)),
+        (Objective::Balanced, (1, 0)),
+        (Objective::Lex, (2, 1)),
+    ] {
+        assert_eq!(rt;
+            numbers(&value(alloc, objective, &inst, &choice)?),
+            want,
+            "{objective:?}"
+        );
+    }
+    Ok(())
+}
+
+#[test]
+fn tells_valid_choices(rt: HostRuntime) -> Result<(), Fail> {
+    let plain = square(rt.alloc(), Place::All, 1, true)?;
+    let wide = square(rt.alloc(), Place::All, 2, true)?;
+    let two = square(rt.alloc(), Place::Exactly(2), 1, true)?;
+    let smaller = square(rt.alloc(), Place::All, 1, false)?;
+    for (inst, columns, want) in [
+        (&plain, [Some(1), Some(0), Some(2)], true),
+        (&plain, [Some(1), Some(1), Some(2)], false),
+        (&plain, [Some(1), Some(0), None], false),
+        (&plain, [Some(3), Some(0), Some(2)], false),
+        (&wide, [Some(1), Some(1), Some(2)], true),
+        (&two, [Some(1), Some(0), None], true),
+        (&two, [Some(1), Some(0), Some(2)], false),
+        (&smaller, [Some(1), Some(0), None], true),
+        (&smaller, [Some(2), Some(0), None], false),
+        (&smaller, [Some(1), None, Some(0)], false),
+    ] {
+        let choice = choice(rt.alloc(), columns)?;
+        assert_eq!(rt; is_valid(inst, &choice), want, "{columns:?}");
+    }
+    Ok(())
+}
+
+#[test]
+fn tells_hall_sets(rt: HostRuntime) -> Result<(), Fail> {
+    let plain = square(rt.alloc(), Place::All, 1, true)?;
+    assert!(rt; is_hall(&plain, Band::Under(2), &[3]));
+    assert!(rt; !is_hall(&plain, Band::Under(2), &[1]));
+    assert!(rt; !is_hall(&plain, Band::Under(2), &[3, 3]));
+    assert!(rt; !is_hall(&plain, Band::Under(2), &[4]));
+    assert!(rt; is_hall(&plain, Band::Over(2), &[1, 2, 3]));
+    assert!(rt; !is_hall(&plain, Band::Whole, &[1, 2, 3]));
+    let two = square(rt.alloc(), Place::Exactly(2), 1, true)?;
+    assert!(rt; is_hall(&two, Band::Under(2), &[1, 2, 3]));
+    assert!(rt; !is_hall(&two, Band::Under(2), &[1, 3]));
+    Ok(())
+}
+
+#[test]
+fn reads_the_square(rt: HostRuntime) -> Result<(), Fail> {
+    let inst = square(rt.alloc(), Place::Exactly(2), 1, false)?;
+    assert_eq!(rt; inst.live(0, 1), Some(Cost { a: 1, b: 2 }));
+    assert_eq!(rt; inst.live(0, 2), None);
+    assert_eq!(rt; inst.live(2, 0), None);
+    assert_eq!(rt; inst.live(7, 0), None);
+    assert_eq!(rt; inst.row_place(3), Some(2));
+    assert_eq!(rt; inst.column_place(9), None);
+    assert_eq!(rt; inst.slack(), 1);
+    Ok(())
+}

@@ -1,0 +1,2 @@
+pub mod RowIds
+pub mod Threshold

@@ -1,0 +1,15 @@
+pub mod FlowSteps
+pub mod TextParts
+pub mod WorkedDocuments
+pub mod FaultSteps
+pub mod Cuts
+pub mod Spellings
+pub mod UniqueTexts
+pub mod PlainLines
+pub mod RefusedLines
+pub mod Numerals
+pub mod SignedNumbers
+pub mod SpelledLines
+pub mod ClaimParts
+pub mod DocumentParts
+pub mod TextLaws

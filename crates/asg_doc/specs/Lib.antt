@@ -1,0 +1,10 @@
+pub mod PageState
+pub mod Flow
+pub mod Words
+pub mod Text
+pub mod HasText
+pub mod WholeLines
+pub mod Reading
+pub mod RefusedLine
+pub mod PartTexts
+pub mod Spelled

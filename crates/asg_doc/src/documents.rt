@@ -1,0 +1,89 @@
+//! What a document says.
+
+ghost use Rattle.std.specs.Prelude.{◌≡◌, ◌↔◌, [], length, IsTrue};
+
+use asg_model::{Objective, Value};
+use asg_proof::{Ids, Proof};
+use std::marker::Model;
+
+/// The command that a document answers.
+#[derive(Clone, Copy, Debug, PartialEq, Eq)]
+pub enum Command {
+    Solve,
+}
+
+/// Chosen cells: the ids of their row and of their column, in the order of the rows.
+#[derive(Debug, Drop)]
+pub struct Cells {
+    items: Vec<(u32, u32)>,
+}
+
+impl Model for Cells {
+    ghost use Rattle.std.specs.Prelude.{List, ℕ};
+
+    ghost Value = { List (ℕ × ℕ) };
+
+    ghost view = { λ cells. cells.items.items };
+}
+
+impl Cells {
+    /// The list of these cells. It takes no memory.
+    pub fn from_vec(items: Vec<(u32, u32)>) -> Cells
+        ensures { result ≡ items.items }
+    {
+        Cells { items }
+    }
+
+    /// The cells as a `Vec`. It takes no memory.
+    pub fn into_vec(self) -> Vec<(u32, u32)>
+        ensures { result.items ≡ self }
+    {
+        let Cells { items } = self;
+        items
+    }
+
+    /// The cells in order.
+    pub fn as_slice(&self) -> &[(u32, u32)]
+        ensures { result.now ≡ self.now }
+    {
+        self.items.as_slice()
+    }
+
+    /// The number of cells.
+    pub fn len(&self) -> usize
+        ensures { result ≡ length self.now }
+    {
+        self.items.len()
+    }
+
+    /// Whether there is no cell.
+    pub fn is_empty(&self) -> bool
+        ensures { IsTrue result ↔ (self.now ≡ []) }
+    {
+        self.items.is_empty()
+    }
+}
+
+/// A choice with its value.
+#[derive(Debug, Drop)]
+pub struct Answer {
+    pub value: Value,
+    pub cells: Cells,
+}
+
+/// What a document claims of its instance.
+#[derive(Debug, Drop)]
+pub enum Claim {
+    /// The answer is a best choice, as the proof shows.
+    Best { answer: Answer, proof: Proof },
+    /// No choice is valid, since the rows are a Hall set.
+    Nothing { rows: Ids },
+}
+
+/// A document: what was asked, and what is claimed.
+#[derive(Debug, Drop)]
+pub struct Document {
+    pub command: Command,
+    pub objective: Objective,
+    pub claim: Claim,
+}

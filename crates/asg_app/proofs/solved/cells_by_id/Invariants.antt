@@ -1,0 +1,11 @@
+use Rattle.std.proofs.Common.{◌≡◌, ◌++◌, All}
+use Rattle.asg_app.specs.Solved.{cells_by_id, IsCellOfIds}
+use Rattle.asg_app.proofs.ChosenCells.{cells_from}
+use Rattle.asg_app.proofs.solved.cells_by_id.Given as goal
+
+-- the cells so far and those of the rows from here on are all the cells
+abbrev pub invariant-loop-place : goal.invariant-loop-place
+invariant-loop-place l = record {
+  told : l.cells.items ++ cells_from l.inst l.choice l.place ≡ cells_by_id l.inst l.choice;
+  within : All IsCellOfIds l.cells.items;
+}

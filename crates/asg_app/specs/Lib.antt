@@ -1,0 +1,15 @@
+pub mod Asked
+pub mod Due
+pub mod Matrix
+pub mod Numbers
+pub mod ProvedBest
+pub mod RowBound
+pub mod Search
+pub mod Solved
+pub mod SquareCosts
+pub mod SquareText
+pub mod Statuses
+pub mod Threshold
+pub mod Tokens
+pub mod WholeSquare
+pub mod Words

@@ -1,0 +1,26 @@
+-- The numbers that tokens spell.
+use Rattle.std.specs.Prelude.{ℕ, ℤ, pos, neg_ℤ, ◌&&◌, nat_lt, nat_le, if◌then◌else◌, List, length, drop, Option, Some, None, option_and_then, unsigned_abs}
+use Rattle.std.specs.Option.{option_map}
+use Rattle.std.specs.List.{list_all}
+use Rattle.std.specs.Char.{is_ascii_digit}
+use Rattle.std.specs.Str.Parse.{digits_value, starts_with_minus}
+
+-- the number of one or more decimal digits, however many they are; zeros may lead
+unfoldable pub number_of : List ℕ → Option ℕ
+number_of token =
+    if nat_lt 0 (length token) && list_all is_ascii_digit token then Some (digits_value 10 token) else None
+
+-- the integer of a minus sign or none, and then one or more decimal digits
+unfoldable pub integer_of : List ℕ → Option ℤ
+integer_of token =
+    if starts_with_minus token then option_map (λ n. neg_ℤ (pos n)) (number_of (drop 1 token)) else option_map pos (number_of token)
+
+-- the cost that a token spells: an integer from -10^9 to 10^9
+unfoldable pub cost_of_token : List ℕ → Option ℤ
+cost_of_token token =
+    option_and_then (λ cost. if nat_le (unsigned_abs cost) 1000000000 then Some cost else None) (integer_of token)
+
+-- the size that a token spells: a number from 1 to 1,000
+unfoldable pub size_of_token : List ℕ → Option ℕ
+size_of_token token =
+    option_and_then (λ size. if nat_lt 0 size && nat_le size 1000 then Some size else None) (number_of token)

@@ -27,7 +27,7 @@ fn words_of(alloc: Global, words: &[&str]) -> Result<Vec<String>, AllocError> {
 }
 
 // A run over a shelf that holds one file `f`, with the fetches and puts that fail.
-fn ran(
+fn run_over(
     alloc: Global,
     words: &[&str],
     file: &[u8],
@@ -63,7 +63,7 @@ fn documents_of_square_files(rt: HostRuntime) -> Result<(), Fail> {
         ),
     ];
     for (file, text) in table {
-        let done = ran(rt.alloc(), SOLVE, file.as_bytes(), &[], &[])?;
+        let done = run_over(rt.alloc(), SOLVE, file.as_bytes(), &[], &[])?;
         assert_eq!(rt; done.code, 0, "{file}");
         assert_eq!(rt; done.written.as_slice(), text.as_bytes(), "{file}");
     }
@@ -86,7 +86,7 @@ fn files_that_are_refused(rt: HostRuntime) -> Result<(), Fail> {
         b"-1\n5\n",
     ];
     for file in table {
-        let done = ran(rt.alloc(), SOLVE, file, &[], &[])?;
+        let done = run_over(rt.alloc(), SOLVE, file, &[], &[])?;
         assert_eq!(rt; done.code, 3, "{file:?}");
         assert_eq!(rt;
             done.written.as_slice(),
@@ -110,7 +110,7 @@ fn words_that_are_no_request(rt: HostRuntime) -> Result<(), Fail> {
         &["Solve", "bottleneck", "f"],
     ];
     for words in table {
-        let done = ran(rt.alloc(), words, b"1 1", &[], &[])?;
+        let done = run_over(rt.alloc(), words, b"1 1", &[], &[])?;
         assert_eq!(rt; done.code, 2);
         assert_eq!(rt; done.written.as_slice(), USAGE.as_bytes());
     }
@@ -120,15 +120,15 @@ fn words_that_are_no_request(rt: HostRuntime) -> Result<(), Fail> {
 #[test]
 fn faults_of_shelf_and_sink(rt: HostRuntime) -> Result<(), Fail> {
     let file = b"3\n4 1 3\n2 0 5\n3 2 2\n";
-    let cut = ran(rt.alloc(), SOLVE, file, &[], &[(1, 10)])?;
+    let cut = run_over(rt.alloc(), SOLVE, file, &[], &[(1, 10)])?;
     assert_eq!(rt; cut.code, 8);
     assert_eq!(rt; cut.written.as_slice(), b"assignment".as_slice());
-    let unread = ran(rt.alloc(), SOLVE, file, &[1], &[])?;
+    let unread = run_over(rt.alloc(), SOLVE, file, &[1], &[])?;
     assert_eq!(rt; unread.code, 7);
     assert_eq!(rt; unread.written.as_slice(), b"".as_slice());
-    let absent = ran(rt.alloc(), &["solve", "bottleneck", "g"], file, &[], &[])?;
+    let absent = run_over(rt.alloc(), &["solve", "bottleneck", "g"], file, &[], &[])?;
     assert_eq!(rt; absent.code, 7);
-    let unsaid = ran(rt.alloc(), &["solve"], file, &[], &[(1, 3)])?;
+    let unsaid = run_over(rt.alloc(), &["solve"], file, &[], &[(1, 3)])?;
     assert_eq!(rt; unsaid.code, 8);
     assert_eq!(rt; unsaid.written.as_slice(), b"usa".as_slice());
     assert_eq!(rt; Status::TooLong.code(), 10);

@@ -139,6 +139,7 @@ fn gives_values(rt: HostRuntime) -> Result<(), Fail> {
     assert!(rt; is_valid(&inst, &choice));
     for (objective, want) in [
         (Objective::Sum, (5, 0)),
+        (Objective::SumMax, (5, 0)),
         (Objective::SumPair, (5, 10)),
         (Objective::Capped(4), (4, 0)),
         (Objective::Bottleneck, (2, 0)),
@@ -187,11 +188,19 @@ fn tells_hall_sets(rt: HostRuntime) -> Result<(), Fail> {
     assert!(rt; !is_hall(&plain, Band::Under(2), &[1]));
     assert!(rt; !is_hall(&plain, Band::Under(2), &[3, 3]));
     assert!(rt; !is_hall(&plain, Band::Under(2), &[4]));
+    assert!(rt; is_hall(&plain, Band::Under(2), &[1, 2]));
     assert!(rt; is_hall(&plain, Band::Over(2), &[1, 2, 3]));
     assert!(rt; !is_hall(&plain, Band::Whole, &[1, 2, 3]));
     let two = square(rt.alloc(), Place::Exactly(2), 1, true)?;
     assert!(rt; is_hall(&two, Band::Under(2), &[1, 2, 3]));
     assert!(rt; !is_hall(&two, Band::Under(2), &[1, 3]));
+    assert!(rt; !is_hall(&two, Band::Under(2), &[3]));
+    let wide = square(rt.alloc(), Place::All, 2, true)?;
+    assert!(rt; is_hall(&wide, Band::Under(2), &[1, 2, 3]));
+    assert!(rt; !is_hall(&wide, Band::Under(2), &[1, 2]));
+    let smaller = square(rt.alloc(), Place::All, 1, false)?;
+    assert!(rt; is_hall(&smaller, Band::Under(2), &[1, 2]));
+    assert!(rt; !is_hall(&smaller, Band::Under(2), &[3]));
     Ok(())
 }
 
@@ -205,5 +214,63 @@ fn reads_the_square(rt: HostRuntime) -> Result<(), Fail> {
     assert_eq!(rt; inst.row_place(3), Some(2));
     assert_eq!(rt; inst.column_place(9), None);
     assert_eq!(rt; inst.slack(), 1);
+    Ok(())
+}
+
+#[test]
+fn begins_with_no_choice(rt: HostRuntime) -> Result<(), Fail> {
+    let choice = Choice::make(rt.alloc(), 2)?;
+    assert_eq!(rt; choice.len(), 2);
+    assert_eq!(rt; choice.get(0), None);
+    assert_eq!(rt; choice.get(1), None);
+    Ok(())
+}
+
+#[test]
+fn tells_better_values(rt: HostRuntime) -> Result<(), Fail> {
+    let low = Value::Many(Costs::from_vec(vec![in rt.alloc(); 2, 2, 1]?));
+    let high = Value::Many(Costs::from_vec(vec![in rt.alloc(); 3, 2, 2]?));
+    for (objective, x, y, want) in [
+        (Objective::Bottleneck, &Value::One(2), &Value::One(3), true),
+        (Objective::Bottleneck, &Value::One(3), &Value::One(2), false),
+        (Objective::Bottleneck, &Value::One(2), &Value::One(2), false),
+        (Objective::SumMax, &Value::One(11), &Value::One(5), true),
+        (Objective::SumMax, &Value::One(5), &Value::One(11), false),
+        (
+            Objective::BottleneckMax,
+            &Value::One(2),
+            &Value::One(2),
+            false,
+        ),
+        (
+            Objective::SumPair,
+            &Value::Two(2, 5),
+            &Value::Two(2, 10),
+            true,
+        ),
+        (
+            Objective::SumPair,
+            &Value::Two(2, 10),
+            &Value::Two(2, 5),
+            false,
+        ),
+        (
+            Objective::TimeCost,
+            &Value::Two(3, 0),
+            &Value::Two(2, 9),
+            false,
+        ),
+        (
+            Objective::TimeCost,
+            &Value::Two(2, 9),
+            &Value::Two(2, 9),
+            false,
+        ),
+        (Objective::Lex, &low, &high, true),
+        (Objective::Lex, &high, &low, false),
+        (Objective::Lex, &low, &low, false),
+    ] {
+        assert_eq!(rt; better(objective, x, y), want, "{objective:?}");
+    }
     Ok(())
 }

@@ -14,6 +14,7 @@ mod extremes;
 mod hall_sets;
 mod instances;
 pub mod laws;
+mod negatives;
 mod objectives;
 mod parts;
 mod sums;
@@ -26,6 +27,7 @@ pub use comparison::better;
 pub use edits::Edit;
 pub use hall_sets::is_hall;
 pub use instances::Instance;
+pub use negatives::negative;
 pub use objectives::{Costs, Objective, Value};
 pub use parts::{Column, Cost, Place, PlaceRange, Row};
 pub use validity::is_valid;
@@ -34,5 +36,7 @@ pub use valuation::value;
 /// Want of memory: the one error of the calls that take memory.
 pub type NoMemory = std::alloc::AllocError;
 
+#[cfg(test)]
+mod squares;
 #[cfg(test)]
 mod tests;

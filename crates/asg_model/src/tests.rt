@@ -1,107 +1,11 @@
 //! The worked square of three rows, judged.
 
-ghost use Rattle.std.specs.Prelude.{◌≡◌, ◌<◌, ◌≤◌, All, IfOk, length, unsigned_abs};
-ghost use Rattle.asg_model.specs.Instances.{IsCostInRange};
-ghost use Rattle.asg_model.specs.Counts.{placed_by};
+ghost use Rattle.std.specs.Prelude.{◌≡◌, IfOk, length};
 
+use super::squares::{cells, square, square_of};
 use super::*;
 use std::alloc::Global;
-use std::collections::BTreeMap;
 use std::test::Fail;
-
-// Puts a cell whose second part is twice its first.
-fn put(cells: &mut BTreeMap<(u32, u32), Cost>, row: u32, col: u32, a: i64) -> Result<(), NoMemory>
-    requires kept { All (λ cell. ((cell.0.0 < 3) × (cell.0.1 < 3)) × IsCostInRange cell.1) cells.old.entries }
-    requires row { row < 3 }
-    requires col { col < 3 }
-    requires small { unsigned_abs a ≤ 1000 }
-    ensures { All (λ cell. ((cell.0.0 < 3) × (cell.0.1 < 3)) × IsCostInRange cell.1) cells.new.entries }
-{
-    cells.insert((row, col), Cost { a, b: 2 * a })?;
-    Ok(())
-}
-
-// Puts a cell of the square with a digit as its cost.
-fn put_small(
-    cells: &mut BTreeMap<(u32, u32), Cost>,
-    row: u32,
-    col: u32,
-    a: i64,
-) -> Result<(), NoMemory>
-    requires { All (λ cell. ((cell.0.0 < 3) × (cell.0.1 < 3)) × IsCostInRange cell.1) cells.old.entries }
-    ensures { All (λ cell. ((cell.0.0 < 3) × (cell.0.1 < 3)) × IsCostInRange cell.1) cells.new.entries }
-{
-    if row < 3 && col < 3 && 0 <= a && a <= 9 {
-        put(cells, row, col, a)
-    } else {
-        Ok(())
-    }
-}
-
-// The cells `4 1 3 / 2 0 5 / 3 2 2`.
-fn cells(alloc: Global) -> Result<BTreeMap<(u32, u32), Cost>, NoMemory>
-    ensures { IfOk result (λ m. All (λ cell. ((cell.0.0 < 3) × (cell.0.1 < 3)) × IsCostInRange cell.1) m.entries) }
-{
-    let mut cells = BTreeMap::new(alloc);
-    for (row, col, a) in [
-        (0, 0, 4),
-        (0, 1, 1),
-        (0, 2, 3),
-        (1, 0, 2),
-        (1, 1, 0),
-        (1, 2, 5),
-        (2, 0, 3),
-        (2, 1, 2),
-        (2, 2, 2),
-    ] {
-        put_small(&mut cells, row, col, a)?;
-    }
-    Ok(cells)
-}
-
-// The square with this rule and these capacities; `third` tells whether its third row is active and its
-// third column open.
-fn square(alloc: Global, place: Place, cap: u32, third: bool) -> Result<Instance, NoMemory>
-    requires some { 1 ≤ cap }
-    requires few { cap ≤ 1000 }
-    requires least { 1 ≤ placed_by place 1 }
-    requires most { placed_by place 1 ≤ 3 }
-{
-    let cells = cells(alloc)?;
-    let _len = cells.len();
-    let rows = vec![in alloc;
-        Row {
-            id: 1,
-            active: true
-        },
-        Row {
-            id: 2,
-            active: true
-        },
-        Row {
-            id: 3,
-            active: third
-        },
-    ]?;
-    let columns = vec![in alloc;
-        Column {
-            id: 1,
-            cap,
-            usable: true
-        },
-        Column {
-            id: 2,
-            cap,
-            usable: true
-        },
-        Column {
-            id: 3,
-            cap,
-            usable: third
-        },
-    ]?;
-    Ok(Instance::with(rows, columns, cells, place))
-}
 
 // The choice of these columns.
 fn choice(alloc: Global, columns: [Option<u32>; 3]) -> Result<Choice, NoMemory>
@@ -271,6 +175,36 @@ fn tells_better_values(rt: HostRuntime) -> Result<(), Fail> {
         (Objective::Lex, &low, &low, false),
     ] {
         assert_eq!(rt; better(objective, x, y), want, "{objective:?}");
+    }
+    Ok(())
+}
+
+#[test]
+fn finds_the_first_negative(rt: HostRuntime) -> Result<(), Fail> {
+    let cells = cells(
+        rt.alloc(),
+        [
+            (0, 0, 4, 8),
+            (0, 1, 1, -2),
+            (0, 2, -3, -6),
+            (1, 0, -2, 4),
+            (1, 1, -5, -1),
+            (1, 2, 5, 10),
+            (2, 0, -3, -6),
+            (2, 1, 2, 4),
+            (2, 2, 2, 4),
+        ],
+    )?;
+    let signed = square_of(rt.alloc(), cells, Place::All, 1, false)?;
+    let plain = square(rt.alloc(), Place::All, 1, true)?;
+    for (objective, inst, want) in [
+        (Objective::Capped(9), &signed, Some((2, 1))),
+        (Objective::TimeCost, &signed, Some((1, 2))),
+        (Objective::SumPair, &signed, None),
+        (Objective::Capped(9), &plain, None),
+        (Objective::TimeCost, &plain, None),
+    ] {
+        assert_eq!(rt; negative(objective, inst), want, "{objective:?}");
     }
     Ok(())
 }

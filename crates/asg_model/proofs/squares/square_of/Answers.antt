@@ -12,7 +12,7 @@ use Rattle.asg_model.specs.declared.parts.Place.TheVariants.{All as PlaceAll, Ex
 use Rattle.asg_model.specs.Counts.{placed_by}
 use Rattle.asg_model.specs.Instances.{IsInstance, IsCostInRange, IsPlaceInRange}
 use Rattle.asg_model.proofs.CellMaps.{by_places, cells_differ-from_ordered}
-use Rattle.asg_model.proofs.tests.square.Goals as goal
+use Rattle.asg_model.proofs.squares.square_of.Goals as goal
 
 abbrev three_rows : Bool → List Row
 three_rows third = record { id = 1; active = true } ∷ (record { id = 2; active = true } ∷ (record { id = 3; active = third } ∷ []))
@@ -59,8 +59,8 @@ with-requires c =
     let r = c.in_ok-rows.ensures.items in
     let s = c.in_ok-columns.ensures.items in
     let place = c.args.place in
-    let cells = c.in_ok-cells.cells.entries in
+    let cells = c.args.cells.entries in
     rw (r, s)
     (square_is place c.args.cap c.args.third cells c.requires.some c.requires.few
     (rule_is place c.args.cap c.args.third cells c.requires.some c.requires.least c.requires.most)
-    c.in_ok-cells.ensures c.len-len.ensures.ordered)
+    c.requires.kept c.len-len.ensures.ordered)

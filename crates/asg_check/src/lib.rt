@@ -1,13 +1,16 @@
-// A library with one function.
+//! The checker: whether a document certifies what it claims of an instance. It stands on no solver.
 #![tactic(auto)]
 
-ghost use Rattle.std.specs.Prelude.{◌≡◌};
-ghost use Rattle.asg_check.specs.Echo.{echo_of};
+mod checker;
+mod choice_reader;
+mod claim_tests;
+pub mod laws;
+mod value_tests;
+mod verdicts;
 
-// The `ensures` clause is the contract: what `echo` returns is `echo_of` of its argument, a definition
-// in `specs/Echo.antt`, which a caller's clause can cite too.
-pub fn echo(x: usize) -> usize
-    ensures { result ≡ echo_of x }
-{
-    x
-}
+pub use checker::check;
+pub use verdicts::{Form, Reason, Verdict};
+
+/// Want of memory: the one error of the calls that take memory.
+pub type NoMemory = std::alloc::AllocError;
+

@@ -1,0 +1,28 @@
+-- What a document claims of an instance.
+use Rattle.std.specs.Prelude.{◌≡◌, ℕ, List, Option}
+use Rattle.asg_model.specs.declared.objectives.Objective.{Objective}
+use Rattle.asg_model.specs.Best.{IsBest}
+use Rattle.asg_model.specs.Problem.{Problem}
+use Rattle.asg_model.specs.ValidChoice.{IsValid}
+use Rattle.asg_model.specs.Values.{choice_value}
+use Rattle.asg_doc.specs.ChosenCells.{cells_by_id}
+use Rattle.asg_doc.specs.declared.documents.Answer.{Answer}
+use Rattle.asg_doc.specs.declared.documents.Claim.{Claim}
+use Rattle.asg_doc.specs.declared.documents.Claim.TheVariants.{Best, Nothing}
+use Rattle.asg_doc.specs.declared.documents.Document.{Document}
+
+-- the answer is a best choice: its cells are those of a best choice, and its value is the value of that choice
+pub record IsBestAnswer (objective : Objective) (X : Problem) (answer : Answer) : Type 0 where
+  pub choice : List (Option ℕ)
+  pub best : IsBest objective X choice
+  pub written : answer.cells ≡ cells_by_id X choice
+  pub value : answer.value ≡ choice_value objective X choice
+
+-- the claim is true: the answer is a best choice, or no choice is valid
+abbrev pub IsTrueClaim : Objective → Problem → Claim → Type 0
+IsTrueClaim objective X (Best answer proof) = IsBestAnswer objective X answer
+IsTrueClaim objective X (Nothing rows) = (f : List (Option ℕ)) → IsValid X f → ⊥
+
+-- the document claims what is true of the instance
+abbrev pub ClaimsTruly : Objective → Problem → Document → Type 0
+ClaimsTruly objective X document = IsTrueClaim objective X document.claim

@@ -1,0 +1,22 @@
+use Rattle.std.proofs.Common.{◌≡◌, Bool, true, false, subst, sym, ap, ◌∙◌}
+use Rattle.asg_model.specs.Values.{choice_value}
+use Rattle.asg_check.specs.Threshold.{IsThreshold}
+use Rattle.asg_check.proofs.Reading.{written-once}
+use Rattle.asg_check.proofs.Thresholds.{IsThreshold-value}
+use Rattle.asg_check.proofs.claim_tests.choice_fault.Goals as goal
+
+pub proves-requires : goal.proves-requires
+proves-requires c =
+    subst (IsThreshold c.args.objective) (sym (c.is_same_value.ensures.0 c.if-not-is_same_value.false ∙ c.in_ok-right.ensures.exact))
+    (IsThreshold-value c.args.objective c.args.inst.now c.args.choice.now c.requires.instance)
+
+pub returns-then-not-is_same_value-clause-exact : goal.returns-then-not-is_same_value-clause-exact
+returns-then-not-is_same_value-clause-exact c =
+    (λ none. absurd (cc), λ w.
+      let one = written-once c.args.inst.now c.args.answer.now.cells w.choice c.args.choice.now c.requires.instance w.written c.requires.written in
+      let same = w.value ∙ ap (choice_value c.args.objective c.args.inst.now) one ∙ sym c.in_ok-right.ensures.exact in
+      absurd (apart c.is_same_value.result c.if-not-is_same_value.true (c.is_same_value.ensures.1 same)))
+  where
+    apart : (b : Bool) → b ≡ false → b ≡ true → ⊥
+    apart true isnt is = cc
+    apart false isnt is = cc

@@ -1,0 +1,24 @@
+//! Tests of values.
+
+ghost use Rattle.std.specs.Prelude.{◌≡◌, ◌↔◌, IsTrue};
+
+use asg_model::Value;
+
+// Whether two values are the same.
+pub(crate) fn is_same_value(x: &Value, y: &Value) -> bool
+    ensures { IsTrue result ↔ (x.now ≡ y.now) }
+{
+    match (x, y) {
+        (Value::One(x), Value::One(y)) => x == y,
+        (Value::Two(x, s), Value::Two(y, t)) => x == y && s == t,
+        (Value::Many(xs), Value::Many(ys)) => is_same_list(xs.as_slice(), ys.as_slice()),
+        _ => false,
+    }
+}
+
+// Whether two lists are the same.
+fn is_same_list(xs: &[i64], ys: &[i64]) -> bool
+    ensures { IsTrue result ↔ (xs.now ≡ ys.now) }
+{
+    xs == ys
+}

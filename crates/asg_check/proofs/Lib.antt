@@ -1,4 +1,4 @@
 pub mod Reading
 pub mod Thresholds
-pub mod Soundness
 pub mod Documents
+pub mod CellMaps

@@ -73,6 +73,7 @@ picked-gives X row (cell ∷ cells) = by (eqb cell.0 row.id) refl
     found : (o : Option ℕ) → column_place_of X cell.1 ≡ o → cell.0 ≡ row.id → cons_option (cell_by_id X (row, o)) (left o (cell ∷ cells)) ≡ cell ∷ cells
     found None e same = refl
     found (Some c) e same = ap (λ o. cons_option (option_map (λ id. (row.id, id)) o) cells) (column_id-from_place X cell.1 c e) ∙ ap (λ id. (id, cell.1) ∷ cells) (sym same)
+
     by : (b : Bool) → eqb cell.0 row.id ≡ b → cons_option (cell_by_id X (row, cond b (column_place_of X cell.1) None)) (left (cond b (column_place_of X cell.1) None) (cell ∷ cells)) ≡ cell ∷ cells
     by false e = refl
     by true e = found (column_place_of X cell.1) refl (eqb-true cell.0 row.id e)
@@ -123,6 +124,7 @@ read_back X i (row ∷ rows) (Some c ∷ f) differ over named =
   where
     cells : List (ℕ × ℕ)
     cells = filter_map (cell_by_id X) (zip rows f)
+
     by : (o : Option ℕ) → column_id X c ≡ o → IsSome o
         → (choices X rows cells ≡ f) × (unread X rows cells ≡ [])
         → (choices X (row ∷ rows) (cons_option (option_map (λ id. (row.id, id)) o) cells) ≡ Some c ∷ f)

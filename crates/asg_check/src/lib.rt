@@ -14,3 +14,5 @@ pub use verdicts::{Form, Reason, Verdict};
 /// Want of memory: the one error of the calls that take memory.
 pub type NoMemory = std::alloc::AllocError;
 
+#[cfg(test)]
+mod tests;

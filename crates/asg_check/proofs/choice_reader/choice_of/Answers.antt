@@ -35,6 +35,7 @@ loop-place-preserved c =
     byte_is : (b : Bool) → bool_byte b ≡ cond b 1 0
     byte_is true = refl
     byte_is false = refl
+
     one_at_most : (b : Bool) → cond b 1 0 ≤ 1
     one_at_most true = omega arith
     one_at_most false = omega arith

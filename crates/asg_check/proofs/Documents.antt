@@ -1,5 +1,5 @@
 -- What holds of a claim holds of its document.
-use Rattle.std.proofs.Common.{◌≡◌, ◌↔◌, Option, Some, None}
+use Rattle.std.proofs.Common.{◌≡◌, ◌↔◌, Option, None}
 use Rattle.asg_model.specs.declared.objectives.Objective.{Objective}
 use Rattle.asg_model.specs.Problem.{Problem}
 use Rattle.asg_doc.specs.declared.documents.Document.{Document}

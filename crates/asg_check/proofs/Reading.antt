@@ -15,7 +15,7 @@ use Rattle.asg_model.specs.declared.parts.Row.{Row}
 use Rattle.asg_model.specs.declared.parts.Column.{Column}
 use Rattle.asg_model.specs.HallSet.{column_place_of}
 use Rattle.asg_model.specs.Instances.{IsInstance}
-use Rattle.asg_model.specs.Live.{live_at, is_active, cost_at}
+use Rattle.asg_model.specs.Live.{is_active, cost_at}
 use Rattle.asg_model.specs.Problem.{Problem}
 use Rattle.asg_model.specs.ValidChoice.{Chooses, IsValid}
 use Rattle.asg_doc.specs.ChosenCells.{cell_by_id, cells_by_id, column_id}

@@ -1,6 +1,6 @@
 -- The value of a bottleneck objective is in the range of costs.
-use Rattle.std.proofs.Common.{◌≡◌, ℕ, zero, suc, ◌+◌, ◌<◌, ◌≤◌, Bool, true, false, cond, List, [], ◌∷◌, length, get_or, refl, sym, ap, ◌∙◌, subst, ⊎_elim, Option, Some, None, arith}
-use Rattle.std.specs.Prelude.{ℤ, pos, slice_get, filter_map, option_and_then, ◌&&◌, ◌==◌, All, Contains, IfSome, fold, map, unsigned_abs}
+use Rattle.std.proofs.Common.{◌≡◌, ℕ, ◌≤◌, Bool, true, false, cond, List, [], ◌∷◌, length, refl, sym, subst, ⊎_elim, Option, Some, None, arith}
+use Rattle.std.specs.Prelude.{ℤ, slice_get, filter_map, option_and_then, ◌&&◌, ◌==◌, All, Contains, IfSome, fold, unsigned_abs}
 use Rattle.std.specs.Int.{int_max, int_min}
 use Rattle.std.specs.List.{range_with_len, cons_option}
 use Rattle.std.proofs.lemmas.Int.{fold-int_max_reached, fold-int_min_reached}

@@ -1,6 +1,5 @@
-use Rattle.std.proofs.Common.{◌≡◌, ◌↔◌, None, arith}
+use Rattle.std.proofs.Common.{◌≡◌, ◌↔◌, None}
 use Rattle.std.proofs.lemmas.Result.{IfOk-weaker}
-use Rattle.std.proofs.lemmas.Grind.{common_steps}
 use Rattle.asg_check.specs.Certifies.{Certifies, CertifiesClaim}
 use Rattle.asg_check.proofs.Documents.{Certifies-from_claim}
 use Rattle.asg_check.proofs.checker.fault.Goals as goal

@@ -8,8 +8,7 @@ use Rattle.asg_model.specs.declared.parts.Cost.{Cost}
 use Rattle.asg_model.specs.declared.parts.Row.{Row}
 use Rattle.asg_model.specs.declared.parts.Column.{Column}
 use Rattle.asg_model.specs.declared.parts.Place.{Place}
-use Rattle.asg_model.specs.declared.parts.Place.TheVariants.{All as PlaceAll, Exactly}
-use Rattle.asg_model.specs.Counts.{placed_by}
+use Rattle.asg_model.specs.declared.parts.Place.TheVariants.{All as PlaceAll}
 use Rattle.asg_model.specs.Instances.{IsInstance, IsCostInRange, IsPlaceInRange}
 use Rattle.asg_check.proofs.CellMaps.{by_places, cells_differ-from_ordered}
 use Rattle.asg_check.proofs.tests.square.Goals as goal

@@ -1,0 +1,28 @@
+//! The monoids and kinds of the algebraic objectives.
+//!
+//! `sum`, `sum-max`, `pair` and `capped` enter bounded sums, `bottleneck` and `bottleneck-max` enter
+//! maxima, and `time-cost` enters bounded sums with a grade before them. Each part of a cost is shifted
+//! by 10^9, or turned round and shifted where greater is better, so that it enters as a number from 0 on.
+//! That keeps the order of values, since valid choices have equally many cells.
+#![tactic(auto)]
+
+mod grades;
+pub mod laws;
+mod maxima;
+mod peak_kinds;
+mod ranks;
+mod shifts;
+mod sum_kinds;
+mod sums;
+mod time_kinds;
+
+pub use grades::Graded;
+pub use maxima::Greatest;
+pub use peak_kinds::PeakKind;
+pub use ranks::compare_ranks;
+pub use sum_kinds::SumKind;
+pub use sums::Bounded;
+pub use time_kinds::TimeKind;
+
+#[cfg(test)]
+mod tests;

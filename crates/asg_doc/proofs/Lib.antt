@@ -13,3 +13,4 @@ pub mod SpelledLines
 pub mod ClaimParts
 pub mod DocumentParts
 pub mod TextLaws
+pub mod WorkedRefusals

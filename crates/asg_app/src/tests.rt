@@ -70,6 +70,49 @@ fn documents_of_square_files(rt: HostRuntime) -> Result<(), Fail> {
     Ok(())
 }
 
+// The values of squares with ties, negative costs and equal rows.
+#[test]
+fn values_of_squares(rt: HostRuntime) -> Result<(), Fail> {
+    let table: [(&str, &str); 12] = [
+        ("1\n0", "value 0\ncells 1\n"),
+        ("2\n1 1\n1 1", "value 1\ncells 2\n"),
+        ("2\n-5 -3\n-5 -3", "value -3\ncells 2\n"),
+        ("2\n3 9\n8 4", "value 4\ncells 2\n"),
+        ("3\n1 2 3\n1 2 3\n1 2 3", "value 3\ncells 3\n"),
+        ("3\n-1 -2 -3\n-4 -5 -6\n-7 -8 -9", "value -3\ncells 3\n"),
+        ("3\n0 7 7\n0 7 7\n7 0 0", "value 7\ncells 3\n"),
+        ("3\n2 2 2\n2 2 2\n2 2 2", "value 2\ncells 3\n"),
+        (
+            "4\n1 2 3 4\n2 4 6 8\n3 6 9 12\n4 8 12 16",
+            "value 6\ncells 4\n",
+        ),
+        (
+            "4\n5 -5 0 2\n5 -5 0 2\n5 -5 0 2\n5 -5 0 2",
+            "value 5\ncells 4\n",
+        ),
+        (
+            "4\n1 1 9 9\n1 1 9 9\n9 9 1 1\n9 9 1 1",
+            "value 1\ncells 4\n",
+        ),
+        (
+            "4\n1 1 9 9\n1 1 9 9\n1 1 9 9\n9 9 1 1",
+            "value 9\ncells 4\n",
+        ),
+    ];
+    let head = b"assignment 1\ncommand solve\nobjective bottleneck\nstatus best\n".as_slice();
+    for (file, value) in table {
+        let done = run_over(rt.alloc(), SOLVE, file.as_bytes(), &[], &[])?;
+        assert_eq!(rt; done.code, 0, "{file}");
+        assert!(rt; done.written.starts_with(head), "{file}");
+        let rest = done
+            .written
+            .get(head.len()..)
+            .ok_or("the document goes on behind its head")?;
+        assert!(rt; rest.starts_with(value.as_bytes()), "{file}");
+    }
+    Ok(())
+}
+
 #[test]
 fn files_that_are_refused(rt: HostRuntime) -> Result<(), Fail> {
     let table: [&[u8]; 11] = [

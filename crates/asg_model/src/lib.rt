@@ -40,3 +40,5 @@ pub type NoMemory = std::alloc::AllocError;
 mod squares;
 #[cfg(test)]
 mod tests;
+#[cfg(test)]
+mod value_tests;

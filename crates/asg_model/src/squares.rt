@@ -84,16 +84,18 @@ pub(crate) fn square(
             (2, 2, 2, 4),
         ],
     )?;
-    square_of(alloc, cells, place, cap, third)
+    square_of(alloc, cells, place, cap, third, third)
 }
 
-// The square of these cells with this rule and these capacities.
+// The square of these cells with this rule and these capacities. `row` tells whether its third row is
+// active, `column` whether its third column is open.
 pub(crate) fn square_of(
     alloc: Global,
     cells: BTreeMap<(u32, u32), Cost>,
     place: Place,
     cap: u32,
-    third: bool,
+    row: bool,
+    column: bool,
 ) -> Result<Instance, NoMemory>
     requires kept { All (λ cell. ((cell.0.0 < 3) × (cell.0.1 < 3)) × IsCostInRange cell.1) cells.entries }
     requires some { 1 ≤ cap }
@@ -111,10 +113,7 @@ pub(crate) fn square_of(
             id: 2,
             active: true
         },
-        Row {
-            id: 3,
-            active: third
-        },
+        Row { id: 3, active: row },
     ]?;
     let columns = vec![in alloc;
         Column {
@@ -130,7 +129,7 @@ pub(crate) fn square_of(
         Column {
             id: 3,
             cap,
-            usable: third
+            usable: column
         },
     ]?;
     Ok(Instance::with(rows, columns, cells, place))

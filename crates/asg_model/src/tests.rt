@@ -18,49 +18,6 @@ fn choice(alloc: Global, columns: [Option<u32>; 3]) -> Result<Choice, NoMemory>
     Ok(choice)
 }
 
-// The numbers of a value of the square: of a list the first and the last.
-fn numbers(value: &Value) -> (i128, i128) {
-    match value {
-        Value::One(x) => (*x, 0),
-        Value::Two(x, y) => (*x, *y),
-        Value::Many(costs) => ends(costs.as_slice()),
-    }
-}
-
-// The first and the last of a list, 0 of none.
-fn ends(costs: &[i64]) -> (i128, i128) {
-    match costs {
-        [first, .., last] => (i128::from(*first), i128::from(*last)),
-        _ => (0, 0),
-    }
-}
-
-#[test]
-fn gives_values(rt: HostRuntime) -> Result<(), Fail> {
-    let alloc = rt.alloc();
-    let inst = square(alloc, Place::All, 1, true)?;
-    let choice = choice(alloc, [Some(1), Some(0), Some(2)])?;
-    assert!(rt; is_valid(&inst, &choice));
-    for (objective, want) in [
-        (Objective::Sum, (5, 0)),
-        (Objective::SumMax, (5, 0)),
-        (Objective::SumPair, (5, 10)),
-        (Objective::Capped(4), (4, 0)),
-        (Objective::Bottleneck, (2, 0)),
-        (Objective::BottleneckMax, (1, 0)),
-        (Objective::TimeCost, (2, 8)),
-        (Objective::Balanced, (1, 0)),
-        (Objective::Lex, (2, 1)),
-    ] {
-        assert_eq!(rt;
-            numbers(&value(alloc, objective, &inst, &choice)?),
-            want,
-            "{objective:?}"
-        );
-    }
-    Ok(())
-}
-
 #[test]
 fn tells_valid_choices(rt: HostRuntime) -> Result<(), Fail> {
     let plain = square(rt.alloc(), Place::All, 1, true)?;
@@ -95,6 +52,10 @@ fn tells_hall_sets(rt: HostRuntime) -> Result<(), Fail> {
     assert!(rt; is_hall(&plain, Band::Under(2), &[1, 2]));
     assert!(rt; is_hall(&plain, Band::Over(2), &[1, 2, 3]));
     assert!(rt; !is_hall(&plain, Band::Whole, &[1, 2, 3]));
+    assert!(rt; is_hall(&plain, Band::Between(0, 1), &[1, 2]));
+    assert!(rt; !is_hall(&plain, Band::Between(0, 1), &[1]));
+    assert!(rt; is_hall(&plain, Band::Between(4, 5), &[3]));
+    assert!(rt; !is_hall(&plain, Band::Between(4, 5), &[1]));
     let two = square(rt.alloc(), Place::Exactly(2), 1, true)?;
     assert!(rt; is_hall(&two, Band::Under(2), &[1, 2, 3]));
     assert!(rt; !is_hall(&two, Band::Under(2), &[1, 3]));
@@ -195,7 +156,7 @@ fn finds_the_first_negative(rt: HostRuntime) -> Result<(), Fail> {
             (2, 2, 2, 4),
         ],
     )?;
-    let signed = square_of(rt.alloc(), cells, Place::All, 1, false)?;
+    let signed = square_of(rt.alloc(), cells, Place::All, 1, false, false)?;
     let plain = square(rt.alloc(), Place::All, 1, true)?;
     for (objective, inst, want) in [
         (Objective::Capped(9), &signed, Some((2, 1))),

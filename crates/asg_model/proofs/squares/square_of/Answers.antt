@@ -30,10 +30,10 @@ three_apart id x y z xy xz yz i j d before within = absurd (omega arith)
 all_three : {T : Type 0} (P : T → Type 0) (x y z : T) → P x → P y → P z → All P (x ∷ (y ∷ (z ∷ [])))
 all_three P x y z px py pz = All-cons P x (y ∷ (z ∷ [])) px (All-cons P y (z ∷ []) py (All-cons P z [] pz (All-nil P)))
 
-square_is : (place : Place) (cap : ℕ) (third : Bool) (cells : List ((ℕ × ℕ) × Cost)) → 1 ≤ cap → cap ≤ 1000 → IsPlaceInRange (record { rows = three_rows third; columns = three_columns cap third; cells = cells; place = place }) place
+square_is : (place : Place) (cap : ℕ) (row column : Bool) (cells : List ((ℕ × ℕ) × Cost)) → 1 ≤ cap → cap ≤ 1000 → IsPlaceInRange (record { rows = three_rows row; columns = three_columns cap column; cells = cells; place = place }) place
     → All (λ cell. ((cell.0.0 < 3) × (cell.0.1 < 3)) × IsCostInRange cell.1) cells → IsStrictlySortedBy by_places (keys_of cells)
-    → IsInstance (record { rows = three_rows third; columns = three_columns cap third; cells = cells; place = place })
-square_is place room third cells some few in_range kept ordered =
+    → IsInstance (record { rows = three_rows row; columns = three_columns cap column; cells = cells; place = place })
+square_is place room row column cells some few in_range kept ordered =
     let fits : (1 ≤ room) × (room ≤ 1000) = (some, few) in
     let Fits : Column → Type 0 = λ column. (1 ≤ column.cap) × (column.cap ≤ 1000) in
     let Kept : (ℕ × ℕ) × Cost → Type 0 = λ cell. ((cell.0.0 < 3) × (cell.0.1 < 3)) × IsCostInRange cell.1 in
@@ -43,16 +43,16 @@ square_is place room third cells some few in_range kept ordered =
       few_columns = omega arith;
       rows_differ = three_apart (λ (row : Row). row.id) _ _ _ (λ e. omega arith) (λ e. omega arith) (λ e. omega arith);
       columns_differ = three_apart (λ (column : Column). column.id) _ _ _ (λ e. omega arith) (λ e. omega arith) (λ e. omega arith);
-      capacities = all_three Fits (record { id = 1; cap = room; usable = true }) (record { id = 2; cap = room; usable = true }) (record { id = 3; cap = room; usable = third }) fits fits fits;
+      capacities = all_three Fits (record { id = 1; cap = room; usable = true }) (record { id = 2; cap = room; usable = true }) (record { id = 3; cap = room; usable = column }) fits fits fits;
       cells_within = All-weaker Kept (λ cell. (cell.0.0 < 3) × (cell.0.1 < 3)) (λ cell h. h.0) cells kept;
       cells_differ = cells_differ-from_ordered cells ordered;
       costs = All-weaker Kept (λ cell. IsCostInRange cell.1) (λ cell h. h.1) cells kept;
       place_in_range = in_range;
     }
 
-rule_is : (place : Place) (cap : ℕ) (third : Bool) (cells : List ((ℕ × ℕ) × Cost)) → 1 ≤ cap → 1 ≤ placed_by place 1 → placed_by place 1 ≤ 3 → IsPlaceInRange (record { rows = three_rows third; columns = three_columns cap third; cells = cells; place = place }) place
-rule_is PlaceAll room third cells some least most = tt
-rule_is (Exactly k) room third cells some least most = (least, omega arith, omega arith)
+rule_is : (place : Place) (cap : ℕ) (row column : Bool) (cells : List ((ℕ × ℕ) × Cost)) → 1 ≤ cap → 1 ≤ placed_by place 1 → placed_by place 1 ≤ 3 → IsPlaceInRange (record { rows = three_rows row; columns = three_columns cap column; cells = cells; place = place }) place
+rule_is PlaceAll room row column cells some least most = tt
+rule_is (Exactly k) room row column cells some least most = (least, omega arith, omega arith)
 
 pub with-requires : goal.with-requires
 with-requires c =
@@ -61,6 +61,6 @@ with-requires c =
     let place = c.args.place in
     let cells = c.args.cells.entries in
     rw (r, s)
-    (square_is place c.args.cap c.args.third cells c.requires.some c.requires.few
-    (rule_is place c.args.cap c.args.third cells c.requires.some c.requires.least c.requires.most)
+    (square_is place c.args.cap c.args.row c.args.column cells c.requires.some c.requires.few
+    (rule_is place c.args.cap c.args.row c.args.column cells c.requires.some c.requires.least c.requires.most)
     c.requires.kept c.len-len.ensures.ordered)

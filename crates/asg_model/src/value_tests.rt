@@ -1,0 +1,207 @@
+//! The values that the nine objectives give, worked out by hand.
+
+ghost use Rattle.std.specs.Prelude.{◌≡◌, ◌<◌, ◌≤◌, All, IfOk, length};
+ghost use Rattle.asg_model.specs.Instances.{IsCostInRange};
+ghost use Rattle.asg_model.specs.Counts.{placed_by};
+
+use super::squares::{cells, square_of};
+use super::*;
+use std::alloc::Global;
+use std::collections::BTreeMap;
+use std::test::Fail;
+
+// A value that is wanted.
+#[derive(Clone, Copy, Debug)]
+enum Want<'a> {
+    One(i128),
+    Two(i128, i128),
+    Many(&'a [i64]),
+}
+
+// Whether the value is the one that is wanted, form included.
+fn is_wanted(value: &Value, want: Want<'_>) -> bool {
+    match (value, want) {
+        (Value::One(x), Want::One(y)) => *x == y,
+        (Value::Two(x, s), Want::Two(y, t)) => *x == y && *s == t,
+        (Value::Many(costs), Want::Many(list)) => costs.as_slice() == list,
+        _ => false,
+    }
+}
+
+// The choice of the columns with these ids, 0 for none.
+fn choice(alloc: Global, ids: [u32; 3]) -> Result<Choice, NoMemory>
+    ensures { IfOk result (λ c. length c ≡ 3) }
+{
+    let mut choice = Choice::make(alloc, 3)?;
+    choice.set(0, ids[0].checked_sub(1));
+    choice.set(1, ids[1].checked_sub(1));
+    choice.set(2, ids[2].checked_sub(1));
+    Ok(choice)
+}
+
+// The cells `4:1 1:7 3:2 / 2:5 0:3 5:6 / 3:4 2:8 2:9`, a cost being written `a:b`.
+fn paired_cells(alloc: Global) -> Result<BTreeMap<(u32, u32), Cost>, NoMemory>
+    ensures { IfOk result (λ m. All (λ cell. ((cell.0.0 < 3) × (cell.0.1 < 3)) × IsCostInRange cell.1) m.entries) }
+{
+    cells(
+        alloc,
+        [
+            (0, 0, 4, 1),
+            (0, 1, 1, 7),
+            (0, 2, 3, 2),
+            (1, 0, 2, 5),
+            (1, 1, 0, 3),
+            (1, 2, 5, 6),
+            (2, 0, 3, 4),
+            (2, 1, 2, 8),
+            (2, 2, 2, 9),
+        ],
+    )
+}
+
+// The square of these cells. `row` tells whether its third row is active, `column` whether its third
+// column is open.
+fn paired(
+    alloc: Global,
+    place: Place,
+    cap: u32,
+    row: bool,
+    column: bool,
+) -> Result<Instance, NoMemory>
+    requires some { 1 ≤ cap }
+    requires few { cap ≤ 1000 }
+    requires least { 1 ≤ placed_by place 1 }
+    requires most { placed_by place 1 ≤ 3 }
+{
+    square_of(alloc, paired_cells(alloc)?, place, cap, row, column)
+}
+
+// The square of these cells with the sign of each cost turned.
+fn turned(alloc: Global) -> Result<Instance, NoMemory> {
+    let cells = cells(
+        alloc,
+        [
+            (0, 0, -4, -1),
+            (0, 1, -1, -7),
+            (0, 2, -3, -2),
+            (1, 0, -2, -5),
+            (1, 1, 0, -3),
+            (1, 2, -5, -6),
+            (2, 0, -3, -4),
+            (2, 1, -2, -8),
+            (2, 2, -2, -9),
+        ],
+    )?;
+    square_of(alloc, cells, Place::All, 1, true, true)
+}
+
+// Values of the nine objectives: `sum`, `sum-max`, `pair`, `capped` at 7, `bottleneck`, `bottleneck-max`,
+// `time-cost`, `balanced` and `lex`.
+type Nine<'a> = (
+    i128,
+    i128,
+    (i128, i128),
+    i128,
+    i128,
+    i128,
+    (i128, i128),
+    i128,
+    &'a [i64],
+);
+
+// The value that is wanted of each objective.
+fn wanted<'a>(nine: Nine<'a>) -> [(Objective, Want<'a>); 9] {
+    [
+        (Objective::Sum, Want::One(nine.0)),
+        (Objective::SumMax, Want::One(nine.1)),
+        (Objective::SumPair, Want::Two(nine.2.0, nine.2.1)),
+        (Objective::Capped(7), Want::One(nine.3)),
+        (Objective::Bottleneck, Want::One(nine.4)),
+        (Objective::BottleneckMax, Want::One(nine.5)),
+        (Objective::TimeCost, Want::Two(nine.6.0, nine.6.1)),
+        (Objective::Balanced, Want::One(nine.7)),
+        (Objective::Lex, Want::Many(nine.8)),
+    ]
+}
+
+// All six assignments of the square, and a choice each with a dropped row, a closed column (where two
+// rows share one), columns that two rows may choose, two rows placed of three, and negative costs.
+#[test]
+fn values_by_hand(rt: HostRuntime) -> Result<(), Fail> {
+    let alloc = rt.alloc();
+    let plain = paired(alloc, Place::All, 1, true, true)?;
+    let dropped = paired(alloc, Place::All, 1, false, true)?;
+    let closed = paired(alloc, Place::All, 2, true, false)?;
+    let wide = paired(alloc, Place::All, 2, true, true)?;
+    let two = paired(alloc, Place::Exactly(2), 1, true, true)?;
+    let turned = turned(alloc)?;
+    let table: [(&Instance, [u32; 3], Nine<'_>); 11] = [
+        (
+            &plain,
+            [1, 2, 3],
+            (6, 6, (6, 13), 6, 4, 0, (4, 1), 4, &[4, 2, 0]),
+        ),
+        (
+            &plain,
+            [1, 3, 2],
+            (11, 11, (11, 15), 7, 5, 2, (5, 6), 3, &[5, 4, 2]),
+        ),
+        (
+            &plain,
+            [2, 1, 3],
+            (5, 5, (5, 21), 5, 2, 1, (2, 14), 1, &[2, 2, 1]),
+        ),
+        (
+            &plain,
+            [2, 3, 1],
+            (9, 9, (9, 17), 7, 5, 1, (5, 6), 4, &[5, 3, 1]),
+        ),
+        (
+            &plain,
+            [3, 1, 2],
+            (7, 7, (7, 15), 7, 3, 2, (3, 2), 1, &[3, 2, 2]),
+        ),
+        (
+            &plain,
+            [3, 2, 1],
+            (6, 6, (6, 9), 6, 3, 0, (3, 6), 3, &[3, 3, 0]),
+        ),
+        (
+            &dropped,
+            [3, 1, 0],
+            (5, 5, (5, 7), 5, 3, 2, (3, 2), 1, &[3, 2]),
+        ),
+        (
+            &closed,
+            [2, 1, 2],
+            (5, 5, (5, 20), 5, 2, 1, (2, 13), 1, &[2, 2, 1]),
+        ),
+        (
+            &wide,
+            [2, 2, 3],
+            (3, 3, (3, 19), 3, 2, 0, (2, 9), 2, &[2, 1, 0]),
+        ),
+        (
+            &two,
+            [0, 2, 3],
+            (2, 2, (2, 12), 2, 2, 0, (2, 9), 2, &[2, 0]),
+        ),
+        (
+            &turned,
+            [2, 1, 3],
+            (-5, -5, (-5, -21), -5, -1, -2, (-1, -7), 1, &[-1, -2, -2]),
+        ),
+    ];
+    for (inst, ids, nine) in table {
+        let choice = choice(alloc, ids)?;
+        assert!(rt; is_valid(inst, &choice), "{ids:?}");
+        for (objective, want) in wanted(nine) {
+            let value = value(alloc, objective, inst, &choice)?;
+            assert!(rt;
+                is_wanted(&value, want),
+                "{objective:?} of {ids:?}: {value:?}"
+            );
+        }
+    }
+    Ok(())
+}

@@ -7,3 +7,6 @@ mod row_ids;
 
 pub use outcomes::{Outcome, Proof};
 pub use row_ids::Ids;
+
+#[cfg(test)]
+mod tests;

@@ -1,9 +1,10 @@
 //! The monoids and kinds of the algebraic objectives.
 //!
 //! `sum`, `sum-max`, `pair` and `capped` enter bounded sums, `bottleneck` and `bottleneck-max` enter
-//! maxima, and `time-cost` enters bounded sums with a grade before them. Each part of a cost is shifted
-//! by 10^9, or turned round and shifted where greater is better, so that it enters as a number from 0 on.
-//! That keeps the order of values, since valid choices have equally many cells.
+//! maxima, and `time-cost` enters bounded sums with a grade before them. A part of a cost that may be
+//! negative is shifted by 10^9, or turned round and shifted where greater is better, so that it enters as
+//! a number from 0 on. That keeps the order of values, since valid choices have equally many cells. The
+//! first part for `capped` and the second part for `time-cost`, which aren't negative, enter as they are.
 #![tactic(auto)]
 
 mod grades;
@@ -24,5 +25,7 @@ pub use sum_kinds::SumKind;
 pub use sums::Bounded;
 pub use time_kinds::TimeKind;
 
+#[cfg(test)]
+mod kind_tests;
 #[cfg(test)]
 mod tests;

@@ -1,8 +1,8 @@
-//! Small answers of the monoids and their kinds.
+//! Small answers of the monoids.
 
-use crate::{Bounded, Graded, Greatest, PeakKind, SumKind, TimeKind, compare_ranks};
-use asg_model::{Cost, Objective};
-use asg_order::{DMonoid, Kind, Ordered, Word, Written, fold};
+use crate::laws::sums_in_range;
+use crate::{Bounded, Graded, Greatest, compare_ranks};
+use asg_order::{DMonoid, Ordered, Word, Written, fold, laws};
 use std::cmp::Ordering;
 
 // The product of x and y, where both are values.
@@ -104,42 +104,31 @@ fn graded(rt: HostRuntime) {
         assert_eq!(rt; got, want);
     }
     assert_eq!(rt; is_at_most(&pairs, (1, 9), (3, 5)), Some(true));
-}
-
-#[test]
-fn entered_costs(rt: HostRuntime) {
-    let cost = Cost { a: 4, b: 7 };
+    let peaks = Graded { inner: Greatest };
     let cases = [
-        (SumKind::of(Objective::Sum).enter(cost), 1_000_000_004),
-        (SumKind::of(Objective::SumMax).enter(cost), 999_999_996),
-        (
-            SumKind::of(Objective::SumPair).enter(cost),
-            4_398_046_528_697_186_044_423,
-        ),
-        (SumKind::of(Objective::Capped(3)).enter(cost), 3),
-        (
-            PeakKind::of(Objective::Bottleneck).enter(cost) as u128,
-            1_000_000_004,
-        ),
-        (
-            PeakKind::of(Objective::BottleneckMax).enter(cost) as u128,
-            999_999_996,
-        ),
+        (product(&peaks, (3, 5), (3, 2)), Some((3, 5))),
+        (product(&peaks, (3, 5), (1, 9)), Some((3, 5))),
+        (difference(&peaks, (3, 7), (3, 5)), Some((3, 7))),
+        (difference(&peaks, (3, 7), (3, 7)), Some((0, 0))),
+        (difference(&peaks, (3, 7), (1, 9)), Some((3, 7))),
     ];
     for (got, want) in cases {
         assert_eq!(rt; got, want);
     }
-    assert_eq!(rt; TimeKind::new().enter(cost), (1_000_000_004, 7));
-    assert_eq!(rt;
-        SumKind::of(Objective::Capped(3)).objective(),
-        Objective::Capped(3)
-    );
-    assert_eq!(rt; SumKind::of(Objective::Capped(3)).monoid().top, 3);
-    assert_eq!(rt;
-        PeakKind::of(Objective::Bottleneck).objective(),
-        Objective::Bottleneck
-    );
-    assert_eq!(rt; TimeKind::new().objective(), Objective::TimeCost);
+}
+
+#[test]
+fn laws_at_a_monoid() {
+    let pairs = Graded {
+        inner: Bounded { top: 100 },
+    };
+    laws::rearranged(&pairs);
+    laws::joined(&pairs);
+    laws::power(&pairs);
+    laws::scaled(&pairs);
+    laws::raised(&pairs);
+    laws::differences(&pairs);
+    sums_in_range();
 }
 
 #[test]

@@ -9,7 +9,7 @@ use Rattle.asg_model.specs.declared.parts.Column.{Column}
 use Rattle.asg_model.specs.Problem.{Problem}
 use Rattle.asg_model.specs.Live.{live_at, is_active, cost_at}
 use Rattle.asg_model.specs.ValidChoice.{Chooses, IsValid}
-use Rattle.asg_app.specs.Solved.{cell_by_id, cells_by_id, column_id}
+use Rattle.asg_doc.specs.ChosenCells.{cell_by_id, cells_by_id, column_id}
 
 -- one more element, if there is one
 length-cons_option-le : {Y : Type 0} (found : Option Y) (ys : List Y) (n : ℕ) → length ys ≤ n → length (cons_option found ys) ≤ suc n

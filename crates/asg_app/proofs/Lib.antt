@@ -4,11 +4,14 @@ pub mod CellReading
 pub mod ChosenCells
 pub mod CostsOfTokens
 pub mod Counting
+pub mod DocumentLength
 pub mod DueLaws
 pub mod FirstToken
 pub mod Greatest
 pub mod NumberLemmas
 pub mod PerfectShort
+pub mod PromisedLaws
+pub mod RunParts
 pub mod SolvedDocument
 pub mod SquareBest
 pub mod SquareCells
@@ -18,4 +21,3 @@ pub mod SquareInstance
 pub mod SquareReading
 pub mod SquareValid
 pub mod ThresholdLemmas
-pub mod WriteFaults

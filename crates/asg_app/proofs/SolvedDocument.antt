@@ -19,7 +19,8 @@ use Rattle.asg_model.specs.Instances.{IsInstance}
 use Rattle.asg_model.specs.ValidChoice.{IsValid}
 use Rattle.asg_doc.specs.HasText.{AreCells, AreRows}
 use Rattle.asg_app.specs.WholeSquare.{IsWholeSquare}
-use Rattle.asg_app.specs.Solved.{Solves, cells_by_id, proof_rows, solution, IsCellOfIds}
+use Rattle.asg_doc.specs.ChosenCells.{cells_by_id}
+use Rattle.asg_app.specs.Solved.{Solves, proof_rows, solution, IsCellOfIds}
 use Rattle.asg_app.proofs.CellCounts.{length-cells_by_id-le, length-cells_by_id-some}
 
 -- the cells of a valid choice of a complete square can be written

@@ -1,7 +1,9 @@
 pub mod Asked
 pub mod Due
+pub mod Ends
 pub mod Matrix
 pub mod Numbers
+pub mod Promised
 pub mod ProvedBest
 pub mod RowBound
 pub mod Search
@@ -9,6 +11,7 @@ pub mod Solved
 pub mod SquareCosts
 pub mod SquareText
 pub mod Statuses
+pub mod Texts
 pub mod Threshold
 pub mod Tokens
 pub mod WholeSquare

@@ -1,10 +1,7 @@
 -- What a document must say that answers a request to solve.
-use Rattle.std.specs.Prelude.{◌≡◌, ◌<◌, ◌^◌, ℕ, List, Option, filter_map, option_and_then, slice_get}
-use Rattle.std.specs.Option.{option_map}
-use Rattle.std.specs.List.{zip}
+use Rattle.std.specs.Prelude.{◌≡◌, ◌<◌, ◌^◌, ℕ, List, Option, option_and_then, slice_get}
 use Rattle.asg_model.specs.declared.objectives.Objective.{Objective}
 use Rattle.asg_model.specs.declared.objectives.Value.{Value}
-use Rattle.asg_model.specs.declared.parts.Row.{Row}
 use Rattle.asg_model.specs.Problem.{Problem}
 use Rattle.asg_model.specs.Values.{choice_value}
 use Rattle.asg_model.specs.Best.{IsBest}
@@ -14,22 +11,11 @@ use Rattle.asg_proof.specs.declared.outcomes.Proof.TheVariants.{Below}
 use Rattle.asg_doc.specs.declared.documents.Claim.TheVariants.{Best}
 use Rattle.asg_doc.specs.declared.documents.Command.TheVariants.{Solve}
 use Rattle.asg_doc.specs.declared.documents.Document.{Document}
-
--- the id of the column at a place
-abbrev pub column_id : Problem → ℕ → Option ℕ
-column_id X c = option_map (λ column. column.id) (slice_get X.columns c)
-
--- the cell of a row that chooses a column, by the ids of the two
-abbrev pub cell_by_id : Problem → Row × Option ℕ → Option (ℕ × ℕ)
-cell_by_id X chosen = option_map (λ id. (chosen.0.id, id)) (option_and_then (column_id X) chosen.1)
+use Rattle.asg_doc.specs.ChosenCells.{cell_by_id, cells_by_id}
 
 -- the cell that the row at a place chooses, by id
 abbrev pub cell_at : Problem → List (Option ℕ) → ℕ → Option (ℕ × ℕ)
 cell_at X f r = option_and_then (λ row. option_and_then (λ chosen. cell_by_id X (row, chosen)) (slice_get f r)) (slice_get X.rows r)
-
--- the cells of a choice by id, in the order of the rows
-abbrev pub cells_by_id : Problem → List (Option ℕ) → List (ℕ × ℕ)
-cells_by_id X f = filter_map (cell_by_id X) (zip X.rows f)
 
 -- a cell is by ids: the numbers by which files name a row and a column
 abbrev pub IsCellOfIds : ℕ × ℕ → Type 0

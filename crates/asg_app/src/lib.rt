@@ -2,18 +2,25 @@
 #![tactic(auto)]
 
 mod best_choice;
+#[cfg(test)]
+mod check_tests;
+mod checking;
+mod endings;
 pub mod laws;
 mod matrix;
+#[cfg(test)]
+mod memory_runs;
 mod numbers;
 mod perfect;
 mod row_bound;
 mod seeker;
+#[cfg(test)]
+mod solve_tests;
 mod solved;
+mod solving;
 mod square_costs;
 mod square_text;
 mod status;
-#[cfg(test)]
-mod tests;
 mod threshold;
 mod tokens;
 mod top_call;

@@ -1,6 +1,6 @@
-ghost use Rattle.std.specs.Prelude.{◌≡◌, ℕ, ◌<◌, ◌↔◌, IsTrue, length, Some, None, List, Option};
+ghost use Rattle.std.specs.Prelude.{◌≡◌, ℕ, ◌<◌, ◌↔◌, IsTrue, length, Some, None};
 ghost use Rattle.std.specs.Bool.{OnTrue, OnFalse};
-ghost use Rattle.asg_match.specs.Matching.{column_at, Matches, IsMatched, AllAllowed, IsPerfect};
+ghost use Rattle.asg_match.specs.Matching.{Matches, IsMatched, AllAllowed, IsPerfect};
 ghost use Rattle.asg_match.specs.Short.{IsShort};
 
 use asg_match::{Allowed, Grown, Matching, Tree, augment};

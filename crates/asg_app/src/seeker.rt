@@ -1,6 +1,6 @@
-ghost use Rattle.std.specs.Prelude.{◌≡◌, ℕ, ◌<◌, List, [], ◌∷◌, Some, None, IfOk, length, slice_index_or};
+ghost use Rattle.std.specs.Prelude.{◌≡◌, ◌<◌, [], ◌∷◌, Some, IfOk, length};
 ghost use Rattle.std.specs.Bool.{OnTrue, OnFalse};
-ghost use Rattle.asg_match.specs.Matching.{IsPerfect, Matches};
+ghost use Rattle.asg_match.specs.Matching.{IsPerfect};
 ghost use Rattle.asg_match.specs.Short.{IsShort};
 ghost use Rattle.asg_app.specs.Search.{HaveSide};
 ghost use Rattle.asg_app.specs.Threshold.{IsDiagonal};

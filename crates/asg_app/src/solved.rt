@@ -1,5 +1,5 @@
 // The document that answers a request to solve.
-ghost use Rattle.std.specs.Prelude.{◌≡◌, ◌<◌, ◌^◌, length, IfOk, IfSome, All};
+ghost use Rattle.std.specs.Prelude.{◌≡◌, ◌<◌, length, IfOk, IfSome};
 ghost use Rattle.std.specs.Prelude.{FitsSigned};
 ghost use Rattle.std.specs.Int.{w128};
 ghost use Rattle.asg_model.specs.ValidChoice.{IsValid};
@@ -7,7 +7,8 @@ ghost use Rattle.asg_model.specs.Values.{choice_value};
 ghost use Rattle.asg_doc.specs.HasText.{HasText, AreCells, AreRows};
 ghost use Rattle.asg_proof.specs.RowIds.{AreIds};
 ghost use Rattle.asg_app.specs.WholeSquare.{IsWholeSquare};
-ghost use Rattle.asg_app.specs.Solved.{Solves, cell_at, cells_by_id, column_id, proof_rows, solution, IsCellOfIds};
+ghost use Rattle.asg_doc.specs.ChosenCells.{cells_by_id, column_id};
+ghost use Rattle.asg_app.specs.Solved.{Solves, cell_at, proof_rows, solution, IsCellOfIds};
 
 use crate::best_choice::bottleneck;
 use asg_doc::{Answer, Cells, Claim, Command, Document};

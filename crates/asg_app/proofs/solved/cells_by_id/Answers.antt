@@ -2,7 +2,8 @@ use Rattle.std.proofs.Common.{◌≡◌, ◌+◌, arith}
 use Rattle.std.proofs.lemmas.Grind.{common_steps}
 use Rattle.std.proofs.lemmas.List.{append-nil}
 use Rattle.std.proofs.lemmas.List.Elements.{All-push}
-use Rattle.asg_app.specs.Solved.{cells_by_id, cell_at, IsCellOfIds}
+use Rattle.asg_doc.specs.ChosenCells.{cells_by_id}
+use Rattle.asg_app.specs.Solved.{cell_at, IsCellOfIds}
 use Rattle.asg_app.proofs.SolvedDocument.{AreCells-by_id}
 use Rattle.asg_app.proofs.ChosenCells.{cells_from, cells_from-step, cells_from-moved}
 use Rattle.asg_app.proofs.solved.cells_by_id.Goals as goal

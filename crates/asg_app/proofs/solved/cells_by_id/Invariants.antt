@@ -1,5 +1,6 @@
 use Rattle.std.proofs.Common.{◌≡◌, ◌++◌, All}
-use Rattle.asg_app.specs.Solved.{cells_by_id, IsCellOfIds}
+use Rattle.asg_doc.specs.ChosenCells.{cells_by_id}
+use Rattle.asg_app.specs.Solved.{IsCellOfIds}
 use Rattle.asg_app.proofs.ChosenCells.{cells_from}
 use Rattle.asg_app.proofs.solved.cells_by_id.Given as goal
 

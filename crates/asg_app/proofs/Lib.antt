@@ -6,6 +6,7 @@ pub mod CostsOfTokens
 pub mod Counting
 pub mod DocumentLength
 pub mod DueLaws
+pub mod ExactLaws
 pub mod FirstToken
 pub mod Greatest
 pub mod NumberLemmas

@@ -34,12 +34,12 @@ longer : (bytes : List ℕ) → nat_lt longest_file (length bytes) ≡ true → 
 longer bytes long = search (rules, tests)
 
 -- how a request to solve ends
-data SolveCase (bytes : List ℕ) (status : Status) (text : List ℕ) : Type 0 where
+pub data SolveCase (bytes : List ℕ) (status : Status) (text : List ℕ) : Type 0 where
   TooLongFile : status ≡ TooLong → text ≡ [] → nat_lt longest_file (length bytes) ≡ true → SolveCase bytes status text
   Unspelled : status ≡ Instance → text ≡ refused_instance_text → square_of bytes ≡ None → SolveCase bytes status text
   Solved : status ≡ Done → nat_lt longest_file (length bytes) ≡ false → IsSolved bytes text → SolveCase bytes status text
 
-solve_case : (bytes : List ℕ) (status : Status) (text : List ℕ) → DueForFile bytes status text → SolveCase bytes status text
+pub solve_case : (bytes : List ℕ) (status : Status) (text : List ℕ) → DueForFile bytes status text → SolveCase bytes status text
 solve_case bytes status text due = by_length (nat_lt longest_file (length bytes)) refl due
   where
     by_instance : (found : Option Problem) → square_of bytes ≡ found → nat_lt longest_file (length bytes) ≡ false → DueForInstance found status text → SolveCase bytes status text
@@ -52,7 +52,7 @@ solve_case bytes status text due = by_length (nat_lt longest_file (length bytes)
     by_length false short due = by_instance (square_of bytes) refl short due
 
 -- how a request to check ends
-data CheckCase (bytes answer : List ℕ) (status : Status) (text : List ℕ) : Type 0 where
+pub data CheckCase (bytes answer : List ℕ) (status : Status) (text : List ℕ) : Type 0 where
   TooLongInstance : status ≡ TooLong → text ≡ [] → nat_lt longest_file (length bytes) ≡ true → CheckCase bytes answer status text
   TooLongAnswer : status ≡ TooLong → text ≡ [] → nat_lt longest_file (length answer) ≡ true → CheckCase bytes answer status text
   NoSquare : status ≡ Instance → text ≡ refused_instance_text → square_of bytes ≡ None → CheckCase bytes answer status text
@@ -64,7 +64,7 @@ data CheckCase (bytes answer : List ℕ) (status : Status) (text : List ℕ) : T
 one_text : (document : Document) (answer : List ℕ) → answer ≡ texts_of (document ∷ []) → answer ≡ text_of document
 one_text document answer is = is ∙ append-nil (text_of document)
 
-check_case : IsSound → (bytes answer : List ℕ) (status : Status) (text : List ℕ) → DueForPair bytes answer status text → CheckCase bytes answer status text
+pub check_case : IsSound → (bytes answer : List ℕ) (status : Status) (text : List ℕ) → DueForPair bytes answer status text → CheckCase bytes answer status text
 check_case sound bytes answer status text due = by_length (nat_lt longest_file (length bytes)) refl due
   where
     by_verdict : (X : Problem) (document : Document) → square_of bytes ≡ Some X → HasText document → answer ≡ text_of document → DueForDocument X document status text → CheckCase bytes answer status text

@@ -1,5 +1,5 @@
 -- The program's specification: what is due for the words of a command line and the contents of files.
-use Rattle.std.specs.Prelude.{◌≡◌, ◌⊎◌, ℕ, ℤ, List, [], ◌∷◌, Option, Some, None, IfSome, MatchBool, nat_lt, length, All, IsSome}
+use Rattle.std.specs.Prelude.{◌≡◌, ◌≤◌, ◌⊎◌, ℕ, ℤ, List, [], ◌∷◌, Option, Some, None, IfSome, MatchBool, nat_lt, length, All, IsSome}
 use Rattle.asg_model.specs.Problem.{Problem}
 use Rattle.asg_model.specs.declared.objectives.Objective.TheVariants.{Bottleneck}
 use Rattle.asg_doc.specs.declared.documents.Document.{Document}
@@ -91,3 +91,7 @@ Due words told status text = DueFor (request_of words) told status text
 -- the contents of each file that the words name are told
 abbrev pub Tells : List (List ℕ) → (List ℕ → Option (List ℕ)) → Type 0
 Tells words told = All (λ name. IsSome (told name)) (files_of (request_of words))
+
+-- the contents of each file that the words name are told, and no file is too long
+abbrev pub AreShort : List (List ℕ) → (List ℕ → Option (List ℕ)) → Type 0
+AreShort words told = All (λ name. (held : List ℕ) × (told name ≡ Some held) × (length held ≤ longest_file)) (files_of (request_of words))

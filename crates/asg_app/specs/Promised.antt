@@ -10,6 +10,8 @@ use Rattle.asg_check.specs.declared.verdicts.Form.TheVariants.{Solve}
 use Rattle.asg_check.specs.Certifies.{Certifies}
 use Rattle.asg_check.specs.Reasons.{IsFirstReason}
 use Rattle.asg_check.specs.TrueClaim.{ClaimsTruly}
+use Rattle.asg_app.specs.declared.status.Status.{Status}
+use Rattle.asg_app.specs.declared.status.Status.TheVariants.{Done, No}
 use Rattle.asg_app.specs.SquareText.{square_of}
 use Rattle.asg_app.specs.Solved.{Solves}
 use Rattle.asg_app.specs.Texts.{refused_document_text, no_text}
@@ -66,3 +68,11 @@ pub record IsMiscounted (answer text : List ℕ) : Type 0 where
 -- the answer isn't the text of one document, and the text tells the line
 abbrev pub IsUnread : List ℕ → List ℕ → Type 0
 IsUnread answer text = IsRefused answer text ⊎ IsMiscounted answer text
+
+-- the bytes aren't the text of one document
+abbrev pub IsNotOne : List ℕ → Type 0
+IsNotOne bytes = (document : Document) → HasText document → bytes ≢ text_of document
+
+-- the status tells whether the document certifies
+abbrev pub IsVerdict : Problem → Document → Status → Type 0
+IsVerdict X document status = ((status ≡ Done) × Certifies Bottleneck X Solve document) ⊎ ((status ≡ No) × ¬ Certifies Bottleneck X Solve document)

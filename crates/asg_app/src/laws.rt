@@ -4,12 +4,15 @@ ghost use Rattle.std.specs.Prelude.{◌≡◌, ◌<◌, ◌≤◌, ℕ, List, []
 ghost use Rattle.std.specs.List.{Contains};
 ghost use Rattle.asg_app.specs.declared.status.Status.{Status as Ended};
 ghost use Rattle.asg_app.specs.declared.status.Status.TheVariants.{Done, Usage, Instance, Document, No, TooLong};
-ghost use Rattle.asg_app.specs.Due.{Due, MayHold, Tells, longest_file};
-ghost use Rattle.asg_app.specs.Promised.{IsSolved, IsCertified, IsDenied, IsUnread};
+ghost use Rattle.asg_app.specs.Due.{Due, AreShort, MayHold, Tells, longest_file};
+ghost use Rattle.asg_app.specs.Promised.{IsSolved, IsCertified, IsDenied, IsNotOne, IsUnread, IsVerdict};
 ghost use Rattle.asg_app.specs.SquareText.{square_of};
 ghost use Rattle.asg_app.specs.Texts.{usage_text, refused_instance_text, yes_text};
 ghost use Rattle.asg_app.specs.Words.{Request, Solve, Check, request_of, files_of, instance_of};
 ghost use Rattle.asg_model.specs.Problem.{Problem};
+ghost use Rattle.asg_doc.specs.declared.documents.Document.{Document as Answered};
+ghost use Rattle.asg_doc.specs.HasText.{HasText};
+ghost use Rattle.asg_doc.specs.Text.{text_of};
 
 use asg_check::laws::soundness_law;
 use asg_doc::unique_reading;
@@ -99,4 +102,33 @@ pub fn accepted_law()
         Due checking later Done (yes_text 1) }
 {
     soundness_law();
+}
+
+/// Which status is due, where the files are told: `Usage` for words that are no request; `TooLong` where a
+/// file is too long, and else `Instance` where the instance's file is no square file. Where neither holds
+/// it is `Done` for a request to solve; for a request to check it is `Document` where the answer's file
+/// isn't the text of one document, else `Done` where that certifies, and `No` where it doesn't.
+pub fn exact_law()
+    ensures usage { (words : List (List ℕ)) (told : List ℕ → Option (List ℕ)) (status : Ended) (text : List ℕ) →
+        request_of words ≡ None → Due words told status text → status ≡ Usage }
+    ensures too_long { (words : List (List ℕ)) (told : List ℕ → Option (List ℕ)) (status : Ended) (text : List ℕ) →
+        (name bytes : List ℕ) → Contains (files_of (request_of words)) name → told name ≡ Some bytes → longest_file < length bytes →
+        Due words told status text → status ≡ TooLong }
+    ensures refused { (words : List (List ℕ)) (told : List ℕ → Option (List ℕ)) (status : Ended) (text : List ℕ) →
+        AreShort words told → (request : Request) (bytes : List ℕ) → request_of words ≡ Some request → told (instance_of request) ≡ Some bytes →
+        square_of bytes ≡ None → Due words told status text → status ≡ Instance }
+    ensures solved { (words : List (List ℕ)) (told : List ℕ → Option (List ℕ)) (status : Ended) (text : List ℕ) →
+        AreShort words told → (instance bytes : List ℕ) (X : Problem) → request_of words ≡ Some (Solve instance) → told instance ≡ Some bytes →
+        square_of bytes ≡ Some X → Due words told status text → status ≡ Done }
+    ensures unread { (words : List (List ℕ)) (told : List ℕ → Option (List ℕ)) (status : Ended) (text : List ℕ) →
+        AreShort words told → (instance answer bytes spoken : List ℕ) (X : Problem) → request_of words ≡ Some (Check instance answer) →
+        told instance ≡ Some bytes → told answer ≡ Some spoken → square_of bytes ≡ Some X → IsNotOne spoken →
+        Due words told status text → status ≡ Document }
+    ensures judged { (words : List (List ℕ)) (told : List ℕ → Option (List ℕ)) (status : Ended) (text : List ℕ) →
+        AreShort words told → (instance answer bytes : List ℕ) (X : Problem) (document : Answered) → request_of words ≡ Some (Check instance answer) →
+        told instance ≡ Some bytes → told answer ≡ Some (text_of document) → square_of bytes ≡ Some X → HasText document →
+        Due words told status text → IsVerdict X document status }
+{
+    soundness_law();
+    unique_reading();
 }

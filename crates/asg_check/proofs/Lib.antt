@@ -2,3 +2,4 @@ pub mod Reading
 pub mod Thresholds
 pub mod Documents
 pub mod CellMaps
+pub mod FirstReasons

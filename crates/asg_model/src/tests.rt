@@ -78,7 +78,11 @@ fn reads_the_square(rt: HostRuntime) -> Result<(), Fail> {
     assert_eq!(rt; inst.live(7, 0), None);
     assert_eq!(rt; inst.row_place(3), Some(2));
     assert_eq!(rt; inst.column_place(9), None);
+    assert_eq!(rt; inst.placed(), 2);
     assert_eq!(rt; inst.slack(), 1);
+    let all = square(rt.alloc(), Place::All, 1, false)?;
+    assert_eq!(rt; all.placed(), 2);
+    assert_eq!(rt; all.slack(), 0);
     Ok(())
 }
 

@@ -117,6 +117,7 @@ fn graded(rt: HostRuntime) {
     }
 }
 
+// Each law can be called for a monoid of grades.
 #[test]
 fn laws_at_a_monoid() {
     let pairs = Graded {

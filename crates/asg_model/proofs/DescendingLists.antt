@@ -1,6 +1,6 @@
--- A list that goes down is fixed by its elements, so a sorted list turned round is `descending`.
-use Rattle.std.proofs.Common.{◌≡◌, ℕ, suc, ◌+◌, ◌-◌, ◌<◌, ◌≤◌, Bool, true, false, cond, List, [], ◌∷◌, length, get_or, refl, arith, sym, ap, ◌∙◌, ℤ, ◌<ℤ◌, ◌≤ℤ◌, reverse, ◌≢◌}
-use Rattle.std.specs.Prelude.{count_by, IsPermutation, IsSorted, int_lt, ⊤}
+-- `descending` is the one rearrangement of a list that goes down, so it is the sorted list turned round.
+use Rattle.std.proofs.Common.{◌≡◌, ℕ, zero, suc, ◌+◌, ◌-◌, ◌<◌, ◌≤◌, Bool, true, false, cond, List, [], ◌∷◌, length, get_or, refl, arith, sym, ap, ◌∙◌, ℤ, ◌<ℤ◌, ◌≤ℤ◌, reverse, ◌≢◌}
+use Rattle.std.specs.Prelude.{count_by, IsPermutation, IsSorted, int_lt, ⊤, pos}
 use Rattle.std.specs.List.{AllByRecursion}
 use Rattle.std.specs.Ordering.{int_eq, int_cmp, is_lt}
 use Rattle.std.proofs.lemmas.Int.{ints, by_lt_z}
@@ -8,17 +8,17 @@ use Rattle.std.proofs.lemmas.Bool.{false≢true, false_from_ne_true}
 use Rattle.std.proofs.lemmas.Bool.Decides.{Decides-int_eq}
 use Rattle.std.proofs.lemmas.List.{get_or-reverse, length-reverse}
 use Rattle.std.proofs.lemmas.List.Sums.{sum_by-cons}
-use Rattle.std.proofs.lemmas.List.Sorted.{sum_by-IsPermutation, IsPermutation-reverse, sorted_far, ranks_by}
+use Rattle.std.proofs.lemmas.List.Sorted.{sum_by-IsPermutation, IsPermutation-refl, IsPermutation-trans, IsPermutation-cons, IsPermutation-middle, IsPermutation-reverse, sorted_far, ranks_by}
 use Rattle.std.proofs.lemmas.Cmp.{int_cmp_total}
-use Rattle.asg_model.specs.Descending.{with_descending, descending}
+use Rattle.asg_model.specs.Descending.{with_descending, descending, IsDescending}
 
--- no number is above one that stands before it
-abbrev pub Descends : List ℤ → Type 0
+-- no number is above one that stands before it, head by head
+abbrev Descends : List ℤ → Type 0
 Descends [] = ⊤
 Descends (x ∷ xs) = AllByRecursion (λ y. y ≤ℤ x) xs × Descends xs
 
 -- how often a number stands in a list
-abbrev pub times : ℤ → List ℤ → ℕ
+abbrev times : ℤ → List ℤ → ℕ
 times z xs = count_by (λ x. int_eq x z) xs
 
 times-cons : (z x : ℤ) (xs : List ℤ) → times z (x ∷ xs) ≡ cond (int_eq x z) 1 0 + times z xs
@@ -70,7 +70,7 @@ heads_same x y xs ys down same below =
     omega (arith, none, one, both)
 
 -- lists that go down and have each number equally often are the same
-pub unique : (xs ys : List ℤ) → Descends xs → Descends ys → ((z : ℤ) → times z xs ≡ times z ys) → xs ≡ ys
+unique : (xs ys : List ℤ) → Descends xs → Descends ys → ((z : ℤ) → times z xs ≡ times z ys) → xs ≡ ys
 unique [] [] dx dy same = refl
 unique [] (y ∷ ys) dx dy same = let one = times-here y ys in let both = same y in absurd (omega (arith, one, both))
 unique (x ∷ xs) [] dx dy same = let one = times-here x xs in let both = same x in absurd (omega (arith, one, both))
@@ -102,39 +102,33 @@ Descends-with : (x : ℤ) (ys : List ℤ) → Descends ys → Descends (with_des
 Descends-with x [] down = (tt, tt)
 Descends-with x (y ∷ ys) down = Descends_cases x y ys (int_lt y x) refl down (Descends-with x ys down.1)
 
-pub Descends-descending : (xs : List ℤ) → Descends (descending xs)
+Descends-descending : (xs : List ℤ) → Descends (descending xs)
 Descends-descending [] = tt
 Descends-descending (x ∷ xs) = Descends-with x (descending xs) (Descends-descending xs)
 
-times_cases : (z x y : ℤ) (ys : List ℤ) (c : Bool) → times z (with_descending x ys) ≡ times z (x ∷ ys) → times z (cond c (x ∷ (y ∷ ys)) (y ∷ with_descending x ys)) ≡ times z (x ∷ (y ∷ ys))
-times_cases z x y ys true e = refl
-times_cases z x y ys false e =
-    let one = times-cons z y (with_descending x ys) in
-    let two = times-cons z x ys in
-    let three = times-cons z x (y ∷ ys) in
-    let four = times-cons z y ys in
-    omega (arith, one, two, three, four, e)
-
-times-with : (z x : ℤ) (ys : List ℤ) → times z (with_descending x ys) ≡ times z (x ∷ ys)
-times-with z x [] = refl
-times-with z x (y ∷ ys) = times_cases z x y ys (int_lt y x) (times-with z x ys)
-
-pub times-descending : (z : ℤ) (xs : List ℤ) → times z (descending xs) ≡ times z xs
-times-descending z [] = refl
-times-descending z (x ∷ xs) =
-    times-with z x (descending xs) ∙ times-cons z x (descending xs) ∙ ap (λ n. cond {A = ℕ} (int_eq x z) 1 0 + n) (times-descending z xs) ∙ sym (times-cons z x xs)
-
-below_head : (x : ℤ) (xs : List ℤ) → ((k : ℕ) (d : ℤ) → k < length xs → get_or xs k d ≤ℤ x) → AllByRecursion (λ y. y ≤ℤ x) xs
+below_head : (x : ℤ) (xs : List ℤ) → ((k : ℕ) → k < length xs → get_or xs k (pos 0) ≤ℤ x) → AllByRecursion (λ y. y ≤ℤ x) xs
 below_head x [] all = tt
-below_head x (y ∷ ys) all = (all 0 y (omega arith), below_head x ys (λ k d within. all (suc k) d (omega arith)))
+below_head x (y ∷ ys) all = (all 0 (omega arith), below_head x ys (λ k within. all (suc k) (omega arith)))
 
--- no number is above one that stands at a lower place
-Descends-from_places : (xs : List ℤ) → ((i j : ℕ) (d : ℤ) → i < j → j < length xs → get_or xs j d ≤ℤ get_or xs i d) → Descends xs
+-- a list that goes down by its places goes down by its heads
+Descends-from_places : (xs : List ℤ) → IsDescending xs → Descends xs
 Descends-from_places [] down = tt
 Descends-from_places (x ∷ xs) down = (
-  below_head x xs (λ k d within. down 0 (suc k) d (omega arith) (omega arith)),
-  Descends-from_places xs (λ i j d before within. down (suc i) (suc j) d (omega arith) (omega arith)),
+  below_head x xs (λ k within. down 0 (suc k) (omega arith) (omega arith)),
+  Descends-from_places xs (λ i j before within. down (suc i) (suc j) (omega arith) (omega arith)),
 )
+
+at_most_head : (x : ℤ) (xs : List ℤ) → AllByRecursion (λ y. y ≤ℤ x) xs → (k : ℕ) → k < length xs → get_or xs k (pos 0) ≤ℤ x
+at_most_head x [] all k within = absurd (omega arith)
+at_most_head x (y ∷ ys) all zero within = all.0
+at_most_head x (y ∷ ys) all (suc k) within = at_most_head x ys all.1 k (omega arith)
+
+-- and the other way round
+IsDescending-from_heads : (xs : List ℤ) → Descends xs → IsDescending xs
+IsDescending-from_heads [] down i j before within = absurd (omega arith)
+IsDescending-from_heads (x ∷ xs) down i zero before within = absurd (omega arith)
+IsDescending-from_heads (x ∷ xs) down zero (suc j) before within = at_most_head x xs down.0 j (omega arith)
+IsDescending-from_heads (x ∷ xs) down (suc i) (suc j) before within = IsDescending-from_heads xs down.1 i j (omega arith) (omega arith)
 
 not_less : (x y : ℤ) → is_lt (int_cmp x y) ≡ false → y ≤ℤ x
 not_less x y e = by_lt_z x y (λ below. absurd (false≢true (sym e ∙ less_is x y below))) (λ up. up)
@@ -143,19 +137,41 @@ sorted_places : (xs : List ℤ) → IsSorted int_cmp xs → (i j : ℕ) (d : ℤ
 sorted_places xs up i j d before within =
     not_less (get_or xs j d) (get_or xs i d) (sorted_far (λ x y. is_lt (int_cmp x y)) (ranks_by int_cmp_total (λ x. x)) xs up i j d before within)
 
-Descends-reverse : (xs : List ℤ) → IsSorted int_cmp xs → Descends (reverse xs)
-Descends-reverse xs up =
-    Descends-from_places (reverse xs) (λ i j d before within.
+IsDescending-reverse : (xs : List ℤ) → IsSorted int_cmp xs → IsDescending (reverse xs)
+IsDescending-reverse xs up i j before within =
     let inside : j < length xs = omega (arith, within, length-reverse xs) in
-    let at_i = get_or-reverse xs i d (omega (arith, before, inside)) in
-    let at_j = get_or-reverse xs j d inside in
-    rw (at_i, at_j) (sorted_places xs up (length xs - 1 - j) (length xs - 1 - i) d (omega (arith, before, inside)) (omega (arith, before, inside))))
+    let at_i = get_or-reverse xs i (pos 0) (omega (arith, before, inside)) in
+    let at_j = get_or-reverse xs j (pos 0) inside in
+    rw (at_i, at_j) (sorted_places xs up (length xs - 1 - j) (length xs - 1 - i) (pos 0) (omega (arith, before, inside)) (omega (arith, before, inside)))
+
+moved_cases : (x y : ℤ) (ys : List ℤ) (c : Bool) → IsPermutation (x ∷ ys) (with_descending x ys) → IsPermutation (x ∷ (y ∷ ys)) (cond c (x ∷ (y ∷ ys)) (y ∷ with_descending x ys))
+moved_cases x y ys true moved = IsPermutation-refl (x ∷ (y ∷ ys))
+moved_cases x y ys false moved =
+    IsPermutation-trans _ _ _ (IsPermutation-middle (x ∷ []) y ys) (IsPermutation-cons y (x ∷ ys) (with_descending x ys) moved)
+
+moved_with : (x : ℤ) (ys : List ℤ) → IsPermutation (x ∷ ys) (with_descending x ys)
+moved_with x [] = IsPermutation-refl (x ∷ [])
+moved_with x (y ∷ ys) = moved_cases x y ys (int_lt y x) (moved_with x ys)
+
+-- `descending` has the elements of the list
+pub IsPermutation-descending : (xs : List ℤ) → IsPermutation xs (descending xs)
+IsPermutation-descending [] = IsPermutation-refl []
+IsPermutation-descending (x ∷ xs) =
+    IsPermutation-trans _ _ _ (IsPermutation-cons x xs (descending xs) (IsPermutation-descending xs)) (moved_with x (descending xs))
+
+-- and goes down
+pub IsDescending-descending : (xs : List ℤ) → IsDescending (descending xs)
+IsDescending-descending xs = IsDescending-from_heads (descending xs) (Descends-descending xs)
+
+-- no other list that has the elements goes down
+pub descending_only : (xs ys : List ℤ) → IsPermutation xs ys → IsDescending ys → ys ≡ descending xs
+descending_only xs ys moved down =
+    unique ys (descending xs) (Descends-from_places ys down) (Descends-descending xs)
+    (λ z. sum_by-IsPermutation (λ x. cond (int_eq x z) 1 0) xs ys moved
+    ∙ sym (sum_by-IsPermutation (λ x. cond (int_eq x z) 1 0) xs (descending xs) (IsPermutation-descending xs)))
 
 -- a list, sorted and turned round, is the list in non-increasing order
 pub reverse-sorted_is : (xs ys zs : List ℤ) → IsPermutation xs ys → IsSorted int_cmp ys → zs ≡ reverse ys → zs ≡ descending xs
 reverse-sorted_is xs ys zs moved up turned =
     turned
-    ∙ unique (reverse ys) (descending xs) (Descends-reverse ys up) (Descends-descending xs)
-    (λ z. sum_by-IsPermutation (λ x. cond (int_eq x z) 1 0) ys (reverse ys) (IsPermutation-reverse ys)
-    ∙ sum_by-IsPermutation (λ x. cond (int_eq x z) 1 0) xs ys moved
-    ∙ sym (times-descending z xs))
+    ∙ descending_only xs (reverse ys) (IsPermutation-trans xs ys (reverse ys) moved (IsPermutation-reverse ys)) (IsDescending-reverse ys up)

@@ -1,6 +1,6 @@
 //! Laws over the definitions: each is the contract of a function that does nothing.
 
-ghost use Rattle.std.specs.Prelude.{◌≡◌, ◌≢◌, ◌≤◌, ℕ, ℤ, Option, List, length, All, AllPairs, Contains};
+ghost use Rattle.std.specs.Prelude.{◌≡◌, ◌≢◌, ◌≤◌, ℕ, ℤ, Option, List, length, All, AllPairs, Contains, IsPermutation};
 ghost use Rattle.asg_model.specs.Problem.{Problem};
 ghost use Rattle.asg_model.specs.declared.bands.Band.{Band};
 ghost use Rattle.asg_model.specs.declared.bands.Band.TheVariants.{Whole, Under, Over};
@@ -11,10 +11,19 @@ ghost use Rattle.asg_model.specs.HallSet.{IsHall, LiesIn};
 ghost use Rattle.asg_model.specs.Values.{choice_value};
 ghost use Rattle.asg_model.specs.Better.{IsBetter};
 ghost use Rattle.asg_model.specs.Best.{IsBest};
+ghost use Rattle.asg_model.specs.Descending.{descending, IsDescending};
 
 /// The pigeonhole principle: different numbers that all stand in a list are no more than it has.
 pub fn pigeonhole_law()
     ensures { (xs ys : List ℕ) → AllPairs ◌≢◌ xs → All (Contains ys) xs → length xs ≤ length ys }
+{}
+
+/// The law of sorted lists: `descending` rearranges the numbers of a list so that none is above one that
+/// stands before it, and no other rearrangement does.
+pub fn descending_law()
+    ensures rearranged { (xs : List ℤ) → IsPermutation xs (descending xs) }
+    ensures down { (xs : List ℤ) → IsDescending (descending xs) }
+    ensures only { (xs ys : List ℤ) → IsPermutation xs ys → IsDescending ys → ys ≡ descending xs }
 {}
 
 /// The Hall law: an instance with a Hall set under a band has no valid choice whose cells all lie in the

@@ -1,5 +1,4 @@
 pub mod Reading
-pub mod Thresholds
 pub mod Documents
 pub mod CellMaps
 pub mod FirstReasons

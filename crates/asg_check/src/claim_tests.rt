@@ -4,8 +4,8 @@ ghost use Rattle.std.specs.Prelude.{◌≡◌, ◌↔◌, IsTrue, IfOk, IfSome, 
 ghost use Rattle.asg_model.specs.declared.bands.Band.TheVariants.{Whole};
 ghost use Rattle.asg_model.specs.HallSet.{IsHall};
 ghost use Rattle.asg_model.specs.Instances.{IsInstance};
+ghost use Rattle.asg_model.specs.ValueRange.{IsBottleneckInRange};
 ghost use Rattle.asg_proof.specs.Threshold.{ProvesBelow};
-ghost use Rattle.asg_check.specs.Threshold.{IsThreshold};
 ghost use Rattle.asg_check.specs.Written.{IsWrittenAs};
 ghost use Rattle.asg_check.specs.Certifies.{CertifiesAnswer, CertifiesClaim, ProvesValue};
 ghost use Rattle.asg_check.specs.Reasons.{IsFirstOfAnswer, IsFirstOfClaim, IsFirstOfRows};
@@ -80,7 +80,7 @@ fn choice_fault(
 
 // Whether the proof proves the value.
 fn proves(objective: Objective, inst: &Instance, value: &Value, proof: &Proof) -> bool
-    requires { IsThreshold objective value.now }
+    requires { IsBottleneckInRange objective value.now }
     ensures { IsTrue result ↔ ProvesValue objective inst.now value.now proof.now }
 {
     match proof {
@@ -90,7 +90,7 @@ fn proves(objective: Objective, inst: &Instance, value: &Value, proof: &Proof) -
 
 // Whether the rows are a Hall set of the costs that are strictly better than the value.
 fn proves_below(objective: Objective, inst: &Instance, value: &Value, rows: &[u32]) -> bool
-    requires { IsThreshold objective value.now }
+    requires { IsBottleneckInRange objective value.now }
     ensures { IsTrue result ↔ ProvesBelow objective inst.now value.now rows.now }
 {
     match (objective, value) {

@@ -4,6 +4,7 @@ ghost use Rattle.std.specs.Prelude.{◌≡◌, ◌≤◌, ◌++◌, OnOk, IfOk, 
 ghost use Rattle.asg_model.specs.ValidChoice.{IsValid};
 ghost use Rattle.asg_model.specs.Live.{live_at};
 ghost use Rattle.asg_model.specs.Values.{costs_of, chosen_cost, value_of, choice_value};
+ghost use Rattle.asg_model.specs.ValueRange.{IsBottleneckInRange};
 ghost use Rattle.asg_model.specs.Better.{HasForm};
 ghost use Rattle.asg_model.specs.Instances.{IsCostInRange};
 
@@ -18,7 +19,7 @@ use crate::sums::{total_a, total_b, total_b_at};
 use std::alloc::Global;
 
 /// The value that the objective gives the choice, in the objective's form: one number, two, or a list.
-/// The error is want of memory.
+/// A value of `bottleneck` or `bottleneck-max` is from -10^9 to 10^9. The error is want of memory.
 pub fn value(
     alloc: Global,
     objective: Objective,
@@ -28,6 +29,7 @@ pub fn value(
     requires { IsValid inst.now choice.now }
     ensures exact { IfOk result (λ v. v ≡ choice_value objective inst.now choice.now) }
     ensures form { IfOk result (HasForm objective) }
+    ensures in_range { IfOk result (IsBottleneckInRange objective) }
 {
     let costs = chosen_costs(alloc, inst, choice)?;
     value_of(alloc, objective, costs.as_slice())
@@ -89,6 +91,7 @@ fn value_of(alloc: Global, objective: Objective, costs: &[Cost]) -> Result<Value
     requires in_range { All IsCostInRange costs.now }
     ensures exact { IfOk result (λ v. v ≡ value_of objective costs.now) }
     ensures form { IfOk result (HasForm objective) }
+    ensures in_range { IfOk result (IsBottleneckInRange objective) }
 {
     match objective {
         Objective::Sum | Objective::SumMax => Ok(Value::One(total_a(costs))),

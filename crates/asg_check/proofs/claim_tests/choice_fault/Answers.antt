@@ -1,14 +1,7 @@
-use Rattle.std.proofs.Common.{◌≡◌, Bool, true, false, subst, sym, ap, ◌∙◌}
+use Rattle.std.proofs.Common.{◌≡◌, Bool, true, false, sym, ap, ◌∙◌}
 use Rattle.asg_model.specs.Values.{choice_value}
-use Rattle.asg_check.specs.Threshold.{IsThreshold}
 use Rattle.asg_check.proofs.Reading.{written-once}
-use Rattle.asg_check.proofs.Thresholds.{IsThreshold-value}
 use Rattle.asg_check.proofs.claim_tests.choice_fault.Goals as goal
-
-pub proves-requires : goal.proves-requires
-proves-requires c =
-    subst (IsThreshold c.args.objective) (sym (c.is_same_value.ensures.0 c.if-not-is_same_value.false ∙ c.in_ok-right.ensures.exact))
-    (IsThreshold-value c.args.objective c.args.inst.now c.args.choice.now c.requires.instance)
 
 pub returns-then-not-is_same_value-clause-exact : goal.returns-then-not-is_same_value-clause-exact
 returns-then-not-is_same_value-clause-exact c = (

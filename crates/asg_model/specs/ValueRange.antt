@@ -1,4 +1,3 @@
--- Values that can bound a band of costs.
 use Rattle.std.specs.Prelude.{◌≤◌, unsigned_abs}
 use Rattle.asg_model.specs.declared.objectives.Objective.{Objective}
 use Rattle.asg_model.specs.declared.objectives.Objective.TheVariants.{Bottleneck, BottleneckMax}
@@ -6,7 +5,7 @@ use Rattle.asg_model.specs.declared.objectives.Value.{Value}
 use Rattle.asg_model.specs.declared.objectives.Value.TheVariants.{One}
 
 -- a value of a bottleneck objective is in the range of costs; of other values nothing is said
-abbrev pub IsThreshold : Objective → Value → Type 0
-IsThreshold Bottleneck (One value) = unsigned_abs value ≤ 1000000000
-IsThreshold BottleneckMax (One value) = unsigned_abs value ≤ 1000000000
-IsThreshold _ _ = Unit {0}
+abbrev pub IsBottleneckInRange : Objective → Value → Type 0
+IsBottleneckInRange Bottleneck (One value) = unsigned_abs value ≤ 1000000000
+IsBottleneckInRange BottleneckMax (One value) = unsigned_abs value ≤ 1000000000
+IsBottleneckInRange _ _ = Unit {0}

@@ -124,79 +124,101 @@ fn wanted<'a>(nine: Nine<'a>) -> [(Objective, Want<'a>); 9] {
     ]
 }
 
-// All six assignments of the square, and a choice each with a dropped row, a closed column (where two
-// rows share one), columns that two rows may choose, two rows placed of three, and negative costs.
+// Which instance a choice is of: the square of paired costs as it is, with its third row dropped, with its
+// third column closed and two places in each, with two places in each column, with two rows to be placed,
+// or with the signs turned.
+#[derive(Clone, Copy)]
+enum Shape {
+    Plain,
+    Dropped,
+    Closed,
+    Wide,
+    Two,
+    Turned,
+}
+
+// The instance of this shape.
+fn shaped(alloc: Global, shape: Shape) -> Result<Instance, NoMemory> {
+    match shape {
+        Shape::Plain => paired(alloc, Place::All, 1, true, true),
+        Shape::Dropped => paired(alloc, Place::All, 1, false, true),
+        Shape::Closed => paired(alloc, Place::All, 2, true, false),
+        Shape::Wide => paired(alloc, Place::All, 2, true, true),
+        Shape::Two => paired(alloc, Place::Exactly(2), 1, true, true),
+        Shape::Turned => turned(alloc),
+    }
+}
+
+// All six assignments of the square, and a choice each of the other shapes: in the closed one two rows
+// share a column.
+const TABLE: [(Shape, [u32; 3], Nine<'static>); 11] = [
+    (
+        Shape::Plain,
+        [1, 2, 3],
+        (6, 6, (6, 13), 6, 4, 0, (4, 1), 4, &[4, 2, 0]),
+    ),
+    (
+        Shape::Plain,
+        [1, 3, 2],
+        (11, 11, (11, 15), 7, 5, 2, (5, 6), 3, &[5, 4, 2]),
+    ),
+    (
+        Shape::Plain,
+        [2, 1, 3],
+        (5, 5, (5, 21), 5, 2, 1, (2, 14), 1, &[2, 2, 1]),
+    ),
+    (
+        Shape::Plain,
+        [2, 3, 1],
+        (9, 9, (9, 17), 7, 5, 1, (5, 6), 4, &[5, 3, 1]),
+    ),
+    (
+        Shape::Plain,
+        [3, 1, 2],
+        (7, 7, (7, 15), 7, 3, 2, (3, 2), 1, &[3, 2, 2]),
+    ),
+    (
+        Shape::Plain,
+        [3, 2, 1],
+        (6, 6, (6, 9), 6, 3, 0, (3, 6), 3, &[3, 3, 0]),
+    ),
+    (
+        Shape::Dropped,
+        [3, 1, 0],
+        (5, 5, (5, 7), 5, 3, 2, (3, 2), 1, &[3, 2]),
+    ),
+    (
+        Shape::Closed,
+        [2, 1, 2],
+        (5, 5, (5, 20), 5, 2, 1, (2, 13), 1, &[2, 2, 1]),
+    ),
+    (
+        Shape::Wide,
+        [2, 2, 3],
+        (3, 3, (3, 19), 3, 2, 0, (2, 9), 2, &[2, 1, 0]),
+    ),
+    (
+        Shape::Two,
+        [0, 2, 3],
+        (2, 2, (2, 12), 2, 2, 0, (2, 9), 2, &[2, 0]),
+    ),
+    (
+        Shape::Turned,
+        [2, 1, 3],
+        (-5, -5, (-5, -21), -5, -1, -2, (-1, -7), 1, &[-1, -2, -2]),
+    ),
+];
+
+// The values of the choices in the table.
 #[test]
 fn values_by_hand(rt: HostRuntime) -> Result<(), Fail> {
     let alloc = rt.alloc();
-    let plain = paired(alloc, Place::All, 1, true, true)?;
-    let dropped = paired(alloc, Place::All, 1, false, true)?;
-    let closed = paired(alloc, Place::All, 2, true, false)?;
-    let wide = paired(alloc, Place::All, 2, true, true)?;
-    let two = paired(alloc, Place::Exactly(2), 1, true, true)?;
-    let turned = turned(alloc)?;
-    let table: [(&Instance, [u32; 3], Nine<'_>); 11] = [
-        (
-            &plain,
-            [1, 2, 3],
-            (6, 6, (6, 13), 6, 4, 0, (4, 1), 4, &[4, 2, 0]),
-        ),
-        (
-            &plain,
-            [1, 3, 2],
-            (11, 11, (11, 15), 7, 5, 2, (5, 6), 3, &[5, 4, 2]),
-        ),
-        (
-            &plain,
-            [2, 1, 3],
-            (5, 5, (5, 21), 5, 2, 1, (2, 14), 1, &[2, 2, 1]),
-        ),
-        (
-            &plain,
-            [2, 3, 1],
-            (9, 9, (9, 17), 7, 5, 1, (5, 6), 4, &[5, 3, 1]),
-        ),
-        (
-            &plain,
-            [3, 1, 2],
-            (7, 7, (7, 15), 7, 3, 2, (3, 2), 1, &[3, 2, 2]),
-        ),
-        (
-            &plain,
-            [3, 2, 1],
-            (6, 6, (6, 9), 6, 3, 0, (3, 6), 3, &[3, 3, 0]),
-        ),
-        (
-            &dropped,
-            [3, 1, 0],
-            (5, 5, (5, 7), 5, 3, 2, (3, 2), 1, &[3, 2]),
-        ),
-        (
-            &closed,
-            [2, 1, 2],
-            (5, 5, (5, 20), 5, 2, 1, (2, 13), 1, &[2, 2, 1]),
-        ),
-        (
-            &wide,
-            [2, 2, 3],
-            (3, 3, (3, 19), 3, 2, 0, (2, 9), 2, &[2, 1, 0]),
-        ),
-        (
-            &two,
-            [0, 2, 3],
-            (2, 2, (2, 12), 2, 2, 0, (2, 9), 2, &[2, 0]),
-        ),
-        (
-            &turned,
-            [2, 1, 3],
-            (-5, -5, (-5, -21), -5, -1, -2, (-1, -7), 1, &[-1, -2, -2]),
-        ),
-    ];
-    for (inst, ids, nine) in table {
+    for (shape, ids, nine) in TABLE {
+        let inst = shaped(alloc, shape)?;
         let choice = choice(alloc, ids)?;
-        assert!(rt; is_valid(inst, &choice), "{ids:?}");
+        assert!(rt; is_valid(&inst, &choice), "{ids:?}");
         for (objective, want) in wanted(nine) {
-            let value = value(alloc, objective, inst, &choice)?;
+            let value = value(alloc, objective, &inst, &choice)?;
             assert!(rt;
                 is_wanted(&value, want),
                 "{objective:?} of {ids:?}: {value:?}"

@@ -14,25 +14,27 @@ const SOLVED: &str =
 // What comes before the value of a best bottleneck answer.
 const HEAD: &str = "assignment 1\ncommand solve\nobjective bottleneck\nstatus best\n";
 
+// Square files, and documents that certify for them.
+const CERTIFYING: [(&[u8], &str); 4] = [
+    (THREE, SOLVED),
+    (
+        b"1\n-1000000000\n",
+        "assignment 1\ncommand solve\nobjective bottleneck\nstatus best\nvalue -1000000000\ncells 1\n1 1\nproof below 1\nend\n",
+    ),
+    // Another choice and another Hall set than those that are written by a request to solve.
+    (
+        b"2\n7 7\n-2 7",
+        "assignment 1\ncommand solve\nobjective bottleneck\nstatus best\nvalue 7\ncells 2\n1 2\n2 1\nproof below 1\nend\n",
+    ),
+    (
+        b"2\n7 7\n-2 7",
+        "assignment 1\ncommand solve\nobjective bottleneck\nstatus best\nvalue 7\ncells 2\n1 1\n2 2\nproof below 2 1\nend\n",
+    ),
+];
+
 #[test]
 fn answers_that_certify(rt: HostRuntime) -> Result<(), Fail> {
-    let table: [(&[u8], &str); 4] = [
-        (THREE, SOLVED),
-        (
-            b"1\n-1000000000\n",
-            "assignment 1\ncommand solve\nobjective bottleneck\nstatus best\nvalue -1000000000\ncells 1\n1 1\nproof below 1\nend\n",
-        ),
-        // Another choice and another Hall set than those that are written by a request to solve.
-        (
-            b"2\n7 7\n-2 7",
-            "assignment 1\ncommand solve\nobjective bottleneck\nstatus best\nvalue 7\ncells 2\n1 2\n2 1\nproof below 1\nend\n",
-        ),
-        (
-            b"2\n7 7\n-2 7",
-            "assignment 1\ncommand solve\nobjective bottleneck\nstatus best\nvalue 7\ncells 2\n1 1\n2 2\nproof below 2 1\nend\n",
-        ),
-    ];
-    for (file, answer) in table {
+    for (file, answer) in CERTIFYING {
         let done = run_over(rt.alloc(), CHECK, file, answer.as_bytes(), &[], &[])?;
         assert_eq!(rt; done.code, 0, "{answer}");
         assert_eq!(rt; done.written.as_slice(), b"yes 1\n".as_slice(), "{answer}");
@@ -61,69 +63,71 @@ fn solved_squares_certify(rt: HostRuntime) -> Result<(), Fail> {
     Ok(())
 }
 
+// What comes behind the head of a document for the square `THREE`, and what is told of it.
+const BENT: [(&str, &str); 14] = [
+    (
+        "value 2\ncells 3\n1 2\n2 1\n3 3\nproof below 1\nend\n",
+        "no 1 5 0\n",
+    ),
+    (
+        "value 3\ncells 3\n1 2\n2 1\n3 3\nproof below 3\nend\n",
+        "no 1 4 0\n",
+    ),
+    (
+        "value 2\ncells 3\n1 2\n2 1\n3 3\nproof below 3 3\nend\n",
+        "no 1 5 0\n",
+    ),
+    (
+        "value 2\ncells 3\n1 2\n2 1\n3 3\nproof below 4\nend\n",
+        "no 1 5 0\n",
+    ),
+    (
+        "value 2\ncells 3\n0 2\n2 1\n3 3\nproof below 3\nend\n",
+        "no 1 3 0\n",
+    ),
+    (
+        "value 2\ncells 3\n1 2\n1 1\n3 3\nproof below 3\nend\n",
+        "no 1 3 0\n",
+    ),
+    (
+        "value 2\ncells 3\n2 1\n1 2\n3 3\nproof below 3\nend\n",
+        "no 1 3 0\n",
+    ),
+    (
+        "value 2\ncells 3\n1 4\n2 1\n3 3\nproof below 3\nend\n",
+        "no 1 3 0\n",
+    ),
+    (
+        "value 2\ncells 2\n1 2\n2 1\nproof below 3\nend\n",
+        "no 1 3 0\n",
+    ),
+    (
+        "value 2\ncells 3\n1 2\n2 2\n3 3\nproof below 3\nend\n",
+        "no 1 3 0\n",
+    ),
+    (
+        "value 2\ncells 4\n1 2\n2 1\n3 3\n4 4\nproof below 3\nend\n",
+        "no 1 3 0\n",
+    ),
+    // Cells that aren't a choice come before a wrong value, and a wrong value before wrong rows.
+    (
+        "value 3\ncells 2\n1 2\n2 1\nproof below 1\nend\n",
+        "no 1 3 0\n",
+    ),
+    (
+        "value 3\ncells 3\n1 2\n2 1\n3 3\nproof below 1\nend\n",
+        "no 1 4 0\n",
+    ),
+    // A valid choice with its value that isn't best.
+    (
+        "value 3\ncells 3\n1 3\n2 1\n3 2\nproof below 3\nend\n",
+        "no 1 5 0\n",
+    ),
+];
+
 #[test]
 fn best_answers_that_do_not_certify(rt: HostRuntime) -> Result<(), Fail> {
-    let table: [(&str, &str); 14] = [
-        (
-            "value 2\ncells 3\n1 2\n2 1\n3 3\nproof below 1\nend\n",
-            "no 1 5 0\n",
-        ),
-        (
-            "value 3\ncells 3\n1 2\n2 1\n3 3\nproof below 3\nend\n",
-            "no 1 4 0\n",
-        ),
-        (
-            "value 2\ncells 3\n1 2\n2 1\n3 3\nproof below 3 3\nend\n",
-            "no 1 5 0\n",
-        ),
-        (
-            "value 2\ncells 3\n1 2\n2 1\n3 3\nproof below 4\nend\n",
-            "no 1 5 0\n",
-        ),
-        (
-            "value 2\ncells 3\n0 2\n2 1\n3 3\nproof below 3\nend\n",
-            "no 1 3 0\n",
-        ),
-        (
-            "value 2\ncells 3\n1 2\n1 1\n3 3\nproof below 3\nend\n",
-            "no 1 3 0\n",
-        ),
-        (
-            "value 2\ncells 3\n2 1\n1 2\n3 3\nproof below 3\nend\n",
-            "no 1 3 0\n",
-        ),
-        (
-            "value 2\ncells 3\n1 4\n2 1\n3 3\nproof below 3\nend\n",
-            "no 1 3 0\n",
-        ),
-        (
-            "value 2\ncells 2\n1 2\n2 1\nproof below 3\nend\n",
-            "no 1 3 0\n",
-        ),
-        (
-            "value 2\ncells 3\n1 2\n2 2\n3 3\nproof below 3\nend\n",
-            "no 1 3 0\n",
-        ),
-        (
-            "value 2\ncells 4\n1 2\n2 1\n3 3\n4 4\nproof below 3\nend\n",
-            "no 1 3 0\n",
-        ),
-        // Cells that aren't a choice come before a wrong value, and a wrong value before wrong rows.
-        (
-            "value 3\ncells 2\n1 2\n2 1\nproof below 1\nend\n",
-            "no 1 3 0\n",
-        ),
-        (
-            "value 3\ncells 3\n1 2\n2 1\n3 3\nproof below 1\nend\n",
-            "no 1 4 0\n",
-        ),
-        // A valid choice with its value that isn't best.
-        (
-            "value 3\ncells 3\n1 3\n2 1\n3 2\nproof below 3\nend\n",
-            "no 1 5 0\n",
-        ),
-    ];
-    for (rest, text) in table {
+    for (rest, text) in BENT {
         let answer = format!(in rt.alloc(); "{HEAD}{rest}")?;
         let done = run_over(rt.alloc(), CHECK, THREE, answer.as_bytes(), &[], &[])?;
         assert_eq!(rt; done.code, 6, "{rest}");
@@ -132,19 +136,21 @@ fn best_answers_that_do_not_certify(rt: HostRuntime) -> Result<(), Fail> {
     Ok(())
 }
 
+// Documents of another objective and of another status, and what is told of them.
+const OTHERS: [(&str, &str); 2] = [
+    (
+        "assignment 1\ncommand solve\nobjective bottleneck-max\nstatus best\nvalue 2\ncells 3\n1 2\n2 1\n3 3\nproof below 3\nend\n",
+        "no 1 1 0\n",
+    ),
+    (
+        "assignment 1\ncommand solve\nobjective bottleneck\nstatus none\nhall 1 2 3\nend\n",
+        "no 1 5 0\n",
+    ),
+];
+
 #[test]
 fn other_answers_that_do_not_certify(rt: HostRuntime) -> Result<(), Fail> {
-    let table: [(&str, &str); 2] = [
-        (
-            "assignment 1\ncommand solve\nobjective bottleneck-max\nstatus best\nvalue 2\ncells 3\n1 2\n2 1\n3 3\nproof below 3\nend\n",
-            "no 1 1 0\n",
-        ),
-        (
-            "assignment 1\ncommand solve\nobjective bottleneck\nstatus none\nhall 1 2 3\nend\n",
-            "no 1 5 0\n",
-        ),
-    ];
-    for (answer, text) in table {
+    for (answer, text) in OTHERS {
         let done = run_over(rt.alloc(), CHECK, THREE, answer.as_bytes(), &[], &[])?;
         assert_eq!(rt; done.code, 6, "{answer}");
         assert_eq!(rt; done.written.as_slice(), text.as_bytes(), "{answer}");

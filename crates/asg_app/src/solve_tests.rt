@@ -9,23 +9,25 @@ const USAGE: &str =
 
 const SOLVE: &[&str] = &["solve", "bottleneck", "f"];
 
+// Square files, and the documents that solve them.
+const DOCUMENTS: [(&str, &str); 3] = [
+    (
+        "3\n4 1 3\n2 0 5\n3 2 2\n",
+        "assignment 1\ncommand solve\nobjective bottleneck\nstatus best\nvalue 2\ncells 3\n1 2\n2 1\n3 3\nproof below 3\nend\n",
+    ),
+    (
+        "1\n-1000000000\n",
+        "assignment 1\ncommand solve\nobjective bottleneck\nstatus best\nvalue -1000000000\ncells 1\n1 1\nproof below 1\nend\n",
+    ),
+    (
+        "2\n7 7\n-2 7",
+        "assignment 1\ncommand solve\nobjective bottleneck\nstatus best\nvalue 7\ncells 2\n1 1\n2 2\nproof below 1\nend\n",
+    ),
+];
+
 #[test]
 fn documents_of_square_files(rt: HostRuntime) -> Result<(), Fail> {
-    let table: [(&str, &str); 3] = [
-        (
-            "3\n4 1 3\n2 0 5\n3 2 2\n",
-            "assignment 1\ncommand solve\nobjective bottleneck\nstatus best\nvalue 2\ncells 3\n1 2\n2 1\n3 3\nproof below 3\nend\n",
-        ),
-        (
-            "1\n-1000000000\n",
-            "assignment 1\ncommand solve\nobjective bottleneck\nstatus best\nvalue -1000000000\ncells 1\n1 1\nproof below 1\nend\n",
-        ),
-        (
-            "2\n7 7\n-2 7",
-            "assignment 1\ncommand solve\nobjective bottleneck\nstatus best\nvalue 7\ncells 2\n1 1\n2 2\nproof below 1\nend\n",
-        ),
-    ];
-    for (file, text) in table {
+    for (file, text) in DOCUMENTS {
         let done = run_over(rt.alloc(), SOLVE, file.as_bytes(), b"", &[], &[])?;
         assert_eq!(rt; done.code, 0, "{file}");
         assert_eq!(rt; done.written.as_slice(), text.as_bytes(), "{file}");
@@ -50,22 +52,24 @@ fn values_of_squares(rt: HostRuntime) -> Result<(), Fail> {
     Ok(())
 }
 
+// Texts that are no square file.
+const NO_SQUARES: [&[u8]; 11] = [
+    b"2\n1 2\n3 x\n",
+    b"2\n1 2\n3 1:2\n",
+    b"2\n1 2\n3 -\n",
+    b"",
+    b"0",
+    b"1001",
+    b"2\n1 2 3\n",
+    b"2\n1 2 3 4 5\n",
+    b"1\n1000000001\n",
+    b"1\n\xc3\xa9\n",
+    b"-1\n5\n",
+];
+
 #[test]
 fn files_that_are_refused(rt: HostRuntime) -> Result<(), Fail> {
-    let table: [&[u8]; 11] = [
-        b"2\n1 2\n3 x\n",
-        b"2\n1 2\n3 1:2\n",
-        b"2\n1 2\n3 -\n",
-        b"",
-        b"0",
-        b"1001",
-        b"2\n1 2 3\n",
-        b"2\n1 2 3 4 5\n",
-        b"1\n1000000001\n",
-        b"1\n\xc3\xa9\n",
-        b"-1\n5\n",
-    ];
-    for file in table {
+    for file in NO_SQUARES {
         let done = run_over(rt.alloc(), SOLVE, file, b"", &[], &[])?;
         assert_eq!(rt; done.code, 3, "{file:?}");
         assert_eq!(rt;
@@ -77,25 +81,27 @@ fn files_that_are_refused(rt: HostRuntime) -> Result<(), Fail> {
     Ok(())
 }
 
+// Words that are no request.
+const NO_REQUESTS: [&[&str]; 14] = [
+    &[],
+    &["solve", "bottleneck"],
+    &["solve", "bottleneck", "f", "g"],
+    &["--help"],
+    &["solve", "bottleneck", ""],
+    &["solve", "bottleneck", "-x"],
+    &["solve", "sum", "f"],
+    &["Solve", "bottleneck", "f"],
+    &["check", "bottleneck", "f"],
+    &["check", "bottleneck", "f", "g", "h"],
+    &["check", "sum", "f", "g"],
+    &["check", "bottleneck", "f", "-g"],
+    &["check", "bottleneck", "-f", "g"],
+    &["check", "bottleneck", "f", ""],
+];
+
 #[test]
 fn words_that_are_no_request(rt: HostRuntime) -> Result<(), Fail> {
-    let table: [&[&str]; 14] = [
-        &[],
-        &["solve", "bottleneck"],
-        &["solve", "bottleneck", "f", "g"],
-        &["--help"],
-        &["solve", "bottleneck", ""],
-        &["solve", "bottleneck", "-x"],
-        &["solve", "sum", "f"],
-        &["Solve", "bottleneck", "f"],
-        &["check", "bottleneck", "f"],
-        &["check", "bottleneck", "f", "g", "h"],
-        &["check", "sum", "f", "g"],
-        &["check", "bottleneck", "f", "-g"],
-        &["check", "bottleneck", "-f", "g"],
-        &["check", "bottleneck", "f", ""],
-    ];
-    for words in table {
+    for words in NO_REQUESTS {
         let done = run_over(rt.alloc(), words, b"1 1", b"", &[], &[])?;
         assert_eq!(rt; done.code, 2);
         assert_eq!(rt; done.written.as_slice(), USAGE.as_bytes());

@@ -12,10 +12,10 @@ use Rattle.asg_io.specs.declared.shelf.FetchFault.TheVariants as faults
 use Rattle.asg_io.specs.declared.sink.PutFault.{PutFault}
 use Rattle.asg_doc.specs.Flow.{Rose-later}
 use Rattle.asg_app.specs.declared.status.Status.{Status}
-use Rattle.asg_app.specs.declared.status.Status.TheVariants.{ReadFault, WriteFault, NoMemory, TooLong, Document as Unread}
+use Rattle.asg_app.specs.declared.status.Status.TheVariants.{ReadFault, WriteFault, NoMemory, TooLong}
 use Rattle.asg_app.specs.Statuses.{IsAnswer}
 use Rattle.asg_app.specs.Due.{DueForDocument, DueForSpoken, Documents}
-use Rattle.asg_app.specs.Texts.{no_text, refused_document_text, yes_text}
+use Rattle.asg_app.specs.Texts.{no_text, yes_text}
 use Rattle.asg_model.specs.Problem.{Problem}
 use Rattle.asg_doc.specs.declared.documents.Document.{Document}
 use Rattle.asg_app.specs.Ends.{Ends, Serves, status_of}
@@ -143,18 +143,12 @@ Serves-later Owed Due before after faults risen name names asked between now cou
   asks_all = λ h. serves.asks_all h ∙ ap (λ xs. xs ++ names) is ∙ append_assoc asked (name ∷ []) names;
 }
 
--- one document is what is judged, and no other number of them
+-- one document is what is judged
 pub DueForSpoken-one : (X : Problem) (documents : List Document) (document : Document) → 1 ≤ length documents → length documents < 2 → document ≡ get_or documents 0 document
     → (status : Status) (text : List ℕ) → DueForDocument X document status text → DueForSpoken X (Documents documents) status text
 DueForSpoken-one X [] document some one is status text due = absurd (omega arith)
 DueForSpoken-one X (first ∷ []) document some one is status text due = subst (λ d. DueForDocument X d status text) is due
 DueForSpoken-one X (first ∷ second ∷ documents) document some one is status text due = absurd (omega arith)
-
-pub DueForSpoken-others : (X : Problem) (documents : List Document) → length documents ≢ 1
-    → (status : Status) (text : List ℕ) → (status ≡ Unread) × (text ≡ refused_document_text 0) → DueForSpoken X (Documents documents) status text
-DueForSpoken-others X [] others status text due = due
-DueForSpoken-others X (first ∷ []) others status text due = absurd (others refl)
-DueForSpoken-others X (first ∷ second ∷ documents) others status text due = due
 
 -- the text of a denial, and of one document that certifies
 pub no-one : (bytes text : List ℕ) (reason : ℕ) (place again : ℤ) → bytes ≡ text → text ≡ codes "no 1 " ++ (decimal reason ++ 32 ∷ (signed_decimal again ++ 10 ∷ [])) → again ≡ place → bytes ≡ no_text 1 reason place

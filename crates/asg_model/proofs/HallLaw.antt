@@ -9,7 +9,6 @@ use Rattle.std.proofs.lemmas.Bool.{false≢true, cases_Bool}
 use Rattle.std.proofs.lemmas.Bool.Decides.{Decides-eqb, Decides-ltb}
 use Rattle.std.proofs.lemmas.Option.{slice_get-get_or}
 use Rattle.std.proofs.lemmas.List.FromFn.{length-enumerate_from, get_or-enumerate_from}
-use Rattle.asg_model.specs.declared.parts.Column.{Column}
 use Rattle.asg_model.specs.declared.parts.Place.{Place}
 use Rattle.asg_model.specs.declared.parts.Place.TheVariants.{All as PlaceAll, Exactly}
 use Rattle.asg_model.specs.declared.bands.Band.{Band}
@@ -20,7 +19,7 @@ use Rattle.asg_model.specs.ValidChoice.{takes, IsValid}
 use Rattle.asg_model.specs.Bands.{in_band}
 use Rattle.asg_model.specs.HallSet.{is_live_within, is_reached, reached_part, reached_capacity, IsHall, LiesIn}
 use Rattle.asg_model.proofs.Counting.{sum_below, count_below, sum_below-same, sum_below-le, sum_below-add, sum_below-zero, sum_below-exchange, term-le-sum_below, sum_by-below}
-use Rattle.asg_model.proofs.HallRows.{one, chosen, Chooses-from_chosen, is_active-from_live, column-from_live, row-from_active, some_cost, is_in, no_row, set-le, counted-from_in, reached-from_in}
+use Rattle.asg_model.proofs.HallRows.{one, chosen, Chooses-from_chosen, is_active-from_live, column-from_live, row-from_active, some_cost, is_in, no_row, no_column, set-le, counted-from_in, reached-from_in}
 
 -- ---- the counted rows
 
@@ -81,9 +80,6 @@ module _ (X : Problem) (f : List (Option ℕ)) (valid : IsValid X f) where
       let some = chosen-count is_some in
       let many = valid.counted in
       omega (arith, counted, split, both, some, many)
-
-no_column : Column
-no_column = record { id = 0; cap = 0; usable = false }
 
 capacity_below : (X : Problem) (c : ℕ) → c < length X.columns → capacity_at X c ≡ (get_or X.columns c no_column).cap
 capacity_below X c within = ap (λ o. option_map_or (λ column. column.cap) o 0) (slice_get-get_or X.columns c no_column within)

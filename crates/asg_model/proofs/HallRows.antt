@@ -1,16 +1,17 @@
 -- What a row chooses, and the rows that a set of ids names.
-use Rattle.std.proofs.Common.{◌≡◌, ◌≢◌, ℕ, suc, ◌<◌, ◌≤◌, Bool, true, false, cond, ◌&&◌, ◌||◌, eqb, List, [], ◌∷◌, length, get_or, refl, arith, sym, ap, ◌∙◌, map, ⊎_elim}
-use Rattle.std.specs.Prelude.{Option, Some, None, IsSome, unwrap_or, AllPairs, ◌==◌}
+use Rattle.std.proofs.Common.{◌≡◌, ◌≢◌, ℕ, suc, ◌<◌, ◌≤◌, Bool, true, false, cond, ◌&&◌, ◌||◌, eqb, List, [], ◌∷◌, length, get_or, take, refl, arith, sym, ap, ◌∙◌, map, ⊎_elim}
+use Rattle.std.specs.Prelude.{Option, Some, None, IsSome, unwrap_or, option_and_then, AllPairs, ◌==◌}
 use Rattle.std.specs.List.{list_any}
 use Rattle.std.specs.Option.{option_map_or}
 use Rattle.std.proofs.lemmas.Bool.{false≢true, cases_lt}
 use Rattle.std.proofs.lemmas.Bool.Decides.{Decides-eqb}
-use Rattle.std.proofs.lemmas.Option.{slice_get-get_or, slice_get_past, none-some}
+use Rattle.std.proofs.lemmas.Option.{slice_get-get_or, slice_get_past, none-some, same_Some}
 use Rattle.std.proofs.lemmas.List.Quantifiers.{position-Some}
-use Rattle.std.proofs.lemmas.List.{get_or_past, get_or-map, length-map}
+use Rattle.std.proofs.lemmas.List.{get_or_past, get_or-map, length-map, get_or-take, length-take}
 use Rattle.std.proofs.lemmas.List.Folds.{list_any_at}
 use Rattle.asg_model.specs.declared.parts.Cost.{Cost}
 use Rattle.asg_model.specs.declared.parts.Row.{Row}
+use Rattle.asg_model.specs.declared.parts.Column.{Column}
 use Rattle.asg_model.specs.declared.bands.Band.{Band}
 use Rattle.asg_model.specs.Problem.{Problem}
 use Rattle.asg_model.specs.Live.{is_active, is_open, cost_at, live_at}
@@ -29,7 +30,7 @@ option_passes p None e = absurd (false≢true e)
 option_passes p (Some r) e = (r, refl, e)
 
 -- some element of a list passes
-abbrev Found : (ℕ → Bool) → List ℕ → Type 0
+abbrev pub Found : (ℕ → Bool) → List ℕ → Type 0
 Found p xs = (k : ℕ) × (k < length xs) × ((d : ℕ) → p (get_or xs k d) ≡ true)
 
 found_more : (p : ℕ → Bool) (x : ℕ) (xs : List ℕ) (b : Bool) → p x ≡ b → (b || list_any p xs) ≡ true → (list_any p xs ≡ true → Found p xs) → Found p (x ∷ xs)
@@ -38,7 +39,7 @@ found_more p x xs false here e later =
     let found = later e in
     (suc found.0, omega (arith, found.1), λ d. found.2 d)
 
-list_any-found : (p : ℕ → Bool) (xs : List ℕ) → list_any p xs ≡ true → Found p xs
+pub list_any-found : (p : ℕ → Bool) (xs : List ℕ) → list_any p xs ≡ true → Found p xs
 list_any-found p [] e = absurd (false≢true e)
 list_any-found p (x ∷ xs) e = found_more p x xs (p x) refl e (list_any-found p xs)
 
@@ -95,7 +96,7 @@ names X r id = option_map_or (λ k. k == r) (row_place_of X id) false
 abbrev pub is_in : Problem → List ℕ → ℕ → Bool
 is_in X ids r = list_any (names X r) ids
 
-place_named : (X : Problem) (r id : ℕ) → names X r id ≡ true → row_place_of X id ≡ Some r
+pub place_named : (X : Problem) (r id : ℕ) → names X r id ≡ true → row_place_of X id ≡ Some r
 place_named X r id e =
     let found = option_passes (λ k. k == r) (row_place_of X id) e in
     found.1 ∙ ap Some ((Decides-eqb found.0 r).0 found.2)
@@ -111,14 +112,26 @@ counted_place X id e =
     let at : place_of X id ≡ found.0 = ap (λ o. unwrap_or o 0) found.1 in
     (found.1 ∙ ap Some (sym at), ap (is_counted X) at ∙ found.2)
 
-pub no_row : Row
+abbrev pub no_row : Row
 no_row = record { id = 0; active = false }
 
+abbrev pub no_column : Column
+no_column = record { id = 0; cap = 0; usable = false }
+
 -- the row at the place of an id has that id
-id_at_place : (X : Problem) (id r : ℕ) → row_place_of X id ≡ Some r → (r < length X.rows) × ((get_or X.rows r no_row).id ≡ id)
+pub id_at_place : (X : Problem) (id r : ℕ) → row_place_of X id ≡ Some r → (r < length X.rows) × ((get_or X.rows r no_row).id ≡ id)
 id_at_place X id r e =
     let found = position-Some (λ row. row.id == id) X.rows r no_row e in
     (found.0, (Decides-eqb _ id).0 found.1)
+
+-- the place of a counted row that an id names
+pub counted_row : (X : Problem) (o : Option ℕ) (row : ℕ) → option_and_then (λ r. cond (is_counted X r) (Some r) None) o ≡ Some row → (o ≡ Some row) × (is_counted X row ≡ true)
+counted_row X None row e = absurd (none-some row e)
+counted_row X (Some r) row e = by_count (is_counted X r) refl e
+  where
+    by_count : (b : Bool) → is_counted X r ≡ b → cond b (Some r) None ≡ Some row → (Some r ≡ Some row) × (is_counted X row ≡ true)
+    by_count true is e = (e, ap (is_counted X) (sym (same_Some r row e)) ∙ is)
+    by_count false is e = absurd (none-some row e)
 
 -- different ids name rows at different places
 places_differ : (X : Problem) (x y : ℕ) → is_counted_id X x ≡ true → is_counted_id X y ≡ true → x ≢ y → place_of X x ≢ place_of X y
@@ -172,3 +185,20 @@ module _ (X : Problem) (band : Band) (ids : List ℕ) (hall : IsHall X band ids)
       let at = place_named X r id (found.2 0) in
       let reach : reaches X band c id ≡ true = ap (λ o. option_map_or (λ k. is_live_within X band k c) o false) at ∙ live in
       list_any_at (reaches X band c) ids found.0 0 found.1 reach
+
+-- ---- ids that are read one after another
+
+-- an id that names the row at place r stands twice where an earlier one names it too
+pub named_twice : (X : Problem) (ids : List ℕ) (i r : ℕ) → i < length ids → row_place_of X (get_or ids i 0) ≡ Some r → list_any (names X r) (take i ids) ≡ true → AllPairs ◌≢◌ ids → ⊥
+named_twice X ids i r within place seen differ =
+    let found = list_any-found (names X r) (take i ids) seen in
+    let k = found.0 in
+    let before : k < i = omega (arith, found.1, length-take i ids) in
+    let earlier : row_place_of X (get_or ids k 0) ≡ Some r = place_named X r (get_or ids k 0) (ap (names X r) (sym (get_or-take i ids k 0 before)) ∙ found.2 0) in
+    differ k i 0 before within (sym (id_at_place X (get_or ids k 0) r earlier).1 ∙ (id_at_place X (get_or ids i 0) r place).1)
+
+-- an earlier id that is the same names the same row
+pub named_before : (X : Problem) (ids : List ℕ) (i j r : ℕ) → j < i → i < length ids → row_place_of X (get_or ids i 0) ≡ Some r → get_or ids j 0 ≡ get_or ids i 0 → list_any (names X r) (take i ids) ≡ true
+named_before X ids i j r before within place same =
+    list_any_at (names X r) (take i ids) j 0 (omega (arith, before, within, length-take i ids))
+    (ap (names X r) (get_or-take i ids j 0 before ∙ same) ∙ ap (λ o. option_map_or (λ k. k == r) o false) place ∙ (Decides-eqb r r).1 refl)

@@ -1,6 +1,5 @@
 pub mod Cells
-pub mod ValidRows
-pub mod Pairs
+pub mod Takers
 pub mod Enumerated
 pub mod Steps
 pub mod DescendingLists
@@ -11,3 +10,8 @@ pub mod HallRows
 pub mod HallLaw
 pub mod BottleneckLaw
 pub mod CellMaps
+pub mod ValueRanges
+pub mod Tables
+pub mod ShapeLemmas
+pub mod Positions
+pub mod Slots

@@ -12,4 +12,5 @@ descending (x ∷ xs) = with_descending x (descending xs)
 
 -- no number of a list is above one that stands before it
 abbrev pub IsDescending : List ℤ → Type 0
-IsDescending xs = (i j : ℕ) → i < j → j < length xs → slice_index_or xs j (pos 0) ≤ℤ slice_index_or xs i (pos 0)
+IsDescending xs = (i j : ℕ) → i < j → j < length xs →
+    slice_index_or xs j (pos 0) ≤ℤ slice_index_or xs i (pos 0)

@@ -42,13 +42,18 @@ reached_capacity X band ids = sum_by (reached_part X band ids) (enumerate_from 0
 abbrev pub is_counted_id : Problem → ℕ → Bool
 is_counted_id X id = option_map_or (is_counted X) (row_place_of X id) false
 
--- a Hall set under a band: different counted rows, by id, that are more than the columns which they
--- reach by live cells of the band can hold, even where as many rows stay out as may
-pub record IsHall (X : Problem) (band : Band) (ids : List ℕ) : Type 0 where
+-- a Hall set of rows under a band: different counted rows, by id, that are more than the columns
+-- which they reach by live cells of the band can hold, even where as many rows stay out as may
+pub record IsHallOfRows (X : Problem) (band : Band) (ids : List ℕ) : Type 0 where
   pub different : AllPairs ◌≢◌ ids
   pub counted : All (λ id. IsTrue (is_counted_id X id)) ids
   pub short : reached_capacity X band ids + slack X < length ids
 
+-- a Hall set under a band
+abbrev pub IsHall : Problem → Band → List ℕ → Type 0
+IsHall X band ids = IsHallOfRows X band ids
+
 -- each chosen live cell has a cost of the band
 abbrev pub LiesIn : Problem → Band → List (Option ℕ) → Type 0
-LiesIn X band f = (r c : ℕ) (cost : Cost) → Chooses f r c → live_at X r c ≡ Some cost → IsTrue (in_band band cost.a)
+LiesIn X band f = (r c : ℕ) (cost : Cost) → Chooses f r c → live_at X r c ≡ Some cost →
+    IsTrue (in_band band cost.a)

@@ -6,7 +6,8 @@ use Rattle.asg_model.specs.Problem.{Problem}
 -- the cost that a list of cells has at a row place and a column place
 abbrev pub cost_at : List ((ℕ × ℕ) × Cost) → ℕ → ℕ → Option Cost
 cost_at [] r c = None
-cost_at (cell ∷ cells) r c = if (cell.0.0 == r) && (cell.0.1 == c) then Some cell.1 else cost_at cells r c
+cost_at (cell ∷ cells) r c =
+    if (cell.0.0 == r) && (cell.0.1 == c) then Some cell.1 else cost_at cells r c
 
 -- there is a row at this place, and it is active
 abbrev pub is_active : Problem → ℕ → Bool

@@ -11,3 +11,8 @@ pub record Problem : Type 0 where
   pub columns : List Column
   pub cells : List ((ℕ × ℕ) × Cost)
   pub place : Place
+
+-- the problem of these parts
+abbrev pub problem_of : List Row → List Column → List ((ℕ × ℕ) × Cost) → Place → Problem
+problem_of rows columns cells place =
+    record { rows = rows; columns = columns; cells = cells; place = place }

@@ -14,7 +14,8 @@ is_refused _ cost = false
 
 -- the objective refuses no live cost of an instance
 abbrev pub PassesNegative : Objective → Problem → Type 0
-PassesNegative objective X = (r c : ℕ) → IfSome (live_at X r c) (λ cost. is_refused objective cost ≡ false)
+PassesNegative objective X =
+    (r c : ℕ) → IfSome (live_at X r c) (λ cost. is_refused objective cost ≡ false)
 
 -- the cell at the places r and c is live, and the objective refuses its cost
 abbrev pub is_refused_at : Objective → Problem → ℕ → ℕ → Bool

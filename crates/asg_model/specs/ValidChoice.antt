@@ -12,11 +12,6 @@ Chooses f r c = slice_get f r ≡ Some (Some c)
 abbrev pub takes : ℕ → Option ℕ → Bool
 takes c chosen = option_map_or (λ d. d == c) chosen false
 
--- what the row at place r chooses, if anything, is a live cell in a column that isn't chosen more often
--- than its capacity
-abbrev pub IsValidRow : Problem → List (Option ℕ) → ℕ → Type 0
-IsValidRow X f r = (c : ℕ) → Chooses f r c → IsSome (live_at X r c) × (count_by (takes c) f ≤ capacity_at X c)
-
 -- a valid choice is over all rows; each chosen cell is live, each column is chosen at most as often as
 -- its capacity, and exactly as many rows choose as the place rule places
 pub record IsValid (X : Problem) (f : List (Option ℕ)) : Type 0 where

@@ -1,7 +1,6 @@
 //! Choices of cells.
 
 ghost use Rattle.std.specs.Prelude.{◌≡◌, ◌<◌, length, slice_get, slice_set, replicate, count_by, is_some, IfOk, None};
-ghost use Rattle.asg_model.specs.ValidChoice.{takes};
 
 use crate::NoMemory;
 use std::alloc::Global;
@@ -63,25 +62,5 @@ impl Choice {
             .iter()
             .filter(|chosen| chosen.is_some())
             .count() as u32
-    }
-
-    // The number of rows that choose the column at this place.
-    pub(crate) fn takers(&self, col: u32) -> u32
-        ensures { result ≡ count_by (takes col) self.now }
-    {
-        self.columns
-            .iter()
-            .filter(|chosen| is_taken(**chosen, col))
-            .count() as u32
-    }
-}
-
-// Whether what a row chooses is the column at this place.
-fn is_taken(chosen: Option<u32>, col: u32) -> bool
-    ensures { result ≡ takes col chosen }
-{
-    match chosen {
-        Some(place) => place == col,
-        None => false,
     }
 }

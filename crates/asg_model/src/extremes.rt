@@ -3,6 +3,7 @@
 ghost use Rattle.std.specs.Prelude.{◌≡◌, ◌≤◌, All, unsigned_abs};
 ghost use Rattle.asg_model.specs.Values.{first_parts};
 ghost use Rattle.asg_model.specs.Extremes.{greatest, least};
+ghost use Rattle.asg_model.specs.Limits.{most_cost};
 ghost use Rattle.asg_model.specs.Instances.{IsCostInRange};
 
 use crate::parts::Cost;
@@ -11,7 +12,7 @@ use crate::parts::Cost;
 pub(crate) fn greatest(costs: &[Cost]) -> i64
     requires { All IsCostInRange costs.now }
     ensures exact { result ≡ greatest (first_parts costs.now) }
-    ensures in_range { unsigned_abs result ≤ 1000000000 }
+    ensures in_range { unsigned_abs result ≤ most_cost }
 {
     let Some(first) = costs.first() else {
         return 0;
@@ -27,7 +28,7 @@ pub(crate) fn greatest(costs: &[Cost]) -> i64
 pub(crate) fn least(costs: &[Cost]) -> i64
     requires { All IsCostInRange costs.now }
     ensures exact { result ≡ least (first_parts costs.now) }
-    ensures in_range { unsigned_abs result ≤ 1000000000 }
+    ensures in_range { unsigned_abs result ≤ most_cost }
 {
     let Some(first) = costs.first() else {
         return 0;

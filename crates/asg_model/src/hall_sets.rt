@@ -1,49 +1,66 @@
 //! Hall sets: rows that prove that no choice is valid.
 
-ghost use Rattle.std.specs.Prelude.{◌≡◌, ◌≢◌, ◌+◌, ◌<◌, ◌≤◌, ◌↔◌, IsTrue, AllPairs, length};
-ghost use Rattle.std.specs.List.{list_all};
-ghost use Rattle.asg_model.specs.HallSet.{IsHall, is_live_within, reaches, is_reached, reached_part, reached_capacity, is_counted_id};
-ghost use Rattle.asg_model.specs.Counts.{slack};
+ghost use Rattle.std.specs.Prelude.{◌≡◌, ◌≢◌, ◌+◌, ◌<◌, ◌≤◌, ◌↔◌, ℕ, false, ◌&&◌, IsTrue, IfSome, All, AllPairs, length, replicate, slice_index_or, Some, None, if◌then◌else◌, option_and_then};
+ghost use Rattle.asg_model.specs.Limits.{most_rows, most_columns};
+ghost use Rattle.asg_model.specs.Live.{is_open};
+ghost use Rattle.asg_model.specs.Counts.{slack, is_counted};
+ghost use Rattle.asg_model.specs.HallSet.{IsHall, row_place_of, is_counted_id, is_reached, reached_capacity};
 
 use crate::bands::Band;
 use crate::instances::Instance;
+use crate::limits::{MOST_COLUMNS, MOST_ROWS};
 use crate::parts::Column;
+use crate::reach::reach_id;
 
 /// Whether the rows, by id, are a Hall set under the band (Hall's condition with deficiency): counted
 /// rows, none named twice, that are more than the columns which they reach by live cells of the band can
-/// hold, even where as many of them stay out as a valid choice may leave out. It takes no memory.
+/// hold, even where as many of them stay out as a valid choice may leave out. It takes no memory, and
+/// time in proportion to the cells of the rows where the costs stand in a table.
 pub fn is_hall(inst: &Instance, band: Band, rows: &[u32]) -> bool
     ensures { IsTrue result ↔ IsHall inst.now band rows.now }
 {
-    are_different(rows) && are_counted(inst, rows) && are_short(inst, band, rows)
+    are_counted_once(inst, rows) && are_short(inst, band, rows)
 }
 
 // Whether the rows are more than the columns that they reach can hold, and than may stay out.
 fn are_short(inst: &Instance, band: Band, rows: &[u32]) -> bool
-    ensures { IsTrue result ↔ (reached_capacity inst.now band rows.now + slack inst.now < length rows.now) }
+    ensures { IsTrue result ↔
+        (reached_capacity inst.now band rows.now + slack inst.now < length rows.now) }
 {
     let room = reached_capacity(inst, band, rows);
     let out = inst.slack();
     room + u64::from(out) < rows.len() as u64
 }
 
-// Whether no id stands twice.
-fn are_different(ids: &[u32]) -> bool
-    ensures { IsTrue result ↔ AllPairs ◌≢◌ ids.now }
+// Whether each id names a counted row, and no two of them are the same.
+fn are_counted_once(inst: &Instance, ids: &[u32]) -> bool
+    ensures { IsTrue result ↔
+        (AllPairs ◌≢◌ ids.now × All (λ id. IsTrue (is_counted_id inst.now id)) ids.now) }
 {
-    for (i, id) in ids.iter().enumerate() {
-        if ids[..i].contains(id) {
+    let mut named = no_rows();
+    for id in ids {
+        let Some(row) = counted_place(inst, *id) else {
+            return false;
+        };
+        if named[row as usize] {
             return false;
         }
+        named[row as usize] = true;
     }
     true
 }
 
-// Whether each id names a counted row.
-fn are_counted(inst: &Instance, ids: &[u32]) -> bool
-    ensures { result ≡ list_all (is_counted_id inst.now) ids.now }
+// The place of the counted row that has the id.
+fn counted_place(inst: &Instance, id: u32) -> Option<u32>
+    ensures exact { result ≡
+        option_and_then (λ r. if is_counted inst.now r then Some r else None)
+        (row_place_of inst.now id) }
+    ensures below { IfSome result (λ row. row < most_rows) }
 {
-    ids.iter().all(|id| inst.is_counted_id(*id))
+    match inst.row_place(id) {
+        Some(row) if inst.is_counted(row) => Some(row),
+        _ => None,
+    }
 }
 
 // The capacities of the columns that the rows reach, added up: at most a million.
@@ -51,47 +68,47 @@ fn reached_capacity(inst: &Instance, band: Band, rows: &[u32]) -> u64
     ensures exact { result ≡ reached_capacity inst.now band rows.now }
     ensures bound { result ≤ 1000000 }
 {
+    let reached = reached_columns(inst, band, rows);
     let mut total = 0;
     for (place, column) in inst.columns().iter().enumerate() {
-        total += reached_part(inst, band, rows, place as u32, *column);
+        total += part_of(reached[place], *column);
     }
     total
 }
 
-// The capacity of the column where the rows reach it, else 0.
-fn reached_part(inst: &Instance, band: Band, rows: &[u32], col: u32, column: Column) -> u64
-    ensures { result ≡ reached_part inst.now band rows.now (col, column) }
+// The capacity of the column where it is open and reached, else 0.
+fn part_of(reached: bool, column: Column) -> u64
+    ensures { result ≡ (if reached && column.usable then column.cap else 0) }
 {
-    if is_reached(inst, band, rows, col) {
+    if reached && column.usable {
         u64::from(column.cap)
     } else {
         0
     }
 }
 
-// Whether some row of the list has a live cell of the band in the column.
-fn is_reached(inst: &Instance, band: Band, rows: &[u32], col: u32) -> bool
-    ensures { result ≡ is_reached inst.now band rows.now col }
+// For each open column, whether some row of the list has a live cell of the band in it.
+fn reached_columns(inst: &Instance, band: Band, ids: &[u32]) -> [bool; MOST_COLUMNS]
+    ensures { (c : ℕ) → IsTrue (is_open inst.now c) →
+        slice_index_or result c false ≡ is_reached inst.now band ids.now c }
 {
-    rows.iter().any(|id| reaches(inst, band, col, *id))
+    let mut reached = no_columns();
+    for id in ids {
+        reach_id(inst, band, *id, &mut reached);
+    }
+    reached
 }
 
-// Whether the row that has the id has a live cell of the band in the column.
-fn reaches(inst: &Instance, band: Band, col: u32, id: u32) -> bool
-    ensures { result ≡ reaches inst.now band col id }
+// Marks for each row that an instance may have, none set.
+fn no_rows() -> [bool; MOST_ROWS]
+    ensures { result ≡ replicate most_rows false }
 {
-    match inst.row_place(id) {
-        Some(row) => is_live_within(inst, band, row, col),
-        None => false,
-    }
+    [false; MOST_ROWS]
 }
 
-// Whether the row at the place has a live cell of the band in the column.
-fn is_live_within(inst: &Instance, band: Band, row: u32, col: u32) -> bool
-    ensures { result ≡ is_live_within inst.now band row col }
+// Marks for each column that an instance may have, none set.
+fn no_columns() -> [bool; MOST_COLUMNS]
+    ensures { result ≡ replicate most_columns false }
 {
-    match inst.live(row, col) {
-        Some(cost) => band.holds(cost.a),
-        None => false,
-    }
+    [false; MOST_COLUMNS]
 }

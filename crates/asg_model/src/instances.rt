@@ -1,8 +1,9 @@
 //! Instances.
 
-ghost use Rattle.std.specs.Prelude.{◌≡◌, ◌==◌, position, IfSome};
-ghost use Rattle.asg_model.specs.Problem.{Problem};
+ghost use Rattle.std.specs.Prelude.{◌≡◌, ◌<◌, ◌^◌, [], length, All, IfSome};
+ghost use Rattle.asg_model.specs.Problem.{problem_of};
 
+use crate::cell_store::{CellStore, table_cell, table_row};
 use crate::parts::{Column, Cost, Place, Row};
 use std::collections::BTreeMap;
 use std::marker::Model;
@@ -11,10 +12,10 @@ use std::marker::Model;
 /// rule. A place counts from 0.
 #[derive(Debug, Drop)]
 pub struct Instance {
-    rows: Vec<Row>,
-    columns: Vec<Column>,
-    cells: BTreeMap<(u32, u32), Cost>,
-    place: Place,
+    pub(crate) rows: Vec<Row>,
+    pub(crate) columns: Vec<Column>,
+    pub(crate) store: CellStore,
+    pub(crate) place: Place,
 }
 
 impl Model for Instance {
@@ -22,18 +23,18 @@ impl Model for Instance {
 
     ghost Value = { Problem };
 
-    ghost view = { λ i. record { rows = i.rows.items; columns = i.columns.items; cells = i.cells.entries; place = i.place } };
+    ghost use Rattle.asg_model.specs.CellStores.{stored_problem, IsStored};
 
-    ghost use Rattle.asg_model.specs.Instances.{IsInstance};
+    ghost view = { λ i. stored_problem i.rows.items i.columns.items i.store i.place };
 
-    ghost invariant = { λ i. IsInstance (record { rows = i.rows.items; columns = i.columns.items; cells = i.cells.entries; place = i.place }) };
+    ghost invariant = { λ i. IsStored i.rows.items i.columns.items i.store i.place };
 }
 
 impl Instance {
-    ghost use Rattle.asg_model.specs.Instances.{IsInstance, IsCostInRange};
+    ghost use Rattle.asg_model.specs.Instances.{IsWellFormed, IsInstance, IsCostInRange};
     ghost use Rattle.asg_model.specs.Live.{is_active, is_open, cost_at, live_at};
-    ghost use Rattle.asg_model.specs.Counts.{capacity_at, active_count, placed, slack, is_counted};
-    ghost use Rattle.asg_model.specs.HallSet.{row_place_of, column_place_of, is_counted_id};
+    ghost use Rattle.asg_model.specs.Counts.{active_count, placed, slack, is_counted};
+    ghost use Rattle.asg_model.specs.Table.{table_cells, IsTable, AreRowCosts};
 
     /// The instance of these parts. It takes no memory.
     pub fn with(
@@ -42,13 +43,46 @@ impl Instance {
         cells: BTreeMap<(u32, u32), Cost>,
         place: Place,
     ) -> Instance
-        requires { IsInstance (record { rows = rows.items; columns = columns.items; cells = cells.entries; place = place }) }
-        ensures { result ≡ record { rows = rows.items; columns = columns.items; cells = cells.entries; place = place } }
+        requires { IsWellFormed (problem_of rows.items columns.items cells.entries place) }
+        ensures { result ≡ problem_of rows.items columns.items cells.entries place }
     {
+        // What the types and the map give is told by reading.
+        read_row_ids(rows.as_slice());
+        read_column_ids(columns.as_slice());
+        let _size = cells.len();
         Instance {
             rows,
             columns,
-            cells,
+            store: CellStore::Map(cells),
+            place,
+        }
+    }
+
+    /// The instance of these rows and columns and of a whole table of costs, row by row: the first parts,
+    /// [`ABSENT`] where there is no cell, and the second parts, each 0 past the last that is given. It
+    /// takes no memory.
+    ///
+    /// [`ABSENT`]: crate::ABSENT
+    pub fn of_table(
+        rows: Vec<Row>,
+        columns: Vec<Column>,
+        firsts: Vec<i64>,
+        seconds: Vec<i64>,
+        place: Place,
+    ) -> Instance
+        requires parts { IsWellFormed (problem_of rows.items columns.items [] place) }
+        requires table { IsTable (length rows.items) (length columns.items)
+            firsts.items seconds.items }
+        ensures { result ≡ problem_of rows.items columns.items
+            (table_cells (length columns.items) firsts.items seconds.items) place }
+    {
+        // What the types give is told by reading.
+        read_row_ids(rows.as_slice());
+        read_column_ids(columns.as_slice());
+        Instance {
+            rows,
+            columns,
+            store: CellStore::Table { firsts, seconds },
             place,
         }
     }
@@ -89,26 +123,6 @@ impl Instance {
         }
     }
 
-    /// The place of the row that has this id; `None` exactly where no row has it.
-    pub fn row_place(&self, id: u32) -> Option<u32>
-        ensures { result ≡ row_place_of self.now id }
-    {
-        match position_of_row(self.rows.as_slice(), id) {
-            Some(row) => Some(row as u32),
-            None => None,
-        }
-    }
-
-    /// The place of the column that has this id; `None` exactly where no column has it.
-    pub fn column_place(&self, id: u32) -> Option<u32>
-        ensures { result ≡ column_place_of self.now id }
-    {
-        match position_of_column(self.columns.as_slice(), id) {
-            Some(column) => Some(column as u32),
-            None => None,
-        }
-    }
-
     /// How many rows a valid choice places.
     pub fn placed(&self) -> u32
         ensures { result ≡ placed self.now }
@@ -137,18 +151,8 @@ impl Instance {
         self.rows.iter().filter(|row| row.active).count() as u32
     }
 
-    // Whether the id names a counted row.
-    pub(crate) fn is_counted_id(&self, id: u32) -> bool
-        ensures { result ≡ is_counted_id self.now id }
-    {
-        match self.row_place(id) {
-            Some(row) => self.is_counted(row),
-            None => false,
-        }
-    }
-
     // Whether the row at this place is counted.
-    fn is_counted(&self, row: u32) -> bool
+    pub(crate) fn is_counted(&self, row: u32) -> bool
         ensures { result ≡ is_counted self.now row }
     {
         match self.place {
@@ -157,18 +161,8 @@ impl Instance {
         }
     }
 
-    // The capacity of the column at this place, 0 past the last.
-    pub(crate) fn capacity(&self, col: u32) -> u32
-        ensures { result ≡ capacity_at self.now col }
-    {
-        match self.columns.get(col as usize) {
-            Some(found) => found.cap,
-            None => 0,
-        }
-    }
-
     // Whether there is a row at this place, and it is active.
-    fn is_active(&self, row: u32) -> bool
+    pub(crate) fn is_active(&self, row: u32) -> bool
         ensures { result ≡ is_active self.now row }
     {
         match self.rows.get(row as usize) {
@@ -187,25 +181,66 @@ impl Instance {
         }
     }
 
+    /// The first parts of the costs of the cells of a row, column by column, live or not, [`ABSENT`]
+    /// exactly where there is no cell; `None` where they don't stand side by side, or past the last row.
+    ///
+    /// [`ABSENT`]: crate::ABSENT
+    pub fn row_costs(&self, row: u32) -> Option<&[i64]>
+        ensures { IfSome result (λ costs. AreRowCosts self.now row costs.now) }
+    {
+        match &self.store {
+            CellStore::Map(_) => None,
+            CellStore::Table { firsts, .. } => {
+                table_row(
+                    self.rows().len(),
+                    self.columns().len(),
+                    firsts.as_slice(),
+                    row,
+                )
+            }
+        }
+    }
+
     // The cost of the cell, live or not.
     fn cell(&self, row: u32, col: u32) -> Option<Cost>
         ensures cost { result ≡ cost_at self.now.cells row col }
         ensures in_range { IfSome result IsCostInRange }
     {
-        self.cells.get(&(row, col)).copied()
+        match &self.store {
+            CellStore::Map(cells) => cells.get(&(row, col)).copied(),
+            CellStore::Table { firsts, seconds } => table_cell(
+                self.rows().len(),
+                self.columns().len(),
+                firsts.as_slice(),
+                seconds.as_slice(),
+                row,
+                col,
+            ),
+        }
     }
 }
 
-// The place of the first row that has the id.
-fn position_of_row(rows: &[Row], id: u32) -> Option<usize>
-    ensures { result ≡ position (λ row. row.id == id) rows.now }
+// Tells the proof that an id is below 2^32, as its type says.
+fn tell_fits(id: u32)
+    ensures { id < 2 ^ 32 }
 {
-    rows.iter().position(|row| row.id == id)
+    let _id = id;
 }
 
-// The place of the first column that has the id.
-fn position_of_column(columns: &[Column], id: u32) -> Option<usize>
-    ensures { result ≡ position (λ column. column.id == id) columns.now }
+// Tells the proof that the ids are below 2^32, as their type says.
+fn read_row_ids(rows: &[Row])
+    ensures { All (λ row. row.id < 2 ^ 32) rows.now }
 {
-    columns.iter().position(|column| column.id == id)
+    for row in rows {
+        tell_fits(row.id);
+    }
+}
+
+// Tells the proof that the ids are below 2^32, as their type says.
+fn read_column_ids(columns: &[Column])
+    ensures { All (λ column. column.id < 2 ^ 32) columns.now }
+{
+    for column in columns {
+        tell_fits(column.id);
+    }
 }

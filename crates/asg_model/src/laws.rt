@@ -1,17 +1,29 @@
 //! Laws over the definitions: each is the contract of a function that does nothing.
 
-ghost use Rattle.std.specs.Prelude.{◌≡◌, ◌≢◌, ◌≤◌, ℕ, ℤ, Option, List, length, All, AllPairs, Contains, IsPermutation};
-ghost use Rattle.asg_model.specs.Problem.{Problem};
+ghost use Rattle.std.specs.Prelude.{◌≡◌, ◌≢◌, ◌+◌, ◌*◌, ◌<◌, ◌≤◌, ℕ, ℤ, IsTrue, Option, List, [], length, slice_get, option_and_then, All, AllPairs, Contains, IsPermutation};
+ghost use Rattle.asg_model.specs.declared.parts.Row.{Row};
+ghost use Rattle.asg_model.specs.declared.parts.Column.{Column};
+ghost use Rattle.asg_model.specs.declared.parts.Place.{Place};
+ghost use Rattle.asg_model.specs.Problem.{Problem, problem_of};
 ghost use Rattle.asg_model.specs.declared.bands.Band.{Band};
 ghost use Rattle.asg_model.specs.declared.bands.Band.TheVariants.{Whole, Under, Over};
 ghost use Rattle.asg_model.specs.declared.objectives.Objective.TheVariants.{Bottleneck, BottleneckMax};
 ghost use Rattle.asg_model.specs.declared.objectives.Value.TheVariants.{One};
 ghost use Rattle.asg_model.specs.ValidChoice.{IsValid};
-ghost use Rattle.asg_model.specs.HallSet.{IsHall, LiesIn};
+ghost use Rattle.std.specs.BTreeMap.{insert_entry};
+ghost use Rattle.asg_model.specs.declared.parts.Cost.{Cost};
+ghost use Rattle.asg_model.specs.declared.parts.Place.{Place};
+ghost use Rattle.asg_model.specs.Instances.{IsCostInRange, IsInstance, IsPlaceInRange, AreCellsOf, IsWellFormed, by_places};
+ghost use Rattle.asg_model.specs.Limits.{most_capacity};
+ghost use Rattle.asg_model.specs.Shapes.{shaped};
+ghost use Rattle.asg_model.specs.Live.{cost_at};
+ghost use Rattle.asg_model.specs.Counts.{slack};
+ghost use Rattle.asg_model.specs.HallSet.{reached_capacity, is_counted_id, IsHall, LiesIn};
 ghost use Rattle.asg_model.specs.Values.{choice_value};
 ghost use Rattle.asg_model.specs.Better.{IsBetter};
 ghost use Rattle.asg_model.specs.Best.{IsBest};
 ghost use Rattle.asg_model.specs.Descending.{descending, IsDescending};
+ghost use Rattle.asg_model.specs.Table.{table_cost, table_cells};
 
 /// The pigeonhole principle: different numbers that all stand in a list are no more than it has.
 pub fn pigeonhole_law()
@@ -26,6 +38,38 @@ pub fn descending_law()
     ensures only { (xs ys : List ℤ) → IsPermutation xs ys → IsDescending ys → ys ≡ descending xs }
 {}
 
+/// What a map of cells keeps: cells of so many rows and columns, with costs in range, stay so where such
+/// a cell is inserted.
+pub fn insert_law()
+    ensures { (rows columns : ℕ) (cells : List ((ℕ × ℕ) × Cost)) (place : ℕ × ℕ) (cost : Cost) →
+        AreCellsOf rows columns cells → place.0 < rows → place.1 < columns → IsCostInRange cost →
+        AreCellsOf rows columns (insert_entry by_places cells place cost) }
+{}
+
+/// Parts that are well-formed with no cell are so with cells of their rows and columns.
+pub fn well_formed_law()
+    ensures { (rows : List Row) (columns : List Column) →
+        (cells : List ((ℕ × ℕ) × Cost)) (place : Place) →
+        IsWellFormed (problem_of rows columns [] place) →
+        AreCellsOf (length rows) (length columns) cells →
+        IsWellFormed (problem_of rows columns cells place) }
+{}
+
+/// The law of Hall sets of rows: different counted rows are a Hall set where they are more than the
+/// columns which they reach can hold and as many rows as may stay out; and the rows of a Hall set are
+/// counted and different.
+pub fn hall_rows_law()
+    ensures made { (X : Problem) (band : Band) (ids : List ℕ) →
+        AllPairs ◌≢◌ ids → All (λ id. IsTrue (is_counted_id X id)) ids →
+        reached_capacity X band ids + slack X < length ids → IsHall X band ids }
+    ensures different { (X : Problem) (band : Band) (ids : List ℕ) →
+        IsHall X band ids → AllPairs ◌≢◌ ids }
+    ensures counted { (X : Problem) (band : Band) (ids : List ℕ) →
+        IsHall X band ids → All (λ id. IsTrue (is_counted_id X id)) ids }
+    ensures short { (X : Problem) (band : Band) (ids : List ℕ) →
+        IsHall X band ids → reached_capacity X band ids + slack X < length ids }
+{}
+
 /// The Hall law: an instance with a Hall set under a band has no valid choice whose cells all lie in the
 /// band.
 pub fn hall_law()
@@ -35,7 +79,8 @@ pub fn hall_law()
 
 /// An instance with a Hall set under no bound has no valid choice.
 pub fn infeasible_law()
-    ensures { (X : Problem) (ids : List ℕ) (f : List (Option ℕ)) → IsHall X Whole ids → IsValid X f → ⊥ }
+    ensures { (X : Problem) (ids : List ℕ) (f : List (Option ℕ)) →
+        IsHall X Whole ids → IsValid X f → ⊥ }
 {}
 
 /// Where the cells below a cost have a Hall set, no valid choice has a better bottleneck value than it.
@@ -56,12 +101,30 @@ pub fn bottleneck_max_law()
 /// A valid choice whose bottleneck value is `b` is best where the cells below `b` have a Hall set.
 pub fn best_bottleneck_law()
     ensures { (X : Problem) (b : ℤ) (ids : List ℕ) (f : List (Option ℕ)) →
-        IsValid X f → choice_value Bottleneck X f ≡ One b → IsHall X (Under b) ids → IsBest Bottleneck X f }
+        IsValid X f → choice_value Bottleneck X f ≡ One b → IsHall X (Under b) ids →
+        IsBest Bottleneck X f }
 {}
 
 /// A valid choice whose least cost is `b` is best for the greatest bottleneck where the cells above `b`
 /// have a Hall set.
 pub fn best_bottleneck_max_law()
     ensures { (X : Problem) (b : ℤ) (ids : List ℕ) (f : List (Option ℕ)) →
-        IsValid X f → choice_value BottleneckMax X f ≡ One b → IsHall X (Over b) ids → IsBest BottleneckMax X f }
+        IsValid X f → choice_value BottleneckMax X f ≡ One b → IsHall X (Over b) ids →
+        IsBest BottleneckMax X f }
+{}
+
+/// The law of tables: the cost at a place is what stands at the index of the place, row by row.
+pub fn table_law()
+    ensures { (columns : ℕ) (firsts seconds : List ℤ) (r c : ℕ) → c < columns →
+        cost_at (table_cells columns firsts seconds) r c
+        ≡ option_and_then (table_cost seconds (r * columns + c))
+        (slice_get firsts (r * columns + c)) }
+{}
+
+/// The law of shapes: an instance stays one with another place rule that is in range then, and with one
+/// capacity in range for all columns.
+pub fn shape_law()
+    ensures { (X : Problem) (place : Place) (each : ℕ) → IsInstance X → 1 ≤ each →
+        each ≤ most_capacity → IsPlaceInRange (shaped X place each) place →
+        IsInstance (shaped X place each) }
 {}

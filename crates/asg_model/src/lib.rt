@@ -1,11 +1,14 @@
 //! The assignment problem: instances, choices of cells, their values, and Hall sets.
 //!
-//! An instance has rows, columns with capacities, the costs of its cells and a place rule. A choice
-//! gives each row one column or none. Everything here is a definition of the subject or a test of one:
-//! no solver stands in this crate.
+//! An instance has rows, columns with capacities, the costs of its cells and a place rule; it keeps the
+//! costs in a map or in a table. A choice gives each row one column or none. Contracts see an instance as
+//! a `Problem`, which has its rows, its columns and its cells as lists however they are kept, and a choice
+//! as the list of what its rows choose. Everything here is a definition of the subject, a test of one, or
+//! a law over them: no solver stands in this crate. All crates that speak of instances stand on it.
 #![tactic(auto)]
 
 mod bands;
+mod cell_store;
 mod choices;
 mod comparison;
 mod descents;
@@ -14,9 +17,13 @@ mod extremes;
 mod hall_sets;
 mod instances;
 pub mod laws;
+pub mod limits;
 mod negatives;
 mod objectives;
 mod parts;
+mod places;
+mod reach;
+mod shapes;
 mod sums;
 mod validity;
 mod valuation;
@@ -29,7 +36,7 @@ pub use hall_sets::is_hall;
 pub use instances::Instance;
 pub use negatives::negative;
 pub use objectives::{Costs, Objective, Value};
-pub use parts::{Column, Cost, Place, PlaceRange, Row};
+pub use parts::{ABSENT, Column, Cost, Place, PlaceRange, Row};
 pub use validity::is_valid;
 pub use valuation::value;
 

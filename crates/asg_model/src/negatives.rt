@@ -1,6 +1,8 @@
 //! Negative costs that an objective refuses.
 
 ghost use Rattle.std.specs.Prelude.{◌≡◌, ◌↔◌, ℕ, false, IsNone, IfSome};
+ghost use Rattle.std.specs.Bool.{OnFalse};
+ghost use Rattle.asg_model.specs.declared.parts.Cost.{Cost};
 ghost use Rattle.asg_model.specs.Refused.{is_refused, is_refused_at, PassesNegative, IsFirstRefusedOf, IsFirstRefused};
 
 use crate::instances::Instance;
@@ -14,6 +16,9 @@ pub fn negative(objective: Objective, inst: &Instance) -> Option<(u32, u32)>
     ensures none { IsNone result ↔ PassesNegative objective inst.now }
     ensures found { IfSome result (IsFirstRefused objective inst.now) }
 {
+    if !refuses_some(objective) {
+        return None;
+    }
     for (place, row) in inst.rows().iter().enumerate() {
         if let Some(col) = refused_column(objective, inst, place as u32) {
             return Some((row.id, col));
@@ -52,6 +57,16 @@ fn is_refused(objective: Objective, cost: Cost) -> bool
     match objective {
         Objective::Capped(_) => cost.a < 0,
         Objective::TimeCost => cost.b < 0,
+        _ => false,
+    }
+}
+
+// Whether the objective refuses a cost at all.
+fn refuses_some(objective: Objective) -> bool
+    ensures { OnFalse result ((cost : Cost) → is_refused objective cost ≡ false) }
+{
+    match objective {
+        Objective::Capped(_) | Objective::TimeCost => true,
         _ => false,
     }
 }

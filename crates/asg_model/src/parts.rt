@@ -1,5 +1,8 @@
 //! The parts of an instance.
 
+/// What stands in a table of costs where there is no cell.
+pub const ABSENT: i64 = i64::MIN;
+
 /// What a cell costs, in two parts. Each part lies between -10^9 and 10^9 in an instance.
 #[derive(Clone, Copy, Debug, PartialEq, Eq)]
 pub struct Cost {

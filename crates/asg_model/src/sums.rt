@@ -3,13 +3,14 @@
 ghost use Rattle.std.specs.Prelude.{◌≡◌, ◌≤◌, All, length, if◌then◌else◌, pos, unsigned_abs};
 ghost use Rattle.std.specs.Ordering.{int_eq};
 ghost use Rattle.asg_model.specs.Values.{first_parts, second_parts, costs_at, total};
+ghost use Rattle.asg_model.specs.Limits.{most_cost, most_rows};
 ghost use Rattle.asg_model.specs.Instances.{IsCostInRange};
 
 use crate::parts::Cost;
 
 // The first parts added up.
 pub(crate) fn total_a(costs: &[Cost]) -> i128
-    requires few { length costs.now ≤ 1000 }
+    requires few { length costs.now ≤ most_rows }
     requires in_range { All IsCostInRange costs.now }
     ensures { result ≡ total (first_parts costs.now) }
 {
@@ -22,7 +23,7 @@ pub(crate) fn total_a(costs: &[Cost]) -> i128
 
 // The second parts added up.
 pub(crate) fn total_b(costs: &[Cost]) -> i128
-    requires few { length costs.now ≤ 1000 }
+    requires few { length costs.now ≤ most_rows }
     requires in_range { All IsCostInRange costs.now }
     ensures { result ≡ total (second_parts costs.now) }
 {
@@ -35,7 +36,7 @@ pub(crate) fn total_b(costs: &[Cost]) -> i128
 
 // The second parts of the costs whose first part is `a`, added up.
 pub(crate) fn total_b_at(a: i64, costs: &[Cost]) -> i128
-    requires few { length costs.now ≤ 1000 }
+    requires few { length costs.now ≤ most_rows }
     requires in_range { All IsCostInRange costs.now }
     ensures { result ≡ total (second_parts (costs_at a costs.now)) }
 {
@@ -50,7 +51,7 @@ pub(crate) fn total_b_at(a: i64, costs: &[Cost]) -> i128
 fn b_at(a: i64, cost: Cost) -> i128
     requires { IsCostInRange cost }
     ensures exact { result ≡ (if int_eq cost.a a then cost.b else pos 0) }
-    ensures in_range { unsigned_abs result ≤ 1000000000 }
+    ensures in_range { unsigned_abs result ≤ most_cost }
 {
     if cost.a == a { i128::from(cost.b) } else { 0 }
 }

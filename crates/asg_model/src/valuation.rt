@@ -1,10 +1,11 @@
 //! The values of choices.
 
 ghost use Rattle.std.specs.Prelude.{◌≡◌, ◌≤◌, ◌++◌, OnOk, IfOk, IfSome, All, length, option_and_then, option_to_list};
+ghost use Rattle.asg_model.specs.Limits.{most_rows};
 ghost use Rattle.asg_model.specs.ValidChoice.{IsValid};
 ghost use Rattle.asg_model.specs.Live.{live_at};
 ghost use Rattle.asg_model.specs.Values.{costs_of, chosen_cost, value_of, choice_value};
-ghost use Rattle.asg_model.specs.ValueRange.{IsBottleneckInRange};
+ghost use Rattle.asg_model.specs.ValueRange.{IsValueInRange};
 ghost use Rattle.asg_model.specs.Better.{HasForm};
 ghost use Rattle.asg_model.specs.Instances.{IsCostInRange};
 
@@ -19,7 +20,8 @@ use crate::sums::{total_a, total_b, total_b_at};
 use std::alloc::Global;
 
 /// The value that the objective gives the choice, in the objective's form: one number, two, or a list.
-/// A value of `bottleneck` or `bottleneck-max` is from -10^9 to 10^9. The error is want of memory.
+/// Its numbers lie in the range of the costs, or in that of the sums of at most 1,000 costs. The error
+/// is want of memory.
 pub fn value(
     alloc: Global,
     objective: Objective,
@@ -29,7 +31,7 @@ pub fn value(
     requires { IsValid inst.now choice.now }
     ensures exact { IfOk result (λ v. v ≡ choice_value objective inst.now choice.now) }
     ensures form { IfOk result (HasForm objective) }
-    ensures in_range { IfOk result (IsBottleneckInRange objective) }
+    ensures in_range { IfOk result (IsValueInRange objective) }
 {
     let costs = chosen_costs(alloc, inst, choice)?;
     value_of(alloc, objective, costs.as_slice())
@@ -39,7 +41,7 @@ pub fn value(
 fn chosen_costs(alloc: Global, inst: &Instance, choice: &Choice) -> Result<Vec<Cost>, NoMemory>
     requires { length choice.now ≡ length inst.now.rows }
     ensures exact { IfOk result (λ v. v.items ≡ costs_of inst.now choice.now) }
-    ensures few { IfOk result (λ v. length v.items ≤ 1000) }
+    ensures few { IfOk result (λ v. length v.items ≤ most_rows) }
     ensures in_range { IfOk result (λ v. All IsCostInRange v.items) }
 {
     let mut costs = Vec::with_capacity(alloc, inst.rows().len())?;
@@ -87,11 +89,10 @@ fn live_choice(inst: &Instance, row: u32, col: Option<u32>) -> Option<Cost>
 
 // The value that the objective gives the costs. The error is want of memory.
 fn value_of(alloc: Global, objective: Objective, costs: &[Cost]) -> Result<Value, NoMemory>
-    requires few { length costs.now ≤ 1000 }
+    requires few { length costs.now ≤ most_rows }
     requires in_range { All IsCostInRange costs.now }
     ensures exact { IfOk result (λ v. v ≡ value_of objective costs.now) }
     ensures form { IfOk result (HasForm objective) }
-    ensures in_range { IfOk result (IsBottleneckInRange objective) }
 {
     match objective {
         Objective::Sum | Objective::SumMax => Ok(Value::One(total_a(costs))),

@@ -1,13 +1,10 @@
 //! The values that the nine objectives give, worked out by hand.
 
-ghost use Rattle.std.specs.Prelude.{◌≡◌, ◌<◌, ◌≤◌, All, IfOk, length};
-ghost use Rattle.asg_model.specs.Instances.{IsCostInRange};
-ghost use Rattle.asg_model.specs.Counts.{placed_by};
+ghost use Rattle.std.specs.Prelude.{◌≡◌, IfOk, length};
 
-use super::squares::{cells, square_of};
+use super::squares::{NineCosts, squares};
 use super::*;
 use std::alloc::Global;
-use std::collections::BTreeMap;
 use std::test::Fail;
 
 // A value that is wanted.
@@ -39,61 +36,31 @@ fn choice(alloc: Global, ids: [u32; 3]) -> Result<Choice, NoMemory>
     Ok(choice)
 }
 
-// The cells `4:1 1:7 3:2 / 2:5 0:3 5:6 / 3:4 2:8 2:9`, a cost being written `a:b`.
-fn paired_cells(alloc: Global) -> Result<BTreeMap<(u32, u32), Cost>, NoMemory>
-    ensures { IfOk result (λ m. All (λ cell. ((cell.0.0 < 3) × (cell.0.1 < 3)) × IsCostInRange cell.1) m.entries) }
-{
-    cells(
-        alloc,
-        [
-            (0, 0, 4, 1),
-            (0, 1, 1, 7),
-            (0, 2, 3, 2),
-            (1, 0, 2, 5),
-            (1, 1, 0, 3),
-            (1, 2, 5, 6),
-            (2, 0, 3, 4),
-            (2, 1, 2, 8),
-            (2, 2, 2, 9),
-        ],
-    )
-}
+// The square `4:1 1:7 3:2 / 2:5 0:3 5:6 / 3:4 2:8 2:9`, a cost being written `a:b`.
+const PAIRED: NineCosts = [
+    (4, 1),
+    (1, 7),
+    (3, 2),
+    (2, 5),
+    (0, 3),
+    (5, 6),
+    (3, 4),
+    (2, 8),
+    (2, 9),
+];
 
-// The square of these cells. `row` tells whether its third row is active, `column` whether its third
-// column is open.
-fn paired(
-    alloc: Global,
-    place: Place,
-    cap: u32,
-    row: bool,
-    column: bool,
-) -> Result<Instance, NoMemory>
-    requires some { 1 ≤ cap }
-    requires few { cap ≤ 1000 }
-    requires least { 1 ≤ placed_by place 1 }
-    requires most { placed_by place 1 ≤ 3 }
-{
-    square_of(alloc, paired_cells(alloc)?, place, cap, row, column)
-}
-
-// The square of these cells with the sign of each cost turned.
-fn turned(alloc: Global) -> Result<Instance, NoMemory> {
-    let cells = cells(
-        alloc,
-        [
-            (0, 0, -4, -1),
-            (0, 1, -1, -7),
-            (0, 2, -3, -2),
-            (1, 0, -2, -5),
-            (1, 1, 0, -3),
-            (1, 2, -5, -6),
-            (2, 0, -3, -4),
-            (2, 1, -2, -8),
-            (2, 2, -2, -9),
-        ],
-    )?;
-    square_of(alloc, cells, Place::All, 1, true, true)
-}
+// The same with the sign of each cost turned.
+const TURNED: NineCosts = [
+    (-4, -1),
+    (-1, -7),
+    (-3, -2),
+    (-2, -5),
+    (0, -3),
+    (-5, -6),
+    (-3, -4),
+    (-2, -8),
+    (-2, -9),
+];
 
 // Values of the nine objectives: `sum`, `sum-max`, `pair`, `capped` at 7, `bottleneck`, `bottleneck-max`,
 // `time-cost`, `balanced` and `lex`.
@@ -137,15 +104,15 @@ enum Shape {
     Turned,
 }
 
-// The instance of this shape.
-fn shaped(alloc: Global, shape: Shape) -> Result<Instance, NoMemory> {
+// The instance of this shape, in a map and in a table.
+fn shaped(alloc: Global, shape: Shape) -> Result<(Instance, Instance), NoMemory> {
     match shape {
-        Shape::Plain => paired(alloc, Place::All, 1, true, true),
-        Shape::Dropped => paired(alloc, Place::All, 1, false, true),
-        Shape::Closed => paired(alloc, Place::All, 2, true, false),
-        Shape::Wide => paired(alloc, Place::All, 2, true, true),
-        Shape::Two => paired(alloc, Place::Exactly(2), 1, true, true),
-        Shape::Turned => turned(alloc),
+        Shape::Plain => squares(alloc, PAIRED, Place::All, 1, true, true),
+        Shape::Dropped => squares(alloc, PAIRED, Place::All, 1, false, true),
+        Shape::Closed => squares(alloc, PAIRED, Place::All, 2, true, false),
+        Shape::Wide => squares(alloc, PAIRED, Place::All, 2, true, true),
+        Shape::Two => squares(alloc, PAIRED, Place::Exactly(2), 1, true, true),
+        Shape::Turned => squares(alloc, TURNED, Place::All, 1, true, true),
     }
 }
 
@@ -209,21 +176,37 @@ const TABLE: [(Shape, [u32; 3], Nine<'static>); 11] = [
     ),
 ];
 
+// Whether the choice is valid, and its values are those that are wanted.
+fn has_values(
+    alloc: Global,
+    inst: &Instance,
+    choice: &Choice,
+    nine: Nine<'_>,
+) -> Result<bool, NoMemory> {
+    if !is_valid(inst, choice) {
+        return Ok(false);
+    }
+    for (objective, want) in wanted(nine) {
+        let value = value(alloc, objective, inst, choice)?;
+        if !is_wanted(&value, want) {
+            return Ok(false);
+        }
+    }
+    Ok(true)
+}
+
 // The values of the choices in the table.
 #[test]
 fn values_by_hand(rt: HostRuntime) -> Result<(), Fail> {
     let alloc = rt.alloc();
     for (shape, ids, nine) in TABLE {
-        let inst = shaped(alloc, shape)?;
+        let (map, table) = shaped(alloc, shape)?;
         let choice = choice(alloc, ids)?;
-        assert!(rt; is_valid(&inst, &choice), "{ids:?}");
-        for (objective, want) in wanted(nine) {
-            let value = value(alloc, objective, &inst, &choice)?;
-            assert!(rt;
-                is_wanted(&value, want),
-                "{objective:?} of {ids:?}: {value:?}"
-            );
-        }
+        assert!(rt; has_values(alloc, &map, &choice, nine)?, "{ids:?} of a map");
+        assert!(rt;
+            has_values(alloc, &table, &choice, nine)?,
+            "{ids:?} of a table"
+        );
     }
     Ok(())
 }

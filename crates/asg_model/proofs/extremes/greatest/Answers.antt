@@ -4,6 +4,7 @@ use Rattle.std.specs.Prelude.{unsigned_abs}
 use Rattle.std.specs.Int.{int_max}
 use Rattle.std.proofs.lemmas.Int.{to_z-of_z, fits_signed_from_abs}
 use Rattle.asg_model.specs.declared.parts.Cost.{Cost}
+use Rattle.asg_model.specs.Limits.{most_cost}
 use Rattle.asg_model.proofs.Steps.{fold-first_more, int_max-in_range}
 use Rattle.asg_model.proofs.extremes.greatest.Goals as goal
 
@@ -18,7 +19,7 @@ loop-cost-preserved c =
     let step = fold-first_more int_max start c.args.costs.now i none c.loop-cost-test.true in
     let same_here = to_z-of_z w64 here.a (fits_signed_from_abs w64 here.a (omega (arith, in_range.a_in_range))) in
     let is = c.max-top.ensures.value ∙ ap (int_max so_far) same_here in
-    let small : unsigned_abs c.max-top.result ≤ 1000000000 =
-    rw is (int_max-in_range so_far here.a 1000000000 c.loop-cost.invariant.1 in_range.a_in_range) in
+    let small : unsigned_abs c.max-top.result ≤ most_cost =
+    rw is (int_max-in_range so_far here.a most_cost c.loop-cost.invariant.1 in_range.a_in_range) in
     let same = to_z-of_z w64 c.max-top.result (fits_signed_from_abs w64 c.max-top.result (omega (arith, small))) in
     (same ∙ is ∙ ap (λ t. int_max t here.a) c.loop-cost.invariant.0 ∙ sym step, rw same small)

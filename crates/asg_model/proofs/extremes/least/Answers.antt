@@ -4,6 +4,7 @@ use Rattle.std.specs.Prelude.{unsigned_abs}
 use Rattle.std.specs.Int.{int_min}
 use Rattle.std.proofs.lemmas.Int.{to_z-of_z, fits_signed_from_abs}
 use Rattle.asg_model.specs.declared.parts.Cost.{Cost}
+use Rattle.asg_model.specs.Limits.{most_cost}
 use Rattle.asg_model.proofs.Steps.{fold-first_more, int_min-in_range}
 use Rattle.asg_model.proofs.extremes.least.Goals as goal
 
@@ -18,7 +19,7 @@ loop-cost-preserved c =
     let step = fold-first_more int_min start c.args.costs.now i none c.loop-cost-test.true in
     let same_here = to_z-of_z w64 here.a (fits_signed_from_abs w64 here.a (omega (arith, in_range.a_in_range))) in
     let is = c.min-low.ensures.value ∙ ap (int_min so_far) same_here in
-    let small : unsigned_abs c.min-low.result ≤ 1000000000 =
-    rw is (int_min-in_range so_far here.a 1000000000 c.loop-cost.invariant.1 in_range.a_in_range) in
+    let small : unsigned_abs c.min-low.result ≤ most_cost =
+    rw is (int_min-in_range so_far here.a most_cost c.loop-cost.invariant.1 in_range.a_in_range) in
     let same = to_z-of_z w64 c.min-low.result (fits_signed_from_abs w64 c.min-low.result (omega (arith, small))) in
     (same ∙ is ∙ ap (λ t. int_min t here.a) c.loop-cost.invariant.0 ∙ sym step, rw same small)

@@ -1,8 +1,9 @@
 -- Each turn adds one column's part.
-use Rattle.std.proofs.Common.{ℕ, ◌+◌, ◌<◌, ◌≤◌, false, length, take, ◌∙◌, ap, sym, arith}
+use Rattle.std.proofs.Common.{◌≡◌, ℕ, ◌+◌, ◌<◌, ◌≤◌, ◌&&◌, false, cond, length, get_or, take, ◌∙◌, ap, sym, arith}
 use Rattle.std.specs.List.{sum_by, enumerate_from}
-use Rattle.asg_model.specs.declared.parts.Column.{Column}
 use Rattle.asg_model.specs.HallSet.{reached_part}
+use Rattle.asg_model.proofs.HallRows.{no_column}
+use Rattle.asg_model.proofs.Slots.{part_same}
 use Rattle.asg_model.proofs.Enumerated.{sum_by-enumerate_more, take-enumerate_all, cond-le}
 use Rattle.asg_model.proofs.hall_sets.reached_capacity.Goals as goal
 
@@ -10,15 +11,16 @@ pub loop-place-preserved : goal.loop-place-preserved
 loop-place-preserved c =
     let X = c.args.inst.now in
     let i = c.loop-place.place in
-    let none : Column = record { id = 0; cap = 0; usable = false } in
     let columns = c.columns-column-items.ensures.columns in
     let within : i < length X.columns = rw columns at c.loop-place-test.true in
-    let step = sum_by-enumerate_more (reached_part X c.args.band c.args.rows.now) X.columns i none within in
-    let part = rw columns at c.reached_part-total.ensures in
-    let small = c.columns-column-items.ensures.instance.capacities i none within in
-    let turn = ap (λ (t : ℕ). t + c.reached_part-total.result) c.loop-place.invariant.0 in
+    let step = sum_by-enumerate_more (reached_part X c.args.band c.args.rows.now) X.columns i no_column within in
+    let mark = get_or c.reached_columns-reached.result i false in
+    let here : c.part_of-total.result ≡ cond (mark && (get_or X.columns i no_column).usable) (get_or X.columns i no_column).cap 0 = rw columns at c.part_of-total.ensures in
+    let part = here ∙ part_same X c.args.band c.args.rows.now i mark within (c.reached_columns-reached.ensures i) in
+    let small = c.columns-column-items.ensures.instance.well_formed.capacities i no_column within in
+    let turn = ap (λ (t : ℕ). t + c.part_of-total.result) c.loop-place.invariant.0 in
     let last = ap (λ (p : ℕ). sum_by (reached_part X c.args.band c.args.rows.now) (take i (enumerate_from 0 X.columns)) + p) part in
-    let at_most : c.reached_part-total.result ≤ 1000 = rw part (cond-le _ _ 1000 small.1) in
+    let at_most : c.part_of-total.result ≤ 1000 = rw here (cond-le _ _ 1000 small.1) in
     (turn ∙ last ∙ sym step, omega arith)
 
 pub returns-clause-exact : goal.returns-clause-exact

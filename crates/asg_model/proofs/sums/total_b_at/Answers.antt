@@ -5,6 +5,7 @@ use Rattle.std.specs.Prelude.{unsigned_abs}
 use Rattle.std.proofs.lemmas.Int.{to_z-of_z, fits_signed_from_abs}
 use Rattle.asg_model.specs.declared.parts.Cost.{Cost}
 use Rattle.asg_model.specs.Values.{second_parts, costs_at, total}
+use Rattle.asg_model.specs.Limits.{most_cost}
 use Rattle.asg_model.proofs.Steps.{total-at_more, unsigned_abs-add}
 use Rattle.asg_model.proofs.sums.total_b_at.Goals as goal
 
@@ -17,7 +18,7 @@ loop-cost-preserved c =
     let part = c.b_at-sum.result in
     let step = total-at_more at c.args.costs.now i none c.loop-cost-test.true in
     let small = c.b_at-sum.ensures.in_range in
-    let bound : unsigned_abs (so_far +ℤ part) ≤ 1000000000 * (i + 1) =
+    let bound : unsigned_abs (so_far +ℤ part) ≤ most_cost * (i + 1) =
     omega (arith, unsigned_abs-add so_far part, small, c.loop-cost.invariant.1) in
     let same_part = to_z-of_z w128 part (fits_signed_from_abs w128 part (omega (arith, small))) in
     let same_sum = to_z-of_z w128 (so_far +ℤ part) (fits_signed_from_abs w128 (so_far +ℤ part) (omega (arith, bound, c.requires.few, c.loop-cost-test.true))) in

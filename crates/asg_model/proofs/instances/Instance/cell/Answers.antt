@@ -1,18 +1,49 @@
--- The map's look-up is the cost that the list of the cells has.
-use Rattle.std.proofs.Common.{◌≡◌, ◌∙◌, ap}
+-- The look-up, in the map or in the table, is the cost that the list of the cells has.
+use Rattle.std.proofs.Common.{◌≡◌, ℕ, ◌∙◌, ap, sym, subst, length, List, Option}
+use Rattle.std.specs.Prelude.{IfSome}
+use Rattle.asg_model.specs.declared.parts.Cost.{Cost}
+use Rattle.asg_model.specs.declared.cell_store.CellStore.{CellStore}
 use Rattle.asg_model.specs.Problem.{Problem}
-use Rattle.asg_model.specs.Instances.{IsCostInRange}
+use Rattle.asg_model.specs.Instances.{IsInstance, IsCostInRange}
 use Rattle.asg_model.specs.Live.{cost_at}
+use Rattle.asg_model.specs.CellStores.{cells_in}
+use Rattle.asg_model.specs.declared.parts.Column.{Column}
+use Rattle.asg_model.specs.Table.{table_cells}
+use Rattle.asg_model.proofs.Tables.{cells_are}
 use Rattle.asg_model.proofs.Cells.{lookup_is-cost_at, cost_at-All}
 use Rattle.asg_model.proofs.instances.Instance.cell.Goals as goal
+use Rattle.asg_model.proofs.instances.Instance.cell.Goals.{After-copied, After-table_cell}
 
-pub returns-clause-cost : goal.returns-clause-cost
-returns-clause-cost c =
-    c.copied.ensures ∙ c.get.ensures.value ∙ lookup_is-cost_at c.args.row c.args.col c.self.inside.cells.entries
+in_map : (c : After-copied) → c.copied.result ≡ cost_at c.args.self.now.cells c.args.row c.args.col
+in_map c =
+    c.copied.ensures ∙ c.get.ensures.value ∙ lookup_is-cost_at c.args.row c.args.col c.in-Map.cells.entries
+    ∙ ap (λ (store : CellStore). cost_at (cells_in (length c.self.inside.columns.items) store) c.args.row c.args.col) (sym c.in-Map.is)
     ∙ ap (λ (X : Problem). cost_at X.cells c.args.row c.args.col) c.self.view_is
 
-pub returns-clause-in_range : goal.returns-clause-in_range
-returns-clause-in_range c =
-    let cells = c.self.inside.cells.entries in
-    let e : c.copied.result ≡ cost_at cells c.args.row c.args.col = c.copied.ensures ∙ c.get.ensures.value ∙ lookup_is-cost_at c.args.row c.args.col cells in
-    rw e (cost_at-All IsCostInRange cells c.args.row c.args.col c.self.invariant.costs)
+in_table : (c : After-table_cell) → c.table_cell.result ≡ cost_at c.args.self.now.cells c.args.row c.args.col
+in_table c =
+    let X = c.args.self.now in
+    let inside = c.self.inside in
+    let columns = ap (λ (list : List Column). length list) c.columns.ensures.columns in
+    c.table_cell.ensures
+    ∙ (λ i. cost_at (table_cells (columns i) (c.as_slice.ensures.value i) (c.as_slice-in-Table.ensures.value i)) c.args.row c.args.col)
+    ∙ ap (λ (cells : List ((ℕ × ℕ) × Cost)). cost_at cells c.args.row c.args.col)
+    (sym (cells_are inside.rows.items inside.columns.items inside.store inside.place X c.self.view_is c.in-Table.firsts c.in-Table.seconds c.in-Table.is))
+
+pub returns-in-Map-clause-cost : goal.returns-in-Map-clause-cost
+returns-in-Map-clause-cost c = in_map c
+
+pub returns-in-Map-clause-in_range : goal.returns-in-Map-clause-in_range
+returns-in-Map-clause-in_range c =
+    let X = c.args.self.now in
+    let instance : IsInstance X = subst (λ (X : Problem). IsInstance X) c.self.view_is c.self.invariant.instance in
+    subst (λ (o : Option Cost). IfSome o IsCostInRange) (sym (in_map c)) (cost_at-All IsCostInRange X.cells c.args.row c.args.col instance.well_formed.costs)
+
+pub returns-in-Table-clause-cost : goal.returns-in-Table-clause-cost
+returns-in-Table-clause-cost c = in_table c
+
+pub returns-in-Table-clause-in_range : goal.returns-in-Table-clause-in_range
+returns-in-Table-clause-in_range c =
+    let X = c.args.self.now in
+    let instance : IsInstance X = subst (λ (X : Problem). IsInstance X) c.self.view_is c.self.invariant.instance in
+    subst (λ (o : Option Cost). IfSome o IsCostInRange) (sym (in_table c)) (cost_at-All IsCostInRange X.cells c.args.row c.args.col instance.well_formed.costs)

@@ -1,0 +1,27 @@
+-- What is counted is there.
+use Rattle.std.proofs.Common.{◌≡◌, ℕ, suc, ◌⊎◌, Bool, true, false, cond, List, [], ◌∷◌, refl, inl, inr, arith, ap}
+use Rattle.std.specs.Prelude.{Option, Some, None, slice_get, count_by}
+use Rattle.std.proofs.lemmas.Bool.{false≢true}
+use Rattle.std.proofs.lemmas.Bool.Decides.{nat_tests}
+use Rattle.std.proofs.lemmas.List.Sums.{sum_by-cons}
+use Rattle.asg_model.specs.ValidChoice.{takes}
+
+abbrev Found : {X : Type 0} (p : X → Bool) (xs : List X) → Type 0
+Found {X} p xs = (k : ℕ) × (x : X) × (slice_get xs k ≡ Some x) × (p x ≡ true)
+
+-- one more element passes, or the count stays
+found_more : {X : Type 0} (p : X → Bool) (x : X) (xs : List X) (b : Bool) → p x ≡ b → (count_by p xs ≡ 0) ⊎ Found p xs → (count_by p (x ∷ xs) ≡ 0) ⊎ Found p (x ∷ xs)
+found_more p x xs true e r = inr (0, x, refl, e)
+found_more p x xs false e (inl none) =
+    inl (let step = sum_by-cons (λ y. cond (p y) 1 0) x xs in let fails : cond {A = ℕ} (p x) 1 0 ≡ 0 = ap (λ (b : Bool). cond {A = ℕ} b 1 0) e in omega arith)
+found_more p x xs false e (inr (k, y, at, passes)) = inr (suc k, y, at, passes)
+
+-- a count is 0, or some element passes
+pub count_by_found : {X : Type 0} (p : X → Bool) (xs : List X) → (count_by p xs ≡ 0) ⊎ ((k : ℕ) × (x : X) × (slice_get xs k ≡ Some x) × (p x ≡ true))
+count_by_found p [] = inl refl
+count_by_found p (x ∷ xs) =
+    found_more p x xs (p x) refl (count_by_found p xs)
+
+pub takes_itself : (c : ℕ) (chosen : Option ℕ) → takes c chosen ≡ true → chosen ≡ Some c
+takes_itself c None e = absurd (false≢true e)
+takes_itself c (Some d) e = grind (arith, nat_tests)

@@ -1,0 +1,36 @@
+use Rattle.std.specs.Prelude.{◌≡◌, ℕ, List, length}
+use Rattle.asg_model.specs.declared.parts.Cost.{Cost}
+use Rattle.asg_model.specs.declared.parts.Row.{Row}
+use Rattle.asg_model.specs.declared.parts.Column.{Column}
+use Rattle.asg_model.specs.declared.parts.Place.{Place}
+use Rattle.asg_model.specs.declared.cell_store.CellStore.{CellStore}
+use Rattle.asg_model.specs.declared.cell_store.CellStore.TheVariants.{Map, Table}
+use Rattle.asg_model.specs.Problem.{Problem, problem_of}
+use Rattle.asg_model.specs.Instances.{IsInstance}
+use Rattle.asg_model.specs.Table.{table_cells, IsTable}
+
+-- the cells that stand in a map, or in a table with so many columns
+abbrev pub cells_in : ℕ → CellStore → List ((ℕ × ℕ) × Cost)
+cells_in columns (Map map) = map.entries
+cells_in columns (Table firsts seconds) = table_cells columns firsts.items seconds.items
+
+-- a table has an entry for each of so many rows and columns
+abbrev pub IsStoreOf : ℕ → ℕ → CellStore → Type 0
+IsStoreOf rows columns (Map map) = Unit {0}
+IsStoreOf rows columns (Table firsts seconds) = IsTable rows columns firsts.items seconds.items
+
+-- the problem of these parts, its cells in a store
+abbrev pub stored_problem : List Row → List Column → CellStore → Place → Problem
+stored_problem rows columns store place =
+    problem_of rows columns (cells_in (length columns) store) place
+
+-- the parts are those of an instance, and the store is whole
+pub record IsStored (rows : List Row) (columns : List Column) (store : CellStore) (place : Place)
+    : Type 0 where
+  pub instance : IsInstance (stored_problem rows columns store place)
+  pub whole : IsStoreOf (length rows) (length columns) store
+
+-- the copy has the same cells, and is whole where the store is
+pub record IsCopyOf (store copy : CellStore) : Type 0 where
+  pub cells : (columns : ℕ) → cells_in columns copy ≡ cells_in columns store
+  pub whole : (rows columns : ℕ) → IsStoreOf rows columns store → IsStoreOf rows columns copy

@@ -1,0 +1,21 @@
+use Rattle.std.specs.Prelude.{ℕ}
+
+-- the greatest distance of a part of a cost from 0
+abbrev pub most_cost : ℕ
+most_cost = 1000000000
+
+-- the greatest number of rows
+abbrev pub most_rows : ℕ
+most_rows = 1000
+
+-- the greatest number of columns
+abbrev pub most_columns : ℕ
+most_columns = 1000
+
+-- the greatest capacity of a column
+abbrev pub most_capacity : ℕ
+most_capacity = 1000
+
+-- the greatest length of a file, in bytes
+abbrev pub longest_file : ℕ
+longest_file = 268435456

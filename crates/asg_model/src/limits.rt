@@ -1,0 +1,16 @@
+//! Limits on instances and files.
+
+/// The greatest distance of a part of a cost from 0.
+pub const MOST_COST: i64 = 1_000_000_000;
+
+/// The greatest number of rows of an instance.
+pub const MOST_ROWS: usize = 1_000;
+
+/// The greatest number of columns of an instance.
+pub const MOST_COLUMNS: usize = 1_000;
+
+/// The greatest capacity of a column.
+pub const MOST_CAPACITY: u32 = 1_000;
+
+/// The greatest length of a file, in bytes.
+pub const LONGEST_FILE: usize = 268_435_456;

@@ -1,9 +1,11 @@
 -- A shelf in memory: what it holds, and which of its fetches fail.
-use Rattle.std.specs.Prelude.{◌==◌, ◌+◌, ◌||◌, ℕ, Bool, List, Option, length, find, is_none, option_map, bytes_eq, String, string_bytes, Vec}
+use Rattle.std.specs.Prelude.{◌==◌, ◌+◌, ◌||◌, ℕ, Bool, List, Option, length, find, is_none}
+use Rattle.std.specs.Prelude.{option_map, bytes_eq, String, string_bytes, Vec}
 use Rattle.std.specs.List.{list_any}
 use Rattle.std.specs.declared.alloc.Global.{Global}
 
--- the files by name, the numbers of the fetches that fail, the names asked so far, and the count of faults
+-- the files by name, the numbers of the fetches that fail, the names asked so far, and the count of
+-- faults
 pub record HeldFiles : Type 0 where
   pub files : List (List ℕ × List ℕ)
   pub fails : List ℕ
@@ -24,4 +26,5 @@ fetch_number shelf = length shelf.asked + 1
 
 -- the next fetch of the name fails: its number is one of those that do, or the name isn't held
 abbrev pub is_failing_fetch : HeldFiles → List ℕ → Bool
-is_failing_fetch shelf name = list_any (λ n. n == fetch_number shelf) shelf.fails || is_none (contents_of shelf.files name)
+is_failing_fetch shelf name =
+    list_any (λ n. n == fetch_number shelf) shelf.fails || is_none (contents_of shelf.files name)

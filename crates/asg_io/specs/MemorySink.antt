@@ -1,7 +1,9 @@
 -- A sink in memory: what was written, and which of its puts fail.
-use Rattle.std.specs.Prelude.{◌==◌, ◌+◌, ◌-◌, ◌^◌, ◌||◌, ◌&&◌, min, ℕ, Bool, List, [], ◌∷◌, length, find, Option, is_some, option_map, unwrap_or, nat_lt}
+use Rattle.std.specs.Prelude.{◌==◌, ◌+◌, ◌-◌, ◌^◌, ◌||◌, ◌&&◌, min, ℕ, Bool, List, [], ◌∷◌, length}
+use Rattle.std.specs.Prelude.{find, Option, is_some, option_map, unwrap_or, nat_lt}
 
--- the bytes written, the room for all of them, the number of puts so far, which puts fail and what they then take at most, and the count of faults
+-- the bytes written, the room for all of them, the number of puts so far, which puts fail and what
+-- they then take at most, and the count of faults
 pub record HeldBytes : Type 0 where
   pub written : List ℕ
   pub room : ℕ
@@ -26,14 +28,20 @@ abbrev pub puts_after : HeldBytes → List ℕ → ℕ
 puts_after sink [] = sink.puts
 puts_after sink (_ ∷ _) = put_number sink
 
--- what the next put takes at most, where it is one of those that fail: the first pair with its number says so
+-- what the next put takes at most, where it is one of those that fail: the first pair with its
+-- number says so
 abbrev pub cut_of_put : HeldBytes → Option ℕ
-cut_of_put sink = option_map (λ (fail : ℕ × ℕ). fail.1) (find (λ fail. fail.0 == put_number sink) sink.fails)
+cut_of_put sink =
+    option_map (λ (fail : ℕ × ℕ). fail.1) (find (λ fail. fail.0 == put_number sink) sink.fails)
 
--- the next put fails: its piece isn't empty, and its number is one of those that do or it is longer than the room that is left
+-- the next put fails: its piece isn't empty, and its number is one of those that do or it is longer
+-- than the room that is left
 abbrev pub is_failing_put : HeldBytes → List ℕ → Bool
-is_failing_put sink piece = nat_lt 0 (length piece) && (is_some (cut_of_put sink) || nat_lt (room_left sink) (length piece))
+is_failing_put sink piece = nat_lt 0 (length piece)
+    && (is_some (cut_of_put sink) || nat_lt (room_left sink) (length piece))
 
--- how many bytes the next put takes: all that the room has a place for, and no more than its pair says
+-- how many bytes the next put takes: all that the room has a place for, and no more than its pair
+-- says
 abbrev pub taken_by_put : HeldBytes → List ℕ → ℕ
-taken_by_put sink piece = min (min (length piece) (room_left sink)) (unwrap_or (cut_of_put sink) (length piece))
+taken_by_put sink piece =
+    min (min (length piece) (room_left sink)) (unwrap_or (cut_of_put sink) (length piece))

@@ -1,5 +1,7 @@
--- What a shelf's meanings have to do with one another: its faults are counted, and the names asked of it are listed.
-use Rattle.std.specs.Prelude.{◌≡◌, ◌⊎◌, ◌<◌, ◌≤◌, ◌+◌, ◌-◌, ◌^◌, min, ℕ, Bool, IsTrue, IsFalse, ⊤, List, [], ◌∷◌, ◌++◌, Option, Some, None, Result, Ok, Err, Vec, length}
+-- What a shelf's meanings have to do with one another: its faults are counted, and the names asked
+-- of it are listed.
+use Rattle.std.specs.Prelude.{◌≡◌, ◌⊎◌, ◌<◌, ◌≤◌, ◌+◌, ◌-◌, ◌^◌, min, ℕ, Bool, IsTrue, IsFalse, ⊤}
+use Rattle.std.specs.Prelude.{List, [], ◌∷◌, ◌++◌, Option, Some, None, Result, Ok, Err, Vec, length}
 use Rattle.std.specs.declared.alloc.Global.{Global}
 use Rattle.asg_io.specs.declared.shelf.FetchFault.{FetchFault}
 use Rattle.asg_io.specs.declared.shelf.FetchFault.TheVariants.{NoMemory, Failed, TooLong}
@@ -37,7 +39,8 @@ FailsWhere failing (Err Failed) = IsTrue failing
 FailsWhere failing (Err TooLong) = IsFalse failing
 FailsWhere failing (Err NoMemory) = ⊤
 
--- the answer for the contents of a name, where they are held: the contents, or that they are longer than the limit
+-- the answer for the contents of a name, where they are held: the contents, or that they are longer
+-- than the limit
 abbrev pub AnswersFor : Option (List ℕ) → ℕ → Result (Vec ℕ Global) FetchFault → Type 0
 AnswersFor (Some held) limit (Ok bytes) = (bytes.items ≡ held) × (length held ≤ limit)
 AnswersFor (Some held) limit (Err TooLong) = limit < length held

@@ -1,5 +1,7 @@
-// What a shelf keeps of the fetches so far.
-ghost use Rattle.std.specs.Prelude.{◌≡◌, ◌⊎◌, ◌<◌, ◌≤◌, ◌^◌, [], length, IfOk, IsErrOf, string_bytes};
+//! What a shelf keeps of the fetches so far.
+
+ghost use Rattle.std.specs.Prelude.{◌≡◌, ◌⊎◌, ◌<◌, ◌≤◌, ◌^◌, [], length, IfOk, IsErrOf};
+ghost use Rattle.std.specs.Prelude.{string_bytes};
 ghost use Rattle.asg_io.specs.Shelf.{most_faults, asked_after, faults_after};
 
 use crate::FetchFault;
@@ -20,7 +22,10 @@ impl Model for FetchLog {
 
     ghost Value = { Fetches };
 
-    ghost view = { λ log. record { asked = map string_bytes log.asked.items; faults = log.faults } };
+    ghost view = { λ log. record {
+      asked = map string_bytes log.asked.items;
+      faults = log.faults;
+    } };
 
     ghost invariant = { λ log. log.faults ≤ most_faults };
 }
@@ -55,7 +60,8 @@ impl FetchLog {
         String::from_str(alloc, name)
     }
 
-    // Notes a fetch of the name, and passes its answer on. One for which memory was wanting leaves no trace.
+    // Notes a fetch of the name, and passes its answer on. One for which memory was wanting leaves
+    // no trace.
     pub fn note(
         &mut self,
         name: String,

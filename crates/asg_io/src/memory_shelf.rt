@@ -1,7 +1,11 @@
-// A shelf in memory, whose fetches fail by number.
-ghost use Rattle.std.specs.Prelude.{◌≡◌, ◌<◌, ◌≤◌, ◌==◌, [], length, map, find, option_map, option_copied, IfOk, IfSome, IsErr, IsErrOf, string_bytes, bytes_eq};
+//! A shelf in memory, whose fetches fail by number.
+
+ghost use Rattle.std.specs.Prelude.{◌≡◌, ◌<◌, ◌≤◌, ◌==◌, [], length, map, find, option_map};
+ghost use Rattle.std.specs.Prelude.{option_copied, IfOk, IfSome, IsErr, IsErrOf, string_bytes};
+ghost use Rattle.std.specs.Prelude.{bytes_eq};
 ghost use Rattle.std.specs.List.{list_any};
-ghost use Rattle.asg_io.specs.Shelf.{Rose, most_faults, asked_after, faults_after, FailsWhere, AnswersFor};
+ghost use Rattle.asg_io.specs.Shelf.{Rose, most_faults, asked_after, faults_after, FailsWhere};
+ghost use Rattle.asg_io.specs.Shelf.{AnswersFor};
 ghost use Rattle.asg_io.specs.MemoryShelf.{file_bytes, contents_of, fetch_number, is_failing_fetch};
 
 use crate::fetch_log::FetchLog;
@@ -92,10 +96,13 @@ impl Shelf for MemoryShelf {
     /// It fails where it is one of the fetches that do, or the name isn't held, and nowhere else.
     fn fetch(&mut self, alloc: Global, name: &str, limit: usize) -> Result<Vec<u8>, FetchFault>
         // What each shelf promises.
-        ensures contents { IfOk result (λ bytes. IfSome (contents_of self.old.files name.now) (λ held. bytes.items ≡ held)) }
+        ensures contents { IfOk result (λ bytes.
+            IfSome (contents_of self.old.files name.now) (λ held. bytes.items ≡ held)) }
         ensures within { IfOk result (λ bytes. length bytes.items ≤ limit) }
-        ensures too_long { IsErrOf result FetchFault.TooLong → IfSome (contents_of self.old.files name.now) (λ held. limit < length held) }
-        ensures longer { IfSome (contents_of self.old.files name.now) (λ held. limit < length held → IsErr result) }
+        ensures too_long { IsErrOf result FetchFault.TooLong
+            → IfSome (contents_of self.old.files name.now) (λ held. limit < length held) }
+        ensures longer { IfSome (contents_of self.old.files name.now) (λ held.
+            limit < length held → IsErr result) }
         ensures failed { IsErrOf result FetchFault.Failed → Rose self.old.faults self.new.faults }
         ensures kept { contents_of self.new.files ≡ contents_of self.old.files }
         ensures asked { self.new.asked ≡ asked_after self.old.asked name.now result }
@@ -117,7 +124,8 @@ impl Shelf for MemoryShelf {
 
 // The first file with the name.
 fn file_named<'a>(files: &'a [(String, Vec<u8>)], name: &str) -> Option<&'a (String, Vec<u8>)>
-    ensures { option_copied result ≡ find (λ file. bytes_eq (string_bytes file.0) name.now) files.now }
+    ensures { option_copied result
+        ≡ find (λ file. bytes_eq (string_bytes file.0) name.now) files.now }
 {
     files.iter().find(|file| file.0.as_str() == name)
 }

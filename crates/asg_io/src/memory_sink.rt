@@ -1,5 +1,8 @@
-// A sink in memory, whose puts fail by number and where the room ends.
-ghost use Rattle.std.specs.Prelude.{◌≡◌, ◌≤◌, ◌++◌, ◌==◌, [], Some, find, IsOk, IsErr, is_err, is_ok, if◌then◌else◌, IfOk, OnOk, OnErr, length, take, option_map};
+//! A sink in memory, whose puts fail by number and where the room ends.
+
+ghost use Rattle.std.specs.Prelude.{◌≡◌, ◌≤◌, ◌++◌, ◌==◌, [], Some, find, IsOk, IsErr, is_err};
+ghost use Rattle.std.specs.Prelude.{is_ok, if◌then◌else◌, IfOk, OnOk, OnErr, length, take};
+ghost use Rattle.std.specs.Prelude.{option_map};
 ghost use Rattle.asg_io.specs.Shelf.{Rose, most_faults, risen};
 ghost use Rattle.asg_io.specs.Sink.{Puts, PutsPrefix};
 ghost use Rattle.asg_io.specs.MemorySink.{room_left, puts_after, is_failing_put, taken_by_put};
@@ -8,7 +11,8 @@ use crate::{NoMemory, PutFault, Sink};
 use std::alloc::Global;
 use std::marker::Model;
 
-/// Bytes in memory, with room for so many. Chosen puts fail, as do those of pieces that have no room.
+/// Bytes in memory, with room for so many. Chosen puts fail, as do those of pieces that have no
+/// room.
 #[derive(Drop)]
 pub struct MemorySink {
     bytes: Vec<u8>,
@@ -33,15 +37,17 @@ impl Model for MemorySink {
       faults = sink.faults;
     } };
 
-    ghost invariant = { λ sink. (vec_len sink.bytes ≤ sink.room) × (sink.room ≤ vec_capacity sink.bytes)
+    ghost invariant = { λ sink. (vec_len sink.bytes ≤ sink.room)
+        × (sink.room ≤ vec_capacity sink.bytes)
         × (sink.puts ≤ most_puts) × (sink.faults ≤ most_faults) };
 }
 
 impl MemorySink {
     /// An empty sink with room for so many bytes, whose memory it takes at once.
     ///
-    /// Puts of pieces that aren't empty are numbered from 1. Those whose number is the first member of
-    /// a pair of `fails` fail, and take at most as many bytes as the second member of the first such pair says.
+    /// Puts of pieces that aren't empty are numbered from 1. Those whose number is the first member
+    /// of a pair of `fails` fail, and take at most as many bytes as the second member of the first
+    /// such pair says.
     pub fn with(alloc: Global, room: u32, fails: Vec<(u32, u32)>) -> Result<Self, NoMemory>
         ensures written { IfOk result (λ sink. sink.written ≡ []) }
         ensures room { IfOk result (λ sink. sink.room ≡ room) }
@@ -100,12 +106,14 @@ impl Sink for MemorySink {
 
     /// Writes a piece whole, or fails after some prefix of it. It takes no memory.
     ///
-    /// It fails where it is one of the puts that do, or the piece is longer than the room that is left,
-    /// and nowhere else.
+    /// It fails where it is one of the puts that do, or the piece is longer than the room that is
+    /// left, and nowhere else.
     fn put(&mut self, piece: &[u8]) -> Result<(), PutFault>
         // What each sink promises.
-        ensures whole { OnOk result (Puts (Some self.old.written) (Some self.new.written) piece.now) }
-        ensures prefix { OnErr result (PutsPrefix (Some self.old.written) (Some self.new.written) piece.now) }
+        ensures whole { OnOk result
+            (Puts (Some self.old.written) (Some self.new.written) piece.now) }
+        ensures prefix { OnErr result
+            (PutsPrefix (Some self.old.written) (Some self.new.written) piece.now) }
         ensures failed { OnErr result (Rose self.old.faults self.new.faults) }
         ensures never_falls { self.old.faults ≤ self.new.faults }
         ensures at_most { self.new.faults ≤ most_faults }
@@ -114,8 +122,10 @@ impl Sink for MemorySink {
 
         // When it fails, how much it takes, and what stays.
         ensures fails { is_err result ≡ is_failing_put self.old piece.now }
-        ensures taken { self.new.written ≡ self.old.written ++ take (taken_by_put self.old piece.now) piece.now }
-        ensures count { self.new.faults ≡ (if is_ok result then self.old.faults else risen self.old.faults) }
+        ensures taken { self.new.written
+            ≡ self.old.written ++ take (taken_by_put self.old piece.now) piece.now }
+        ensures count { self.new.faults
+            ≡ (if is_ok result then self.old.faults else risen self.old.faults) }
         ensures number { self.new.puts ≡ puts_after self.old piece.now }
         ensures room { self.new.room ≡ self.old.room }
         ensures numbers { self.new.fails ≡ self.old.fails }

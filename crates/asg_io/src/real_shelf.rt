@@ -1,5 +1,7 @@
-// The file system as a shelf.
-ghost use Rattle.std.specs.Prelude.{◌≡◌, ◌<◌, ◌≤◌, [], None, length, take, IfOk, IfErr, IfSome, IsErrOf};
+//! The file system as a shelf.
+
+ghost use Rattle.std.specs.Prelude.{◌≡◌, ◌<◌, ◌≤◌, [], None, length, take, IfOk, IfErr, IfSome};
+ghost use Rattle.std.specs.Prelude.{IsErrOf};
 ghost use Rattle.std.specs.Io.KnownBytes.{Consumes, IsAtEnd};
 ghost use Rattle.asg_io.specs.Shelf.{most_faults, asked_after, faults_after};
 
@@ -60,8 +62,8 @@ impl<R: Files + Drop> Shelf for RealShelf<R> {
 
     ghost faults = { λ shelf. shelf.faults };
 
-    /// Reads a file whole, at most `limit` bytes. It stops with `TooLong` once it has read one byte more,
-    /// and fails where the system can't open or read the file.
+    /// Reads a file whole, at most `limit` bytes. It stops with `TooLong` once it has read one byte
+    /// more, and fails where the system can't open or read the file.
     fn fetch(&mut self, alloc: Global, name: &str, limit: usize) -> Result<Vec<u8>, FetchFault>
         ensures within { IfOk result (λ bytes. length bytes.items ≤ limit) }
         ensures asked { self.new.asked ≡ asked_after self.old.asked name.now result }
@@ -75,7 +77,8 @@ impl<R: Files + Drop> Shelf for RealShelf<R> {
     }
 }
 
-// Reads on to the end, or until more than `limit` bytes are read. Each turn but the last reads a byte at least.
+// Reads on to the end, or until more than `limit` bytes are read. Each turn but the last reads a
+// byte at least.
 fn read_within<F: Read>(
     alloc: Global,
     file: &mut F,
@@ -83,9 +86,11 @@ fn read_within<F: Read>(
     limit: usize,
 ) -> Result<Vec<u8>, FetchFault>
     requires { 0 < length buffer.old }
-    ensures contents { IfOk result (λ bytes. IfSome (F.remaining file.old) (λ held. bytes.items ≡ held)) }
+    ensures contents { IfOk result (λ bytes.
+        IfSome (F.remaining file.old) (λ held. bytes.items ≡ held)) }
     ensures within { IfOk result (λ bytes. length bytes.items ≤ limit) }
-    ensures too_long { IsErrOf result FetchFault.TooLong → IfSome (F.remaining file.old) (λ held. limit < length held) }
+    ensures too_long { IsErrOf result FetchFault.TooLong
+        → IfSome (F.remaining file.old) (λ held. limit < length held) }
 {
     let mut bytes = Vec::new(alloc);
     'turns: loop {
@@ -105,8 +110,10 @@ fn read_within<F: Read>(
 // One read, tried again while it is interrupted. It gives no byte only at the end.
 fn read_some<F: Read>(file: &mut F, buffer: &mut [u8]) -> Result<usize, FetchFault>
     ensures within { IfOk result (λ count. count ≤ length buffer.new) }
-    ensures bytes { IfOk result (λ count. Consumes (F.remaining file.old) (F.remaining file.new) (take count buffer.new)) }
-    ensures end { IfOk result (λ count. count ≡ 0 → 0 < length buffer.new → IsAtEnd (F.remaining file.new)) }
+    ensures bytes { IfOk result (λ count.
+        Consumes (F.remaining file.old) (F.remaining file.new) (take count buffer.new)) }
+    ensures end { IfOk result (λ count.
+        count ≡ 0 → 0 < length buffer.new → IsAtEnd (F.remaining file.new)) }
     ensures failed { IfErr result (λ fault. fault ≡ FetchFault.Failed) }
 {
     'tries: for _ in 0..u64::MAX {

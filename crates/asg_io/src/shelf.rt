@@ -1,5 +1,7 @@
-// Where files are fetched by name.
-ghost use Rattle.std.specs.Prelude.{◌≡◌, ◌<◌, ◌≤◌, ℕ, List, Option, length, IfOk, IfSome, IsErr, IsErrOf};
+//! Where files are fetched by name.
+
+ghost use Rattle.std.specs.Prelude.{◌≡◌, ◌<◌, ◌≤◌, ℕ, List, Option, length, IfOk, IfSome, IsErr};
+ghost use Rattle.std.specs.Prelude.{IsErrOf};
 ghost use Rattle.asg_io.specs.declared.shelf.FetchFault.TheVariants.{NoMemory};
 ghost use Rattle.asg_io.specs.Shelf.{Rose, most_faults, asked_after};
 
@@ -46,19 +48,25 @@ pub trait Shelf {
     /// Gives the contents of a name, at most `limit` bytes.
     ///
     /// `TooLong` says that they are longer, `Failed` that the shelf had a fault, which is counted,
-    /// and `NoMemory` that memory was wanting: then the shelf is as it was, and the name counts as not asked.
+    /// and `NoMemory` that memory was wanting: then the shelf is as it was, and the name counts as
+    /// not asked.
     fn fetch(&mut self, alloc: Global, name: &str, limit: usize) -> Result<Vec<u8>, FetchFault>
         // The answer.
-        ensures contents { IfOk result (λ bytes. IfSome (told self.old name.now) (λ held. bytes.items ≡ held)) }
+        ensures contents { IfOk result (λ bytes.
+            IfSome (told self.old name.now) (λ held. bytes.items ≡ held)) }
         ensures within { IfOk result (λ bytes. length bytes.items ≤ limit) }
-        ensures too_long { IsErrOf result FetchFault.TooLong → IfSome (told self.old name.now) (λ held. limit < length held) }
-        ensures longer { IfSome (told self.old name.now) (λ held. limit < length held → IsErr result) }
-        ensures failed { IsErrOf result FetchFault.Failed → Rose (faults self.old) (faults self.new) }
+        ensures too_long { IsErrOf result FetchFault.TooLong
+            → IfSome (told self.old name.now) (λ held. limit < length held) }
+        ensures longer { IfSome (told self.old name.now) (λ held.
+            limit < length held → IsErr result) }
+        ensures failed { IsErrOf result FetchFault.Failed
+            → Rose (faults self.old) (faults self.new) }
 
         // The shelf after the call.
         ensures kept { told self.new ≡ told self.old }
         ensures asked { asked self.new ≡ asked_after (asked self.old) name.now result }
         ensures never_falls { faults self.old ≤ faults self.new }
         ensures at_most { faults self.new ≤ most_faults }
-        ensures no_memory { IsErrOf result FetchFault.NoMemory → faults self.new ≡ faults self.old };
+        ensures no_memory { IsErrOf result FetchFault.NoMemory
+            → faults self.new ≡ faults self.old };
 }

@@ -1,4 +1,5 @@
-// Where bytes are put, one piece after another.
+//! Where bytes are put, one piece after another.
+
 ghost use Rattle.std.specs.Prelude.{◌≡◌, ◌≤◌, ℕ, List, [], Option, IsOk, OnOk, OnErr};
 ghost use Rattle.asg_io.specs.Shelf.{Rose, most_faults};
 ghost use Rattle.asg_io.specs.Sink.{Puts, PutsPrefix};

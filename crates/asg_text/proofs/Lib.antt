@@ -1,0 +1,13 @@
+pub mod FirstPiece
+pub mod NumberLemmas
+pub mod ShortLemmas
+pub mod CellLemmas
+pub mod Refusing
+pub mod ReadCells
+pub mod TableInstances
+pub mod LineCuts
+pub mod FieldLemmas
+pub mod NetworkLemmas
+pub mod NetworkTables
+pub mod AsnReading
+pub mod SameCellsLaw

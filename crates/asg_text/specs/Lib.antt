@@ -1,0 +1,13 @@
+pub mod Numbers
+pub mod Pieces
+pub mod Separators
+pub mod Faults
+pub mod Readings
+pub mod Tables
+pub mod AsnLines
+pub mod AsnArcs
+pub mod NextCells
+pub mod Slots
+pub mod Networks
+pub mod SameCells
+pub mod Texts

@@ -1,0 +1,56 @@
+-- What is read of a text up to its next cell: words of the reader of cells, on which `reading_of`
+-- doesn't stand.
+use Rattle.std.specs.Prelude.{◌≡◌, ℕ, ℤ, pos, ◌<◌, ◌≤◌, true, List, [], ◌∷◌, ◌++◌, length, Option, Some, IfSome, unsigned_abs, option_and_then}
+use Rattle.std.specs.Option.{option_map}
+use Rattle.std.specs.List.{list_all}
+use Rattle.std.specs.Char.{is_ascii_digit}
+use Rattle.std.specs.Str.Parse.{digits_value}
+use Rattle.asg_model.specs.Limits.{most_cost}
+use Rattle.asg_model.specs.declared.parts.Cost.{Cost}
+use Rattle.asg_text.specs.declared.refusals.TextRefusal.{TextRefusal}
+use Rattle.asg_text.specs.Numbers.{integer_of}
+use Rattle.asg_text.specs.Pieces.{tokens, is_space}
+use Rattle.asg_text.specs.Faults.{Fault, fault_of}
+use Rattle.asg_text.specs.Tables.{cell_of, token_faults}
+
+-- the first token of a text spells this integer, which is in range, and this is the text behind it
+pub record IsShortInteger (text : List ℕ) (value : ℤ) (rest : List ℕ) : Type 0 where
+  pub token : List ℕ
+  pub first : tokens text ≡ token ∷ tokens rest
+  pub spells : integer_of token ≡ Some value
+  pub in_range : unsigned_abs value ≤ most_cost
+
+-- a text begins with decimal digits and a separator; the digits spell this amount, which is in range,
+-- and this is the text behind the separator
+pub record IsShortAmount (text : List ℕ) (amount : ℤ) (rest : List ℕ) : Type 0 where
+  pub digits : List ℕ
+  pub separator : ℕ
+  pub cut : text ≡ digits ++ separator ∷ rest
+  pub separates : is_space separator ≡ true
+  pub some : 0 < length digits
+  pub are_digits : list_all is_ascii_digit digits ≡ true
+  pub is_amount : amount ≡ pos (digits_value 10 digits)
+  pub in_range : digits_value 10 digits ≤ most_cost
+
+-- the first token of a text is a cell without a fault at this place, of this cost, or absent, and this
+-- is the text behind it
+pub record IsCell (place : ℕ) (text : List ℕ) (cost : Option Cost) (rest : List ℕ) : Type 0 where
+  pub token : List ℕ
+  pub first : tokens text ≡ token ∷ tokens rest
+  pub right : token_faults place token ≡ []
+  pub is_cost : cost ≡ cell_of token
+
+-- the first token of a text has this fault at this place
+pub record HasFaultyCell (place : ℕ) (text : List ℕ) (fault : Fault) : Type 0 where
+  pub token : List ℕ
+  pub more : List (List ℕ)
+  pub first : tokens text ≡ token ∷ more
+  pub faulty : token_faults place token ≡ fault ∷ []
+
+-- the first token of a text has the fault that is told
+abbrev pub IsFaultyCell : ℕ → List ℕ → TextRefusal → Type 0
+IsFaultyCell place text refusal = IfSome (fault_of refusal) (HasFaultyCell place text)
+
+-- the cost of two parts, where both are there
+abbrev pub cost_of_parts : Option ℤ → Option ℤ → Option Cost
+cost_of_parts a b = option_and_then (λ a. option_map (λ b. record { a = a; b = b }) b) a

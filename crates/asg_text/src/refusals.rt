@@ -1,0 +1,58 @@
+//! Why a text is refused.
+
+ghost use Rattle.std.specs.Prelude.{◌≡◌};
+
+use std::alloc::{AllocError, AllocFailed};
+
+/// Why a text isn't read. Lines and tokens count from 1. The variants before `NoMemory` have the numbers
+/// 1 to 12, in this order.
+#[derive(Clone, Copy, Debug, PartialEq, Eq)]
+pub enum TextRefusal {
+    /// An asn file has no problem line.
+    NoProblemLine,
+    /// This line of an asn file is a second problem line.
+    SecondProblemLine(u64),
+    /// This line of an asn file has no form, or stands before the problem line.
+    BadLine(u64),
+    /// This node line has another form, its node is out of range, or an earlier arc goes to it.
+    BadNode(u64),
+    /// This arc line has another form, its nodes are out of range, or it doesn't go from a source to a
+    /// node that is none.
+    BadArc(u64),
+    /// A cost below -10^9 or above 10^9, at this line of an asn file, else at this token.
+    CostRange(u64),
+    /// The arc of this line differs in its cost from an earlier one.
+    ArcTwice(u64),
+    /// An asn file states so many arcs, and has so many arc lines.
+    ArcCount(u64, u64),
+    /// So many rows and columns, one of them above 1,000.
+    TooLarge(u64, u64),
+    /// No row.
+    NoRows,
+    /// So many tokens were expected, of the header or of cells, and so many are there.
+    TokenCount(u64, u64),
+    /// This token has no form that may stand there.
+    BadToken(u64),
+    /// Memory ran out.
+    NoMemory,
+}
+
+impl From<AllocError> for TextRefusal {
+    ghost use Rattle.asg_text.specs.declared.refusals.TextRefusal.TheVariants.{NoMemory};
+
+    ghost from_gives = { λ _ refusal. refusal ≡ NoMemory };
+
+    fn from(_: AllocError) -> TextRefusal {
+        TextRefusal::NoMemory
+    }
+}
+
+impl<T: Drop> From<AllocFailed<T>> for TextRefusal {
+    ghost use Rattle.asg_text.specs.declared.refusals.TextRefusal.TheVariants.{NoMemory};
+
+    ghost from_gives = { λ _ refusal. refusal ≡ NoMemory };
+
+    fn from(_: AllocFailed<T>) -> TextRefusal {
+        TextRefusal::NoMemory
+    }
+}

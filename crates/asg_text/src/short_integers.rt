@@ -1,0 +1,77 @@
+//! The common case of a cell: a short integer.
+
+ghost use Rattle.std.specs.Prelude.{◌≡◌, ◌≤◌, true, IfSome, length, take};
+ghost use Rattle.std.specs.List.{list_all};
+ghost use Rattle.std.specs.Char.{is_ascii_digit};
+ghost use Rattle.std.specs.Str.Parse.{digits_value};
+ghost use Rattle.asg_text.specs.Pieces.{is_space};
+ghost use Rattle.asg_text.specs.NextCells.{IsShortInteger, IsShortAmount};
+
+use crate::numbers::{MOST_AMOUNT, is_negative};
+
+/// An integer that a text begins with, and the text behind it.
+#[derive(Clone, Copy)]
+pub(crate) struct ShortInteger<'a> {
+    pub(crate) value: i64,
+    pub(crate) rest: &'a [u8],
+}
+
+// How many digits are read at most.
+const MOST_DIGITS: usize = 10;
+
+/// The integer that a text begins with, where it has at most ten digits, lies between -10^9 and 10^9, and
+/// a separator stands behind it, which is taken with it. `None` tells nothing of the text.
+#[inline]
+pub(crate) fn short_integer<'a>(text: &'a [u8]) -> Option<ShortInteger<'a>>
+    ensures { IfSome result (λ short. IsShortInteger text.now short.value short.rest.now) }
+{
+    if is_negative(text) {
+        let short = short_amount(&text[1..])?;
+        Some(ShortInteger {
+            value: -short.value,
+            rest: short.rest,
+        })
+    } else {
+        short_amount(text)
+    }
+}
+
+// The same, for an integer without a sign.
+#[inline]
+fn short_amount<'a>(text: &'a [u8]) -> Option<ShortInteger<'a>>
+    ensures { IfSome result (λ short. IsShortAmount text.now short.value short.rest.now) }
+{
+    let (number, len) = short_number(text);
+    if len == 0 || len >= text.len() || number > MOST_AMOUNT || !is_space(text[len]) {
+        return None;
+    }
+    Some(ShortInteger {
+        value: number as i64,
+        rest: &text[len + 1..],
+    })
+}
+
+fn is_space(byte: u8) -> bool
+    ensures { result ≡ is_space byte }
+{
+    matches!(byte, b' ' | b'\t' | b'\r' | b'\n')
+}
+
+// The number of the digits that the text begins with, at most ten of them, and how many they are.
+#[inline]
+fn short_number(text: &[u8]) -> (u64, usize)
+    ensures within { result.1 ≤ length text.now }
+    ensures digits { list_all is_ascii_digit (take result.1 text.now) ≡ true }
+    ensures value { result.0 ≡ digits_value 10 (take result.1 text.now) }
+{
+    let mut number = 0;
+    let mut len = 0;
+    for byte in &text[..text.len().min(MOST_DIGITS)] {
+        if !byte.is_ascii_digit() {
+            break;
+        }
+        number = number * 10 + u64::from(*byte - b'0');
+        len += 1;
+    }
+    (number, len)
+}

@@ -1,0 +1,42 @@
+//! The one command that the words are taken by.
+
+ghost use Rattle.std.specs.Prelude.{◌≡◌, false, IfOk};
+ghost use Rattle.clap.specs.Walk.{rule_of};
+ghost use Rattle.clap.specs.Simple.{app_of};
+ghost use Rattle.asg_words.specs.CommandLine.{command_line, option, positional};
+
+use clap::{Arg, ArgAction, Command};
+use std::alloc::{AllocError, Global};
+
+// A word in its place.
+fn positional<'a>(alloc: Global, name: &'a str, action: ArgAction) -> Arg<'a>
+    ensures rule { rule_of result ≡ positional name.entry.now action }
+    ensures local { result.global ≡ false }
+{
+    Arg::new(alloc, name).action(action)
+}
+
+// An option or a flag, by its name.
+fn option<'a>(alloc: Global, name: &'a str, action: ArgAction) -> Arg<'a>
+    ensures rule { rule_of result ≡ option name.entry.now action }
+    ensures local { result.global ≡ false }
+{
+    Arg::new(alloc, name).long(name).action(action)
+}
+
+// The command: a name, the words after it, five options that take a value each, and a flag. The
+// error is want of memory.
+pub fn command_line<'a>(alloc: Global) -> Result<Command<'a>, AllocError>
+    ensures { IfOk result (λ command. app_of command ≡ command_line) }
+{
+    Command::new(alloc, "asg")
+        .no_binary_name(true)
+        .arg(positional(alloc, "command", ArgAction::Set))?
+        .arg(positional(alloc, "words", ArgAction::Append))?
+        .arg(option(alloc, "format", ArgAction::Set))?
+        .arg(option(alloc, "place", ArgAction::Set))?
+        .arg(option(alloc, "each", ArgAction::Set))?
+        .arg(option(alloc, "count", ArgAction::Set))?
+        .arg(option(alloc, "script", ArgAction::Set))?
+        .arg(option(alloc, "brief", ArgAction::SetTrue))
+}

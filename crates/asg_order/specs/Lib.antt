@@ -1,12 +1,7 @@
 pub mod Monoid
 pub mod Differences
 pub mod Words
+pub mod Powers
 pub mod Entering
 pub mod Bridge
-pub mod ChosenCosts
-pub mod Powers
-pub mod Products
-pub mod Rearrangements
-pub mod PowerLaws
-pub mod Orders
-pub mod DifferenceLaws
+pub mod laws

@@ -1,7 +1,7 @@
 use Rattle.std.specs.Prelude.{◌≡◌, ◌⊎◌, Bool, false, IsTrue, List, fold, if◌then◌else◌}
 
--- an ordered monoid, as contracts see it: which elements are its values, its unit, its operation and
--- its order
+-- an ordered monoid, as contracts see it: which elements are its values, its unit, its operation
+-- and its order
 pub record Monoid (V : Type 0) : Type 0 where
   pub is_value : V → Bool
   pub unit : V
@@ -30,12 +30,15 @@ pub record IsOrderedMonoid {V : Type 0} (M : Monoid V) : Type 0 where
   pub unit_is_value : IsValue M M.unit
   pub product_is_value : (x y : V) → IsValue M x → IsValue M y → IsValue M (M.product x y)
   pub commutative : (x y : V) → IsValue M x → IsValue M y → M.product x y ≡ M.product y x
-  pub associative : (x y z : V) → IsValue M x → IsValue M y → IsValue M z → M.product (M.product x y) z ≡ M.product x (M.product y z)
+  pub associative : (x y z : V) → IsValue M x → IsValue M y → IsValue M z
+      → M.product (M.product x y) z ≡ M.product x (M.product y z)
   pub unit_neutral : (x : V) → IsValue M x → M.product M.unit x ≡ x
   pub total : (x y : V) → IsValue M x → IsValue M y → IsLe M x y ⊎ IsLe M y x
-  pub transitive : (x y z : V) → IsValue M x → IsValue M y → IsValue M z → IsLe M x y → IsLe M y z → IsLe M x z
+  pub transitive : (x y z : V) → IsValue M x → IsValue M y → IsValue M z
+      → IsLe M x y → IsLe M y z → IsLe M x z
   pub antisymmetric : (x y : V) → IsValue M x → IsValue M y → IsLe M x y → IsLe M y x → x ≡ y
-  pub monotone : (x y z : V) → IsValue M x → IsValue M y → IsValue M z → IsLe M x y → IsLe M (M.product x z) (M.product y z)
+  pub monotone : (x y z : V) → IsValue M x → IsValue M y → IsValue M z
+      → IsLe M x y → IsLe M (M.product x z) (M.product y z)
   pub unit_least : (x : V) → IsValue M x → IsLe M M.unit x
 
 -- the product of a list, the unit for none

@@ -10,10 +10,10 @@ use crate::ordered::Ordered;
 use crate::words::Written;
 use asg_model::{Cost, Objective};
 
-/// An algebraic objective with its monoid: each cost enters as a value, and of two valid choices the
-/// one is better exactly where the product of its entered values is strictly less. This holds over each
-/// instance of at most 1,000 rows whose live costs lie within the reach and aren't refused by the
-/// objective: `capped` refuses a negative first part, `time-cost` a negative second part.
+/// An algebraic objective with its monoid: each cost enters as a value, and of two valid choices
+/// the one is better exactly where the product of its entered values is strictly less. This holds
+/// over each instance whose live costs lie within the reach and aren't refused by the objective:
+/// `capped` refuses a negative first part, `time-cost` a negative second part.
 pub trait Kind {
     type M: Written;
 
@@ -45,15 +45,18 @@ pub trait Kind {
         ensures is_value { IsValue (Self.M.monoid_of (monoid self.now)) result };
 
     ghost use Rattle.asg_order.specs.Bridge.{KeepsOrder, Bridges};
-    ghost use Rattle.asg_order.specs.ChosenCosts.{Bridges-from_KeepsOrder};
+    ghost use Rattle.asg_order.specs.laws.ChosenCosts.{Bridges-from_KeepsOrder};
 
     // A cost that may enter does so as a value.
     ghost enters_value: { (k : Self) (cost : Cost) → MayEnter (objective k) (reach k) cost
         → IsValue (Self.M.monoid_of (monoid k)) (entered k cost) };
 
     // Entering keeps the order of values.
-    ghost keeps_order: { (k : Self) → KeepsOrder (Self.M.monoid_of (monoid k)) (entered k) (objective k) (reach k) };
+    ghost keeps_order: { (k : Self) →
+        KeepsOrder (Self.M.monoid_of (monoid k)) (entered k) (objective k) (reach k) };
 
     // The bridge between better choices and lesser folds.
-    ghost bridge: { (k : Self) → Bridges (Self.M.monoid_of (monoid k)) (entered k) (objective k) (reach k) } = { λ k. Bridges-from_KeepsOrder (Self.M.monoid_of (monoid k)) (entered k) (objective k) (reach k) (keeps_order k) };
+    ghost bridge: { (k : Self) →
+        Bridges (Self.M.monoid_of (monoid k)) (entered k) (objective k) (reach k) } = { λ k. Bridges-from_KeepsOrder (Self.M.monoid_of (monoid k)) (entered k) (objective k)
+            (reach k) (keeps_order k) };
 }

@@ -1,5 +1,5 @@
-//! What follows from the laws of the traits, for code that is generic in a monoid. A call does nothing:
-//! it tells its caller the law.
+//! What follows from the laws of the traits, for code that is generic in a monoid. A call does
+//! nothing: it tells its caller the law.
 
 ghost use Rattle.std.specs.Prelude.{◌≡◌, ℕ, ◌+◌, List, ◌++◌, length, map, All, IsPermutation};
 ghost use Rattle.std.specs.List.{AllZip};
@@ -60,9 +60,9 @@ pub fn raised<M: Ordered>(m: &M)
         → IsLe monoid (fold_of monoid xs) (fold_of monoid ys) }
 {}
 
-/// The differences from c: where c is at most x, x is the product of c and the difference; a greater
-/// value has the greater difference; and the difference from c and then from d is that from their
-/// product.
+/// The differences from c: where c is at most x, x is the product of c and the difference; a
+/// greater value has the greater difference; and the difference from c and then from d is that from
+/// their product.
 pub fn differences<M: DMonoid>(m: &M)
     ensures whole { let monoid = M.monoid_of m.now in
         (x c : M.Value)
@@ -82,5 +82,6 @@ pub fn differences<M: DMonoid>(m: &M)
         → IsValue monoid x
         → IsValue monoid c
         → IsValue monoid d
-        → M.difference m.now (M.difference m.now x c) d ≡ M.difference m.now x (monoid.product c d) }
+        → M.difference m.now (M.difference m.now x c) d
+        ≡ M.difference m.now x (monoid.product c d) }
 {}

@@ -1,5 +1,5 @@
 use Rattle.std.proofs.Common.{refl}
-use Rattle.asg_order.specs.PowerLaws.{power_is_value, power_of-add}
+use Rattle.asg_order.proofs.PowerLaws.{power_is_value, power_of-add}
 use Rattle.asg_order.proofs.laws.power.Goals as goal
 
 pub returns-clause-is_value : goal.returns-clause-is_value

@@ -1,4 +1,4 @@
-use Rattle.asg_order.specs.Orders.{fold_le}
+use Rattle.asg_order.specs.laws.Orders.{fold_le}
 use Rattle.asg_order.proofs.laws.raised.Goals as goal
 
 pub returns : goal.returns

@@ -1,4 +1,4 @@
-use Rattle.asg_order.specs.Rearrangements.{fold_of-IsPermutation}
+use Rattle.asg_order.proofs.Rearrangements.{fold_of-IsPermutation}
 use Rattle.asg_order.proofs.laws.rearranged.Goals as goal
 
 pub returns : goal.returns

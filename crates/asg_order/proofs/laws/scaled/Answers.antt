@@ -1,4 +1,4 @@
-use Rattle.asg_order.specs.PowerLaws.{fold_of-scaled}
+use Rattle.asg_order.proofs.PowerLaws.{fold_of-scaled}
 use Rattle.asg_order.proofs.laws.scaled.Goals as goal
 
 pub returns : goal.returns

@@ -4,7 +4,7 @@ use Rattle.std.specs.Prelude.{All}
 use Rattle.std.specs.List.{AllZip}
 use Rattle.std.proofs.lemmas.List.Elements.{All-head, All-tail}
 use Rattle.asg_order.specs.Monoid.{Monoid, IsValue, IsLe, IsLess, IsOrderedMonoid, fold_of}
-use Rattle.asg_order.specs.Products.{fold_is_value, fold-cons}
+use Rattle.asg_order.specs.laws.Products.{fold_is_value, fold-cons}
 
 module _ {V : Type 0} (M : Monoid V) (laws : IsOrderedMonoid M) where
   -- each value is at most itself

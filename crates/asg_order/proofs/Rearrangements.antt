@@ -7,7 +7,7 @@ use Rattle.std.proofs.lemmas.List.Elements.{All-head, All-tail, All-set, All-get
 use Rattle.std.proofs.lemmas.List.Sorted.{IsPermutation-keeps}
 use Rattle.std.specs.List.{swap}
 use Rattle.asg_order.specs.Monoid.{Monoid, IsValue, IsOrderedMonoid, fold_of}
-use Rattle.asg_order.specs.Products.{fold_is_value, fold-cons, exchanged}
+use Rattle.asg_order.specs.laws.Products.{fold_is_value, fold-cons, exchanged}
 
 exchange_same : {V : Type 0} (xs : List V) (i j : ℕ) (d : V) → i ≡ j → set (set xs i (get_or xs j d)) j (get_or xs i d) ≡ xs
 exchange_same xs i j d e =

@@ -1,0 +1,3 @@
+pub mod Rearrangements
+pub mod PowerLaws
+pub mod DifferenceLaws

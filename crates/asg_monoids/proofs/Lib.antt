@@ -1,1 +1,2 @@
 mod RankedLists
+pub mod SumRanges

@@ -4,7 +4,12 @@ use Rattle.asg_order.specs.Monoid.{Monoid}
 
 -- the numbers up to top with sums that stop at top
 abbrev pub bounded_sums : ℕ → Monoid ℕ
-bounded_sums top = record { is_value = λ x. nat_le x top; unit = 0; product = λ x y. min (x + y) top; is_le = nat_le }
+bounded_sums top = record {
+  is_value = λ x. nat_le x top;
+  unit = 0;
+  product = λ x y. min (x + y) top;
+  is_le = nat_le;
+}
 
 -- what is missing from x to y
 abbrev pub bounded_difference : ℕ → ℕ → ℕ

@@ -1,11 +1,12 @@
 use Rattle.std.specs.Prelude.{ℕ, ◌+◌, ◌*◌, ◌^◌, min, ℤ, pos, ◌+ℤ◌, ◌-ℤ◌, unsigned_abs, Bool, true, false}
+use Rattle.asg_model.specs.Limits.{most_cost}
 use Rattle.asg_model.specs.declared.parts.Cost.{Cost}
 use Rattle.asg_model.specs.declared.objectives.Objective.{Objective}
 use Rattle.asg_model.specs.declared.objectives.Objective.TheVariants.{Sum, SumMax, SumPair, Capped, Bottleneck, BottleneckMax}
 
 -- how far from 0 a part of a cost that enters may lie
 abbrev pub cost_reach : ℕ
-cost_reach = 1000000000
+cost_reach = most_cost
 
 -- a part of a cost, shifted to a number from 0 on
 abbrev pub shifted : ℤ → ℕ

@@ -16,11 +16,12 @@ graded B = record {
   is_le = λ x y. nat_lt x.0 y.0 || ((x.0 == y.0) && B.is_le x.1 y.1);
 }
 
--- the difference of pairs: the greater pair itself where its grade is greater, the difference of the
--- values where the grades are equal, and the unit where nothing is missing
+-- the difference of pairs: the greater pair itself where its grade is greater, the difference of
+-- the values where the grades are equal, and the unit where nothing is missing
 abbrev pub graded_difference : {V : Type 0} → Monoid V → (V → V → V) → ℕ × V → ℕ × V → ℕ × V
 graded_difference B difference y x =
-    if nat_lt x.0 y.0 then y else if nat_lt y.0 x.0 || B.is_le y.1 x.1 then (0, B.unit) else (y.0, difference y.1 x.1)
+    if nat_lt x.0 y.0 then y
+    else if nat_lt y.0 x.0 || B.is_le y.1 x.1 then (0, B.unit) else (y.0, difference y.1 x.1)
 
 -- a pair of a grade and a number is written as it is
 abbrev pub graded_word : ℕ × ℕ → Word
@@ -28,4 +29,5 @@ graded_word x = record { grade = x.0; amount = x.1 }
 
 -- the pair of a grade below 2^64 and a number up to top that has the word
 abbrev pub graded_value : ℕ → Word → Option (ℕ × ℕ)
-graded_value top w = if nat_lt w.grade (2 ^ 64) && nat_le w.amount top then Some (w.grade, w.amount) else None
+graded_value top w =
+    if nat_lt w.grade (2 ^ 64) && nat_le w.amount top then Some (w.grade, w.amount) else None

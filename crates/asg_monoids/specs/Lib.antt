@@ -1,11 +1,5 @@
 pub mod BoundedSums
 pub mod Maxima
 pub mod Grades
-pub mod BoundedLaws
-pub mod MaximaLaws
-pub mod GradedLaws
 pub mod Entered
-pub mod SumFolds
-pub mod SumOrders
-pub mod PeakOrders
-pub mod TimeOrders
+pub mod laws

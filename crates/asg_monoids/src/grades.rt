@@ -4,7 +4,8 @@ use crate::sums::Bounded;
 use asg_order::{DMonoid, Ordered, Word, Written};
 
 /// Pairs of a grade below 2^64 and a value of a d-monoid. The greater grade wins, and equal grades
-/// combine their values. The order compares the grades first. The unit is the grade 0 with the unit.
+/// combine their values. The order compares the grades first. The unit is the grade 0 with the
+/// unit.
 #[derive(Clone, Copy, Debug)]
 pub struct Graded<B: DMonoid> {
     pub inner: B,
@@ -12,7 +13,7 @@ pub struct Graded<B: DMonoid> {
 
 impl<B: DMonoid> Ordered for Graded<B> {
     ghost use Rattle.asg_monoids.specs.Grades.{graded};
-    ghost use Rattle.asg_monoids.specs.GradedLaws.{graded_laws};
+    ghost use Rattle.asg_monoids.specs.laws.Graded.{graded_laws};
 
     type Value = (u64, B::Value);
 
@@ -45,7 +46,7 @@ impl<B: DMonoid> Ordered for Graded<B> {
 
 impl<B: DMonoid> DMonoid for Graded<B> {
     ghost use Rattle.asg_monoids.specs.Grades.{graded_difference};
-    ghost use Rattle.asg_monoids.specs.GradedLaws.{graded_difference_laws};
+    ghost use Rattle.asg_monoids.specs.laws.Graded.{graded_difference_laws};
 
     ghost difference = { λ m. graded_difference (B.monoid_of m.inner) (B.difference m.inner) };
 
@@ -64,7 +65,7 @@ impl<B: DMonoid> DMonoid for Graded<B> {
 
 impl Written for Graded<Bounded> {
     ghost use Rattle.asg_monoids.specs.Grades.{graded_word, graded_value};
-    ghost use Rattle.asg_monoids.specs.GradedLaws.{graded_word_laws};
+    ghost use Rattle.asg_monoids.specs.laws.Graded.{graded_word_laws};
 
     ghost word_of = { λ _. graded_word };
 

@@ -86,8 +86,8 @@ fn entered<K: Kind>(kind: &K, costs: (Cost, Cost, Cost)) -> <K::M as Ordered>::V
     )
 }
 
-// The costs of an assignment, and the products of their entered values for `sum`, `sum-max`, both parts
-// of `pair`, `capped` at 7, `bottleneck`, `bottleneck-max` and `time-cost`.
+// The costs of an assignment, and the products of their entered values for `sum`, `sum-max`, both
+// parts of `pair`, `capped` at 7, `bottleneck`, `bottleneck-max` and `time-cost`.
 type Products = (
     [(u8, u8); 3],
     u128,

@@ -1,26 +1,28 @@
-//! What holds of entered costs, for the crates above. A call does nothing: it tells its caller the law.
+//! What holds of entered costs, for the crates above. A call does nothing: it tells its caller the
+//! law.
 
 ghost use Rattle.std.specs.Prelude.{◌≤◌, ◌<◌, ◌^◌, List, length, All};
 ghost use Rattle.asg_model.specs.declared.parts.Cost.{Cost};
 ghost use Rattle.asg_model.specs.declared.objectives.Objective.TheVariants.{Sum, SumMax, SumPair};
+ghost use Rattle.asg_model.specs.Limits.{most_rows};
 ghost use Rattle.asg_order.specs.Entering.{MayEnter};
 ghost use Rattle.asg_order.specs.Bridge.{costs_fold};
 ghost use Rattle.asg_monoids.specs.BoundedSums.{bounded_sums};
 ghost use Rattle.asg_monoids.specs.Entered.{cost_reach, sum_entered};
 
-/// Sums of at most 1,000 entered costs stay far below their top of 2^120: those of `sum` and `sum-max`
-/// below 2^41, those of `pair` below 2^84.
+/// Sums of no more entered costs than an instance may have rows stay far below their top of 2^120:
+/// those of `sum` and `sum-max` below 2^41, those of `pair` below 2^84.
 pub fn sums_in_range()
     ensures sum { (u : List Cost)
-        → length u ≤ 1000
+        → length u ≤ most_rows
         → All (MayEnter Sum cost_reach) u
         → costs_fold (bounded_sums (2 ^ 120)) (sum_entered Sum) u < 2 ^ 41 }
     ensures sum_max { (u : List Cost)
-        → length u ≤ 1000
+        → length u ≤ most_rows
         → All (MayEnter SumMax cost_reach) u
         → costs_fold (bounded_sums (2 ^ 120)) (sum_entered SumMax) u < 2 ^ 41 }
     ensures pair { (u : List Cost)
-        → length u ≤ 1000
+        → length u ≤ most_rows
         → All (MayEnter SumPair cost_reach) u
         → costs_fold (bounded_sums (2 ^ 120)) (sum_entered SumPair) u < 2 ^ 84 }
 {}

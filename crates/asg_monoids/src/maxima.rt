@@ -8,7 +8,7 @@ pub struct Greatest;
 
 impl Ordered for Greatest {
     ghost use Rattle.asg_monoids.specs.Maxima.{maxima};
-    ghost use Rattle.asg_monoids.specs.MaximaLaws.{maxima_laws};
+    ghost use Rattle.asg_monoids.specs.laws.Maxima.{maxima_laws};
 
     type Value = u64;
 
@@ -35,7 +35,7 @@ impl Ordered for Greatest {
 
 impl DMonoid for Greatest {
     ghost use Rattle.asg_monoids.specs.Maxima.{maxima_difference};
-    ghost use Rattle.asg_monoids.specs.MaximaLaws.{maxima_difference_laws};
+    ghost use Rattle.asg_monoids.specs.laws.Maxima.{maxima_difference_laws};
 
     ghost difference = { λ _. maxima_difference };
 
@@ -49,7 +49,7 @@ impl DMonoid for Greatest {
 impl Written for Greatest {
     ghost use Rattle.asg_monoids.specs.BoundedSums.{plain_word};
     ghost use Rattle.asg_monoids.specs.Maxima.{maxima_value};
-    ghost use Rattle.asg_monoids.specs.MaximaLaws.{maxima_word_laws};
+    ghost use Rattle.asg_monoids.specs.laws.Maxima.{maxima_word_laws};
 
     ghost word_of = { λ _. plain_word };
 

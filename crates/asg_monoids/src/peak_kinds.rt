@@ -31,7 +31,7 @@ impl PeakKind {
 
 impl Kind for PeakKind {
     ghost use Rattle.asg_monoids.specs.Entered.{cost_reach, peak_entered};
-    ghost use Rattle.asg_monoids.specs.PeakOrders.{peaks_keep_order, peaks_enter_values};
+    ghost use Rattle.asg_monoids.specs.laws.PeakOrders.{peaks_keep_order, peaks_enter_values};
 
     type M = Greatest;
 

@@ -3,15 +3,14 @@
 ghost use Rattle.std.specs.Prelude.{◌≡◌, ◌≤◌, unsigned_abs};
 ghost use Rattle.asg_monoids.specs.Entered.{cost_reach, shifted, turned};
 
-// How far from 0 each part of a cost that enters may lie.
-const REACH: i64 = 1_000_000_000;
+use asg_model::limits::MOST_COST;
 
 // The part, shifted to a number from 0 on.
 pub(crate) fn shifted(part: i64) -> u64
     requires { unsigned_abs part ≤ cost_reach }
     ensures { result ≡ shifted part }
 {
-    (part + REACH) as u64
+    (part + MOST_COST) as u64
 }
 
 // The part, turned round and shifted to a number from 0 on.
@@ -19,5 +18,5 @@ pub(crate) fn turned(part: i64) -> u64
     requires { unsigned_abs part ≤ cost_reach }
     ensures { result ≡ turned part }
 {
-    (REACH - part) as u64
+    (MOST_COST - part) as u64
 }

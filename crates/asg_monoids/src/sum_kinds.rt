@@ -23,8 +23,8 @@ pub struct SumKind {
 }
 
 impl SumKind {
-    /// The kind of the objective, which is `sum`, `sum-max`, `pair` or `capped`. The sums stop at the
-    /// cap, or at 2^120, which none of the others reaches.
+    /// The kind of the objective, which is `sum`, `sum-max`, `pair` or `capped`. The sums stop at
+    /// the cap, or at 2^120, which none of the others reaches.
     pub fn of(objective: Objective) -> SumKind
         requires { IsTrue (is_sum_objective objective) }
         ensures objective { ⟦<SumKind as Kind>⟧.objective result ≡ objective }
@@ -51,7 +51,7 @@ fn top_of(objective: Objective) -> u128
 
 impl Kind for SumKind {
     ghost use Rattle.asg_monoids.specs.Entered.{cost_reach, sum_entered};
-    ghost use Rattle.asg_monoids.specs.SumOrders.{sums_keep_order_at, sums_enter_values_at};
+    ghost use Rattle.asg_monoids.specs.laws.SumOrders.{sums_keep_order_at, sums_enter_values_at};
 
     type M = Bounded;
 

@@ -13,7 +13,7 @@ pub struct Bounded {
 
 impl Ordered for Bounded {
     ghost use Rattle.asg_monoids.specs.BoundedSums.{bounded_sums};
-    ghost use Rattle.asg_monoids.specs.BoundedLaws.{bounded_laws};
+    ghost use Rattle.asg_monoids.specs.laws.Bounded.{bounded_laws};
 
     type Value = u128;
 
@@ -40,7 +40,7 @@ impl Ordered for Bounded {
 
 impl DMonoid for Bounded {
     ghost use Rattle.asg_monoids.specs.BoundedSums.{bounded_difference};
-    ghost use Rattle.asg_monoids.specs.BoundedLaws.{bounded_difference_laws};
+    ghost use Rattle.asg_monoids.specs.laws.Bounded.{bounded_difference_laws};
 
     ghost difference = { λ _. bounded_difference };
 
@@ -53,7 +53,7 @@ impl DMonoid for Bounded {
 
 impl Written for Bounded {
     ghost use Rattle.asg_monoids.specs.BoundedSums.{plain_word, bounded_value};
-    ghost use Rattle.asg_monoids.specs.BoundedLaws.{bounded_word_laws};
+    ghost use Rattle.asg_monoids.specs.laws.Bounded.{bounded_word_laws};
 
     ghost word_of = { λ _. plain_word };
 

@@ -8,7 +8,8 @@ use crate::sums::Bounded;
 use asg_model::{Cost, Objective};
 use asg_order::Kind;
 
-/// The kind of `time-cost`: the first part of each cost enters as the grade, the second as an amount.
+/// The kind of `time-cost`: the first part of each cost enters as the grade, the second as an
+/// amount.
 #[derive(Clone, Copy, Debug)]
 pub struct TimeKind {
     monoid: Graded<Bounded>,
@@ -31,7 +32,7 @@ impl TimeKind {
 impl Kind for TimeKind {
     ghost use Rattle.asg_model.specs.declared.objectives.Objective.TheVariants.{TimeCost};
     ghost use Rattle.asg_monoids.specs.Entered.{cost_reach, time_entered};
-    ghost use Rattle.asg_monoids.specs.TimeOrders.{times_keep_order_at, times_enter_values_at};
+    ghost use Rattle.asg_monoids.specs.laws.TimeOrders.{times_keep_order_at, times_enter_values_at};
 
     type M = Graded<Bounded>;
 

@@ -1,4 +1,4 @@
-use Rattle.asg_monoids.specs.SumOrders.{sum_in_range, sum_max_in_range, pair_in_range}
+use Rattle.asg_monoids.proofs.SumRanges.{sum_in_range, sum_max_in_range, pair_in_range}
 use Rattle.asg_monoids.proofs.laws.sums_in_range.Goals as goal
 
 pub returns-clause-sum : goal.returns-clause-sum

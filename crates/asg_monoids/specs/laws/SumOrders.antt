@@ -15,16 +15,16 @@ use Rattle.asg_order.specs.Entering.{MayEnter}
 use Rattle.asg_order.specs.Bridge.{KeepsOrder, costs_fold}
 use Rattle.asg_monoids.specs.BoundedSums.{bounded_sums}
 use Rattle.asg_monoids.specs.Entered.{cost_reach, shifted, sum_entered, top_of, is_sum_objective}
-use Rattle.asg_monoids.specs.SumFolds.{bounded_fold, sum_shifted, sum_turned, sum_paired, sum_capped, total_plain}
+use Rattle.asg_monoids.specs.laws.SumFolds.{bounded_fold, sum_shifted, sum_turned, sum_paired, sum_capped, total_plain}
 
-near_a : (objective : Objective) (u : List Cost) → All (MayEnter objective cost_reach) u → All (λ cost. unsigned_abs cost.a ≤ cost_reach) u
+pub near_a : (objective : Objective) (u : List Cost) → All (MayEnter objective cost_reach) u → All (λ cost. unsigned_abs cost.a ≤ cost_reach) u
 near_a objective u may = All-weaker (MayEnter objective cost_reach) (λ cost. unsigned_abs cost.a ≤ cost_reach) (λ cost m. m.within.a_within) u may
 
-near_b : (objective : Objective) (u : List Cost) → All (MayEnter objective cost_reach) u → All (λ cost. unsigned_abs cost.b ≤ cost_reach) u
+pub near_b : (objective : Objective) (u : List Cost) → All (MayEnter objective cost_reach) u → All (λ cost. unsigned_abs cost.b ≤ cost_reach) u
 near_b objective u may = All-weaker (MayEnter objective cost_reach) (λ cost. unsigned_abs cost.b ≤ cost_reach) (λ cost m. m.within.b_within) u may
 
 -- below the top a bounded sum is the sum
-fold_is : (enter : Cost → ℕ) (u : List Cost) → sum_by enter u < 2 ^ 120 → costs_fold (bounded_sums (2 ^ 120)) enter u ≡ sum_by enter u
+pub fold_is : (enter : Cost → ℕ) (u : List Cost) → sum_by enter u < 2 ^ 120 → costs_fold (bounded_sums (2 ^ 120)) enter u ≡ sum_by enter u
 fold_is enter u lt = omega (arith, bounded_fold (2 ^ 120) (map enter u), sum-map enter u)
 
 -- of numbers, one is strictly less exactly where it is less
@@ -124,24 +124,3 @@ sums_keep_order_at objective top is stops =
 pub sums_enter_values_at : (objective : Objective) (top : ℕ) (cost : Cost) → is_sum_objective objective ≡ true → top ≡ top_of objective → MayEnter objective cost_reach cost → IsValue (bounded_sums top) (sum_entered objective cost)
 sums_enter_values_at objective top cost is stops may =
     subst (λ t. IsValue (bounded_sums t) (sum_entered objective cost)) (sym stops) (sums_enter_values objective cost is may)
-
--- sums of `sum` and `sum-max` stay below 2^41, and those of `pair` below 2^84
-pub sum_in_range : (u : List Cost) → length u ≤ 1000 → All (MayEnter Sum cost_reach) u → costs_fold (bounded_sums (2 ^ 120)) (sum_entered Sum) u < 2 ^ 41
-sum_in_range u few may =
-    let s = sum_shifted (λ cost. cost.a) u (near_a Sum u may) in
-    let lt : sum_by (sum_entered Sum) u < 2 ^ 120 = omega (arith, s.1, few) in
-    omega (arith, s.1, few, fold_is (sum_entered Sum) u lt)
-
-pub sum_max_in_range : (u : List Cost) → length u ≤ 1000 → All (MayEnter SumMax cost_reach) u → costs_fold (bounded_sums (2 ^ 120)) (sum_entered SumMax) u < 2 ^ 41
-sum_max_in_range u few may =
-    let s = sum_turned (λ cost. cost.a) u (near_a SumMax u may) in
-    let lt : sum_by (sum_entered SumMax) u < 2 ^ 120 = omega (arith, s.1, few) in
-    omega (arith, s.1, few, fold_is (sum_entered SumMax) u lt)
-
-pub pair_in_range : (u : List Cost) → length u ≤ 1000 → All (MayEnter SumPair cost_reach) u → costs_fold (bounded_sums (2 ^ 120)) (sum_entered SumPair) u < 2 ^ 84
-pair_in_range u few may =
-    let a = sum_shifted (λ cost. cost.a) u (near_a SumPair u may) in
-    let b = sum_shifted (λ cost. cost.b) u (near_b SumPair u may) in
-    let p = sum_paired u in
-    let lt : sum_by (sum_entered SumPair) u < 2 ^ 120 = omega (arith, p, a.1, b.1, few) in
-    omega (arith, p, a.1, b.1, few, fold_is (sum_entered SumPair) u lt)

@@ -13,13 +13,13 @@ use Rattle.asg_model.specs.Extremes.{greatest}
 use Rattle.asg_order.specs.Monoid.{IsLess, IsValue}
 use Rattle.asg_order.specs.Entering.{MayEnter}
 use Rattle.asg_order.specs.Bridge.{KeepsOrder, costs_fold}
-use Rattle.asg_order.specs.Products.{fold-cons}
+use Rattle.asg_order.specs.laws.Products.{fold-cons}
 use Rattle.asg_monoids.specs.BoundedSums.{bounded_sums}
-use Rattle.asg_monoids.specs.BoundedLaws.{bounded_laws}
+use Rattle.asg_monoids.specs.laws.Bounded.{bounded_laws}
 use Rattle.asg_monoids.specs.Grades.{graded, graded_product}
-use Rattle.asg_monoids.specs.GradedLaws.{graded_laws, by_grades}
-use Rattle.asg_monoids.specs.SumFolds.{total-cons}
-use Rattle.asg_monoids.specs.SumOrders.{shifted_pairs}
+use Rattle.asg_monoids.specs.laws.Graded.{graded_laws, by_grades}
+use Rattle.asg_monoids.specs.laws.SumFolds.{total-cons}
+use Rattle.asg_monoids.specs.laws.SumOrders.{shifted_pairs}
 use Rattle.asg_monoids.specs.Entered.{cost_reach, shifted, time_entered}
 
 greatest_from : (x a : ℤ) (xs : List ℤ) → fold int_max (int_max x a) xs ≡ int_max x (fold int_max a xs)

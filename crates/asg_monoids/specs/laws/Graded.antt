@@ -4,8 +4,9 @@ use Rattle.std.proofs.lemmas.Bool.{cases_lt, cases_Bool}
 use Rattle.std.proofs.lemmas.Bool.Decides.{nat_tests}
 use Rattle.asg_order.specs.Monoid.{Monoid, IsValue, IsLe, IsOrderedMonoid}
 use Rattle.asg_order.specs.Differences.{HasDifferences}
-use Rattle.asg_order.specs.Orders.{le_product}
-use Rattle.asg_order.specs.Words.{HasWords, HasWords-from}
+use Rattle.asg_order.specs.laws.Orders.{le_product}
+use Rattle.asg_order.specs.Words.{HasWords}
+use Rattle.asg_order.specs.laws.Words.{HasWords-from}
 use Rattle.asg_monoids.specs.BoundedSums.{bounded_sums}
 use Rattle.asg_monoids.specs.Grades.{graded, graded_difference, graded_word, graded_value}
 

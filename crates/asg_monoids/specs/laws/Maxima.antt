@@ -3,7 +3,8 @@ use Rattle.std.proofs.Common.{arith}
 use Rattle.std.proofs.lemmas.Bool.Decides.{nat_tests}
 use Rattle.asg_order.specs.Monoid.{IsOrderedMonoid}
 use Rattle.asg_order.specs.Differences.{HasDifferences}
-use Rattle.asg_order.specs.Words.{HasWords, HasWords-from}
+use Rattle.asg_order.specs.Words.{HasWords}
+use Rattle.asg_order.specs.laws.Words.{HasWords-from}
 use Rattle.asg_monoids.specs.BoundedSums.{plain_word}
 use Rattle.asg_monoids.specs.Maxima.{maxima, maxima_difference, maxima_value}
 

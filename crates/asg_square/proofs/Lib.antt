@@ -1,0 +1,9 @@
+pub mod PerfectValid
+pub mod ValidPerfect
+pub mod Folds
+pub mod SquareFilling
+pub mod SquareAssignments
+pub mod PermSteps
+pub mod Presences
+pub mod BitLemmas
+pub mod TableLemmas

@@ -1,0 +1,9 @@
+use Rattle.std.proofs.Common.{None, arith, length}
+use Rattle.std.proofs.lemmas.List.FromFn.{fill_by_all}
+use Rattle.asg_square.specs.Labels.{row_label}
+use Rattle.asg_square.proofs.labels.fill_row_labels.Goals as goal
+
+pub returns-clause-labels : goal.returns-clause-labels
+returns-clause-labels c =
+    fill_by_all (row_label c.args.inst.now) c.loop-r.labels.items (length c.args.labels.now.items) None c.loop-r.invariant.0
+    (λ k h. c.loop-r.invariant.1 k (omega arith))

@@ -1,0 +1,12 @@
+pub mod Limits
+pub mod Labels
+pub mod Cells
+pub mod Presence
+pub mod BitTable
+pub mod CellTable
+pub mod Filling
+pub mod Grid
+pub mod Sums
+pub mod Completion
+pub mod ChoiceAssignment
+pub mod laws

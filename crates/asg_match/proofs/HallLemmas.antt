@@ -5,9 +5,9 @@ use Rattle.std.proofs.lemmas.List.Elements.{All-contains, Contains-get_or}
 use Rattle.std.proofs.lemmas.Bool.{cases_lt}
 use Rattle.std.proofs.lemmas.Option.{none-some}
 use Rattle.asg_match.specs.Matching.{column_at, Matches, IsMatched, IsMatching, IsPerfect}
-use Rattle.asg_match.specs.Short.{IsColumnOf, IsShort}
-use Rattle.asg_match.specs.Growth.{IsStuck}
-use Rattle.asg_match.specs.Alternating.{IsTree, AllCame, IsClosed}
+use Rattle.asg_match.specs.Deficient.{IsColumnOf, IsDeficient}
+use Rattle.asg_match.specs.Augmentation.{IsStuck}
+use Rattle.asg_match.specs.Alternating.{IsTree, AllParentsAllowed, IsClosed}
 use Rattle.asg_match.proofs.MatchingLemmas.{Matches-same, Some-from_test}
 use Rattle.asg_match.proofs.Counting.{length-le_from_within}
 
@@ -46,8 +46,8 @@ AllPairs-columns m rows matching matched apart i j d before within e =
     apart i j 0 before j_within (matching.apart r s (f s) (subst (λ c. Matches m r c) same r_has) s_has)
 
 -- a perfect assignment gives each of the rows a column of its own, so they aren't short
-pub IsShort-refutes : (allows : ℕ → ℕ → Type 0) (side : ℕ) (rows : List ℕ) (m : List (Option ℕ)) → IsShort allows side rows → IsPerfect allows side m → ⊥
-IsShort-refutes allows side rows m short perfect =
+pub IsDeficient-refutes : (allows : ℕ → ℕ → Type 0) (side : ℕ) (rows : List ℕ) (m : List (Option ℕ)) → IsDeficient allows side rows → IsPerfect allows side m → ⊥
+IsDeficient-refutes allows side rows m short perfect =
     let f = column_of_row m in
     let matched = λ (r : ℕ) (has : Contains rows r). perfect.all r (All-contains (λ x. x < side) rows r short.below has) in
     let within = λ (c : ℕ) (has : Contains (map f rows) c).
@@ -57,7 +57,7 @@ IsShort-refutes allows side rows m short perfect =
     let few = length-le_from_within (map f rows) short.few.columns (AllPairs-columns m rows perfect.columns matched short.apart) within in
     absurd (omega (arith, few, short.few.fewer, length-map rows f))
 
-module _ (m : List (Option ℕ)) (rows : List ℕ) (came : List (Option ℕ)) (allows : ℕ → ℕ → Type 0) (matching : IsMatching m) (tree : IsTree m rows came) (cells : AllCame allows rows came) (closed : (k : ℕ) → k < length rows → IsClosed allows came (get_or rows k 0)) where
+module _ (m : List (Option ℕ)) (rows : List ℕ) (parents : ℕ → Option ℕ) (allows : ℕ → ℕ → Type 0) (matching : IsMatching m) (tree : IsTree m rows parents) (cells : AllParentsAllowed allows rows parents) (closed : (k : ℕ) → k < length rows → IsClosed allows parents (get_or rows k 0)) where
   -- a row at a later place than the root's has a column
   matched_later : (k : ℕ) → 0 < k → k < length rows → IsMatched m (get_or rows k 0)
   matched_later k later within = ap (is_some {T = ℕ}) (tree.joined k later within).has
@@ -88,7 +88,7 @@ module _ (m : List (Option ℕ)) (rows : List ℕ) (came : List (Option ℕ)) (a
   allowed_has_row : (c : ℕ) → IsColumnOf allows rows c → IsColumnOf (Matches m) rows c
   allowed_has_row c w =
       let reached = closed w.1.0 w.1.1 c (subst (λ r. allows r c) (sym (row_at w.0 w.1)) w.2) in
-      let from = Some-from_test (column_at came c) reached in
+      let from = Some-from_test (parents c) reached in
       let next = tree.followed c from.0 from.1 in
       (get_or rows next.place 0, Contains-get_or rows next.place 0 next.within, next.has)
 
@@ -155,8 +155,8 @@ module _ (m : List (Option ℕ)) (rows : List ℕ) (came : List (Option ℕ)) (a
         );
       }
 
-  pub IsShort-from_tree : IsShort allows (length m) rows
-  IsShort-from_tree =
+  pub IsDeficient-from_tree : IsDeficient allows (length m) rows
+  IsDeficient-from_tree =
       record {
         below = tree.below;
         apart = tree.apart;

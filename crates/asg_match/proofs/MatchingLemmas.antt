@@ -37,11 +37,6 @@ Matches-set_same m i r c q h = get_or-set_at m i r (Some c) None q h
 pub Matches-read : (m : List (Option ℕ)) (r c : ℕ) (x : Option ℕ) → r < length m → x ≡ get_or m r x → x ≡ Some c → Matches m r c
 Matches-read m r c x h e f = sym (get_or_read m r x h e None) ∙ f
 
--- an option is nothing, or some number
-pub cases_option : (o : Option ℕ) → (o ≡ None) ⊎ ((x : ℕ) × (o ≡ Some x))
-cases_option None = inl refl
-cases_option (Some x) = inr (x, refl)
-
 pub None-from_test : (o : Option ℕ) → is_some o ≡ false → o ≡ None
 None-from_test None e = refl
 None-from_test (Some x) e = absurd (true≢false e)

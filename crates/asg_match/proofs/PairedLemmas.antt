@@ -14,10 +14,6 @@ IsMatching-from_paired {columns = columns} {rows = rows} p =
       apart = λ r s c e f. same_Some r s (sym (p.forth r c e) ∙ p.forth s c f);
     }
 
--- a column with no row in the list by columns is free
-pub IsFree-from_paired : {side : ℕ} {columns rows : List (Option ℕ)} → IsPaired side columns rows → (c : ℕ) → column_at rows c ≡ None → IsFree columns c
-IsFree-from_paired p c e = λ r f. none-some r (sym e ∙ p.forth r c f)
-
 -- a row and its column, cleared on both sides
 pub IsPaired-clear : {side : ℕ} {columns rows : List (Option ℕ)} (r c : ℕ) → IsPaired side columns rows → Matches columns r c → IsPaired side (set columns r None) (set rows c None)
 IsPaired-clear {columns = columns} {rows = rows} r c p e =

@@ -5,12 +5,12 @@ use Rattle.std.proofs.lemmas.Grind.{get_or-set_at}
 use Rattle.std.proofs.lemmas.Bool.{cases_lt, cases_eq}
 use Rattle.std.proofs.lemmas.Option.{none-some, same_Some}
 use Rattle.asg_match.specs.Matching.{column_at, Matches, IsMatched, IsFree, IsMatching}
-use Rattle.asg_match.specs.Alternating.{CameFrom, IsTree}
+use Rattle.asg_match.specs.Alternating.{HasParent, IsTree}
 use Rattle.asg_match.specs.Flipped.{IsLink, Flips}
 use Rattle.asg_match.proofs.MatchingLemmas.{Matches-same, Matches-set_cases, IsMatching-set}
 
 -- the row at a place is about to get a free column; rows up to that place have what they had
-pub record IsFlipping (rows : List ℕ) (came : List (Option ℕ)) (end_place end_column : ℕ) (before now : List (Option ℕ)) (place row column : ℕ) : Type 0 where
+pub record IsFlipping (rows : List ℕ) (parents : ℕ → Option ℕ) (end_place end_column : ℕ) (before now : List (Option ℕ)) (place row column : ℕ) : Type 0 where
   pub side : length now ≡ length before
   pub within : place < length rows
   pub row_there : row ≡ get_or rows place 0
@@ -19,8 +19,8 @@ pub record IsFlipping (rows : List ℕ) (came : List (Option ℕ)) (end_place en
   pub kept : (r : ℕ) → IsMatched before r → IsMatched now r
   pub only : (r : ℕ) → IsMatched now r → IsMatched before r
   pub waiting : (k : ℕ) → k ≤ place → column_at now (get_or rows k 0) ≡ column_at before (get_or rows k 0)
-  pub cells : (r c : ℕ) → Matches now r c → Matches before r c ⊎ IsLink rows came end_place end_column r c
-  pub link : IsLink rows came end_place end_column row column
+  pub cells : (r c : ℕ) → Matches now r c → Matches before r c ⊎ IsLink rows parents end_place end_column r c
+  pub link : IsLink rows parents end_place end_column row column
 
 -- a row that is written has a column, and the others have what they had
 IsMatched-set : (m : List (Option ℕ)) (i c r : ℕ) → i < length m → IsMatched m r → IsMatched (set m i (Some c)) r
@@ -37,7 +37,7 @@ IsMatched-unset m i c r has e =
     (λ n. sym (ap (is_some {T = ℕ}) (get_or-set_other m i r (Some c) None n)) ∙ e)
     (cases_eq r i)
 
-module _ (rows : List ℕ) (came : List (Option ℕ)) (end_place end_column : ℕ) (before now : List (Option ℕ)) (place row column : ℕ) (tree : IsTree before rows came) (state : IsFlipping rows came end_place end_column before now place row column) where
+module _ (rows : List ℕ) (parents : ℕ → Option ℕ) (end_place end_column : ℕ) (before now : List (Option ℕ)) (place row column : ℕ) (tree : IsTree before rows parents) (state : IsFlipping rows parents end_place end_column before now place row column) where
   -- the row is below the side
   pub row_below : row < length now
   row_below = subst (λ r. r < length now) (sym state.row_there) (subst (λ n. get_or rows place 0 < n) (sym state.side) (tree.below place 0 state.within))
@@ -47,13 +47,13 @@ module _ (rows : List ℕ) (came : List (Option ℕ)) (end_place end_column : �
   row_waits = sym (state.waiting place (omega arith)) ∙ ap (column_at now) (sym state.row_there)
 
   -- the column of the row was reached from an earlier place
-  pub parent_of : (former : ℕ) → Matches now row former → (p : ℕ) × (p < place) × CameFrom came former p
+  pub parent_of : (former : ℕ) → Matches now row former → (p : ℕ) × (p < place) × HasParent parents former p
   parent_of former has =
       ⊎_elim
       (λ later.
       let j = tree.joined place later state.within in
       let same = Matches-same before (get_or rows place 0) j.column former j.has (row_waits ∙ has) in
-      (j.parent, j.earlier, subst (λ d. CameFrom came d j.parent) same j.reached))
+      (j.parent, j.earlier, subst (λ d. HasParent parents d j.parent) same j.reached))
       (λ first.
       let at_root : 0 ≡ place = omega arith in
       absurd (none-some former (sym (subst (λ k. column_at before (get_or rows k 0) ≡ None) at_root tree.root_free) ∙ (row_waits ∙ has))))
@@ -71,15 +71,15 @@ module _ (rows : List ℕ) (came : List (Option ℕ)) (end_place end_column : �
       subst (λ k. row ≡ get_or rows k 0) zero state.row_there)
       (cases_lt 0 place)
 
-  cells_after : (r c : ℕ) → Matches (set now row (Some column)) r c → Matches before r c ⊎ IsLink rows came end_place end_column r c
+  cells_after : (r c : ℕ) → Matches (set now row (Some column)) r c → Matches before r c ⊎ IsLink rows parents end_place end_column r c
   cells_after r c e =
       ⊎_elim
-      (λ here. inr (subst (λ d. IsLink rows came end_place end_column r d) (same_Some column c here.1) (subst (λ s. IsLink rows came end_place end_column s column) (sym here.0) state.link)))
+      (λ here. inr (subst (λ d. IsLink rows parents end_place end_column r d) (same_Some column c here.1) (subst (λ s. IsLink rows parents end_place end_column s column) (sym here.0) state.link)))
       (λ there. state.cells r c there.1)
       (Matches-set_cases now row (Some column) r c e)
 
   -- one link of the path is flipped
-  pub IsFlipping-step : IsMatching now → (former p : ℕ) → Matches now row former → CameFrom came former p → p < place → IsFlipping rows came end_place end_column before (set now row (Some column)) p (get_or rows p 0) former
+  pub IsFlipping-step : IsMatching now → (former p : ℕ) → Matches now row former → HasParent parents former p → p < place → IsFlipping rows parents end_place end_column before (set now row (Some column)) p (get_or rows p 0) former
   IsFlipping-step moved former p has reached earlier =
       record {
         side = length-set now row (Some column) ∙ state.side;
@@ -102,7 +102,7 @@ module _ (rows : List ℕ) (came : List (Option ℕ)) (end_place end_column : �
       }
 
   -- the root gets its column, and the path is flipped
-  pub Flips-done : IsMatching now → column_at now row ≡ None → Flips rows came end_place end_column before (set now row (Some column))
+  pub Flips-done : IsMatching now → column_at now row ≡ None → Flips rows parents end_place end_column before (set now row (Some column))
   Flips-done moved unmatched =
       record {
         side = length-set now row (Some column) ∙ state.side;

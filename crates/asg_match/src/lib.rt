@@ -1,21 +1,32 @@
-// Matchings of rows with columns, and the rows that have too few columns.
+//! Matchings of rows with columns over the allowed cells of a square.
+//!
+//! A matching grows row by row along alternating trees. Where a row can't be served, its tree has
+//! rows that together have fewer allowed columns than they are: they are *deficient* (a Hall
+//! violator), show that no perfect assignment exists, and give a Hall set of the instance. Contracts
+//! see a matching as the list of the rows' columns, a tree as the rows that it reached, and the
+//! allowed cells as a relation. Every solver completes its matchings and makes its Hall sets here.
 #![tactic(auto)]
 
-mod branches;
-mod cells;
-mod growth;
-mod pairing;
-mod pairs;
+mod allowed;
+mod alternating_tree;
+mod augmentation;
+mod column_set;
+mod hall_set;
+mod matching;
 mod path;
+mod perfect;
+mod pruning;
 mod search;
 #[cfg(test)]
 mod tests;
 
-pub use branches::Tree;
-pub use cells::Allowed;
-pub use growth::{Grown, augment};
-pub use pairing::{Pairing, Rows, perfect_or_hall, short_or_perfect};
-pub use pairs::Matching;
+pub use allowed::Allowed;
+pub use alternating_tree::Tree;
+pub use augmentation::{Grown, augment};
+pub use hall_set::hall_of;
+pub use matching::Matching;
+pub use perfect::{Pairing, Rows, complete, perfect_or_hall, short_or_perfect};
+pub use pruning::prune;
 use std::alloc::AllocError;
 
 /// There was not enough memory.

@@ -1,30 +1,30 @@
-ghost use Rattle.std.specs.Prelude.{◌≡◌, ◌<◌, length, vec_len, slice_index};
+ghost use Rattle.std.specs.Prelude.{◌≡◌, ◌<◌, length, slice_index};
 ghost use Rattle.asg_match.specs.Matching.{IsFree};
-ghost use Rattle.asg_match.specs.Alternating.{IsTree, CameFrom, IsReached};
+ghost use Rattle.asg_match.specs.Alternating.{IsTree, HasParent, IsReached};
 ghost use Rattle.asg_match.specs.Flipped.{Flips};
+ghost use Rattle.asg_match.specs.Searched.{parents_in};
 
 use crate::Matching;
-use crate::branches::Branches;
+use crate::alternating_tree::Branches;
 use crate::search::Exit;
 
 // The place of the row that a column was reached from.
 fn parent(tree: &Branches, column: u32) -> u32
-    requires below { column < vec_len tree.now.came }
-    requires reached { IsReached tree.now.came.items column }
-    ensures { CameFrom tree.now.came.items column result }
+    requires { IsReached (parents_in tree.now) column }
+    ensures { HasParent (parents_in tree.now) column result }
 {
-    tree.came[column as usize].unwrap()
+    tree.parents[column as usize]
 }
 
 // Gives the exit's column to the exit's row, that row's former column to the row that reached it,
 // and so on up to the root.
 pub(crate) fn flip(matching: &mut Matching, tree: &Branches, exit: Exit)
-    requires side { vec_len tree.now.came ≡ length matching.old }
-    requires grown { IsTree matching.old tree.now.rows.items tree.now.came.items }
+    requires grown { IsTree matching.old tree.now.rows.items (parents_in tree.now) }
     requires place_within { exit.place < length tree.now.rows.items }
     requires column_below { exit.column < length matching.old }
     requires column_free { IsFree matching.old exit.column }
-    ensures { Flips tree.now.rows.items tree.now.came.items exit.place exit.column matching.old matching.new }
+    ensures { Flips tree.now.rows.items (parents_in tree.now) exit.place exit.column
+        matching.old matching.new }
 {
     let mut column = exit.column;
     let mut place = exit.place;

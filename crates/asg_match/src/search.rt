@@ -1,9 +1,11 @@
-ghost use Rattle.std.specs.Prelude.{◌≡◌, ℕ, ◌<◌, ◌≤◌, [], ◌∷◌, None, Some, false, length, vec_len, vec_capacity, replicate, slice_index, IsTrue, IfSome, IfNone};
-ghost use Rattle.asg_match.specs.Matching.{IsMatching};
-ghost use Rattle.asg_match.specs.Alternating.{IsReached, IsClosed, IsOpen};
-ghost use Rattle.asg_match.specs.Searched.{IsSearch, Extends, IsExit};
+ghost use Rattle.std.specs.Prelude.{◌≡◌, ◌⊎◌, ℕ, ◌+◌, ◌*◌, ◌/◌, ◌<◌, ◌≤◌, ◌^◌, [], ◌∷◌, None, Some, false, length, vec_len, vec_capacity, slice_index, IsTrue, IfSome, IfNone};
+ghost use Rattle.asg_match.specs.Matching.{Matches, IsMatching};
+ghost use Rattle.asg_match.specs.Alternating.{HasParent, IsReached, IsClosed, IsOpen};
+ghost use Rattle.asg_match.specs.ColumnSet.{HasColumn, IsColumnSet, word_count};
+ghost use Rattle.asg_match.specs.Searched.{parents_in, IsGrown, IsSearch, Extends, IsExit};
 
-use crate::branches::Branches;
+use crate::alternating_tree::Branches;
+use crate::column_set::{fill, remove};
 use crate::{Allowed, Matching};
 
 /// A column that no row has, and the place in the tree of a row that may have it.
@@ -14,52 +16,97 @@ pub(crate) struct Exit {
 }
 
 // Begins the tree again at a root.
-pub(crate) fn plant(tree: &mut Branches, root: u32)
-    requires { 0 < vec_capacity tree.old.rows }
+pub(crate) fn start(tree: &mut Branches, root: u32)
+    requires room { 0 < vec_capacity tree.old.rows }
+    requires words { vec_len tree.old.unseen ≡ word_count (vec_len tree.old.parents) }
     ensures rows { tree.new.rows.items ≡ root ∷ [] }
-    ensures came { tree.new.came.items ≡ replicate (vec_len tree.old.came) None }
+    ensures none { (c : ℕ) → parents_in tree.new c ≡ None }
+    ensures unseen { IsColumnSet (vec_len tree.old.parents) tree.new.unseen.items }
     ensures room { vec_capacity tree.new.rows ≡ vec_capacity tree.old.rows }
+    ensures side { vec_len tree.new.parents ≡ vec_len tree.old.parents }
+    ensures words { vec_len tree.new.unseen ≡ vec_len tree.old.unseen }
 {
     tree.rows.clear();
     tree.rows.push_reserved(root);
-    tree.came.fill(None);
+    let side = tree.parents.len();
+    fill(&mut tree.unseen, side);
 }
 
-// Looks at one column from the row at a place. True where the row may have the column and no row
-// has it; else the column is reached, if the row may have it.
+// The first column of a word that wasn't reached and that the row may have.
 #[inline]
-fn visit<A: Allowed>(
-    allowed: &A,
-    matching: &Matching,
-    tree: &mut Branches,
-    place: u32,
-    row: u32,
-    column: u32,
-) -> bool
-    requires side { A.side allowed.now ≡ length matching.now }
-    requires search { IsSearch (A.allows allowed.now) matching.now tree.old }
-    requires place_within { place < length tree.old.rows.items }
-    requires row_there { row ≡ slice_index tree.old.rows.items place }
-    requires column_below { column < length matching.now }
-    ensures search { IsSearch (A.allows allowed.now) matching.now tree.new }
-    ensures extends { Extends tree.old tree.new }
-    ensures yes { IsTrue result → IsOpen (A.allows allowed.now) matching.now row column }
-    ensures no { result ≡ false → A.allows allowed.now row column → IsReached tree.new.came.items column }
+fn next_column<A: Allowed>(allowed: &A, tree: &Branches, row: u32, number: u32) -> Option<u32>
+    requires row_below { row < A.side allowed.now }
+    requires side_fits { A.side allowed.now < 2 ^ 32 }
+    requires unseen { IsColumnSet (A.side allowed.now) tree.now.unseen.items }
+    requires number_below { number < vec_len tree.now.unseen }
+    ensures there { IfSome result (A.allows allowed.now row) }
+    ensures unseen { IfSome result (HasColumn tree.now.unseen.items) }
+    ensures none { IfNone result ((c : ℕ) → c / 64 ≡ number
+        → HasColumn tree.now.unseen.items c → A.allows allowed.now row c → ⊥) }
 {
-    if tree.came[column as usize].is_some() {
-        return false;
+    let columns = allowed.among(row, number, tree.unseen[number as usize]);
+    if columns == 0 {
+        return None;
     }
-    if !allowed.has(row, column) {
-        return false;
-    }
+    Some(64 * number + columns.trailing_zeros())
+}
+
+// Reaches a column from the row at a place, which may have it. True: no row has the column. False:
+// the row that has it stands in the tree now.
+#[inline]
+fn reach(matching: &Matching, tree: &mut Branches, place: u32, column: u32) -> bool
+    requires grown { IsGrown matching.now tree.old }
+    requires place_within { place < length tree.old.rows.items }
+    requires column_below { column < length matching.now }
+    requires unseen { HasColumn tree.old.unseen.items column }
+    ensures grown { IsGrown matching.now tree.new }
+    ensures extends { Extends tree.old tree.new }
+    ensures only { (c p : ℕ) → HasParent (parents_in tree.new) c p
+        → HasParent (parents_in tree.old) c p ⊎ ((c ≡ column) × (p ≡ place)) }
+    ensures yes { IsTrue result → (s : ℕ) → Matches matching.now s column → ⊥ }
+    ensures longer { result ≡ false
+        → length tree.new.rows.items ≡ length tree.old.rows.items + 1 }
+{
     match matching.row_of(column) {
         None => true,
         Some(next) => {
-            tree.came[column as usize] = Some(place);
+            let side = tree.parents.len();
+            tree.parents[column as usize] = place;
+            remove(&mut tree.unseen, side, column as usize);
             tree.rows.push_reserved(next);
             false
         }
     }
+}
+
+// Looks at the columns of one word from the row at a place, up to the first that no row has.
+fn scan_word<A: Allowed>(
+    allowed: &A,
+    matching: &Matching,
+    tree: &mut Branches,
+    place: u32,
+    number: u32,
+) -> Option<u32>
+    requires side { A.side allowed.now ≡ length matching.now }
+    requires side_fits { length matching.now < 2 ^ 32 }
+    requires search { IsSearch (A.allows allowed.now) matching.now tree.old }
+    requires place_within { place < length tree.old.rows.items }
+    requires number_below { number < vec_len tree.old.unseen }
+    ensures search { IsSearch (A.allows allowed.now) matching.now tree.new }
+    ensures extends { Extends tree.old tree.new }
+    ensures found { IfSome result
+        (IsOpen (A.allows allowed.now) matching.now (slice_index tree.old.rows.items place)) }
+    ensures none { IfNone result ((c : ℕ) → c / 64 ≡ number
+        → A.allows allowed.now (slice_index tree.old.rows.items place) c
+        → IsReached (parents_in tree.new) c) }
+{
+    let row = tree.rows[place as usize];
+    'columns: while let Some(column) = next_column(allowed, tree, row, number) {
+        if reach(matching, tree, place, column) {
+            return Some(column);
+        }
+    }
+    None
 }
 
 // Looks at every column from the row at a place, up to the first that no row has.
@@ -70,6 +117,7 @@ fn scan<A: Allowed>(
     place: u32,
 ) -> Option<u32>
     requires side { A.side allowed.now ≡ length matching.now }
+    requires side_fits { length matching.now < 2 ^ 32 }
     requires search { IsSearch (A.allows allowed.now) matching.now tree.old }
     requires place_within { place < length tree.old.rows.items }
     ensures search { IsSearch (A.allows allowed.now) matching.now tree.new }
@@ -77,11 +125,11 @@ fn scan<A: Allowed>(
     ensures found { IfSome result
         (IsOpen (A.allows allowed.now) matching.now (slice_index tree.old.rows.items place)) }
     ensures none { IfNone result
-        (IsClosed (A.allows allowed.now) tree.new.came.items (slice_index tree.old.rows.items place)) }
+        (IsClosed (A.allows allowed.now) (parents_in tree.new)
+        (slice_index tree.old.rows.items place)) }
 {
-    let row = tree.rows[place as usize];
-    for column in 0..matching.side() {
-        if visit(allowed, matching, tree, place, row, column) {
+    for number in 0..tree.unseen.len() as u32 {
+        if let Some(column) = scan_word(allowed, matching, tree, place, number) {
             return Some(column);
         }
     }
@@ -100,7 +148,8 @@ pub(crate) fn grow<A: Allowed>(
     ensures extends { Extends tree.old tree.new }
     ensures found { IfSome result (IsExit (A.allows allowed.now) matching.now tree.new) }
     ensures none { IfNone result ((k : ℕ) → k < length tree.new.rows.items
-        → IsClosed (A.allows allowed.now) tree.new.came.items (slice_index tree.new.rows.items k)) }
+        → IsClosed (A.allows allowed.now) (parents_in tree.new)
+        (slice_index tree.new.rows.items k)) }
     ensures matching { IsMatching matching.now }
 {
     for place in 0..matching.side() {

@@ -3,6 +3,7 @@ use Rattle.std.proofs.lemmas.List.{get_or_read, set-set, length-set}
 use Rattle.std.proofs.lemmas.Option.{same_Some, none-some}
 use Rattle.asg_match.specs.Matching.{IsFree}
 use Rattle.asg_match.specs.Flipped.{Flips}
+use Rattle.asg_match.specs.Searched.{parents_in}
 use Rattle.asg_match.proofs.MatchingLemmas.{Matches-set_cases}
 use Rattle.asg_match.proofs.PathLemmas.{IsFlipping, row_below, parent_of, IsFlipping-step, Flips-done}
 use Rattle.asg_match.proofs.path.flip.Goals as goal
@@ -44,10 +45,7 @@ pub parent-place-requires : goal.parent-place-requires
 parent-place-requires c =
     let has = sym c.column_of.ensures.value ∙ c.in-Some.is in
     let from = parent_of _ _ _ _ _ _ _ _ _ c.requires.grown c.links.invariant c.in-Some.former has in
-    record {
-      below = omega (arith, c.column_of.ensures.matching.below c.links.row c.in-Some.former has, c.links.invariant.side, c.requires.side);
-      reached = ap (is_some {T = ℕ}) from.2;
-    }
+    ap (is_some {T = ℕ}) from.2
 
 pub index-row-requires-in-Some : goal.index-row-requires-in-Some
 index-row-requires-in-Some c =
@@ -77,8 +75,8 @@ links-preserved c =
     let next = get_or_read t.rows.items p _ within c.index-row-in-Some.ensures 0 in
     let after = c.set.ensures ∙ (ap (λ m. set m row (Some c.links.column)) c.clear.ensures ∙ set-set now row None (Some c.links.column)) in
     let step = IsFlipping-step _ _ _ _ _ _ _ _ _ c.requires.grown c.links.invariant c.column_of.ensures.matching c.in-Some.former p has c.parent-place.ensures nearer in
-    subst (λ m. IsFlipping t.rows.items t.came.items c.args.exit.place c.args.exit.column c.args.matching.now m p c.index-row-in-Some.result.now c.in-Some.former) (sym after)
-    (subst (λ r. IsFlipping t.rows.items t.came.items c.args.exit.place c.args.exit.column c.args.matching.now (set now row (Some c.links.column)) p r c.in-Some.former) (sym next) step)
+    subst (λ m. IsFlipping t.rows.items (parents_in t) c.args.exit.place c.args.exit.column c.args.matching.now m p c.index-row-in-Some.result.now c.in-Some.former) (sym after)
+    (subst (λ r. IsFlipping t.rows.items (parents_in t) c.args.exit.place c.args.exit.column c.args.matching.now (set now row (Some c.links.column)) p r c.in-Some.former) (sym next) step)
 
 pub set-requires-2 : goal.set-requires-2
 set-requires-2 c =
@@ -93,5 +91,5 @@ pub returns : goal.returns
 returns c =
     let t = c.args.tree.now in
     let unmatched = sym c.column_of.ensures.value ∙ c.in_default.is in
-    subst (λ m. Flips t.rows.items t.came.items c.args.exit.place c.args.exit.column c.args.matching.now m) (sym c.set-2.ensures)
+    subst (λ m. Flips t.rows.items (parents_in t) c.args.exit.place c.args.exit.column c.args.matching.now m) (sym c.set-2.ensures)
     (Flips-done _ _ _ _ _ _ _ _ _ c.requires.grown c.links.invariant c.column_of.ensures.matching unmatched)

@@ -1,5 +1,6 @@
 use Rattle.std.proofs.Common.{◌<◌, length, get_or, below_more, subst, arith}
 use Rattle.asg_match.specs.Alternating.{IsClosed}
+use Rattle.asg_match.specs.Searched.{parents_in}
 use Rattle.asg_match.proofs.SearchLemmas.{Extends-join, IsReached-later}
 use Rattle.asg_match.proofs.Counting.{length-le_from_below}
 use Rattle.asg_match.proofs.search.grow.Goals as goal
@@ -8,7 +9,7 @@ use Rattle.asg_match.proofs.search.grow.Goals as goal
 pub returns-clause-none : goal.returns-clause-none
 returns-clause-none g c =
     λ k within.
-    let grown = c.loop-place.invariant.search.grown in
+    let grown = c.loop-place.invariant.search.tree_grown.grown in
     let few = length-le_from_below _ _ grown.apart grown.below in
     c.loop-place.invariant.closed k (omega (arith, few))
 
@@ -25,7 +26,7 @@ loop-place-preserved g c =
     record {
       search = c.scan.ensures.search;
       extends = Extends-join _ _ _ c.loop-place.invariant.extends further;
-      closed = below_more (λ k. IsClosed allows new.came.items (get_or new.rows.items k 0)) _
+      closed = below_more (λ k. IsClosed allows (parents_in new) (get_or new.rows.items k 0)) _
           (λ k h.
           let there : k < length old.rows.items = omega (arith, here) in
           λ d cell. IsReached-later _ _ further d (c.loop-place.invariant.closed k h d (subst (λ r. allows r d) (further.rows k there) cell)))

@@ -1,6 +1,6 @@
 use Rattle.std.proofs.Common.{ℕ, ◌<◌, get_or}
 use Rattle.asg_match.specs.Alternating.{IsClosed}
-use Rattle.asg_match.specs.Searched.{IsSearch, Extends}
+use Rattle.asg_match.specs.Searched.{parents_in, IsSearch, Extends}
 use Rattle.asg_match.proofs.search.grow.Given as goal
 
 -- the rows at the places so far are closed
@@ -9,5 +9,5 @@ invariant-loop-place g l =
     record {
       search : IsSearch (g.A.Allowed.allows l.allowed) l.matching l.tree;
       extends : Extends l.fn.tree l.tree;
-      closed : (k : ℕ) → k < l.place → IsClosed (g.A.Allowed.allows l.allowed) l.tree.came.items (get_or l.tree.rows.items k 0);
+      closed : (k : ℕ) → k < l.place → IsClosed (g.A.Allowed.allows l.allowed) (parents_in l.tree) (get_or l.tree.rows.items k 0);
     }

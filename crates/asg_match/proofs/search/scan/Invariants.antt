@@ -1,13 +1,14 @@
-use Rattle.std.proofs.Common.{ℕ, ◌<◌}
+use Rattle.std.proofs.Common.{◌≡◌, ℕ, ◌/◌, ◌<◌, length, get_or}
 use Rattle.asg_match.specs.Alternating.{IsReached}
-use Rattle.asg_match.specs.Searched.{IsSearch, Extends}
+use Rattle.asg_match.specs.Searched.{parents_in, IsSearch, Extends}
 use Rattle.asg_match.proofs.search.scan.Given as goal
 
--- the columns so far that are allowed to the row are reached
-abbrev pub invariant-loop-column : goal.invariant-loop-column
-invariant-loop-column g l =
+-- the columns of the words so far that are allowed to the row are reached
+abbrev pub invariant-loop-number : goal.invariant-loop-number
+invariant-loop-number g l =
     record {
       search : IsSearch (g.A.Allowed.allows l.allowed) l.matching l.tree;
       extends : Extends l.fn.tree l.tree;
-      closed : (c : ℕ) → c < l.column → g.A.Allowed.allows l.allowed l.row c → IsReached l.tree.came.items c;
+      end : l.number-end ≡ length l.fn.tree.unseen.items;
+      closed : (c : ℕ) → c / 64 < l.number → g.A.Allowed.allows l.allowed (get_or l.fn.tree.rows.items l.place 0) c → IsReached (parents_in l.tree) c;
     }

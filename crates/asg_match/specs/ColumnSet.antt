@@ -1,0 +1,25 @@
+-- Sets of columns as words of 64 bits, the lowest bit of the first word for column 0.
+use Rattle.std.specs.Prelude.{◌≡◌, ◌↔◌, ℕ, ◌+◌, ◌*◌, ◌/◌, ◌%◌, ◌<◌, List, length, slice_index}
+use Rattle.std.specs.Int.{bit_at}
+
+-- a word has the bit of this place
+abbrev pub HasBit : ℕ → ℕ → Type 0
+HasBit word k = bit_at word k ≡ 1
+
+-- column c is in the set
+abbrev pub HasColumn : List ℕ → ℕ → Type 0
+HasColumn words c = HasBit (slice_index words (c / 64)) (c % 64)
+
+-- as many words as the columns below a side need
+abbrev pub word_count : ℕ → ℕ
+word_count side = (side + 63) / 64
+
+-- a set of columns below the side
+pub record IsColumnSet (side : ℕ) (words : List ℕ) : Type 0 where
+  pub count : length words ≡ word_count side
+  pub below : (i k : ℕ) → HasBit (slice_index words i) k → 64 * i + k < side
+
+-- the bits of a word for the columns from 64 times its number on that are among others and allowed to row r
+abbrev pub AreAmong : (ℕ → ℕ → Type 0) → ℕ → ℕ → ℕ → ℕ → Type 0
+AreAmong allows r number columns word =
+    (k : ℕ) → HasBit word k ↔ (HasBit columns k × allows r (64 * number + k))

@@ -1,1 +1,1 @@
-pub mod ThresholdLaw
+pub mod BestLaw

@@ -1,2 +1,4 @@
 pub mod RowIds
 pub mod Threshold
+pub mod Proves
+pub mod Outcomes

@@ -1,4 +1,10 @@
-//! Proofs of answers: what shows that a choice is best, and what a solving call gives.
+//! Proofs of answers: what a solving call gives, and what shows that its answer is right.
+//!
+//! The types are those of an outcome: a best choice with its proof, or rows that show that no
+//! choice is valid. The definitions say what a proof of each kind must hold for a choice of an
+//! instance, the laws that a choice which is proved so is best. Contracts see a list of ids as a
+//! list of numbers, and a proof and an outcome by their variants. The solving crates give outcomes,
+//! documents write them, and the checker tests them; nothing here solves or tests.
 #![tactic(auto)]
 
 pub mod laws;

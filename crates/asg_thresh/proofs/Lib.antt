@@ -1,0 +1,5 @@
+pub mod WordLemmas
+pub mod CellLemmas
+pub mod ChoiceLemmas
+pub mod SquareGrades
+pub mod OutcomeLemmas

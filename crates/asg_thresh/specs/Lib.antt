@@ -1,0 +1,6 @@
+pub mod Objectives
+pub mod Grades
+pub mod Words
+pub mod Bounds
+pub mod Thresholds
+pub mod Seekers

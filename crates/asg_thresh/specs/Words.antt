@@ -1,0 +1,20 @@
+-- Rows of bits, as words of 64.
+use Rattle.std.specs.Prelude.{ℕ, ◌+◌, ◌*◌, ◌/◌, ◌%◌, ◌<◌, ◌≤◌, ◌↔◌, List, slice_index}
+use Rattle.asg_match.specs.ColumnSet.{HasBit, word_count}
+use Rattle.asg_thresh.specs.Grades.{grade_at, IsUpTo}
+
+-- row r may have column c by the words, of which each row has as many as its columns need
+pub record IsMarked (words : List ℕ) (side : ℕ) (r c : ℕ) : Type 0 where
+  pub row : r < side
+  pub column : c < side
+  pub bit : HasBit (slice_index words (r * word_count side + c / 64)) (c % 64)
+
+-- the bits of a word are the grades of at most the limit, of a list of at most 64
+abbrev pub AreBitsUpTo : List ℕ → ℕ → ℕ → ℕ → Type 0
+AreBitsUpTo grades count limit word =
+    (k : ℕ) → HasBit word k ↔ ((k < count) × (slice_index grades k ≤ limit))
+
+-- the words mark exactly the cells with a grade of at most the limit
+abbrev pub MarksUpTo : List ℕ → ℕ → ℕ → List ℕ → Type 0
+MarksUpTo grades side limit words =
+    (r c : ℕ) → IsMarked words side r c ↔ IsUpTo grades side limit r c

@@ -1,0 +1,109 @@
+//! The outcome of a bottleneck objective: a best choice with its proof, or a Hall set.
+
+ghost use Rattle.std.specs.Prelude.{◌≡◌, ◌≤◌, IfOk, unsigned_abs};
+ghost use Rattle.asg_match.specs.Deficient.{IsDeficient};
+ghost use Rattle.asg_match.specs.HallSets.{GivesHallSets};
+ghost use Rattle.asg_model.specs.Limits.{most_cost};
+ghost use Rattle.asg_proof.specs.Outcomes.{IsOutcome};
+ghost use Rattle.asg_square.specs.Grid.{HasLabelsOf, IsSquareOf};
+ghost use Rattle.asg_model.specs.Shapes.{square_side};
+ghost use Rattle.asg_square.specs.Limits.{most_side};
+ghost use Rattle.asg_thresh.specs.Grades.{grade_of, free_grade, no_grade, AreGradesOf, IsUnder};
+ghost use Rattle.asg_thresh.specs.Objectives.{IsBottleneck};
+ghost use Rattle.asg_thresh.specs.Thresholds.{IsLeast};
+
+use crate::NoMemory;
+use crate::cells_under::CellsUnder;
+use crate::grades::{FREE_GRADE, NO_GRADE, grade, grades_of};
+use crate::thresholds::{Threshold, least_threshold};
+use asg_match::hall_of;
+use asg_model::laws::{bottleneck_law, bottleneck_max_law};
+use asg_model::{Cost, Instance, Objective};
+use asg_proof::{Ids, Outcome, Proof};
+use asg_square::Square;
+use asg_square::laws::{grid_law, square_law};
+use std::alloc::Global;
+
+// The ids of a Hall set of each instance of these rows, columns and place rule whose square has
+// exactly the cells of a grade under the limit.
+fn hall_ids(
+    alloc: Global,
+    inst: &Instance,
+    square: &Square<u32>,
+    grades: &[u32],
+    found: &Threshold,
+) -> Result<Ids, NoMemory>
+    requires labels { HasLabelsOf inst.now square.now }
+    requires few { square.now.side ≤ most_side }
+    requires grades { AreGradesOf square.now grades.now }
+    requires least { IsLeast grades.now square.now.side found.now.limit
+        found.now.perm.items found.now.rows.items }
+    ensures { IfOk result (GivesHallSets inst.now
+        (IsUnder grades.now square.now.side found.now.limit)) }
+{
+    let _rows = inst.rows();
+    let cells = CellsUnder {
+        grades,
+        side: square.side(),
+        limit: found.limit,
+    };
+    let mut ids = [0; 1001];
+    let count = hall_of(square, inst, &cells, found.rows.as_slice(), &mut ids);
+    let ids = Vec::from_slice(alloc, &ids[..count as usize])?;
+    Ok(Ids::from_vec(ids))
+}
+
+// The outcome that a least threshold shows.
+fn outcome(
+    alloc: Global,
+    objective: Objective,
+    inst: &Instance,
+    square: &Square<u32>,
+    grades: &[u32],
+    found: &Threshold,
+) -> Result<Outcome, NoMemory>
+    requires objective { IsBottleneck objective }
+    requires square { IsSquareOf inst.now free_grade (grade_of objective) square.now }
+    requires few { square.now.side ≤ most_side }
+    requires grades { AreGradesOf square.now grades.now }
+    requires limit { found.now.limit ≤ no_grade }
+    requires least { IsLeast grades.now square.now.side found.now.limit
+        found.now.perm.items found.now.rows.items }
+    ensures { IfOk result (IsOutcome objective inst.now) }
+{
+    square_law::<u32>();
+    grid_law::<u32>();
+    bottleneck_law();
+    bottleneck_max_law();
+    let _rows = inst.rows();
+    let rows = hall_ids(alloc, inst, square, grades, found)?;
+    if found.limit == NO_GRADE {
+        return Ok(Outcome::Nothing { rows });
+    }
+    let choice = square.choice_of(alloc, found.perm.as_slice())?;
+    Ok(Outcome::Best {
+        choice,
+        proof: Proof::Below(rows),
+    })
+}
+
+/// A best choice for a bottleneck objective, with the rows that prove it: a Hall set of the cells
+/// whose costs are strictly better than its value. Where no choice is valid, a Hall set of the whole
+/// instance. The objective is `Bottleneck` or `BottleneckMax`, and the side of the instance's square
+/// is at most 2,000. The error is want of memory. The time grows with the cube of the side for each
+/// of a few dozen limits at most (the threshold method, [Garfinkel 1971]).
+pub fn bottleneck(alloc: Global, objective: Objective, inst: &Instance) -> Result<Outcome, NoMemory>
+    requires objective { IsBottleneck objective }
+    requires side { square_side inst.now ≤ most_side }
+    ensures { IfOk result (IsOutcome objective inst.now) }
+{
+    let _rows = inst.rows();
+    let enter = |cost: Cost| -> u32
+        requires { unsigned_abs cost.a ≤ most_cost }
+        ensures { result ≡ grade_of objective cost }
+    { grade(objective, cost) };
+    let square = Square::of(alloc, inst, FREE_GRADE, &enter)?;
+    let grades = grades_of(alloc, &square)?;
+    let found = least_threshold(alloc, grades.as_slice(), square.side())?;
+    outcome(alloc, objective, inst, &square, grades.as_slice(), &found)
+}

@@ -1,0 +1,4 @@
+pub mod SpelledDigits
+pub mod SignedNumbers
+pub mod ListedNumbers
+pub mod ReadLines

@@ -1,0 +1,6 @@
+pub mod Lines
+pub mod NumberLists
+pub mod Spellings
+pub mod Parts
+pub mod Reading
+pub mod laws

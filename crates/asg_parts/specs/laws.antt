@@ -1,0 +1,4 @@
+pub mod LineCuts
+pub mod SpellingLaws
+pub mod PartLaws
+pub mod LineLaws

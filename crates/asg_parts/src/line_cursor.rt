@@ -1,0 +1,138 @@
+//! The lines of a file, one after the other.
+
+ghost use Rattle.std.specs.Prelude.{◌≡◌, ◌↔◌, [], ◌∷◌, length, IsTrue, MatchOption};
+ghost use Rattle.asg_parts.specs.Lines.{whole_lines, line_ends};
+ghost use Rattle.asg_parts.specs.Parts.{the_line, one_line};
+ghost use Rattle.asg_parts.specs.Reading.{Reads, ReadsLine};
+ghost use Rattle.asg_parts.specs.Spellings.{behind, positive_spelling, signed_spelling, pair_spelling, list_spelling};
+
+use crate::byte_cuts::{after, cut};
+use crate::faults::Fault;
+use crate::fields::{leading_pair, numbers, pair, positive, signed};
+use crate::number_lists::Numbers;
+use std::alloc::Global;
+use std::marker::Model;
+
+/// The lines of a file that are left, each ended by LF. Bytes after the last LF are no line.
+#[derive(Drop)]
+pub struct Lines<'a> {
+    rest: &'a [u8],
+}
+
+impl<'a> Model for Lines<'a> {
+    ghost use Rattle.std.specs.Prelude.{List, ℕ};
+    ghost use Rattle.asg_parts.specs.Lines.{whole_lines};
+
+    ghost Value = { List (List ℕ) };
+
+    ghost view = { λ lines. whole_lines lines.rest.now };
+}
+
+impl<'a> Lines<'a> {
+    /// The lines of a file.
+    pub fn of(file: &'a [u8]) -> Lines<'a>
+        ensures { result ≡ whole_lines file.now }
+    {
+        Lines { rest: file }
+    }
+
+    // The next line, and the lines after it.
+    fn first(&self) -> Option<(&'a [u8], Lines<'a>)>
+        ensures { MatchOption result (self.now ≡ []) (λ parts. self.now ≡ parts.0.now ∷ parts.1) }
+    {
+        let (line, rest) = cut(b'\n', self.rest);
+        let rest = after(b"\n", rest)?;
+        Some((line, Lines { rest }))
+    }
+
+    /// Whether no line is left.
+    pub fn is_empty(&self) -> bool
+        ensures { IsTrue result ↔ (self.now ≡ []) }
+    {
+        self.first().is_none()
+    }
+
+    /// The number of lines that are left. It goes through them.
+    pub fn len(&self) -> usize
+        ensures { result ≡ length self.now }
+    {
+        count_ends(self.rest)
+    }
+
+    /// Goes past the next line where it is this one; else it stays, and the error is `Refused`.
+    pub fn pass(&mut self, line: &[u8]) -> Result<(), Fault>
+        ensures { Reads (the_line line.now) self.old self.new result }
+    {
+        let Some((first, left)) = self.first() else {
+            return Err(Fault::Refused);
+        };
+        if first != line {
+            return Err(Fault::Refused);
+        }
+        *self = left;
+        Ok(())
+    }
+
+    /// What the next line spells behind its front, as the function tells, and goes past it. It stays,
+    /// and the error is `Refused`, where no line is left or the next begins otherwise; it stays and
+    /// has the function's error where that has one.
+    pub fn read<T, F: FnOnce(&[u8]) -> Result<T, Fault>>(
+        &mut self,
+        front: &[u8],
+        spelled: F,
+    ) -> Result<T, Fault>
+        requires { F.IsAlwaysCallable spelled }
+        ensures { ReadsLine F.FnOnce spelled front.now self.old self.new result }
+    {
+        let Some((line, left)) = self.first() else {
+            return Err(Fault::Refused);
+        };
+        let Some(text) = after(front, line) else {
+            return Err(Fault::Refused);
+        };
+        let value = spelled(text)?;
+        *self = left;
+        Ok(value)
+    }
+
+    /// The number of 1 to 2^32 - 1 that the next line spells behind its front, and goes past it.
+    pub fn positive(&mut self, front: &[u8]) -> Result<u32, Fault>
+        ensures { Reads (one_line (behind front.now positive_spelling)) self.old self.new result }
+    {
+        self.read(front, positive)
+    }
+
+    /// The signed number of 128 bits that the next line spells behind its front, and goes past it.
+    pub fn signed(&mut self, front: &[u8]) -> Result<i128, Fault>
+        ensures { Reads (one_line (behind front.now signed_spelling)) self.old self.new result }
+    {
+        self.read(front, signed)
+    }
+
+    /// The two numbers that the next line spells, with a space between them, and goes past it.
+    /// Numbers of at most nine digits are read in one pass.
+    pub fn pair(&mut self) -> Result<(u32, u32), Fault>
+        ensures { Reads (one_line pair_spelling) self.old self.new result }
+    {
+        if let Some((pair, rest)) = leading_pair(self.rest) {
+            *self = Lines { rest };
+            return Ok(pair);
+        }
+        self.read(b"", pair)
+    }
+
+    /// The numbers that the next line lists behind its front, and goes past it. They alone take
+    /// memory.
+    pub fn numbers(&mut self, alloc: Global, front: &[u8]) -> Result<Numbers, Fault>
+        ensures { Reads (one_line (behind front.now list_spelling)) self.old self.new result }
+    {
+        self.read(front, |text| numbers(alloc, text))
+    }
+}
+
+/// The number of LF.
+pub fn count_ends(bytes: &[u8]) -> usize
+    ensures { result ≡ line_ends bytes.now }
+{
+    bytes.iter().filter(|byte| **byte == b'\n').count()
+}

@@ -7,20 +7,20 @@ use Rattle.std.proofs.lemmas.List.Elements.{All-nil, All-cons, All-head, All-app
 use Rattle.std.proofs.lemmas.List.Concat.{flat_map-append}
 use Rattle.asg_doc.specs.declared.documents.Document.{Document}
 use Rattle.asg_doc.specs.HasText.{HasText}
-use Rattle.asg_doc.specs.Reading.{Faults}
-use Rattle.asg_doc.specs.RefusedLine.{AllHaveText, BeginsText, IsRefusedLine, IsLongestBegun, IsNoText, Stops}
+use Rattle.asg_parts.specs.Reading.{Stops}
+use Rattle.asg_doc.specs.DocumentParts.{document_part}
+use Rattle.asg_doc.specs.RefusedLine.{AllHaveText, BeginsText, IsRefusedLine, IsLongestBegun, IsNoText, DocumentsStop}
 use Rattle.asg_doc.specs.Text.{lines_of, ended, texts_of}
-use Rattle.asg_doc.specs.WholeLines.{whole_lines, line_ends, Lacks}
-use Rattle.asg_doc.proofs.Cuts.{IsSplit-whole_lines, length-whole_lines, line_ends-append, ended-append, whole_lines-prefix, whole_lines-ended}
-use Rattle.asg_doc.proofs.PlainLines.{texts_are_lines, lines_of_texts}
-use Rattle.asg_doc.proofs.UniqueTexts.{documents_rest}
+use Rattle.asg_parts.specs.Lines.{whole_lines, line_ends, Lacks}
+use Rattle.asg_parts.specs.laws.LineCuts.{IsSplit-whole_lines, length-whole_lines, line_ends-append, ended-append, whole_lines-prefix, whole_lines-ended}
+use Rattle.asg_doc.proofs.DocumentTexts.{documents_rest, texts_are_lines, lines_of_texts}
 
 -- ---- from a document to the list
 
 -- where a document isn't read after others, the list isn't
-pub Stops-document : (read : List Document) (old left rest : List (List ℕ)) → AllHaveText read → old ≡ flat_map lines_of read ++ left → 0 < length left
-    → Faults lines_of HasText left rest → Stops old rest
-Stops-document read old left rest have split some stop = record {
+pub DocumentsStop-document : (read : List Document) (old left rest : List (List ℕ)) → AllHaveText read → old ≡ flat_map lines_of read ++ left → 0 < length left
+    → Stops document_part left rest → DocumentsStop old rest
+DocumentsStop-document read old left rest have split some stop = record {
   good = flat_map lines_of read ++ stop.good;
   split = split ∙ ap (λ ls. flat_map lines_of read ++ ls) stop.split ∙ sym (append_assoc (flat_map lines_of read) stop.good rest);
   documents = read ++ stop.begun ∷ [];
@@ -36,14 +36,14 @@ Stops-document read old left rest have split some stop = record {
       let found = documents_rest read ds (stop.good ++ line ∷ others) have have_ds (same ∙ append_assoc (flat_map lines_of read) stop.good (line ∷ others)) in
       goes_on stop found.0 found.2 line more first others found.3;
 } where
-  whole_left : {left rest : List (List ℕ)} (stop : Faults lines_of HasText left rest) (ds : List Document) → AllHaveText ds → left ≡ flat_map lines_of ds → 0 < length left → ⊥
+  whole_left : {left rest : List (List ℕ)} (stop : Stops document_part left rest) (ds : List Document) → AllHaveText ds → left ≡ flat_map lines_of ds → 0 < length left → ⊥
   whole_left stop [] have same some = absurd (omega (arith, ap length same))
   whole_left {rest = []} stop (d ∷ ds) have same some =
       stop.short d (All-head HasText d ds have) (flat_map lines_of ds) (sym same ∙ stop.split ∙ append-nil stop.good)
   whole_left {rest = line ∷ more} stop (d ∷ ds) have same some =
       stop.barred line more refl d (All-head HasText d ds have) (flat_map lines_of ds) more (sym same ∙ stop.split)
 
-  goes_on : {left rest : List (List ℕ)} (stop : Faults lines_of HasText left rest) (ds : List Document) → AllHaveText ds → (line : List ℕ) (more : List (List ℕ)) → rest ≡ line ∷ more
+  goes_on : {left rest : List (List ℕ)} (stop : Stops document_part left rest) (ds : List Document) → AllHaveText ds → (line : List ℕ) (more : List (List ℕ)) → rest ≡ line ∷ more
       → (others : List (List ℕ)) → stop.good ++ line ∷ others ≡ flat_map lines_of ds → ⊥
   goes_on stop [] have line more first others same = absurd (omega (arith, ap length same, length-append stop.good (line ∷ others)))
   goes_on stop (d ∷ ds) have line more first others same =
@@ -99,7 +99,7 @@ begun_lines bytes begun =
     (front.0, sym (lines_of_texts begun.documents begun.have_text) ∙ ap whole_lines (sym begun.whole) ∙ front.1)
 
 -- a prefix that begins a text has no more lines than were read
-begun_few : (file : List ℕ) (rest : List (List ℕ)) (stop : Stops (whole_lines file) rest) (more : ℕ) → BeginsText (take more file) → length (whole_lines (take more file)) ≤ length stop.good
+begun_few : (file : List ℕ) (rest : List (List ℕ)) (stop : DocumentsStop (whole_lines file) rest) (more : ℕ) → BeginsText (take more file) → length (whole_lines (take more file)) ≤ length stop.good
 begun_few file [] stop more begun =
     omega (arith, line_ends-take more file, length-whole_lines (take more file), length-whole_lines file, ap length (stop.split ∙ append-nil stop.good))
 begun_few file (line ∷ others) stop more begun =
@@ -116,7 +116,7 @@ begun_few file (line ∷ others) stop more begun =
     ]
 
 -- where reading stops, the file is no text, and the line after those read is the refused one
-pub stops_refuses : (file : List ℕ) (rest : List (List ℕ)) (n : ℕ) → Stops (whole_lines file) rest → n + length rest ≡ 1 + line_ends file → IsNoText file × IsRefusedLine file n
+pub stops_refuses : (file : List ℕ) (rest : List (List ℕ)) (n : ℕ) → DocumentsStop (whole_lines file) rest → n + length rest ≡ 1 + line_ends file → IsNoText file × IsRefusedLine file n
 stops_refuses file rest n stop count =
     let plain : All (Lacks 10) stop.good = All-front stop.good rest (subst (All (Lacks 10)) stop.split (IsSplit-whole_lines file).lines_are) in
     let front = file_front file stop.good rest stop.split in

@@ -1,12 +1,12 @@
 -- Refused lines, worked by hand.
-use Rattle.std.proofs.Common.{◌≡◌, ℕ, zero, suc, ◌+◌, ◌<◌, List, [], ◌∷◌, ◌++◌, take, codes, refl, sym, ap, ◌∙◌, arith}
+use Rattle.std.proofs.Common.{◌≡◌, ℕ, zero, suc, ◌+◌, ◌<◌, List, [], ◌∷◌, ◌++◌, take, codes, refl, arith}
 use Rattle.std.proofs.lemmas.List.Elements.{All-nil}
 use Rattle.asg_doc.specs.declared.documents.Document.{Document}
 use Rattle.asg_doc.specs.HasText.{HasText}
 use Rattle.asg_doc.specs.RefusedLine.{BeginsText, IsRefusedLine}
 use Rattle.asg_doc.specs.Text.{text_of, texts_of}
-use Rattle.asg_doc.specs.WholeLines.{line_ends}
-use Rattle.asg_doc.proofs.Cuts.{heads_same}
+use Rattle.asg_parts.specs.Lines.{line_ends}
+use Rattle.asg_parts.specs.laws.LineCuts.{heads_same}
 
 -- a text of documents begins with the title
 no_other_letter : (documents : List Document) (rest : List ℕ) → 120 ∷ rest ≡ texts_of documents → ⊥

@@ -1,6 +1,7 @@
 //! What a document says.
 
 ghost use Rattle.std.specs.Prelude.{◌≡◌, ◌↔◌, [], length, IsTrue};
+ghost use Rattle.asg_doc.specs.CellIds.{AreCellIds};
 
 use asg_model::{Objective, Value};
 use asg_proof::{Ids, Proof};
@@ -24,11 +25,16 @@ impl Model for Cells {
     ghost Value = { List (ℕ × ℕ) };
 
     ghost view = { λ cells. cells.items.items };
+
+    ghost use Rattle.asg_doc.specs.CellIds.{AreCellIds};
+
+    ghost invariant = { λ cells. AreCellIds cells.items.items };
 }
 
 impl Cells {
     /// The list of these cells. It takes no memory.
     pub fn from_vec(items: Vec<(u32, u32)>) -> Cells
+        requires { AreCellIds items.items }
         ensures { result ≡ items.items }
     {
         Cells { items }
@@ -36,7 +42,8 @@ impl Cells {
 
     /// The cells as a `Vec`. It takes no memory.
     pub fn into_vec(self) -> Vec<(u32, u32)>
-        ensures { result.items ≡ self }
+        ensures items { result.items ≡ self }
+        ensures within { AreCellIds self }
     {
         let Cells { items } = self;
         items
@@ -44,14 +51,16 @@ impl Cells {
 
     /// The cells in order.
     pub fn as_slice(&self) -> &[(u32, u32)]
-        ensures { result.now ≡ self.now }
+        ensures items { result.now ≡ self.now }
+        ensures within { AreCellIds self.now }
     {
         self.items.as_slice()
     }
 
     /// The number of cells.
     pub fn len(&self) -> usize
-        ensures { result ≡ length self.now }
+        ensures count { result ≡ length self.now }
+        ensures within { AreCellIds self.now }
     {
         self.items.len()
     }
@@ -86,4 +95,17 @@ pub struct Document {
     pub command: Command,
     pub objective: Objective,
     pub claim: Claim,
+}
+
+// What the status of a document says.
+#[derive(Clone, Copy, Debug, PartialEq, Eq)]
+pub(crate) enum Status {
+    Best,
+    Nothing,
+}
+
+// What the first line of a proof says.
+#[derive(Debug, Drop)]
+pub(crate) enum ProofHead {
+    Below(Ids),
 }

@@ -1,11 +1,7 @@
-use Rattle.std.proofs.Common.{◌≡◌, ◌++◌, length, map, All}
-use Rattle.asg_doc.specs.Spelled.{IsCell}
-use Rattle.asg_doc.specs.Text.{cell_line}
+use Rattle.asg_parts.specs.Parts.{counted}
+use Rattle.asg_parts.specs.Reading.{IsRead}
+use Rattle.asg_doc.specs.DocumentParts.{cell_part}
 use Rattle.asg_doc.proofs.claim_reader.cells.Given as goal
 
 abbrev pub invariant-loop : goal.invariant-loop
-invariant-loop l = record {
-  read : l.fn.lines ≡ map cell_line l.cells.items ++ l.lines;
-  fits : All IsCell l.cells.items;
-  many : length l.cells.items ≡ l.counter;
-}
+invariant-loop l = IsRead (counted l.counter cell_part) l.fn.lines l.lines l.cells.items

@@ -3,7 +3,7 @@ use Rattle.std.proofs.lemmas.Bool.{false≢true}
 use Rattle.std.proofs.lemmas.List.Elements.{All-push}
 use Rattle.std.proofs.lemmas.Result.{err_from_is_err_and}
 use Rattle.asg_doc.specs.HasText.{HasText}
-use Rattle.asg_doc.proofs.DocumentParts.{documents_more, documents_fail}
+use Rattle.asg_doc.proofs.DocumentLines.{documents_more, documents_fail}
 use Rattle.asg_doc.proofs.document_reader.documents.Goals as goal
 
 pub returns-in_err-document : goal.returns-in_err-document
@@ -19,6 +19,6 @@ lines-preserved c =
     let document = c.in_ok-document.ensures in
     let pushed : c.push.new.self.items ≡ c.lines.documents.items ++ c.in_ok-document.field-0 ∷ [] = c.in_ok-push.ensures.items in
     rw pushed (record {
-      read = documents_more c.lines.documents.items c.in_ok-document.field-0 c.args.lines.now c.lines.lines c.document.new.lines read.read document.1;
-      have = All-push HasText c.lines.documents.items c.in_ok-document.field-0 read.have document.0;
+      read = documents_more c.lines.documents.items c.in_ok-document.field-0 c.args.lines.now c.lines.lines c.document.new.lines read.read document.split;
+      have = All-push HasText c.lines.documents.items c.in_ok-document.field-0 read.have document.has;
     })

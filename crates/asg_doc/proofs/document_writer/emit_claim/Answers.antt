@@ -1,0 +1,11 @@
+use Rattle.std.proofs.Common.{◌≡◌, ap, arith}
+use Rattle.std.proofs.lemmas.Grind.{common_steps}
+use Rattle.asg_doc.specs.declared.documents.Claim.TheVariants.{Nothing}
+use Rattle.asg_doc.specs.Text.{ended, claim_lines}
+use Rattle.asg_doc.proofs.Flows.{Wrote-as}
+use Rattle.asg_doc.proofs.document_writer.emit_claim.Goals as goal
+
+pub returns-in-Nothing : goal.returns-in-Nothing
+returns-in-Nothing g c =
+    let claim : Nothing c.as_slice.result.now ≡ c.args.claim.now = grind (arith, common_steps) in
+    Wrote-as (ap (λ told. ended (claim_lines c.args.objective told)) claim) (c.emit_nothing.ensures c.args.objective)

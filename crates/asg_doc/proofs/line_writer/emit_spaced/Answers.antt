@@ -1,0 +1,10 @@
+use Rattle.asg_doc.proofs.Flows.{Wrote-append, Wrote-as, Wrote-nothing}
+use Rattle.asg_doc.proofs.ListTexts.{spaced_more}
+use Rattle.asg_doc.proofs.line_writer.emit_spaced.Goals as goal
+
+pub numbers-init : goal.numbers-init
+numbers-init g c = Wrote-nothing _ _ _ _
+
+pub numbers-preserved : goal.numbers-preserved
+numbers-preserved g c =
+    Wrote-as (spaced_more _ _ c.numbers-test.true) (Wrote-append c.numbers.invariant (Wrote-append c.emit.ensures c.emit_number.ensures))

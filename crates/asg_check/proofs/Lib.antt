@@ -1,4 +1,5 @@
 pub mod Reading
-pub mod Documents
-pub mod CellMaps
+pub mod Decisions
 pub mod FirstReasons
+pub mod Judged
+pub mod Tested

@@ -57,7 +57,7 @@ place_of_id X i c id e =
     let here : (get_or X.columns c any).id ≡ id = ap (λ column. column.id) (get_or_from_slice_get X.columns c at.0 any at.1) ∙ at.2 in
     let first =
     position_or_len_is test X.columns c any (omega arith)
-    (λ k less. ne_eqb _ id (λ same. i.columns_differ k c any less below (same ∙ sym here)))
+    (λ k less. ne_eqb _ id (λ same. i.well_formed.columns_differ k c any less below (same ∙ sym here)))
     (λ _. eq-eqb _ id here) in
     ap (λ n. cond (ltb n (length X.columns)) (Some n) None) first ∙ ap (λ b. cond b (Some c) None) (lt-ltb c (length X.columns) below)
   where
@@ -153,7 +153,7 @@ cells-read X cells none = sym (choices-give X X.rows cells) ∙ ap (λ more. cel
 -- a valid choice that the cells spell is the one that is read
 pub written-read : (X : Problem) (cells : List (ℕ × ℕ)) (f : List (Option ℕ)) → IsInstance X → IsWrittenAs X cells f → (choices X X.rows cells ≡ f) × (unread X X.rows cells ≡ [])
 written-read X cells f i w =
-    let back = read_back X i X.rows f i.rows_differ w.valid.over (AreNamed-valid X f w.valid) in
+    let back = read_back X i X.rows f i.well_formed.rows_differ w.valid.over (AreNamed-valid X f w.valid) in
     (ap (choices X X.rows) w.written ∙ back.0, ap (unread X X.rows) w.written ∙ back.1)
 
 -- a valid choice is the only one that its cells spell

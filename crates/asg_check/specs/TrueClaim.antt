@@ -11,7 +11,8 @@ use Rattle.asg_doc.specs.declared.documents.Claim.{Claim}
 use Rattle.asg_doc.specs.declared.documents.Claim.TheVariants.{Best, Nothing}
 use Rattle.asg_doc.specs.declared.documents.Document.{Document}
 
--- the answer is a best choice: its cells are those of a best choice, and its value is the value of that choice
+-- the answer is a best choice: its cells are those of a best choice, and its value is the value of
+-- that choice
 pub record IsBestAnswer (objective : Objective) (X : Problem) (answer : Answer) : Type 0 where
   pub choice : List (Option ℕ)
   pub best : IsBest objective X choice

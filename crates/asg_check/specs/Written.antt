@@ -11,6 +11,7 @@ pub record IsWrittenAs (X : Problem) (cells : List (ℕ × ℕ)) (f : List (Opti
   pub valid : IsValid X f
   pub written : cells ≡ cells_by_id X f
 
--- the place of the column that a written cell gives the row: none where it names another row, or no column
+-- the place of the column that a written cell gives the row: none where it names another row, or no
+-- column
 abbrev pub column_given : Problem → Row → ℕ × ℕ → Option ℕ
 column_given X row cell = if cell.0 == row.id then column_place_of X cell.1 else None

@@ -1,12 +1,19 @@
-//! The checker: whether a document certifies what it claims of an instance. It stands on no solver.
+//! The checker: whether a document certifies for an objective, an instance and a form, and if it
+//! doesn't, the first reason against it.
+//!
+//! It trusts nothing that the document says: it reads the cells as a choice, tests that the choice
+//! is valid and has the written value, and tests the proof by the definition of its kind. Contracts
+//! see a document by what it claims, and an instance by its rows, columns and costs; a law says
+//! that what certifies is true. It stands on no solver: a user can trust an answer without one.
 #![tactic(auto)]
 
 mod checker;
-mod choice_reader;
-mod claim_tests;
+mod claims;
+mod document_forms;
 pub mod laws;
-mod value_tests;
 mod verdicts;
+mod written_choices;
+mod written_values;
 
 pub use checker::check;
 pub use verdicts::{Form, Reason, Verdict};

@@ -10,11 +10,14 @@ pub enum Form {
     Solve,
 }
 
-/// Why a document doesn't certify.
+/// Why a document doesn't certify, in the order in which the reasons are tested.
 #[derive(Clone, Copy, Debug, PartialEq, Eq)]
 pub enum Reason {
     /// The document's objective isn't the one that is asked.
     OtherObjective,
+    /// The command isn't that of the asked form, or the proof is of a kind that the objective
+    /// doesn't take.
+    WrongForm,
     /// The cells aren't those of a valid choice, in the order of the rows.
     NotValid,
     /// The value isn't that of the cells.
@@ -24,12 +27,13 @@ pub enum Reason {
 }
 
 impl Reason {
-    /// The number of the reason: 1, 3, 4 and 5, in their order.
+    /// The number of the reason, from 1 to 5 as they stand here.
     pub fn number(self) -> u8
         ensures { result ≡ reason_number self }
     {
         match self {
             Reason::OtherObjective => 1,
+            Reason::WrongForm => 2,
             Reason::NotValid => 3,
             Reason::WrongValue => 4,
             Reason::NotHall => 5,

@@ -1,4 +1,4 @@
-//! Tests of values.
+//! Whether a written value is that of the choice.
 
 ghost use Rattle.std.specs.Prelude.{◌≡◌, ◌↔◌, IsTrue};
 

@@ -1,6 +1,6 @@
 use Rattle.std.proofs.Common.{◌≡◌, ◌++◌, ◌≤◌, length, take, drop}
 use Rattle.asg_check.proofs.Reading.{choices, unread}
-use Rattle.asg_check.proofs.choice_reader.choice_of.Given as goal
+use Rattle.asg_check.proofs.written_choices.choice_of.Given as goal
 
 -- what the rows so far chose, and what the rest choose of the cells that are left, is what all choose
 abbrev pub invariant-loop-place : goal.invariant-loop-place

@@ -8,7 +8,7 @@ use Rattle.asg_doc.specs.ChosenCells.{cells_by_id}
 use Rattle.asg_model.specs.declared.parts.Row.{Row}
 use Rattle.asg_check.specs.Written.{column_given}
 use Rattle.asg_check.proofs.Reading.{cells-read, choices, choices-end, choices-kept, unread-end, unread-kept, used_within, written-read}
-use Rattle.asg_check.proofs.choice_reader.choice_of.Goals as goal
+use Rattle.asg_check.proofs.written_choices.choice_of.Goals as goal
 
 pub loop-place-preserved : goal.loop-place-preserved
 loop-place-preserved c =

@@ -1,6 +1,6 @@
 use Rattle.std.proofs.Common.{◌∙◌, sym}
 use Rattle.std.specs.Cmp.Rules.{signed_items}
-use Rattle.asg_check.proofs.value_tests.is_same_list.Goals as goal
+use Rattle.asg_check.proofs.written_values.is_same_list.Goals as goal
 
 pub returns : goal.returns
 returns c =

@@ -1,4 +1,4 @@
-//! Reading written cells as a choice.
+//! The choice that written cells spell.
 
 ghost use Rattle.std.specs.Prelude.{◌≡◌, ◌↔◌, ℕ, List, Option, Some, IfOk, IfSome, option_and_then, slice_get};
 ghost use Rattle.asg_model.specs.Instances.{IsInstance};
@@ -10,7 +10,8 @@ use crate::NoMemory;
 use asg_model::{Choice, Instance, Row, is_valid};
 use std::alloc::Global;
 
-// The place of the column that the cell gives the row; none where it names another row, or no column.
+// The place of the column that the cell gives the row; none where it names another row, or no
+// column.
 fn column_given(inst: &Instance, row: Row, cell: (u32, u32)) -> Option<u32>
     ensures { result ≡ column_given inst.now row cell }
 {
@@ -31,15 +32,16 @@ fn next_column(inst: &Instance, row: Row, cells: &[(u32, u32)], index: usize) ->
     }
 }
 
-// A choice that has these cells, in the order of the rows: the valid one where there is one. The error
-// is want of memory.
+// A choice that has these cells, in the order of the rows: the valid one where there is one. The
+// error is want of memory.
 fn choice_of(
     alloc: Global,
     inst: &Instance,
     cells: &[(u32, u32)],
 ) -> Result<Option<Choice>, NoMemory>
     ensures found { IfOk result (λ found. IfSome found (λ f. cells.now ≡ cells_by_id inst.now f)) }
-    ensures sole { IfOk result (λ found. (f : List (Option ℕ)) → IsWrittenAs inst.now cells.now f → found ≡ Some f) }
+    ensures sole { IfOk result (λ found. (f : List (Option ℕ)) →
+        IsWrittenAs inst.now cells.now f → found ≡ Some f) }
     ensures instance { IsInstance inst.now }
 {
     let rows = inst.rows();
@@ -64,7 +66,8 @@ pub(crate) fn valid_choice(
     inst: &Instance,
     cells: &[(u32, u32)],
 ) -> Result<Option<Choice>, NoMemory>
-    ensures exact { IfOk result (λ found. (f : List (Option ℕ)) → (found ≡ Some f) ↔ IsWrittenAs inst.now cells.now f) }
+    ensures exact { IfOk result (λ found. (f : List (Option ℕ)) →
+        (found ≡ Some f) ↔ IsWrittenAs inst.now cells.now f) }
     ensures instance { IsInstance inst.now }
 {
     match choice_of(alloc, inst, cells)? {

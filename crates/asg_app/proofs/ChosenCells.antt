@@ -6,7 +6,7 @@ use Rattle.std.proofs.lemmas.List.{append-nil}
 use Rattle.asg_model.specs.Problem.{Problem}
 use Rattle.asg_model.specs.declared.parts.Row.{Row}
 use Rattle.asg_doc.specs.ChosenCells.{cell_by_id}
-use Rattle.asg_app.specs.Solved.{cell_at}
+use Rattle.asg_app.specs.DocumentParts.{cell_at}
 
 -- the cells of the rows from a place on
 abbrev pub cells_from : Problem → List (Option ℕ) → ℕ → List (ℕ × ℕ)

@@ -1,80 +1,49 @@
--- How long the text of a document is that solves a square file: it is far below the longest that is read.
-use Rattle.std.proofs.Common.{◌≡◌, ℕ, suc, ◌+◌, ◌*◌, ◌<◌, ◌≤◌, Bool, true, false, cond, List, [], ◌∷◌, ◌++◌, length, map, Option, Some, None, get_or, All, refl, sym, ◌∙◌, ap, subst, arith, length-append}
-use Rattle.std.specs.Prelude.{ℤ, pos, negsuc, codes, ◌&&◌, ◌^◌, nat_lt, nat_le, ◌==◌, Contains, IsTrue, FitsSigned, option_and_then}
+-- How long the text of a document is that a request to solve writes: far below the longest file that is read.
+use Rattle.std.proofs.Common.{◌≡◌, ℕ, suc, ◌+◌, ◌*◌, ◌<◌, ◌≤◌, true, false, List, [], ◌∷◌, ◌++◌, length, map, Option, Some, None, get_or, All, refl, ◌∙◌, ap, subst, arith, length-append}
+use Rattle.std.specs.Prelude.{ℤ, pos, negsuc, codes, ◌^◌, ◌==◌, ◌≢◌, AllPairs, Contains, IsTrue, FitsSigned}
 use Rattle.std.specs.Int.{w128}
 use Rattle.std.specs.Fmt.{decimal, signed_decimal}
 use Rattle.std.specs.List.{flat_map}
-use Rattle.std.specs.Option.{option_map, option_map_or}
-use Rattle.std.proofs.lemmas.Bool.{leb-true, eqb-true}
+use Rattle.std.specs.Option.{option_map_or}
+use Rattle.std.proofs.lemmas.Bool.{eqb-true}
 use Rattle.std.proofs.lemmas.Fmt.{length-decimal-le_wide}
 use Rattle.std.proofs.lemmas.List.{length-map, get_or-map}
 use Rattle.std.proofs.lemmas.List.Concat.{length-flat_map}
 use Rattle.std.proofs.lemmas.Grind.{flat_map-append}
 use Rattle.std.proofs.lemmas.List.Folds.{flat_map-map}
-use Rattle.std.proofs.lemmas.List.FromFn.{length-map-range_with_len}
 use Rattle.std.proofs.lemmas.List.Quantifiers.{position-Some}
 use Rattle.std.proofs.lemmas.List.Sums.{sum_by-le}
-use Rattle.asg_model.specs.declared.objectives.Objective.TheVariants.{Bottleneck}
+use Rattle.asg_model.specs.declared.bands.Band.{Band}
+use Rattle.asg_model.specs.declared.bands.Band.TheVariants.{Whole, Under, Over}
+use Rattle.asg_model.specs.declared.objectives.Objective.{Objective}
+use Rattle.asg_model.specs.declared.objectives.Objective.TheVariants.{Bottleneck, BottleneckMax}
 use Rattle.asg_model.specs.declared.objectives.Value.{Value}
-use Rattle.asg_model.specs.declared.objectives.Value.TheVariants.{One, Two, Many}
-use Rattle.asg_model.specs.HallSet.{is_counted_id, row_place_of}
+use Rattle.asg_model.specs.declared.objectives.Value.TheVariants.{One}
 use Rattle.asg_model.specs.Counts.{is_counted}
+use Rattle.asg_model.specs.HallSet.{IsHall, is_counted_id, row_place_of}
+use Rattle.asg_model.specs.Limits.{longest_file}
 use Rattle.asg_model.specs.Problem.{Problem}
 use Rattle.asg_model.specs.Values.{choice_value}
-use Rattle.asg_doc.specs.ChosenCells.{cells_by_id}
-use Rattle.asg_doc.specs.HasText.{HasText, AreCells, AreRows}
-use Rattle.asg_doc.specs.Text.{spaced, cell_line, ended, text_of}
+use Rattle.asg_doc.specs.declared.documents.Answer.{Answer}
+use Rattle.asg_doc.specs.declared.documents.Claim.TheVariants.{Best, Nothing}
+use Rattle.asg_doc.specs.declared.documents.Command.{Command}
+use Rattle.asg_doc.specs.declared.documents.Command.TheVariants.{Solve as SolveCommand}
+use Rattle.asg_doc.specs.declared.documents.Document.{Document}
+use Rattle.asg_doc.specs.HasText.{HasAnswerText, HasClaimText, HasValueText, AreRows}
+use Rattle.asg_doc.specs.Text.{spaced, cell_line, ended, text_of, value_line}
+use Rattle.asg_doc.specs.Words.{command_word, objective_word}
+use Rattle.asg_proof.specs.declared.outcomes.Proof.{Proof}
+use Rattle.asg_proof.specs.declared.outcomes.Proof.TheVariants.{Below}
 use Rattle.asg_proof.specs.Threshold.{ProvesBelow}
-use Rattle.asg_app.specs.Due.{longest_file}
-use Rattle.asg_app.specs.Numbers.{number_of, size_of_token}
-use Rattle.asg_app.specs.Promised.{IsSolved}
-use Rattle.asg_app.specs.Solved.{solution}
-use Rattle.asg_app.specs.SquareText.{costs_of_tokens, square_of, square_of_cells, square_of_tokens, square_problem}
-use Rattle.asg_app.specs.Tokens.{tokens}
+use Rattle.asg_check.specs.declared.verdicts.Form.{Form}
+use Rattle.asg_check.specs.declared.verdicts.Form.TheVariants.{Solve}
+use Rattle.asg_check.specs.Certifies.{CertifiesClaim}
+use Rattle.asg_check.specs.TrueClaim.{IsTrueClaim}
+use Rattle.asg_words.specs.declared.requests.Job.{Job}
+use Rattle.asg_app.specs.Promised.{IsSolved, IsUnsolvable}
+use Rattle.asg_app.specs.WrittenDocument.{IsBestDocument, IsNoneDocument}
 use Rattle.asg_app.proofs.CellCounts.{length-cells_by_id-le}
 use Rattle.asg_app.proofs.Counting.{length-le-within}
-
--- a size is at most 1,000
-size_within : (token : List ℕ) (n : ℕ) → size_of_token token ≡ Some n → n ≤ 1000
-unfolding size_of_token
-size_within token n is = by_number (number_of token) is
-  where
-    by_test : (m : ℕ) (first second : Bool) → nat_lt 0 m ≡ first → nat_le m 1000 ≡ second → cond (first && second) (Some m) None ≡ Some n → n ≤ 1000
-    by_test m true true some few e = let same : m ≡ n = cc in omega (arith, leb-true m 1000 few)
-    by_test m true false some few e = cc
-    by_test m false second some few e = cc
-
-    by_number : (found : Option ℕ) → option_and_then (λ size. cond (nat_lt 0 size && nat_le size 1000) (Some size) None) found ≡ Some n → n ≤ 1000
-    by_number None e = cc
-    by_number (Some m) e = by_test m (nat_lt 0 m) (nat_le m 1000) refl refl e
-
--- a square of cells has as many rows as its size
-rows_of_cells : (cells : List (List ℕ)) (n : ℕ) (X : Problem) → square_of_cells cells n ≡ Some X → length X.rows ≡ n
-unfolding square_of_cells square_problem
-rows_of_cells cells n X is = by_count (length cells == n * n) is
-  where
-    by_costs : (found : Option (List ℤ)) → option_map (square_problem n) found ≡ Some X → length X.rows ≡ n
-    by_costs None e = cc
-    by_costs (Some costs) e =
-        let same : square_problem n costs ≡ X = cc in
-        ap (λ Y. length Y.rows) (sym same) ∙ length-map-range_with_len (λ id. record { id = id; active = true }) 1 n
-
-    by_count : (b : Bool) → cond b (option_map (square_problem n) (costs_of_tokens cells)) None ≡ Some X → length X.rows ≡ n
-    by_count true e = by_costs (costs_of_tokens cells) e
-    by_count false e = cc
-
--- a square file has at most 1,000 rows
-few_rows : (bytes : List ℕ) (X : Problem) → square_of bytes ≡ Some X → length X.rows ≤ 1000
-unfolding square_of square_of_tokens
-few_rows bytes X is = by_tokens (tokens bytes) is
-  where
-    by_size : (cells : List (List ℕ)) (token : List ℕ) (found : Option ℕ) → size_of_token token ≡ found → option_and_then (square_of_cells cells) found ≡ Some X → length X.rows ≤ 1000
-    by_size cells token None size e = cc
-    by_size cells token (Some n) size e = omega (arith, rows_of_cells cells n X e, size_within token n size)
-
-    by_tokens : (all : List (List ℕ)) → square_of_tokens all ≡ Some X → length X.rows ≤ 1000
-    by_tokens [] e = cc
-    by_tokens (token ∷ cells) e = by_size cells token (size_of_token token) refl e
 
 -- the id of a counted row is that of a row
 is_row_id : (X : Problem) (id : ℕ) → is_counted_id X id ≡ true → Contains (map (λ row. row.id) X.rows) id
@@ -92,11 +61,22 @@ is_row_id X id counted = by_place (row_place_of X id) refl counted
 All-mapped : (xs : List ℕ) (P Q : ℕ → Type 0) → ((x : ℕ) → P x → Q x) → All P xs → All Q xs
 All-mapped xs P Q weaker all = λ i d within. weaker (get_or xs i d) (all i d within)
 
+-- what the laws of Hall sets say of one
+pub record HallLaws : Type 0 where
+  pub differ : (X : Problem) (band : Band) (ids : List ℕ) → IsHall X band ids → AllPairs ◌≢◌ ids
+  pub are_counted : (X : Problem) (band : Band) (ids : List ℕ) → IsHall X band ids → All (λ id. IsTrue (is_counted_id X id)) ids
+
 -- a Hall set has no more rows than the instance
-hall_within : (X : Problem) (rows : List ℕ) (limit : ℤ) → ProvesBelow Bottleneck X (One limit) rows → length rows ≤ length X.rows
-hall_within X rows limit hall =
-    let ids = All-mapped rows (λ id. IsTrue (is_counted_id X id)) (Contains (map (λ row. row.id) X.rows)) (is_row_id X) hall.counted in
-    omega (arith, length-le-within (λ id. id) rows (map (λ row. row.id) X.rows) hall.different ids, length-map X.rows (λ row. row.id))
+hall_within : HallLaws → (X : Problem) (band : Band) (rows : List ℕ) → IsHall X band rows → length rows ≤ length X.rows
+hall_within laws X band rows hall =
+    let ids = All-mapped rows (λ id. IsTrue (is_counted_id X id)) (Contains (map (λ row. row.id) X.rows)) (is_row_id X) (laws.are_counted X band rows hall) in
+    omega (arith, length-le-within (λ id. id) rows (map (λ row. row.id) X.rows) (laws.differ X band rows hall) ids, length-map X.rows (λ row. row.id))
+
+-- nor have the rows of a threshold proof
+below_within : HallLaws → (objective : Objective) (X : Problem) (value : Value) (rows : List ℕ) → ProvesBelow objective X value rows → length rows ≤ length X.rows
+below_within laws Bottleneck X (One value) rows proves = hall_within laws X (Under value) rows proves
+below_within laws BottleneckMax X (One value) rows proves = hall_within laws X (Over value) rows proves
+below_within laws _ X _ rows proves = absurd proves
 
 -- what is written of a number of 32 bits has at most 10 digits
 digits_of_id : (n : ℕ) → n < 2 ^ 32 → length (decimal n) ≤ 10
@@ -135,45 +115,114 @@ length-behind_cells : (cells : List (ℕ × ℕ)) (lines : List (List ℕ)) → 
 length-behind_cells cells lines =
     ap length (flat_map-append (λ line. line ++ 10 ∷ []) (map cell_line cells) lines) ∙ length-append (ended (map cell_line cells)) (ended lines)
 
--- the text of a solution
-length-solution : (value : ℤ) (cells : List (ℕ × ℕ)) (rows : List ℕ) → FitsSigned w128 value → AreCells cells → AreRows rows
-    → length (text_of (solution Bottleneck (One value) cells rows)) ≤ 300 + (length cells * 22 + length rows * 11)
+-- the words of a document
+length-command : (command : Command) → length (command_word command) ≤ 5
+length-command SolveCommand = omega arith
+
+length-objective : (objective : Objective) → length (objective_word objective) ≤ 14
+length-objective Bottleneck = omega arith
+length-objective BottleneckMax = omega arith
+length-objective _ = omega arith
+
+-- the line of a value that has a text
+length-value : (objective : Objective) (value : Value) → HasValueText objective value → length (value_line objective value) ≤ 46
+length-value Bottleneck (One value) fits = omega (arith, digits_of_value value fits, length-append (codes "value ") (signed_decimal value))
+length-value BottleneckMax (One value) fits = omega (arith, digits_of_value value fits, length-append (codes "value ") (signed_decimal value))
+length-value _ _ fits = absurd fits
+
+-- the text of a document with an answer and a threshold proof
+length-answered : (command : Command) (objective : Objective) (answer : Answer) (rows : List ℕ) → HasAnswerText objective answer → AreRows rows
+    → length (text_of (record { command = command; objective = objective; claim = Best answer (Below rows) })) ≤ 300 + (length answer.cells * 22 + length rows * 11)
 unfolding text_of
-length-solution value cells rows fits are_cells are_rows =
+length-answered command objective answer rows has_text are_rows =
     let last : List (List ℕ) = codes "end" ∷ [] in
     let proved : List ℕ = codes "proof below" ++ spaced rows in
-    let tail : List (List ℕ) = map cell_line cells ++ proved ∷ last in
-    let count : List ℕ = codes "cells " ++ decimal (length cells) in
-    let told : List ℕ = codes "value " ++ signed_decimal value in
+    let tail : List (List ℕ) = map cell_line answer.cells ++ proved ∷ last in
+    let count : List ℕ = codes "cells " ++ decimal (length answer.cells) in
+    let told : List ℕ = value_line objective answer.value in
+    let named : List ℕ = codes "command " ++ command_word command in
+    let asked : List ℕ = codes "objective " ++ objective_word objective in
     omega (
       arith,
-      length-line (codes "assignment 1") (codes "command solve" ∷ codes "objective bottleneck" ∷ codes "status best" ∷ told ∷ count ∷ tail),
-      length-line (codes "command solve") (codes "objective bottleneck" ∷ codes "status best" ∷ told ∷ count ∷ tail),
-      length-line (codes "objective bottleneck") (codes "status best" ∷ told ∷ count ∷ tail),
+      length-line (codes "assignment 1") (named ∷ asked ∷ codes "status best" ∷ told ∷ count ∷ tail),
+      length-line named (asked ∷ codes "status best" ∷ told ∷ count ∷ tail),
+      length-line asked (codes "status best" ∷ told ∷ count ∷ tail),
       length-line (codes "status best") (told ∷ count ∷ tail),
       length-line told (count ∷ tail),
       length-line count tail,
-      length-behind_cells cells (proved ∷ last),
+      length-behind_cells answer.cells (proved ∷ last),
       length-line proved last,
       length-line (codes "end") [],
-      length-cell_lines cells are_cells.ids,
+      length-cell_lines answer.cells has_text.cells.ids,
       length-spaced rows are_rows.ids,
-      digits_of_id (length cells) are_cells.few,
-      digits_of_value value fits,
+      digits_of_id (length answer.cells) has_text.cells.few,
+      length-value objective answer.value has_text.value,
+      length-command command,
+      length-objective objective,
+      length-append (codes "command ") (command_word command),
+      length-append (codes "objective ") (objective_word objective),
     )
 
--- what is due for a request to solve is no longer than the longest file that is read
-pub length-solved : (bytes text : List ℕ) → IsSolved bytes text → length text ≤ longest_file
-length-solved bytes text solved =
-    let solves = solved.solves in
-    let X = solved.problem in
-    let has_text = subst HasText solves.written solved.has_text in
-    let within = by_value X solves.choice solves.rows (choice_value Bottleneck X solves.choice) solves.proved has_text in
-    omega (arith, ap length (solved.written ∙ ap text_of solves.written), within, few_rows bytes X solved.spelled, length-cells_by_id-le X solves.choice)
+-- the text of a document with a Hall set
+length-refuted : (command : Command) (objective : Objective) (rows : List ℕ) → AreRows rows
+    → length (text_of (record { command = command; objective = objective; claim = Nothing rows })) ≤ 300 + length rows * 11
+unfolding text_of
+length-refuted command objective rows are_rows =
+    let last : List (List ℕ) = codes "end" ∷ [] in
+    let shown : List ℕ = codes "hall" ++ spaced rows in
+    let named : List ℕ = codes "command " ++ command_word command in
+    let asked : List ℕ = codes "objective " ++ objective_word objective in
+    omega (
+      arith,
+      length-line (codes "assignment 1") (named ∷ asked ∷ codes "status none" ∷ shown ∷ last),
+      length-line named (asked ∷ codes "status none" ∷ shown ∷ last),
+      length-line asked (codes "status none" ∷ shown ∷ last),
+      length-line (codes "status none") (shown ∷ last),
+      length-line shown last,
+      length-line (codes "end") [],
+      length-spaced rows are_rows.ids,
+      length-command command,
+      length-objective objective,
+      length-append (codes "command ") (command_word command),
+      length-append (codes "objective ") (objective_word objective),
+    )
+
+-- the text of a best document
+length-best : HallLaws → (objective : Objective) (X : Problem) (form : Form) (document : Document) → length X.rows ≤ 1000 → IsBestDocument objective X form document → length (text_of document) ≤ longest_file
+length-best laws objective X form document few best = by_proof best.answer best.proof best.claims
   where
-    by_value : (X : Problem) (choice : List (Option ℕ)) (rows : List ℕ) (value : Value) → ProvesBelow Bottleneck X value rows → HasText (solution Bottleneck value (cells_by_id X choice) rows)
-        → length (text_of (solution Bottleneck value (cells_by_id X choice) rows)) ≤ 300 + (length (cells_by_id X choice) * 22 + length X.rows * 11)
-    by_value X choice rows (One value) proved has_text =
-        omega (arith, length-solution value (cells_by_id X choice) rows has_text.claim.0.value has_text.claim.0.cells has_text.claim.1, hall_within X rows value proved)
-    by_value X choice rows (Two x y) proved has_text = absurd proved
-    by_value X choice rows (Many xs) proved has_text = absurd proved
+    by_proof : (answer : Answer) (proof : Proof) → document.claim ≡ Best answer proof → length (text_of document) ≤ longest_file
+    by_proof answer (Below rows) claims =
+        let has_text = subst (HasClaimText document.objective) claims best.written.has_text.claim in
+        let truly = subst (IsTrueClaim objective X) claims best.written.truly in
+        let certifies = subst (CertifiesClaim objective X) claims best.written.certifies.claim in
+        let same : text_of document ≡ text_of (record { command = document.command; objective = document.objective; claim = Best answer (Below rows) }) =
+        λ i. text_of (record { command = document.command; objective = document.objective; claim = claims i }) in
+        omega (
+          arith,
+          few,
+          ap length same,
+          length-answered document.command document.objective answer rows has_text.0 has_text.1,
+          ap length truly.written,
+          length-cells_by_id-le X truly.choice,
+          below_within laws objective X (choice_value objective X certifies.choice) rows certifies.proved,
+        )
+
+-- the text of a document with a Hall set of the instance
+length-none : HallLaws → (objective : Objective) (X : Problem) (form : Form) (document : Document) → length X.rows ≤ 1000 → IsNoneDocument objective X form document → length (text_of document) ≤ longest_file
+length-none laws objective X form document few none =
+    let rows = none.rows in
+    let has_text = subst (HasClaimText document.objective) none.claims none.written.has_text.claim in
+    let hall = subst (CertifiesClaim objective X) none.claims none.written.certifies.claim in
+    let same : text_of document ≡ text_of (record { command = document.command; objective = document.objective; claim = Nothing rows }) =
+    λ i. text_of (record { command = document.command; objective = document.objective; claim = none.claims i }) in
+    omega (arith, few, ap length same, length-refuted document.command document.objective rows has_text, hall_within laws X Whole rows hall)
+
+-- what is due for a request to solve is no longer than the longest file that is read
+pub length-solved : HallLaws → (job : Job) (bytes text : List ℕ) → IsSolved job bytes text → length text ≤ longest_file
+length-solved laws job bytes text solved =
+    omega (arith, ap length solved.written, length-best laws job.objective solved.problem Solve solved.document solved.instance.well_formed.few_rows solved.best)
+
+pub length-unsolvable : HallLaws → (job : Job) (bytes text : List ℕ) → IsUnsolvable job bytes text → length text ≤ longest_file
+length-unsolvable laws job bytes text solved =
+    omega (arith, ap length solved.written, length-none laws job.objective solved.problem Solve solved.document solved.instance.well_formed.few_rows solved.none)

@@ -1,134 +1,173 @@
--- What is due is due with one status, and files that are too long are due as such.
-use Rattle.std.proofs.Common.{◌≡◌, ℕ, suc, ◌<◌, ◌≤◌, Bool, true, false, List, [], ◌∷◌, length, replicate, Option, Some, None, IsSome, All, refl, sym, ◌∙◌, subst, inl, inr, arith, rules, tests}
-use Rattle.std.specs.Prelude.{IfSome, MatchBool, nat_lt, ◌⊎◌}
-use Rattle.std.proofs.Math.ListN.{length-replicate}
-use Rattle.std.proofs.lemmas.Bool.{le-ltb}
+-- What is due has one status, and one text where no document is written.
+use Rattle.std.proofs.Common.{◌≡◌, ℕ, ◌<◌, List, [], ◌∷◌, length, Option, Some, None, IsSome, All, sym, ap, ◌∙◌, subst, arith}
+use Rattle.std.specs.Prelude.{ℤ}
+use Rattle.std.proofs.lemmas.List.{append-nil}
+use Rattle.std.proofs.lemmas.List.Elements.{All-nil, All-cons}
+use Rattle.asg_model.specs.declared.objectives.Objective.{Objective}
 use Rattle.asg_model.specs.Problem.{Problem}
 use Rattle.asg_doc.specs.declared.documents.Document.{Document}
-use Rattle.asg_doc.specs.RefusedLine.{AllHaveText}
-use Rattle.asg_doc.specs.Text.{texts_of}
+use Rattle.asg_doc.specs.HasText.{HasText}
+use Rattle.asg_doc.specs.RefusedLine.{AllHaveText, IsRefusedLine}
+use Rattle.asg_doc.specs.Text.{text_of, texts_of}
+use Rattle.asg_check.specs.declared.verdicts.Form.{Form}
+use Rattle.asg_check.specs.declared.verdicts.Form.TheVariants as forms
+use Rattle.asg_check.specs.Reasons.{IsFirstReason}
+use Rattle.asg_words.specs.declared.requests.Job.{Job}
+use Rattle.asg_words.specs.declared.requests.Task.{Task}
+use Rattle.asg_words.specs.declared.requests.Task.TheVariants.{Solve, Rank, Edit, Check}
 use Rattle.asg_app.specs.declared.status.Status.{Status}
-use Rattle.asg_app.specs.declared.status.Status.TheVariants.{Done, Usage, Instance, Script, Document as Unread, No, ReadFault, WriteFault, NoMemory, TooLong}
-use Rattle.asg_app.specs.declared.status.Status.TheVariants as statuses
-use Rattle.asg_app.specs.Statuses.{IsAnswer}
-use Rattle.asg_app.specs.SquareText.{square_of}
-use Rattle.asg_app.specs.Words.{Request, Solve, Check, files_of}
-use Rattle.asg_app.specs.Due.{DueFor, DueForAnswer, DueForDocument, DueForFile, DueForInstance, DueForPair, DueForSpoken, Documents, Nothing, Says, Spoken, longest_file}
+use Rattle.asg_app.specs.declared.status.Status.TheVariants.{Done, Usage, Instance, Document as Unread, TooLong}
+use Rattle.asg_app.specs.AnswerStage.{UnlessUnread, NotRead, Miscounted, Read}
+use Rattle.asg_app.specs.Due.{DueForAsked, DueForJob, DueForTask, Long, Refused, Held}
+use Rattle.asg_app.specs.DueToCheck.{DueToCheck, Certified, Denied}
+use Rattle.asg_app.specs.DueToSolve.{DueToSolve, Solved, Unsolvable}
+use Rattle.asg_app.specs.InstanceFile.{InstanceFile, Holds, Refuses, instance_in}
+use Rattle.asg_app.specs.WrittenDocument.{IsBestDocument, IsNoneDocument}
+use Rattle.asg_check.specs.TrueClaim.{IsTrueClaim}
+use Rattle.asg_model.specs.Limits.{longest_file}
+use Rattle.asg_app.specs.Fetches.{MayHoldAll}
+use Rattle.asg_app.specs.Requests.{files_of}
+use Rattle.asg_app.specs.Sources.{AreShort, content_at}
+use Rattle.asg_app.specs.Statuses.{HasOneText}
+use Rattle.asg_app.specs.Texts.{refused_document_text, refused_instance_text, no_text}
+use Rattle.asg_app.proofs.ToldFiles.{held_once}
 
 -- no two lists of documents have one text
 abbrev pub ReadsOnce : Type 0
 ReadsOnce = (documents others : List Document) → AllHaveText documents → AllHaveText others → texts_of documents ≡ texts_of others → documents ≡ others
 
--- the contents that are told are one
-held_once : (told : Option (List ℕ)) (bytes others : List ℕ) → IsSome told → IfSome told (λ held. bytes ≡ held) → IfSome told (λ held. others ≡ held) → bytes ≡ others
-held_once None bytes others some first second = cc
-held_once (Some held) bytes others some first second = first ∙ sym second
+-- a file has one refused line
+abbrev pub RefusesOnce : Type 0
+RefusesOnce = (file : List ℕ) (n other : ℕ) → IsRefusedLine file n → IsRefusedLine file other → n ≡ other
 
--- a file that may be too long has one due status where what is due else has
-long_once : {Owed Other : Type 0} (is_long : Bool) (status other : Status) (text more : List ℕ)
-    → MatchBool is_long ((status ≡ TooLong) × (text ≡ [])) Owed → MatchBool is_long ((other ≡ TooLong) × (more ≡ [])) Other → (Owed → Other → status ≡ other) → status ≡ other
-long_once true status other text more first second once = first.0 ∙ sym second.0
-long_once false status other text more first second once = once first second
+-- a document has one first reason against it
+abbrev pub DeniesOnce : Type 0
+DeniesOnce = (objective : Objective) (X : Problem) (form : Form) (document : Document) (number other : ℕ) (place elsewhere : ℤ)
+    → IsFirstReason objective X form document number place → IsFirstReason objective X form document other elsewhere
+    → (number ≡ other) × (place ≡ elsewhere)
 
--- an instance has one due status
-instance_once : (found : Option Problem) (status other : Status) (text more : List ℕ) → DueForInstance found status text → DueForInstance found other more → status ≡ other
-instance_once None status other text more first second = first.0 ∙ sym second.0
-instance_once (Some X) status other text more first second = first.0 ∙ sym second.0
+-- the laws of the crates below on which all this rests
+pub record Known : Type 0 where
+  pub reads : ReadsOnce
+  pub refuses : RefusesOnce
+  pub denies : DeniesOnce
 
--- a document has one due status
-document_once : (X : Problem) (document : Document) (status other : Status) (text more : List ℕ) → DueForDocument X document status text → DueForDocument X document other more → status ≡ other
-document_once X document status other text more (inl certified) (inl also) = certified.1 ∙ sym also.1
-document_once X document status other text more (inl certified) (inr denied) = absurd (denied.3 certified.0)
-document_once X document status other text more (inr denied) (inl certified) = absurd (denied.3 certified.0)
-document_once X document status other text more (inr denied) (inr also) = denied.4 ∙ sym also.4
+-- one status, and one text where no document is written
+abbrev pub AreOne : Status → List ℕ → Status → List ℕ → Type 0
+AreOne status text other more = (status ≡ other) × (HasOneText status → text ≡ more)
 
--- a list of documents has one due status
-documents_once : (X : Problem) (documents : List Document) (status other : Status) (text more : List ℕ)
-    → DueForSpoken X (Documents documents) status text → DueForSpoken X (Documents documents) other more → status ≡ other
-documents_once X [] status other text more first second = first.0 ∙ sym second.0
-documents_once X (document ∷ []) status other text more first second = document_once X document status other text more first second
-documents_once X (document ∷ another ∷ documents) status other text more first second = first.0 ∙ sym second.0
+-- a status that has one text, written twice
+fixed : (due status other : Status) (text more line : List ℕ) → status ≡ due → other ≡ due → text ≡ line → more ≡ line → AreOne status text other more
+fixed due status other text more line is also told again = (is ∙ sym also, λ one. told ∙ sym again)
 
--- what an answer's file says has one due status
-spoken_once : ReadsOnce → (X : Problem) (answer : List ℕ) (said also : Spoken) (status other : Status) (text more : List ℕ)
-    → Says answer said → Says answer also → DueForSpoken X said status text → DueForSpoken X also other more → status ≡ other
-spoken_once once X answer (Documents documents) (Documents others) status other text more says too first second =
-    let same = once documents others says.0 too.0 (sym says.1 ∙ too.1) in
-    documents_once X documents status other text more first (subst (λ ds. DueForSpoken X (Documents ds) other more) (sym same) second)
-spoken_once once X answer (Documents documents) (Nothing line) status other text more says too first second = absurd (too.0 documents says.0 says.1)
-spoken_once once X answer (Nothing line) (Documents others) status other text more says too first second = absurd (says.0 others too.0 too.1)
-spoken_once once X answer (Nothing line) (Nothing also) status other text more says too first second = first.0 ∙ sym second.0
+-- the text of one document is that of a list
+pub one_text : (document : Document) (bytes : List ℕ) → bytes ≡ text_of document → bytes ≡ texts_of (document ∷ [])
+one_text document bytes is = is ∙ sym (append-nil (text_of document))
 
--- an answer's file has one due status
-answer_once : ReadsOnce → (found : Option Problem) (answer : List ℕ) (status other : Status) (text more : List ℕ)
-    → DueForAnswer found answer status text → DueForAnswer found answer other more → status ≡ other
-answer_once once None answer status other text more first second = first.0 ∙ sym second.0
-answer_once once (Some X) answer status other text more (said, says, first) (also, too, second) =
-    spoken_once once X answer said also status other text more says too first second
+pub one_has_text : (document : Document) → HasText document → AllHaveText (document ∷ [])
+one_has_text document has_text = All-cons HasText document [] has_text (All-nil HasText)
 
--- a request whose files are told has one due status
-pub Due-once : ReadsOnce → (request : Option Request) (told : List ℕ → Option (List ℕ)) (status other : Status) (text more : List ℕ)
-    → All (λ name. IsSome (told name)) (files_of request) → DueFor request told status text → DueFor request told other more → status ≡ other
-Due-once once None told status other text more tells first second = first.0 ∙ sym second.0
-Due-once once (Some (Solve instance)) told status other text more tells (bytes, may, due) (others, may', due') =
-    let same = held_once (told instance) bytes others (tells 0 [] (omega arith)) may may' in
-    let due'' = subst (λ xs. DueForFile xs other more) (sym same) due' in
-    long_once (nat_lt longest_file (length bytes)) status other text more due due'' (instance_once (square_of bytes) status other text more)
-Due-once once (Some (Check instance answer)) told status other text more tells (bytes, may, (spoken, may_speak, due)) (others, may', (spoken', may_speak', due')) =
-    let same = held_once (told instance) bytes others (tells 0 [] (omega arith)) may may' in
-    let same' = held_once (told answer) spoken spoken' (tells 1 [] (omega arith)) may_speak may_speak' in
-    let due'' = subst (λ xs. DueForPair xs spoken other more) (sym same) (subst (λ ys. DueForPair others ys other more) (sym same') due') in
-    long_once (nat_lt longest_file (length bytes)) status other text more due due''
-    (λ first second. long_once (nat_lt longest_file (length spoken)) status other text more first second (answer_once once (square_of bytes) spoken status other text more))
+-- no instance has both a best answer and none
+apart : {P : Type 0} (job : Job) (X : Problem) (document other : Document) → IsBestDocument job.objective X forms.Solve document → IsNoneDocument job.objective X forms.Solve other → P
+apart job X document other best none =
+    let truly = subst (IsTrueClaim job.objective X) best.claims best.written.truly in
+    let none_is = subst (IsTrueClaim job.objective X) none.claims none.written.truly in
+    absurd (none_is truly.choice truly.best.valid)
 
--- a list longer than a number
-longer : (n : ℕ) → (bytes : List ℕ) × (n < length bytes)
-longer n = (replicate (suc n) 0, omega (arith, length-replicate {A = ℕ} (suc n) 0))
+-- a request to solve
+solve_once : (job : Job) (X : Problem) (status other : Status) (text more : List ℕ) → DueToSolve job X status text → DueToSolve job X other more → AreOne status text other more
+solve_once job X status other text more (Solved document best is told) (Solved document' best' also told') =
+    (is ∙ sym also, λ one. absurd (subst HasOneText is one))
+solve_once job X status other text more (Unsolvable document none is told) (Unsolvable document' none' also told') =
+    (is ∙ sym also, λ one. absurd (subst HasOneText is one))
+solve_once job X status other text more (Solved document best is told) (Unsolvable document' none also told') = apart job X document document' best none
+solve_once job X status other text more (Unsolvable document none is told) (Solved document' best also told') = apart job X document' document best none
 
--- a file may have contents, and where they are told to be too long, contents that are
-pub held_bytes : (told : Option (List ℕ)) → (bytes : List ℕ) × IfSome told (λ held. bytes ≡ held)
-held_bytes None = ([], tt)
-held_bytes (Some held) = (held, refl)
+-- a request to check
+check_once : DeniesOnce → (job : Job) (X : Problem) (document : Document) (status other : Status) (text more : List ℕ)
+    → DueToCheck job X document status text → DueToCheck job X document other more → AreOne status text other more
+check_once once job X document status other text more (Certified certifies is told) (Certified certifies' also told') = fixed Done status other text more _ is also told told'
+check_once once job X document status other text more (Certified certifies is told) (Denied number place fails first also told') = absurd (fails certifies)
+check_once once job X document status other text more (Denied number place fails first is told) (Certified certifies also told') = absurd (fails certifies)
+check_once once job X document status other text more (Denied number place fails first is told) (Denied number' place' fails' first' also told') =
+    let same = once job.objective X forms.Solve document number number' place place' first first' in
+    (is ∙ sym also, λ one. told ∙ (λ k. no_text 1 (same.0 k) (same.1 k)) ∙ sym told')
 
-pub long_bytes : (told : Option (List ℕ)) → IfSome told (λ held. longest_file < length held) → (bytes : List ℕ) × IfSome told (λ held. bytes ≡ held) × (nat_lt longest_file (length bytes) ≡ true)
-long_bytes None long = let found = longer longest_file in (found.0, tt, is_long found.0 found.1)
-  where
-    is_long : (bytes : List ℕ) → longest_file < length bytes → nat_lt longest_file (length bytes) ≡ true
-    is_long bytes more = search (rules, tests)
-long_bytes (Some held) long = (held, refl, search (rules, tests))
+-- the stage of the answer
+unread_once : Known → (bytes : List ℕ) (Owed : Document → Status → List ℕ → Type 0) (status other : Status) (text more : List ℕ)
+    → ((document : Document) → Owed document status text → Owed document other more → AreOne status text other more)
+    → UnlessUnread bytes Owed status text → UnlessUnread bytes Owed other more → AreOne status text other more
+unread_once known bytes Owed status other text more once (NotRead line none at is told) (NotRead line' none' at' also told') =
+    (is ∙ sym also, λ one. told ∙ ap refused_document_text (known.refuses bytes line line' at at') ∙ sym told')
+unread_once known bytes Owed status other text more once (NotRead line none at is told) (Miscounted documents have_text read count also told') = absurd (none documents have_text read)
+unread_once known bytes Owed status other text more once (NotRead line none at is told) (Read document has_text read owed) =
+    absurd (none (document ∷ []) (one_has_text document has_text) (one_text document bytes read))
+unread_once known bytes Owed status other text more once (Miscounted documents have_text read count is told) (NotRead line none at also told') = absurd (none documents have_text read)
+unread_once known bytes Owed status other text more once (Miscounted documents have_text read count is told) (Miscounted others have_text' read' count' also told') =
+    fixed Unread status other text more _ is also told told'
+unread_once known bytes Owed status other text more once (Miscounted documents have_text read count is told) (Read document has_text read' owed) =
+    absurd (count (ap length (known.reads documents (document ∷ []) have_text (one_has_text document has_text) (sym read ∙ one_text document bytes read'))))
+unread_once known bytes Owed status other text more once (Read document has_text read owed) (NotRead line none at also told') =
+    absurd (none (document ∷ []) (one_has_text document has_text) (one_text document bytes read))
+unread_once known bytes Owed status other text more once (Read document has_text read owed) (Miscounted others have_text read' count also told') =
+    absurd (count (ap length (known.reads others (document ∷ []) have_text (one_has_text document has_text) (sym read' ∙ one_text document bytes read))))
+unread_once known bytes Owed status other text more once (Read document has_text read owed) (Read document' has_text' read' owed') =
+    let lists = known.reads (document ∷ []) (document' ∷ []) (one_has_text document has_text) (one_has_text document' has_text')
+    (sym (one_text document bytes read) ∙ one_text document' bytes read') in
+    let same : document ≡ document' = cc in
+    once document owed (subst (λ d. Owed d other more) (sym same) owed')
 
--- contents that aren't too long
-pub not_long : (bytes : List ℕ) → length bytes ≤ longest_file → nat_lt longest_file (length bytes) ≡ false
-not_long bytes within = le-ltb longest_file (length bytes) within
+-- each command
+task_once : Known → (task : Task) (job : Job) (contents : List (List ℕ)) (X : Problem) (status other : Status) (text more : List ℕ)
+    → DueForTask task job contents X status text → DueForTask task job contents X other more → AreOne status text other more
+task_once known Solve job contents X status other text more first second = solve_once job X status other text more first second
+task_once known (Check answer None None) job contents X status other text more first second =
+    unread_once known (content_at contents 1) (DueToCheck job X) status other text more
+    (λ document. check_once known.denies job X document status other text more)
+    first second
+task_once known (Check answer None (Some count)) job contents X status other text more first second = absurd first
+task_once known (Check answer (Some script) count) job contents X status other text more first second = absurd first
+task_once known (Rank count) job contents X status other text more first second = absurd first
+task_once known (Edit script) job contents X status other text more first second = absurd first
 
--- what is due for contents that are too long
-pub DueForFile-long : (bytes : List ℕ) → nat_lt longest_file (length bytes) ≡ true → DueForFile bytes TooLong []
-DueForFile-long bytes long = rw long (refl, refl)
+-- no file of those is too long
+pub not_long : {P : Type 0} (contents : List (List ℕ)) (place : ℕ) → AreShort contents → place < length contents → longest_file < length (content_at contents place) → P
+not_long contents place short within long = let few = short place [] within in absurd (omega arith)
 
-pub DueForPair-long : (bytes answer : List ℕ) → nat_lt longest_file (length bytes) ≡ true → DueForPair bytes answer TooLong []
-DueForPair-long bytes answer long = rw long (refl, refl)
+-- a file that is refused holds no instance
+pub refused_apart : {P : Type 0} {file : InstanceFile} {numbers : List ℕ} {X : Problem} → file ≡ Refuses numbers → file ≡ Holds X → P
+refused_apart refused holds = let both = sym refused ∙ holds in cc
 
-pub DueForPair-long_answer : (bytes answer : List ℕ) → nat_lt longest_file (length bytes) ≡ false → nat_lt longest_file (length answer) ≡ true → DueForPair bytes answer TooLong []
-DueForPair-long_answer bytes answer short long = rw short (rw long (refl, refl))
+-- a job
+job_once : Known → (job : Job) (contents : List (List ℕ)) (status other : Status) (text more : List ℕ)
+    → DueForJob job contents status text → DueForJob job contents other more → AreOne status text other more
+job_once known job contents status other text more (Long place within long is told) (Long place' within' long' also told') = fixed TooLong status other text more [] is also told told'
+job_once known job contents status other text more (Long place within long is told) (Refused short numbers refused also told') = not_long contents place short within long
+job_once known job contents status other text more (Long place within long is told) (Held short X holds inst due) = not_long contents place short within long
+job_once known job contents status other text more (Refused short numbers refused is told) (Long place within long also told') = not_long contents place short within long
+job_once known job contents status other text more (Refused short numbers refused is told) (Refused short' numbers' refused' also told') =
+    let both = sym refused ∙ refused' in
+    let same : numbers ≡ numbers' = cc in
+    (is ∙ sym also, λ one. told ∙ ap refused_instance_text same ∙ sym told')
+job_once known job contents status other text more (Refused short numbers refused is told) (Held short' X holds inst due) = refused_apart refused holds
+job_once known job contents status other text more (Held short X holds inst due) (Long place within long also told') = not_long contents place short within long
+job_once known job contents status other text more (Held short X holds inst due) (Refused short' numbers refused also told') = refused_apart refused holds
+job_once known job contents status other text more (Held short X holds inst due) (Held short' X' holds' inst' due') =
+    let both = sym holds ∙ holds' in
+    let same : X ≡ X' = cc in
+    task_once known job.task job contents X status other text more due (subst (λ Y. DueForTask job.task job contents Y other more) (sym same) due')
 
--- what is due for contents that aren't
-pub DueForFile-short : (bytes : List ℕ) (status : Status) (text : List ℕ) → nat_lt longest_file (length bytes) ≡ false → DueForInstance (square_of bytes) status text → DueForFile bytes status text
-DueForFile-short bytes status text short due = rw short due
+asked_once : Known → (asked : Option Job) (contents : List (List ℕ)) (status other : Status) (text more : List ℕ)
+    → DueForAsked asked contents status text → DueForAsked asked contents other more → AreOne status text other more
+asked_once known None contents status other text more first second = fixed Usage status other text more _ first.0 second.0 first.1 second.1
+asked_once known (Some job) contents status other text more first second = job_once known job contents status other text more first second
 
-pub DueForPair-short : (bytes answer : List ℕ) (status : Status) (text : List ℕ) → nat_lt longest_file (length bytes) ≡ false → nat_lt longest_file (length answer) ≡ false
-    → DueForAnswer (square_of bytes) answer status text → DueForPair bytes answer status text
-DueForPair-short bytes answer status text short too due = rw short (rw too due)
-
--- a status that is due where no fault comes
-pub answer-without_fault : (result status : Status) → (IsAnswer result → result ≡ status) → (result ≡ WriteFault → ⊥) → (result ≡ ReadFault → ⊥) → (result ≡ status) ⊎ (result ≡ NoMemory)
-answer-without_fault Done status answer write read = inl (answer tt)
-answer-without_fault statuses.Nothing status answer write read = inl (answer tt)
-answer-without_fault Usage status answer write read = inl (answer tt)
-answer-without_fault Instance status answer write read = inl (answer tt)
-answer-without_fault Script status answer write read = inl (answer tt)
-answer-without_fault Unread status answer write read = inl (answer tt)
-answer-without_fault No status answer write read = inl (answer tt)
-answer-without_fault ReadFault status answer write read = absurd (read refl)
-answer-without_fault WriteFault status answer write read = absurd (write refl)
-answer-without_fault NoMemory status answer write read = inr refl
-answer-without_fault TooLong status answer write read = inl (answer tt)
+-- what is due
+pub due_once : Known → (asked : Option Job) (told : List ℕ → Option (List ℕ)) (status other : Status) (text more : List ℕ)
+    → All (λ name. IsSome (told name)) (files_of asked)
+    → (contents : List (List ℕ)) × MayHoldAll told (files_of asked) contents × DueForAsked asked contents status text
+    → (contents : List (List ℕ)) × MayHoldAll told (files_of asked) contents × DueForAsked asked contents other more
+    → AreOne status text other more
+due_once known asked told status other text more tells (contents, may, due) (others, may', due') =
+    let same = held_once told (files_of asked) contents others tells may may' in
+    asked_once known asked contents status other text more due (subst (λ cs. DueForAsked asked cs other more) (sym same) due')

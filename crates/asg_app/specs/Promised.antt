@@ -1,6 +1,6 @@
 -- What the program's answers promise of the files.
-use Rattle.std.specs.Prelude.{◌≡◌, ◌≢◌, ◌⊎◌, ℕ, ℤ, List, Some, length}
-use Rattle.asg_model.specs.declared.objectives.Objective.TheVariants.{Bottleneck}
+use Rattle.std.specs.Prelude.{◌≡◌, ◌≢◌, ◌⊎◌, ℕ, ℤ, List, length}
+use Rattle.asg_model.specs.Instances.{IsInstance}
 use Rattle.asg_model.specs.Problem.{Problem}
 use Rattle.asg_doc.specs.declared.documents.Document.{Document}
 use Rattle.asg_doc.specs.HasText.{HasText}
@@ -10,44 +10,63 @@ use Rattle.asg_check.specs.declared.verdicts.Form.TheVariants.{Solve}
 use Rattle.asg_check.specs.Certifies.{Certifies}
 use Rattle.asg_check.specs.Reasons.{IsFirstReason}
 use Rattle.asg_check.specs.TrueClaim.{ClaimsTruly}
+use Rattle.asg_words.specs.declared.requests.Job.{Job}
 use Rattle.asg_app.specs.declared.status.Status.{Status}
 use Rattle.asg_app.specs.declared.status.Status.TheVariants.{Done, No}
-use Rattle.asg_app.specs.SquareText.{square_of}
-use Rattle.asg_app.specs.Solved.{Solves}
+use Rattle.asg_app.specs.InstanceFile.{Holds, instance_in}
 use Rattle.asg_app.specs.Texts.{refused_document_text, no_text}
+use Rattle.asg_app.specs.WrittenDocument.{IsBestDocument, IsNoneDocument}
 
--- the bytes are a square file, and the text is that of a document which solves its instance
-pub record IsSolved (bytes text : List ℕ) : Type 0 where
+-- two jobs ask about one instance file alike: of one objective, and with the same options for the
+-- instance
+pub record AskAlike (job other : Job) : Type 0 where
+  pub of_objective : other.objective ≡ job.objective
+  pub of_format : other.format ≡ job.format
+  pub of_place : other.place ≡ job.place
+  pub of_each : other.each ≡ job.each
+
+-- the bytes hold an instance, and the text is that of a document with a best answer for it
+pub record IsSolved (job : Job) (bytes text : List ℕ) : Type 0 where
   pub problem : Problem
   pub document : Document
-  pub spelled : square_of bytes ≡ Some problem
-  pub solves : Solves Bottleneck problem document
-  pub has_text : HasText document
+  pub held : instance_in job bytes ≡ Holds problem
+  pub instance : IsInstance problem
+  pub best : IsBestDocument job.objective problem Solve document
   pub written : text ≡ text_of document
 
--- the bytes are a square file, and the answer is the text of one document, which certifies for its
--- instance and claims what is true of it
-pub record IsCertified (bytes answer : List ℕ) : Type 0 where
+-- the bytes hold an instance, and the text is that of a document with a Hall set of it
+pub record IsUnsolvable (job : Job) (bytes text : List ℕ) : Type 0 where
   pub problem : Problem
   pub document : Document
-  pub spelled : square_of bytes ≡ Some problem
-  pub has_text : HasText document
-  pub read : answer ≡ text_of document
-  pub certifies : Certifies Bottleneck problem Solve document
-  pub truly : ClaimsTruly Bottleneck problem document
+  pub held : instance_in job bytes ≡ Holds problem
+  pub instance : IsInstance problem
+  pub none : IsNoneDocument job.objective problem Solve document
+  pub written : text ≡ text_of document
 
--- the bytes are a square file, and the answer is the text of one document, which doesn't certify for its
--- instance; the text tells the first reason against it
-pub record IsDenied (bytes answer text : List ℕ) : Type 0 where
+-- the bytes hold an instance, and the answer is the text of one document, which certifies for it
+-- and claims what is true of it
+pub record IsCertified (job : Job) (bytes answer : List ℕ) : Type 0 where
   pub problem : Problem
   pub document : Document
-  pub spelled : square_of bytes ≡ Some problem
+  pub held : instance_in job bytes ≡ Holds problem
+  pub instance : IsInstance problem
   pub has_text : HasText document
   pub read : answer ≡ text_of document
-  pub fails : ¬ Certifies Bottleneck problem Solve document
+  pub certifies : Certifies job.objective problem Solve document
+  pub truly : ClaimsTruly job.objective problem document
+
+-- the bytes hold an instance, and the answer is the text of one document, which doesn't certify for
+-- it; the text tells the first reason against it
+pub record IsDenied (job : Job) (bytes answer text : List ℕ) : Type 0 where
+  pub problem : Problem
+  pub document : Document
+  pub held : instance_in job bytes ≡ Holds problem
+  pub has_text : HasText document
+  pub read : answer ≡ text_of document
+  pub fails : ¬ Certifies job.objective problem Solve document
   pub number : ℕ
   pub place : ℤ
-  pub reason : IsFirstReason Bottleneck problem Solve document number place
+  pub reason : IsFirstReason job.objective problem Solve document number place
   pub told : text ≡ no_text 1 number place
 
 -- the answer is the text of no list of documents, and the text tells the refused line
@@ -74,5 +93,7 @@ abbrev pub IsNotOne : List ℕ → Type 0
 IsNotOne bytes = (document : Document) → HasText document → bytes ≢ text_of document
 
 -- the status tells whether the document certifies
-abbrev pub IsVerdict : Problem → Document → Status → Type 0
-IsVerdict X document status = ((status ≡ Done) × Certifies Bottleneck X Solve document) ⊎ ((status ≡ No) × ¬ Certifies Bottleneck X Solve document)
+abbrev pub IsVerdict : Job → Problem → Document → Status → Type 0
+IsVerdict job X document status =
+    ((status ≡ Done) × Certifies job.objective X Solve document)
+    ⊎ ((status ≡ No) × ¬ Certifies job.objective X Solve document)

@@ -1,7 +1,9 @@
 -- How a run ends.
 use Rattle.std.specs.Prelude.{ℕ}
 use Rattle.asg_app.specs.declared.status.Status.{Status}
-use Rattle.asg_app.specs.declared.status.Status.TheVariants.{Done, Nothing, Usage, Instance, Script, Document, No, ReadFault, WriteFault, NoMemory, TooLong}
+use Rattle.asg_app.specs.declared.status.Status.TheVariants.{Done, Nothing, Usage, Instance, Script}
+use Rattle.asg_app.specs.declared.status.Status.TheVariants.{Document, No, ReadFault, WriteFault}
+use Rattle.asg_app.specs.declared.status.Status.TheVariants.{NoMemory, TooLong}
 
 -- the exit status of the process
 abbrev pub code_of : Status → ℕ
@@ -33,3 +35,9 @@ HasRead Script = Unit {0}
 HasRead Document = Unit {0}
 HasRead No = Unit {0}
 HasRead _ = ⊥
+
+-- a status whose text is one: no document is written with it, of which several may serve
+abbrev pub HasOneText : Status → Type 0
+HasOneText Done = ⊥
+HasOneText Nothing = ⊥
+HasOneText _ = Unit {0}

@@ -1,11 +1,9 @@
 //! Requests to check, as runs over memory.
 
-use crate::memory_runs::{SQUARES, run_over};
+use crate::memory_runs::{Files, THREE, held, run_over};
 use std::test::Fail;
 
 const CHECK: &[&str] = &["check", "bottleneck", "f", "g"];
-
-const THREE: &[u8] = b"3\n4 1 3\n2 0 5\n3 2 2\n";
 
 // The document that solves the square `THREE`.
 const SOLVED: &str =
@@ -35,30 +33,9 @@ const CERTIFYING: [(&[u8], &str); 4] = [
 #[test]
 fn answers_that_certify(rt: HostRuntime) -> Result<(), Fail> {
     for (file, answer) in CERTIFYING {
-        let done = run_over(rt.alloc(), CHECK, file, answer.as_bytes(), &[], &[])?;
+        let done = run_over(rt.alloc(), CHECK, &[], held(file, answer.as_bytes()))?;
         assert_eq!(rt; done.code, 0, "{answer}");
         assert_eq!(rt; done.written.as_slice(), b"yes 1\n".as_slice(), "{answer}");
-    }
-    Ok(())
-}
-
-// What a request to solve writes is accepted.
-#[test]
-fn solved_squares_certify(rt: HostRuntime) -> Result<(), Fail> {
-    for (file, _value) in SQUARES {
-        let file = file.as_bytes();
-        let solved = run_over(
-            rt.alloc(),
-            &["solve", "bottleneck", "f"],
-            file,
-            b"",
-            &[],
-            &[],
-        )?;
-        assert_eq!(rt; solved.code, 0);
-        let checked = run_over(rt.alloc(), CHECK, file, &solved.written, &[], &[])?;
-        assert_eq!(rt; checked.code, 0);
-        assert_eq!(rt; checked.written.as_slice(), b"yes 1\n".as_slice());
     }
     Ok(())
 }
@@ -129,7 +106,7 @@ const BENT: [(&str, &str); 14] = [
 fn best_answers_that_do_not_certify(rt: HostRuntime) -> Result<(), Fail> {
     for (rest, text) in BENT {
         let answer = format!(in rt.alloc(); "{HEAD}{rest}")?;
-        let done = run_over(rt.alloc(), CHECK, THREE, answer.as_bytes(), &[], &[])?;
+        let done = run_over(rt.alloc(), CHECK, &[], held(THREE, answer.as_bytes()))?;
         assert_eq!(rt; done.code, 6, "{rest}");
         assert_eq!(rt; done.written.as_slice(), text.as_bytes(), "{rest}");
     }
@@ -137,7 +114,11 @@ fn best_answers_that_do_not_certify(rt: HostRuntime) -> Result<(), Fail> {
 }
 
 // Documents of another objective and of another status, and what is told of them.
-const OTHERS: [(&str, &str); 2] = [
+const OTHERS: [(&str, &str); 3] = [
+    (
+        "assignment 1\ncommand solve\nobjective bottleneck\nstatus none\nhall 4\nend\n",
+        "no 1 5 0\n",
+    ),
     (
         "assignment 1\ncommand solve\nobjective bottleneck-max\nstatus best\nvalue 2\ncells 3\n1 2\n2 1\n3 3\nproof below 3\nend\n",
         "no 1 1 0\n",
@@ -151,7 +132,7 @@ const OTHERS: [(&str, &str); 2] = [
 #[test]
 fn other_answers_that_do_not_certify(rt: HostRuntime) -> Result<(), Fail> {
     for (answer, text) in OTHERS {
-        let done = run_over(rt.alloc(), CHECK, THREE, answer.as_bytes(), &[], &[])?;
+        let done = run_over(rt.alloc(), CHECK, &[], held(THREE, answer.as_bytes()))?;
         assert_eq!(rt; done.code, 6, "{answer}");
         assert_eq!(rt; done.written.as_slice(), text.as_bytes(), "{answer}");
     }
@@ -175,37 +156,46 @@ fn answers_that_are_refused(rt: HostRuntime) -> Result<(), Fail> {
         ),
     ];
     for (answer, text) in table {
-        let done = run_over(rt.alloc(), CHECK, THREE, answer.as_bytes(), &[], &[])?;
+        let done = run_over(rt.alloc(), CHECK, &[], held(THREE, answer.as_bytes()))?;
         assert_eq!(rt; done.code, 5, "{answer}");
         assert_eq!(rt; done.written.as_slice(), text.as_bytes(), "{answer}");
     }
     // The instance's file is refused before the answer's file.
-    let unread = run_over(rt.alloc(), CHECK, b"2\n1 2\n3 x\n", b"", &[], &[])?;
+    let unread = run_over(rt.alloc(), CHECK, &[], held(b"2\n1 2\n3 x\n", b""))?;
     assert_eq!(rt; unread.code, 3);
     assert_eq!(rt;
         unread.written.as_slice(),
-        b"refused instance 12 0\n".as_slice()
+        b"refused instance 12 5\n".as_slice()
     );
     Ok(())
 }
 
 #[test]
 fn faults_while_checking(rt: HostRuntime) -> Result<(), Fail> {
-    for fails in [1, 2] {
-        let unread = run_over(rt.alloc(), CHECK, THREE, SOLVED.as_bytes(), &[fails], &[])?;
-        assert_eq!(rt; unread.code, 7);
-        assert_eq!(rt; unread.written.as_slice(), b"".as_slice());
+    let whole = held(THREE, SOLVED.as_bytes());
+    for fetch_fails in [[1], [2]] {
+        let unread = Files {
+            fetch_fails: &fetch_fails,
+            ..whole
+        };
+        let ran = run_over(rt.alloc(), CHECK, &[], unread)?;
+        assert_eq!(rt; ran.code, 7);
+        assert_eq!(rt; ran.written.as_slice(), b"".as_slice());
     }
     for words in [
         ["check", "bottleneck", "f", "h"],
         ["check", "bottleneck", "h", "g"],
     ] {
-        let absent = run_over(rt.alloc(), &words, THREE, SOLVED.as_bytes(), &[], &[])?;
-        assert_eq!(rt; absent.code, 7);
-        assert_eq!(rt; absent.written.as_slice(), b"".as_slice());
+        let ran = run_over(rt.alloc(), &words, &[], whole)?;
+        assert_eq!(rt; ran.code, 7);
+        assert_eq!(rt; ran.written.as_slice(), b"".as_slice());
     }
-    let cut = run_over(rt.alloc(), CHECK, THREE, SOLVED.as_bytes(), &[], &[(1, 2)])?;
-    assert_eq!(rt; cut.code, 8);
-    assert_eq!(rt; cut.written.as_slice(), b"ye".as_slice());
+    let cut = Files {
+        put_fails: &[(1, 2)],
+        ..whole
+    };
+    let ran = run_over(rt.alloc(), CHECK, &[], cut)?;
+    assert_eq!(rt; ran.code, 8);
+    assert_eq!(rt; ran.written.as_slice(), b"ye".as_slice());
     Ok(())
 }

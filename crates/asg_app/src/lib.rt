@@ -1,33 +1,30 @@
 //! The program's top call: from the words of a command line to the bytes written.
+//!
+//! A run reads the words, fetches the files that they name, makes a reply and puts it. A command is
+//! a function from a job, its instance and the contents of its other files to a reply, in a module of
+//! its own. Contracts see the words, what the shelf tells of the files, the bytes that the sink
+//! tells, and the status: `Due` says which status and which text are due, and laws say what that
+//! means. It serves the program alone.
 #![tactic(auto)]
 
-mod best_choice;
+mod answers;
 #[cfg(test)]
 mod check_tests;
-mod checking;
-mod endings;
+mod commands;
+mod documents;
+mod files;
 pub mod laws;
-mod matrix;
 #[cfg(test)]
 mod memory_runs;
-mod numbers;
-mod perfect;
-mod row_bound;
-mod seeker;
+mod program;
+mod replies;
+mod requests;
+mod sheets;
 #[cfg(test)]
 mod solve_tests;
-mod solved;
-mod solving;
-mod square_costs;
-mod square_text;
+mod sources;
+mod stages;
 mod status;
-mod threshold;
-mod tokens;
-mod top_call;
-mod words;
 
-pub use best_choice::bottleneck;
-pub use square_text::{SquareRefusal, costs_stand_row_by_row, read_square};
+pub use program::run;
 pub use status::Status;
-pub use top_call::run;
-pub use words::{Request, requested};

@@ -11,62 +11,262 @@ pub(crate) struct Ran {
     pub(crate) written: Vec<u8>,
 }
 
-// The words as texts.
-fn words_of(alloc: Global, words: &[&str]) -> Result<Vec<String>, AllocError> {
-    let mut all = Vec::new(alloc);
-    for word in words {
-        all.push(String::from_str(alloc, word)?)?;
-    }
-    Ok(all)
+// The files `f` and `g`, and which fetches and puts fail.
+#[derive(Clone, Copy)]
+pub(crate) struct Files<'a> {
+    pub(crate) f: &'a [u8],
+    pub(crate) g: &'a [u8],
+    pub(crate) fetch_fails: &'a [u32],
+    pub(crate) put_fails: &'a [(u32, u32)],
 }
 
-// A run over a shelf that holds the files `f` and `g`, with the fetches and puts that fail.
+// The files of these contents, over a shelf and a sink without faults.
+pub(crate) fn held<'a>(f: &'a [u8], g: &'a [u8]) -> Files<'a> {
+    Files {
+        f,
+        g,
+        fetch_fails: &[],
+        put_fails: &[],
+    }
+}
+
+// A run with these words, and then these options.
 pub(crate) fn run_over(
     alloc: Global,
     words: &[&str],
-    f: &[u8],
-    g: &[u8],
-    fetch_fails: &[u32],
-    put_fails: &[(u32, u32)],
+    options: &[&str],
+    files: Files<'_>,
 ) -> Result<Ran, AllocError> {
-    let mut files = Vec::new(alloc);
-    files.push((String::from_str(alloc, "f")?, f.to_vec(alloc)?))?;
-    files.push((String::from_str(alloc, "g")?, g.to_vec(alloc)?))?;
-    let mut shelf = MemoryShelf::with(alloc, files, fetch_fails.to_vec(alloc)?);
-    let mut out = MemorySink::with(alloc, 100_000, put_fails.to_vec(alloc)?)?;
-    let words = words_of(alloc, words)?;
-    let status = run(alloc, &words, &mut shelf, &mut out);
+    let mut contents = Vec::new(alloc);
+    contents.push((String::from_str(alloc, "f")?, files.f.to_vec(alloc)?))?;
+    contents.push((String::from_str(alloc, "g")?, files.g.to_vec(alloc)?))?;
+    let mut shelf = MemoryShelf::with(alloc, contents, files.fetch_fails.to_vec(alloc)?);
+    let mut out = MemorySink::with(alloc, 100_000, files.put_fails.to_vec(alloc)?)?;
+    let mut line = Vec::new(alloc);
+    for word in words {
+        line.push(String::from_str(alloc, word)?)?;
+    }
+    for option in options {
+        line.push(String::from_str(alloc, option)?)?;
+    }
+    let status = run(alloc, &line, &mut shelf, &mut out);
     Ok(Ran {
         code: status.code(),
         written: out.bytes().to_vec(alloc)?,
     })
 }
 
-// Squares of sides 1 to 4 with ties, negative costs and equal rows, each with the lines of its value
-// and the number of its cells.
-pub(crate) const SQUARES: [(&str, &str); 12] = [
-    ("1\n0", "value 0\ncells 1\n"),
-    ("2\n1 1\n1 1", "value 1\ncells 2\n"),
-    ("2\n-5 -3\n-5 -3", "value -3\ncells 2\n"),
-    ("2\n3 9\n8 4", "value 4\ncells 2\n"),
-    ("3\n1 2 3\n1 2 3\n1 2 3", "value 3\ncells 3\n"),
-    ("3\n-1 -2 -3\n-4 -5 -6\n-7 -8 -9", "value -3\ncells 3\n"),
-    ("3\n0 7 7\n0 7 7\n7 0 0", "value 7\ncells 3\n"),
-    ("3\n2 2 2\n2 2 2\n2 2 2", "value 2\ncells 3\n"),
+// The square of the costs 4 1 3, 2 0 5 and 3 2 2.
+pub(crate) const THREE: &[u8] = b"3\n4 1 3\n2 0 5\n3 2 2\n";
+
+// A request that is solved: the objective, the options, the file, the status, and what the document
+// says behind its objective.
+pub(crate) type Case = (
+    &'static str,
+    &'static [&'static str],
+    &'static str,
+    u8,
+    &'static str,
+);
+
+// Requests to solve with their answers: squares with ties, negative costs and equal rows, tables
+// with absent cells, graphs, fewer rows to be placed, greater capacities, and instances without a valid
+// choice.
+pub(crate) const CASES: [Case; 28] = [
     (
+        "bottleneck",
+        &[],
+        "1\n0",
+        0,
+        "status best\nvalue 0\ncells 1\n1 1\nproof below 1\nend\n",
+    ),
+    (
+        "bottleneck",
+        &[],
+        "1\n-1000000000\n",
+        0,
+        "status best\nvalue -1000000000\ncells 1\n1 1\n",
+    ),
+    (
+        "bottleneck",
+        &[],
+        "3\n4 1 3\n2 0 5\n3 2 2\n",
+        0,
+        "status best\nvalue 2\ncells 3\n1 2\n2 1\n3 3\n",
+    ),
+    (
+        "bottleneck",
+        &[],
+        "2\n1 1\n1 1",
+        0,
+        "status best\nvalue 1\ncells 2\n",
+    ),
+    (
+        "bottleneck",
+        &[],
+        "2\n-5 -3\n-5 -3",
+        0,
+        "status best\nvalue -3\ncells 2\n",
+    ),
+    (
+        "bottleneck",
+        &[],
+        "2\n3 9\n8 4",
+        0,
+        "status best\nvalue 4\ncells 2\n1 1\n2 2\n",
+    ),
+    (
+        "bottleneck",
+        &[],
+        "3\n-1 -2 -3\n-4 -5 -6\n-7 -8 -9",
+        0,
+        "status best\nvalue -3\ncells 3\n",
+    ),
+    (
+        "bottleneck",
+        &[],
+        "3\n0 7 7\n0 7 7\n7 0 0",
+        0,
+        "status best\nvalue 7\ncells 3\n",
+    ),
+    (
+        "bottleneck",
+        &[],
         "4\n1 2 3 4\n2 4 6 8\n3 6 9 12\n4 8 12 16",
-        "value 6\ncells 4\n",
+        0,
+        "status best\nvalue 6\ncells 4\n",
     ),
     (
+        "bottleneck",
+        &[],
         "4\n5 -5 0 2\n5 -5 0 2\n5 -5 0 2\n5 -5 0 2",
-        "value 5\ncells 4\n",
+        0,
+        "status best\nvalue 5\ncells 4\n",
     ),
     (
+        "bottleneck",
+        &[],
         "4\n1 1 9 9\n1 1 9 9\n9 9 1 1\n9 9 1 1",
-        "value 1\ncells 4\n",
+        0,
+        "status best\nvalue 1\ncells 4\n",
     ),
     (
+        "bottleneck",
+        &[],
         "4\n1 1 9 9\n1 1 9 9\n1 1 9 9\n9 9 1 1",
-        "value 9\ncells 4\n",
+        0,
+        "status best\nvalue 9\ncells 4\n",
+    ),
+    (
+        "bottleneck-max",
+        &[],
+        "3\n4 1 3\n2 0 5\n3 2 2\n",
+        0,
+        "status best\nvalue 2\ncells 3\n",
+    ),
+    (
+        "bottleneck-max",
+        &[],
+        "2\n3 9\n8 4",
+        0,
+        "status best\nvalue 8\ncells 2\n1 2\n2 1\n",
+    ),
+    (
+        "bottleneck",
+        &["--place", "2"],
+        "3\n4 1 3\n2 0 5\n3 2 2\n",
+        0,
+        "status best\nvalue 2\ncells 2\n",
+    ),
+    (
+        "bottleneck",
+        &["--place=1"],
+        "3\n4 1 3\n2 0 5\n3 2 2\n",
+        0,
+        "status best\nvalue 0\ncells 1\n2 2\n",
+    ),
+    (
+        "bottleneck",
+        &["--each", "2"],
+        "3\n4 1 3\n2 0 5\n3 2 2\n",
+        0,
+        "status best\nvalue 2\ncells 3\n",
+    ),
+    (
+        "bottleneck",
+        &["--format", "square"],
+        "2\r\n1\t2\r\n3 4\r\n",
+        0,
+        "status best\nvalue 3\ncells 2\n",
+    ),
+    (
+        "bottleneck",
+        &["--format", "rect"],
+        "2 3\n5 - 1\n- 2 1\n",
+        0,
+        "status best\nvalue 2\ncells 2\n1 3\n2 2\n",
+    ),
+    (
+        "bottleneck-max",
+        &["--format=rect"],
+        "2 3\n5 - 1\n- 2 1\n",
+        0,
+        "status best\nvalue 2\ncells 2\n1 1\n2 2\n",
+    ),
+    (
+        "bottleneck",
+        &["--format", "rect", "--each", "2"],
+        "3 2\n1 9:5\n1 9\n7:1 2",
+        0,
+        "status best\nvalue 2\ncells 3\n1 1\n2 1\n3 2\n",
+    ),
+    (
+        "bottleneck",
+        &["--format", "rect"],
+        "2 1\n1\n2\n",
+        1,
+        "status none\nhall ",
+    ),
+    (
+        "bottleneck",
+        &["--format", "rect", "--place", "2"],
+        "3 2\n1 -\n2 -\n- -\n",
+        1,
+        "status none\nhall ",
+    ),
+    (
+        "bottleneck",
+        &["--format", "rect"],
+        "1 1\n-\n",
+        1,
+        "status none\nhall 1\nend\n",
+    ),
+    (
+        "bottleneck",
+        &["--format", "rect", "--each", "2"],
+        "2 1\n1\n2\n",
+        0,
+        "status best\nvalue 2\ncells 2\n1 1\n2 1\n",
+    ),
+    (
+        "bottleneck",
+        &["--format", "asn"],
+        "c a small instance\np asn 6 9\nn 1\nn 2\nn 3\na 1 4 4\na 1 5 1\na 1 6 3\na 2 4 2\na 2 5 0\na 2 6 5\na 3 4 3\na 3 5 2\na 3 6 2\n",
+        0,
+        "status best\nvalue 2\ncells 3\n1 5\n2 4\n3 6\n",
+    ),
+    (
+        "bottleneck",
+        &["--format", "asn"],
+        "p asn 4 2\nn 1\nn 2\na 1 3 5\na 2 3 6\n",
+        1,
+        "status none\nhall ",
+    ),
+    (
+        "bottleneck-max",
+        &["--format", "asn"],
+        "p asn 4 2\nn 1\nn 2\na 1 3 5\na 1 3 5\n",
+        1,
+        "status none\nhall ",
     ),
 ];

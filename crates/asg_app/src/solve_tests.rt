@@ -1,7 +1,7 @@
 //! Requests to solve, and words that are no request, as runs over memory.
 
 use crate::Status;
-use crate::memory_runs::{SQUARES, run_over};
+use crate::memory_runs::{CASES, Files, THREE, held, run_over};
 use std::test::Fail;
 
 const USAGE: &str =
@@ -9,127 +9,161 @@ const USAGE: &str =
 
 const SOLVE: &[&str] = &["solve", "bottleneck", "f"];
 
-// Square files, and the documents that solve them.
-const DOCUMENTS: [(&str, &str); 3] = [
+// Each request has its status and its document, and the document is accepted.
+#[test]
+fn documents_of_instances(rt: HostRuntime) -> Result<(), Fail> {
+    for (objective, options, file, code, lines) in CASES {
+        let solved = run_over(
+            rt.alloc(),
+            &["solve", objective, "f"],
+            options,
+            held(file.as_bytes(), b""),
+        )?;
+        let text = format!(in rt.alloc();
+            "assignment 1\ncommand solve\nobjective {objective}\n{lines}"
+        )?;
+        assert_eq!(rt; solved.code, code, "{file}");
+        assert!(rt; solved.written.starts_with(text.as_bytes()), "{file}");
+        let checked = run_over(
+            rt.alloc(),
+            &["check", objective, "f", "g"],
+            options,
+            held(file.as_bytes(), &solved.written),
+        )?;
+        assert_eq!(rt; checked.code, 0, "{file}");
+        assert_eq!(rt; checked.written.as_slice(), b"yes 1\n".as_slice(), "{file}");
+    }
+    Ok(())
+}
+
+// Two rows with one column between them: the Hall set is both, in either order.
+#[test]
+fn a_hall_set_of_two_rows(rt: HostRuntime) -> Result<(), Fail> {
+    let file = b"p asn 4 2\nn 1\nn 2\na 1 3 5\na 2 3 6\n";
+    let ran = run_over(rt.alloc(), SOLVE, &["--format", "asn"], held(file, b""))?;
+    assert_eq!(rt; ran.code, 1);
+    let both = ran.written.ends_with(b"\nhall 1 2\nend\n")
+        || ran.written.ends_with(b"\nhall 2 1\nend\n");
+    assert!(rt; both);
+    Ok(())
+}
+
+// Options and files, and how the files are refused.
+const REFUSED: [(&[&str], &str, &str); 16] = [
+    (&[], "0", "refused instance 10\n"),
+    (&[], "", "refused instance 11 1 0\n"),
+    (&[], "2\n1 2 3", "refused instance 11 4 3\n"),
+    (&[], "2\n1 2 3 x", "refused instance 12 5\n"),
+    (&[], "2\n1 2\n3 1:\n", "refused instance 12 5\n"),
+    (&[], "1001", "refused instance 9 1001 1001\n"),
+    (&[], "1\n1000000001\n", "refused instance 6 2\n"),
     (
+        &["--format", "rect"],
+        "1 2\n1 2 3",
+        "refused instance 11 2 3\n",
+    ),
+    (
+        &["--place", "4"],
         "3\n4 1 3\n2 0 5\n3 2 2\n",
-        "assignment 1\ncommand solve\nobjective bottleneck\nstatus best\nvalue 2\ncells 3\n1 2\n2 1\n3 3\nproof below 3\nend\n",
+        "refused instance 13 4\n",
     ),
     (
-        "1\n-1000000000\n",
-        "assignment 1\ncommand solve\nobjective bottleneck\nstatus best\nvalue -1000000000\ncells 1\n1 1\nproof below 1\nend\n",
+        &["--place", "3", "--format", "rect"],
+        "3 2\n1 1\n1 1\n1 1\n",
+        "refused instance 13 3\n",
     ),
     (
-        "2\n7 7\n-2 7",
-        "assignment 1\ncommand solve\nobjective bottleneck\nstatus best\nvalue 7\ncells 2\n1 1\n2 2\nproof below 1\nend\n",
+        &["--each", "1000"],
+        "3\n4 1 3\n2 0 5\n3 2 2\n",
+        "refused instance 15 3000\n",
     ),
-];
-
-#[test]
-fn documents_of_square_files(rt: HostRuntime) -> Result<(), Fail> {
-    for (file, text) in DOCUMENTS {
-        let done = run_over(rt.alloc(), SOLVE, file.as_bytes(), b"", &[], &[])?;
-        assert_eq!(rt; done.code, 0, "{file}");
-        assert_eq!(rt; done.written.as_slice(), text.as_bytes(), "{file}");
-    }
-    Ok(())
-}
-
-// The values of squares with ties, negative costs and equal rows.
-#[test]
-fn values_of_squares(rt: HostRuntime) -> Result<(), Fail> {
-    let head = b"assignment 1\ncommand solve\nobjective bottleneck\nstatus best\n".as_slice();
-    for (file, value) in SQUARES {
-        let done = run_over(rt.alloc(), SOLVE, file.as_bytes(), b"", &[], &[])?;
-        assert_eq!(rt; done.code, 0, "{file}");
-        assert!(rt; done.written.starts_with(head), "{file}");
-        let rest = done
-            .written
-            .get(head.len()..)
-            .ok_or("the document goes on behind its head")?;
-        assert!(rt; rest.starts_with(value.as_bytes()), "{file}");
-    }
-    Ok(())
-}
-
-// Texts that are no square file.
-const NO_SQUARES: [&[u8]; 11] = [
-    b"2\n1 2\n3 x\n",
-    b"2\n1 2\n3 1:2\n",
-    b"2\n1 2\n3 -\n",
-    b"",
-    b"0",
-    b"1001",
-    b"2\n1 2 3\n",
-    b"2\n1 2 3 4 5\n",
-    b"1\n1000000001\n",
-    b"1\n\xc3\xa9\n",
-    b"-1\n5\n",
+    (
+        &["--place", "4", "--each", "1000"],
+        "3\n4 1 3\n2 0 5\n3 2 2\n",
+        "refused instance 13 4\n",
+    ),
+    (&["--format", "asn"], "n 1\n", "refused instance 3 1\n"),
+    (&["--format", "asn"], "c\n", "refused instance 1\n"),
+    (
+        &["--format", "asn"],
+        "p asn 4 3\nn 1\nn 2\na 1 3 5\na 2 4 6\n",
+        "refused instance 8 3 2\n",
+    ),
+    (
+        &["--format", "asn"],
+        "p asn 4 2\nn 1\nn 2\na 1 3 5\na 1 3 6\n",
+        "refused instance 7 5\n",
+    ),
 ];
 
 #[test]
 fn files_that_are_refused(rt: HostRuntime) -> Result<(), Fail> {
-    for file in NO_SQUARES {
-        let done = run_over(rt.alloc(), SOLVE, file, b"", &[], &[])?;
-        assert_eq!(rt; done.code, 3, "{file:?}");
-        assert_eq!(rt;
-            done.written.as_slice(),
-            b"refused instance 12 0\n".as_slice(),
-            "{file:?}"
-        );
+    for (options, file, text) in REFUSED {
+        let ran = run_over(rt.alloc(), SOLVE, options, held(file.as_bytes(), b""))?;
+        assert_eq!(rt; ran.code, 3, "{file}");
+        assert_eq!(rt; ran.written.as_slice(), text.as_bytes(), "{file}");
     }
     Ok(())
 }
 
-// Words that are no request.
-const NO_REQUESTS: [&[&str]; 14] = [
+// Words that are no request, and requests that aren't built.
+const NO_REQUESTS: [&[&str]; 18] = [
     &[],
     &["solve", "bottleneck"],
     &["solve", "bottleneck", "f", "g"],
     &["--help"],
-    &["solve", "bottleneck", ""],
     &["solve", "bottleneck", "-x"],
-    &["solve", "sum", "f"],
     &["Solve", "bottleneck", "f"],
     &["check", "bottleneck", "f"],
     &["check", "bottleneck", "f", "g", "h"],
+    &["edit", "lex", "f", "g"],
+    &["rank", "sum", "f"],
+    &["solve", "sum"],
+    &["solve", "sum", "f"],
     &["check", "sum", "f", "g"],
-    &["check", "bottleneck", "f", "-g"],
-    &["check", "bottleneck", "-f", "g"],
-    &["check", "bottleneck", "f", ""],
+    &["solve", "bottleneck", "f", "--brief"],
+    &["check", "bottleneck", "f", "g", "--count", "1"],
+    &["check", "bottleneck", "f", "g", "--script", "f"],
+    &["solve", "bottleneck", "f", "--place", "0"],
+    &["make", "1", "1"],
 ];
 
 #[test]
 fn words_that_are_no_request(rt: HostRuntime) -> Result<(), Fail> {
     for words in NO_REQUESTS {
-        let done = run_over(rt.alloc(), words, b"1 1", b"", &[], &[])?;
-        assert_eq!(rt; done.code, 2);
-        assert_eq!(rt; done.written.as_slice(), USAGE.as_bytes());
+        let ran = run_over(rt.alloc(), words, &[], held(b"1 1", b""))?;
+        assert_eq!(rt; ran.code, 2);
+        assert_eq!(rt; ran.written.as_slice(), USAGE.as_bytes());
     }
     Ok(())
 }
 
 #[test]
 fn faults_of_shelf_and_sink(rt: HostRuntime) -> Result<(), Fail> {
-    let file = b"3\n4 1 3\n2 0 5\n3 2 2\n";
-    let cut = run_over(rt.alloc(), SOLVE, file, b"", &[], &[(1, 10)])?;
-    assert_eq!(rt; cut.code, 8);
-    assert_eq!(rt; cut.written.as_slice(), b"assignment".as_slice());
-    let unread = run_over(rt.alloc(), SOLVE, file, b"", &[1], &[])?;
-    assert_eq!(rt; unread.code, 7);
-    assert_eq!(rt; unread.written.as_slice(), b"".as_slice());
-    let absent = run_over(
-        rt.alloc(),
-        &["solve", "bottleneck", "h"],
-        file,
-        b"",
-        &[],
-        &[],
-    )?;
-    assert_eq!(rt; absent.code, 7);
-    let unsaid = run_over(rt.alloc(), &["solve"], file, b"", &[], &[(1, 3)])?;
-    assert_eq!(rt; unsaid.code, 8);
-    assert_eq!(rt; unsaid.written.as_slice(), b"usa".as_slice());
+    let whole = held(THREE, b"");
+    let cut = Files {
+        put_fails: &[(1, 10)],
+        ..whole
+    };
+    let ran = run_over(rt.alloc(), SOLVE, &[], cut)?;
+    assert_eq!(rt; ran.code, 8);
+    assert_eq!(rt; ran.written.as_slice(), b"assignment".as_slice());
+    let unread = Files {
+        fetch_fails: &[1],
+        ..whole
+    };
+    let ran = run_over(rt.alloc(), SOLVE, &[], unread)?;
+    assert_eq!(rt; ran.code, 7);
+    assert_eq!(rt; ran.written.as_slice(), b"".as_slice());
+    let ran = run_over(rt.alloc(), &["solve", "bottleneck", "h"], &[], whole)?;
+    assert_eq!(rt; ran.code, 7);
+    let unsaid = Files {
+        put_fails: &[(1, 3)],
+        ..whole
+    };
+    let ran = run_over(rt.alloc(), &["solve"], &[], unsaid)?;
+    assert_eq!(rt; ran.code, 8);
+    assert_eq!(rt; ran.written.as_slice(), b"usa".as_slice());
     assert_eq!(rt; Status::TooLong.code(), 10);
     Ok(())
 }

@@ -1,0 +1,43 @@
+-- What is due for what an instance's file holds.
+use Rattle.std.proofs.Common.{◌≡◌, ℕ, List, Option, Some, None, Result, Ok, Err, IsErr, refl, ap}
+use Rattle.std.specs.Prelude.{IfSome, IfOk, MatchOption}
+use Rattle.asg_model.specs.Problem.{Problem}
+use Rattle.asg_text.specs.Readings.{Reading, Spells, Refuses as RefusesText}
+use Rattle.asg_text.specs.Texts.{reading_of}
+use Rattle.asg_text.specs.Faults.{Fault, refusal_numbers}
+use Rattle.asg_words.specs.declared.requests.Job.{Job}
+use Rattle.asg_app.specs.declared.replies.Reply.{Reply}
+use Rattle.asg_app.specs.declared.status.Status.{Status}
+use Rattle.asg_app.specs.declared.status.Status.TheVariants.{Instance}
+use Rattle.asg_app.specs.Due.{DueForJob, Refused, Held}
+use Rattle.asg_app.specs.InstanceFile.{InstanceFile, Holds, Refuses, fitted, held_by, instance_in}
+use Rattle.asg_app.specs.InstanceStage.{DueForFile}
+use Rattle.asg_app.specs.Replies.{Answers, IsReply}
+use Rattle.asg_app.specs.Texts.{refused_instance_text}
+use Rattle.asg_app.proofs.ReplyLemmas.{replied}
+use Rattle.asg_app.specs.Sources.{AreShort, content_at}
+
+-- what is due for what the job's file holds is due for the job
+pub due_for_job : (job : Job) (contents : List (List ℕ)) (file : InstanceFile) → AreShort contents → instance_in job (content_at contents 0) ≡ file
+    → (status : Status) (text : List ℕ) → DueForFile file job contents status text → DueForJob job contents status text
+due_for_job job contents (Refuses numbers) short is status text owed = Refused short numbers is owed.0 owed.1
+due_for_job job contents (Holds X) short is status text owed = Held short X is owed.0 owed.1
+
+-- a text that spells an instance holds it with the job's options, and one that is refused its refusal
+pub spelled_file : (job : Job) (bytes : List ℕ) (X : Problem) → reading_of job.format bytes ≡ Spells X → instance_in job bytes ≡ fitted job.place job.each X
+spelled_file job bytes X spelled = ap (held_by job.place job.each) spelled
+
+pub refused_file : (job : Job) (bytes : List ℕ) (fault : Fault) → reading_of job.format bytes ≡ RefusesText fault → instance_in job bytes ≡ Refuses (refusal_numbers fault)
+refused_file job bytes fault refused = ap (held_by job.place job.each) refused
+
+-- the reply that refuses an instance by its text
+pub refused_reply : {E : Type 0} (job : Job) (contents : List (List ℕ)) (fault : Option Fault) (result : Result Reply E) → AreShort contents
+    → IfSome fault (λ f. reading_of job.format (content_at contents 0) ≡ RefusesText f)
+    → MatchOption fault (IsErr result) (λ f. IfOk result (λ reply. IsReply reply Instance (refused_instance_text (refusal_numbers f))))
+    → IfOk result (Answers (DueForJob job contents))
+refused_reply job contents (Some fault) result short refused says =
+    replied (DueForJob job contents) Instance (refused_instance_text (refusal_numbers fault)) result
+    (Refused short (refusal_numbers fault) (refused_file job (content_at contents 0) fault refused) refl refl)
+    says
+refused_reply job contents None (Ok reply) short refused is_err = cc
+refused_reply job contents None (Err e) short refused is_err = tt

@@ -1,0 +1,91 @@
+-- What each due status says of a request to solve.
+use Rattle.std.proofs.Common.{◌≡◌, ℕ, List, Option, Some, subst, inl, inr}
+use Rattle.std.specs.Prelude.{◌⊎◌}
+use Rattle.asg_model.specs.Instances.{IsInstance}
+use Rattle.asg_model.specs.Problem.{Problem}
+use Rattle.asg_model.specs.ValidChoice.{IsValid}
+use Rattle.asg_check.specs.TrueClaim.{IsTrueClaim}
+use Rattle.asg_words.specs.declared.requests.Job.{Job}
+use Rattle.asg_words.specs.declared.requests.Task.TheVariants.{Solve}
+use Rattle.asg_app.specs.declared.status.Status.{Status}
+use Rattle.asg_app.specs.declared.status.Status.TheVariants.{Done, Nothing, Instance, TooLong}
+use Rattle.asg_app.specs.Due.{DueForJob, DueForTask, Long, Refused, Held}
+use Rattle.asg_app.specs.DueToSolve.{DueToSolve, Solved, Unsolvable}
+use Rattle.asg_app.specs.Fetches.{MayHold, MayHoldAll}
+use Rattle.asg_app.specs.InstanceFile.{Holds, instance_in}
+use Rattle.asg_app.specs.Promised.{IsSolved, IsUnsolvable}
+use Rattle.asg_app.specs.Requests.{files_of}
+use Rattle.asg_app.specs.Sources.{AreShort, content_at}
+use Rattle.asg_app.proofs.StageLaws.{AllShort, first_held, reached}
+
+-- what is due by the command itself
+own : (job : Job) (contents : List (List ℕ)) (X : Problem) (status : Status) (text : List ℕ) → job.task ≡ Solve → DueForTask job.task job contents X status text → DueToSolve job X status text
+own job contents X status text is due = subst (λ task. DueForTask task job contents X status text) is due
+
+-- a request to solve ends with the status 0, 1, 3 or 10
+abbrev IsEnding : Status → Type 0
+IsEnding status = (status ≡ Done) ⊎ ((status ≡ Nothing) ⊎ ((status ≡ Instance) ⊎ (status ≡ TooLong)))
+
+pub solve_statuses : (job : Job) (contents : List (List ℕ)) (status : Status) (text : List ℕ) → job.task ≡ Solve → DueForJob job contents status text
+    → (status ≡ Done) ⊎ ((status ≡ Nothing) ⊎ ((status ≡ Instance) ⊎ (status ≡ TooLong)))
+solve_statuses job contents status text is (Long place within long e told) = inr (inr (inr e))
+solve_statuses job contents status text is (Refused short numbers none e told) = inr (inr (inl e))
+solve_statuses job contents status text is (Held short X holds inst due) = by_ending (own job contents X status text is due)
+  where
+    by_ending : DueToSolve job X status text → IsEnding status
+    by_ending (Solved document best e told) = inl e
+    by_ending (Unsolvable document none e told) = inr (inl e)
+
+-- with 0 where a choice is valid
+pub solve_valid : (job : Job) (told : List ℕ → Option (List ℕ)) (contents : List (List ℕ)) (status : Status) (text bytes : List ℕ) (X : Problem) (choice : List (Option ℕ)) → AllShort told (Some job) → job.task ≡ Solve
+    → told job.instance ≡ Some bytes → instance_in job bytes ≡ Holds X → IsValid X choice → MayHoldAll told (files_of (Some job)) contents → DueForJob job contents status text → status ≡ Done
+solve_valid job told contents status text bytes X choice shorts is found holds valid may due =
+    by_ending (own job contents X status text is (reached job told contents status text bytes X shorts found holds may due))
+  where
+    by_ending : DueToSolve job X status text → status ≡ Done
+    by_ending (Solved document best e told') = e
+    by_ending (Unsolvable document none e told') = absurd (subst (IsTrueClaim job.objective X) none.claims none.written.truly choice valid)
+
+-- and 1 where none is
+pub solve_nothing : (job : Job) (told : List ℕ → Option (List ℕ)) (contents : List (List ℕ)) (status : Status) (text bytes : List ℕ) (X : Problem) → AllShort told (Some job) → job.task ≡ Solve
+    → told job.instance ≡ Some bytes → instance_in job bytes ≡ Holds X → ((choice : List (Option ℕ)) → ¬ IsValid X choice) → MayHoldAll told (files_of (Some job)) contents → DueForJob job contents status text → status ≡ Nothing
+solve_nothing job told contents status text bytes X shorts is found holds no_valid may due =
+    by_ending (own job contents X status text is (reached job told contents status text bytes X shorts found holds may due))
+  where
+    by_ending : DueToSolve job X status text → status ≡ Nothing
+    by_ending (Solved document best e told') =
+        let truly = subst (IsTrueClaim job.objective X) best.claims best.written.truly in
+        absurd (no_valid truly.choice truly.best.valid)
+    by_ending (Unsolvable document none e told') = e
+
+-- a best document is due only for a file that holds an instance, which it solves
+pub solved_only : (job : Job) (told : List ℕ → Option (List ℕ)) (contents : List (List ℕ)) (text : List ℕ) → job.task ≡ Solve → MayHoldAll told (files_of (Some job)) contents
+    → DueForJob job contents Done text → MayHold told job.instance (content_at contents 0) × IsSolved job (content_at contents 0) text × AreShort contents
+solved_only job told contents text is may due = by_case due
+  where
+    by_ending : (X : Problem) → AreShort contents → instance_in job (content_at contents 0) ≡ Holds X → IsInstance X → DueToSolve job X Done text
+        → MayHold told job.instance (content_at contents 0) × IsSolved job (content_at contents 0) text × AreShort contents
+    by_ending X short holds inst (Solved document best e written) =
+        (first_held told job contents may, record { problem = X; document = document; held = holds; instance = inst; best = best; written = written }, short)
+    by_ending X short holds inst (Unsolvable document none e written) = cc
+
+    by_case : DueForJob job contents Done text → MayHold told job.instance (content_at contents 0) × IsSolved job (content_at contents 0) text × AreShort contents
+    by_case (Long place within long e told') = cc
+    by_case (Refused short numbers none e told') = cc
+    by_case (Held short X holds inst owed) = by_ending X short holds inst (own job contents X Done text is owed)
+
+-- a document that says none only for one whose instance has none
+pub unsolvable_only : (job : Job) (told : List ℕ → Option (List ℕ)) (contents : List (List ℕ)) (text : List ℕ) → job.task ≡ Solve → MayHoldAll told (files_of (Some job)) contents
+    → DueForJob job contents Nothing text → MayHold told job.instance (content_at contents 0) × IsUnsolvable job (content_at contents 0) text × AreShort contents
+unsolvable_only job told contents text is may due = by_case due
+  where
+    by_ending : (X : Problem) → AreShort contents → instance_in job (content_at contents 0) ≡ Holds X → IsInstance X → DueToSolve job X Nothing text
+        → MayHold told job.instance (content_at contents 0) × IsUnsolvable job (content_at contents 0) text × AreShort contents
+    by_ending X short holds inst (Solved document best e written) = cc
+    by_ending X short holds inst (Unsolvable document none e written) =
+        (first_held told job contents may, record { problem = X; document = document; held = holds; instance = inst; none = none; written = written }, short)
+
+    by_case : DueForJob job contents Nothing text → MayHold told job.instance (content_at contents 0) × IsUnsolvable job (content_at contents 0) text × AreShort contents
+    by_case (Long place within long e told') = cc
+    by_case (Refused short numbers none e told') = cc
+    by_case (Held short X holds inst owed) = by_ending X short holds inst (own job contents X Nothing text is owed)

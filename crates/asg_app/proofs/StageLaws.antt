@@ -1,0 +1,206 @@
+-- What each due status says of the words and the files, before the command of a request decides it.
+use Rattle.std.proofs.Common.{◌≡◌, ℕ, zero, suc, ◌<◌, ◌≤◌, List, [], ◌∷◌, length, get_or, Option, Some, None, All, refl, sym, ap, ◌∙◌, subst, arith}
+use Rattle.std.specs.List.{Contains}
+use Rattle.std.specs.Prelude.{◌≢◌}
+use Rattle.asg_model.specs.Instances.{IsInstance}
+use Rattle.std.proofs.lemmas.List.{get_or_default}
+use Rattle.asg_model.specs.Problem.{Problem}
+use Rattle.asg_doc.specs.declared.documents.Document.{Document}
+use Rattle.asg_words.specs.declared.requests.Job.{Job}
+use Rattle.asg_words.specs.declared.requests.Task.{Task}
+use Rattle.asg_words.specs.declared.requests.Task.TheVariants.{Solve, Rank, Edit, Check}
+use Rattle.asg_app.specs.declared.status.Status.{Status}
+use Rattle.asg_app.specs.declared.status.Status.TheVariants.{Usage, Instance, TooLong}
+use Rattle.asg_app.specs.declared.status.Status.TheVariants as statuses
+use Rattle.asg_app.specs.AnswerStage.{UnlessUnread, NotRead, Miscounted, Read}
+use Rattle.asg_app.specs.Due.{DueForAsked, DueForJob, DueForTask, IsShort, Long, Refused, Held}
+use Rattle.asg_app.specs.DueToCheck.{DueToCheck, Certified, Denied}
+use Rattle.asg_app.specs.DueToSolve.{DueToSolve, Solved, Unsolvable}
+use Rattle.asg_app.specs.InstanceFile.{Holds, Refuses, instance_in}
+use Rattle.asg_model.specs.Limits.{longest_file}
+use Rattle.asg_app.specs.Fetches.{MayHold, MayHoldAll}
+use Rattle.asg_app.specs.Requests.{files_of}
+use Rattle.asg_app.specs.Sources.{AreShort, content_at}
+use Rattle.asg_app.specs.Statuses.{IsAnswer}
+use Rattle.asg_app.specs.Texts.{usage_text, refused_instance_text}
+use Rattle.asg_app.proofs.DueLaws.{not_long, refused_apart}
+use Rattle.asg_app.proofs.ToldFiles.{held, held_at, held_count}
+
+-- a status that a command decides
+abbrev pub IsDecided : Status → Type 0
+IsDecided statuses.Done = Unit {0}
+IsDecided statuses.Nothing = Unit {0}
+IsDecided statuses.Script = Unit {0}
+IsDecided statuses.Document = Unit {0}
+IsDecided statuses.No = Unit {0}
+IsDecided _ = ⊥
+
+decided : (due status : Status) → status ≡ due → IsDecided due → IsDecided status
+decided due status is one = subst IsDecided (sym is) one
+
+check_decides : (job : Job) (X : Problem) (document : Document) (status : Status) (text : List ℕ) → DueToCheck job X document status text → IsDecided status
+check_decides job X document status text (Certified certifies is told) = decided statuses.Done status is tt
+check_decides job X document status text (Denied number place fails first is told) = decided statuses.No status is tt
+
+unread_decides : (bytes : List ℕ) (Owed : Document → Status → List ℕ → Type 0) (status : Status) (text : List ℕ)
+    → ((document : Document) → Owed document status text → IsDecided status) → UnlessUnread bytes Owed status text → IsDecided status
+unread_decides bytes Owed status text decides (NotRead line none at is told) = decided statuses.Document status is tt
+unread_decides bytes Owed status text decides (Miscounted documents have_text read count is told) = decided statuses.Document status is tt
+unread_decides bytes Owed status text decides (Read document has_text read owed) = decides document owed
+
+solve_decides : (job : Job) (X : Problem) (status : Status) (text : List ℕ) → DueToSolve job X status text → IsDecided status
+solve_decides job X status text (Solved document best is told) = decided statuses.Done status is tt
+solve_decides job X status text (Unsolvable document none is told) = decided statuses.Nothing status is tt
+
+-- what a command answers is a status of its own
+pub task_decides : (task : Task) (job : Job) (contents : List (List ℕ)) (X : Problem) (status : Status) (text : List ℕ) → DueForTask task job contents X status text → IsDecided status
+task_decides Solve job contents X status text due = solve_decides job X status text due
+task_decides (Check answer None None) job contents X status text due =
+    unread_decides (content_at contents 1) (DueToCheck job X) status text (λ document. check_decides job X document status text) due
+task_decides (Check answer None (Some count)) job contents X status text due = absurd due
+task_decides (Check answer (Some script) count) job contents X status text due = absurd due
+task_decides (Rank count) job contents X status text due = absurd due
+task_decides (Edit script) job contents X status text due = absurd due
+
+-- so what is due is an answer
+decided_answer : (status : Status) → IsDecided status → IsAnswer status
+decided_answer statuses.Done one = tt
+decided_answer statuses.Nothing one = tt
+decided_answer statuses.Usage one = tt
+decided_answer statuses.Instance one = tt
+decided_answer statuses.Script one = tt
+decided_answer statuses.Document one = tt
+decided_answer statuses.No one = tt
+decided_answer statuses.ReadFault one = one
+decided_answer statuses.WriteFault one = one
+decided_answer statuses.NoMemory one = one
+decided_answer statuses.TooLong one = tt
+
+pub asked_answer : (asked : Option Job) (contents : List (List ℕ)) (status : Status) (text : List ℕ) → DueForAsked asked contents status text → IsAnswer status
+asked_answer None contents status text due = subst IsAnswer (sym due.0) tt
+asked_answer (Some job) contents status text (Long place within long is told) = subst IsAnswer (sym is) tt
+asked_answer (Some job) contents status text (Refused short numbers none is told) = subst IsAnswer (sym is) tt
+asked_answer (Some job) contents status text (Held short X holds inst due) = decided_answer status (task_decides job.task job contents X status text due)
+
+-- where no file is too long, that status isn't due
+pub short_answer : (asked : Option Job) (contents : List (List ℕ)) (text : List ℕ) → AreShort contents → DueForAsked asked contents TooLong text → ⊥
+short_answer None contents text short due = let e = due.0 in cc
+short_answer (Some job) contents text short (Long place within long is told) = not_long contents place short within long
+short_answer (Some job) contents text short (Refused few numbers none is told) = cc
+short_answer (Some job) contents text short (Held few X holds inst due) = task_decides job.task job contents X TooLong text due
+
+-- the usage line is due only for words that are no request
+pub usage_only : (asked : Option Job) (contents : List (List ℕ)) (text : List ℕ) → DueForAsked asked contents Usage text → (asked ≡ None) × (text ≡ usage_text)
+usage_only None contents text due = (refl, due.1)
+usage_only (Some job) contents text (Long place within long is told) = cc
+usage_only (Some job) contents text (Refused short numbers none is told) = cc
+usage_only (Some job) contents text (Held short X holds inst due) = absurd (task_decides job.task job contents X Usage text due)
+
+-- a file is called too long only where it is longer than the longest that is read
+pub too_long_only : (asked : Option Job) (told : List ℕ → Option (List ℕ)) (contents : List (List ℕ)) (text : List ℕ) → MayHoldAll told (files_of asked) contents
+    → DueForAsked asked contents TooLong text → (name bytes : List ℕ) × Contains (files_of asked) name × MayHold told name bytes × (longest_file < length bytes) × (text ≡ [])
+too_long_only None told contents text may due = let e = due.0 in cc
+too_long_only (Some job) told contents text may (Long place within long is told_text) =
+    let names = files_of (Some job) in
+    let there : place < length names = omega (arith, held_count told names contents may) in
+    (get_or names place [], content_at contents place, (place, there, get_or_default names place (get_or names place []) [] there), held_at told names contents place [] may there, long, told_text)
+too_long_only (Some job) told contents text may (Refused short numbers none is told_text) = cc
+too_long_only (Some job) told contents text may (Held short X holds inst due) = absurd (task_decides job.task job contents X TooLong text due)
+
+-- the contents of the instance's file
+pub first_held : (told : List ℕ → Option (List ℕ)) (job : Job) (contents : List (List ℕ)) → MayHoldAll told (files_of (Some job)) contents → MayHold told job.instance (content_at contents 0)
+first_held told job [] may = absurd may
+first_held told job (bytes ∷ contents) may = may.0
+
+-- the refusal of an instance is due only for a file that spells none
+pub refused_only : (asked : Option Job) (told : List ℕ → Option (List ℕ)) (contents : List (List ℕ)) (text : List ℕ) → MayHoldAll told (files_of asked) contents
+    → DueForAsked asked contents Instance text
+    → (job : Job) × (bytes numbers : List ℕ) × (asked ≡ Some job) × MayHold told job.instance bytes × (instance_in job bytes ≡ Refuses numbers) × (text ≡ refused_instance_text numbers)
+refused_only None told contents text may due = let e = due.0 in cc
+refused_only (Some job) told contents text may (Long place within long is told_text) = cc
+refused_only (Some job) told contents text may (Refused short numbers none is told_text) = (job, content_at contents 0, numbers, refl, first_held told job contents may, none, told_text)
+refused_only (Some job) told contents text may (Held short X holds inst due) = absurd (task_decides job.task job contents X Instance text due)
+
+-- each file of a request is told, and isn't too long
+abbrev pub AllShort : (List ℕ → Option (List ℕ)) → Option Job → Type 0
+AllShort told asked = All (λ name. IsShort (told name)) (files_of asked)
+
+-- so the contents that may be held aren't too long
+pub short_held : (told : List ℕ → Option (List ℕ)) (asked : Option Job) (contents : List (List ℕ)) → AllShort told asked → MayHoldAll told (files_of asked) contents → AreShort contents
+short_held told asked contents shorts may = λ place d within.
+    let names = files_of asked in
+    let there : place < length names = omega (arith, held_count told names contents may) in
+    let (bytes, is, few) = shorts place [] there in
+    let same : content_at contents place ≡ bytes = held (told (get_or names place [])) (content_at contents place) bytes is (held_at told names contents place [] may there) in
+    at contents place d within (subst (λ b. length b ≤ longest_file) (sym same) few)
+  where
+    at : (contents : List (List ℕ)) (place : ℕ) (d : List ℕ) → place < length contents → length (content_at contents place) ≤ longest_file → length (get_or contents place d) ≤ longest_file
+    at [] place d within few = absurd (omega arith)
+    at (bytes ∷ contents) zero d within few = few
+    at (bytes ∷ contents) (suc place) d within few = at contents place d (omega arith) few
+
+-- words that are no request
+pub exact_usage : (asked : Option Job) (contents : List (List ℕ)) (status : Status) (text : List ℕ) → asked ≡ None → DueForAsked asked contents status text → status ≡ Usage
+exact_usage asked contents status text none due = let due' = subst (λ a. DueForAsked a contents status text) none due in due'.0
+
+-- a file that is too long
+pub exact_too_long : (asked : Option Job) (told : List ℕ → Option (List ℕ)) (contents : List (List ℕ)) (status : Status) (text name bytes : List ℕ) → Contains (files_of asked) name
+    → told name ≡ Some bytes → longest_file < length bytes → MayHoldAll told (files_of asked) contents → DueForAsked asked contents status text → status ≡ TooLong
+exact_too_long None told contents status text name bytes (place, within, is) found long may due = absurd (omega arith)
+exact_too_long (Some job) told contents status text name bytes (place, within, is) found long may due = by_case due
+  where
+    too_long : AreShort contents → ⊥
+    too_long short =
+        let names = files_of (Some job) in
+        let same : content_at contents place ≡ bytes = held (told (get_or names place name)) (content_at contents place) bytes (ap told is ∙ found) (held_at told names contents place name may within) in
+        not_long contents place short (omega (arith, held_count told names contents may)) (subst (λ b. longest_file < length b) (sym same) long)
+
+    by_case : DueForJob job contents status text → status ≡ TooLong
+    by_case (Long place' within' long' e told') = e
+    by_case (Refused short numbers none e told') = absurd (too_long short)
+    by_case (Held short X holds inst owed) = absurd (too_long short)
+
+-- an instance file that is refused
+pub exact_refused : (job : Job) (told : List ℕ → Option (List ℕ)) (contents : List (List ℕ)) (status : Status) (text bytes numbers : List ℕ) → AllShort told (Some job)
+    → told job.instance ≡ Some bytes → instance_in job bytes ≡ Refuses numbers → MayHoldAll told (files_of (Some job)) contents → DueForJob job contents status text → status ≡ Instance
+exact_refused job told contents status text bytes numbers shorts found none may due = by_case due
+  where
+    by_case : DueForJob job contents status text → status ≡ Instance
+    by_case (Long place within long e told') = not_long contents place (short_held told (Some job) contents shorts may) within long
+    by_case (Refused short numbers' none' e told') = e
+    by_case (Held short X holds inst owed) =
+        let same = held (told job.instance) (content_at contents 0) bytes found (first_held told job contents may) in
+        refused_apart (ap (instance_in job) same ∙ none) holds
+
+-- where the files are told, the first one holds an instance, and none is too long, the command decides
+pub reached : (job : Job) (told : List ℕ → Option (List ℕ)) (contents : List (List ℕ)) (status : Status) (text bytes : List ℕ) (X : Problem) → AllShort told (Some job)
+    → told job.instance ≡ Some bytes → instance_in job bytes ≡ Holds X → MayHoldAll told (files_of (Some job)) contents → DueForJob job contents status text
+    → DueForTask job.task job contents X status text
+reached job told contents status text bytes X shorts found holds may due = by_case due
+  where
+    same : content_at contents 0 ≡ bytes
+    same = held (told job.instance) (content_at contents 0) bytes found (first_held told job contents may)
+
+    by_case : DueForJob job contents status text → DueForTask job.task job contents X status text
+    by_case (Long place within long e told') = not_long contents place (short_held told (Some job) contents shorts may) within long
+    by_case (Refused short numbers none e told') = refused_apart none (ap (instance_in job) same ∙ holds)
+    by_case (Held short Y holds' inst owed) =
+        let both = sym holds' ∙ ap (instance_in job) same ∙ holds in
+        let one : Y ≡ X = cc in
+        subst (λ Z. DueForTask job.task job contents Z status text) one owed
+
+-- where something is due after the stage of the files, what the first one holds is an instance
+pub holds_instance : (job : Job) (told : List ℕ → Option (List ℕ)) (contents : List (List ℕ)) (status : Status) (text bytes : List ℕ) (X : Problem)
+    → told job.instance ≡ Some bytes → instance_in job bytes ≡ Holds X → MayHoldAll told (files_of (Some job)) contents → DueForJob job contents status text → status ≢ TooLong → IsInstance X
+holds_instance job told contents status text bytes X found holds may due short_enough = by_case due
+  where
+    same : content_at contents 0 ≡ bytes
+    same = held (told job.instance) (content_at contents 0) bytes found (first_held told job contents may)
+
+    by_case : DueForJob job contents status text → IsInstance X
+    by_case (Long place within long e told') = absurd (short_enough e)
+    by_case (Refused short numbers none e told') = refused_apart none (ap (instance_in job) same ∙ holds)
+    by_case (Held short Y holds' inst owed) =
+        let both = sym holds' ∙ ap (instance_in job) same ∙ holds in
+        let one : Y ≡ X = cc in
+        subst IsInstance one inst

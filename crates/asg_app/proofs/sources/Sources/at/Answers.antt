@@ -1,0 +1,13 @@
+use Rattle.std.proofs.Common.{length, ◌≤◌, subst}
+use Rattle.std.proofs.lemmas.List.Elements.{All-map}
+use Rattle.asg_model.specs.Limits.{longest_file}
+use Rattle.asg_app.specs.Sources.{AreShort}
+use Rattle.asg_app.proofs.sources.Sources.at.Goals as goal
+
+pub returns-in-Some-clause-short : goal.returns-in-Some-clause-short
+returns-in-Some-clause-short c =
+    subst AreShort c.self.view_is (All-map (λ bytes. length bytes ≤ longest_file) (λ file. file.items) c.self.inside.files.items c.self.invariant)
+
+pub returns-in-None-clause-short : goal.returns-in-None-clause-short
+returns-in-None-clause-short c =
+    subst AreShort c.self.view_is (All-map (λ bytes. length bytes ≤ longest_file) (λ file. file.items) c.self.inside.files.items c.self.invariant)

@@ -1,0 +1,47 @@
+-- Which requests the program does, and what they name.
+use Rattle.std.specs.Prelude.{ℕ, Bool, true, false, ◌&&◌, not, if◌then◌else◌, List, []}
+use Rattle.std.specs.Prelude.{Option, Some, None}
+use Rattle.asg_model.specs.declared.objectives.Objective.{Objective}
+use Rattle.asg_model.specs.declared.objectives.Objective.TheVariants.{Bottleneck, BottleneckMax}
+use Rattle.asg_words.specs.declared.requests.Job.{Job}
+use Rattle.asg_words.specs.declared.requests.Request.{Request}
+use Rattle.asg_words.specs.declared.requests.Request.TheVariants.{Work, Make}
+use Rattle.asg_words.specs.declared.requests.Task.{Task}
+use Rattle.asg_words.specs.declared.requests.Task.TheVariants.{Solve, Check}
+use Rattle.asg_words.specs.Requests.{request_of, files_of as files_of_request}
+
+-- the tasks that are built: solving, and checking one document
+abbrev pub is_built_task : Task → Bool
+is_built_task Solve = true
+is_built_task (Check answer None None) = true
+is_built_task _ = false
+
+-- the objectives that are built: the two bottleneck ones
+abbrev pub is_built_objective : Objective → Bool
+is_built_objective Bottleneck = true
+is_built_objective BottleneckMax = true
+is_built_objective _ = false
+
+-- the jobs that are built: a task and an objective that are, and whole documents
+abbrev pub is_built : Job → Bool
+is_built job = is_built_task job.task && (is_built_objective job.objective && not job.brief)
+
+-- the job that a request asks for, where it is built
+abbrev pub built_job : Option Request → Option Job
+built_job None = None
+built_job (Some (Make seed side)) = None
+built_job (Some (Work job)) = if is_built job then Some job else None
+
+-- the job that the words after the program's name ask for; none where they are no request, or one
+-- that isn't built
+abbrev pub job_of : List (List ℕ) → Option Job
+job_of words = built_job (request_of words)
+
+-- the files that a job names, in the order in which they are fetched: the instance's is the first
+abbrev pub files_of : Option Job → List (List ℕ)
+files_of None = []
+files_of (Some job) = files_of_request (Work job)
+
+-- a command that writes its documents as it makes them: none that is built
+abbrev pub is_streamed : Option Job → Bool
+is_streamed job = false

@@ -1,0 +1,89 @@
+// Requests to check.
+ghost use Rattle.std.specs.Prelude.{◌≤◌, IfOk, length};
+ghost use Rattle.asg_doc.specs.RefusedLine.{AllHaveText};
+ghost use Rattle.asg_doc.specs.Text.{texts_of};
+ghost use Rattle.asg_app.specs.AnswerStage.{UnlessUnread};
+ghost use Rattle.asg_app.specs.DueToCheck.{DueToCheck};
+ghost use Rattle.asg_model.specs.Limits.{longest_file};
+ghost use Rattle.asg_app.specs.Replies.{Answers, IsReply};
+ghost use Rattle.asg_app.specs.Texts.{no_text, refused_document_text};
+
+use crate::replies::{Reply, Text};
+use crate::status::Status;
+use asg_check::{Form, Verdict, check};
+use asg_doc::{DocRefusal, Document, read};
+use asg_model::{Instance, NoMemory};
+use asg_words::Job;
+use std::alloc::{AllocError, Global};
+
+// Tells the reason against the one document, and its place.
+fn denial(alloc: Global, reason: u8, place: i64) -> Result<Reply, NoMemory>
+    ensures { IfOk result (λ reply. IsReply reply Status.No (no_text 1 reason place)) }
+{
+    let line = format!(in alloc; "no 1 {reason} {place}\n")?;
+    Ok(Reply {
+        status: Status::No,
+        text: Text::Line(line),
+    })
+}
+
+// Tells that the answer's file is refused in this line.
+fn refusal(alloc: Global, line: u32) -> Result<Reply, NoMemory>
+    ensures { IfOk result (λ reply. IsReply reply Status.Document (refused_document_text line)) }
+{
+    let line = format!(in alloc; "refused document {line}\n")?;
+    Ok(Reply {
+        status: Status::Document,
+        text: Text::Line(line),
+    })
+}
+
+// Tells whether the one document certifies for the instance.
+fn verdict(
+    alloc: Global,
+    job: &Job,
+    inst: &Instance,
+    document: &Document,
+) -> Result<Reply, NoMemory>
+    ensures { IfOk result (Answers (DueToCheck job.now inst.now document.now)) }
+{
+    match check(alloc, job.objective, inst, Form::Solve, document)? {
+        Verdict::Yes => Reply::line(alloc, Status::Done, "yes 1\n"),
+        Verdict::No { reason, place } => denial(alloc, reason, place),
+    }
+}
+
+// The reply for the documents of an answer's file, of which there is to be one.
+fn documents_reply(
+    alloc: Global,
+    job: &Job,
+    inst: &Instance,
+    documents: &[Document],
+) -> Result<Reply, NoMemory>
+    requires { AllHaveText documents.now }
+    ensures { IfOk result (Answers
+        (UnlessUnread (texts_of documents.now) (DueToCheck job.now inst.now))) }
+{
+    match documents {
+        [document] => verdict(alloc, job, inst, document),
+        [] | [_, _, ..] => refusal(alloc, 0),
+    }
+}
+
+// The reply to a request to check the answer's file of these bytes for the instance. The error is
+// want of memory.
+pub(crate) fn reply(
+    alloc: Global,
+    job: &Job,
+    inst: &Instance,
+    answer: &[u8],
+) -> Result<Reply, NoMemory>
+    requires { length answer.now ≤ longest_file }
+    ensures { IfOk result (Answers (UnlessUnread answer.now (DueToCheck job.now inst.now))) }
+{
+    match read(alloc, answer) {
+        Ok(documents) => documents_reply(alloc, job, inst, &documents),
+        Err(DocRefusal::Line(line)) => refusal(alloc, line),
+        Err(DocRefusal::NoMemory) => Err(AllocError),
+    }
+}

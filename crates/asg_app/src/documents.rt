@@ -1,0 +1,121 @@
+// The documents of a job's outcome.
+ghost use Rattle.std.specs.Prelude.{◌≡◌, ◌<◌, true, IfOk, length};
+ghost use Rattle.asg_check.specs.declared.verdicts.Form.TheVariants.{Solve};
+ghost use Rattle.asg_doc.specs.ChosenCells.{cells_by_id, column_id};
+ghost use Rattle.asg_doc.specs.HasText.{AreCells, HasValueText};
+ghost use Rattle.asg_model.specs.ValidChoice.{IsValid};
+ghost use Rattle.asg_model.specs.Values.{choice_value};
+ghost use Rattle.asg_proof.specs.Outcomes.{IsOutcome, IsProvedBest};
+ghost use Rattle.asg_proof.specs.declared.outcomes.Outcome.TheVariants.{Nothing};
+ghost use Rattle.asg_proof.specs.declared.outcomes.Proof.TheVariants.{Below};
+ghost use Rattle.asg_app.specs.DocumentParts.{cell_at};
+ghost use Rattle.asg_app.specs.Requests.{is_built_objective};
+ghost use Rattle.asg_app.specs.WrittenDocument.{IsBestDocument, IsNoneDocument};
+
+use asg_check::laws::soundness_law;
+use asg_doc::{Answer, Cells, Claim, Command, Document};
+use asg_model::laws::hall_rows_law;
+use asg_model::{Choice, Instance, NoMemory, Objective, value};
+use asg_proof::{Ids, Proof};
+use std::alloc::Global;
+
+// The id of the column at a place, where there is one.
+fn column_id(inst: &Instance, place: u32) -> Option<u32>
+    ensures { result ≡ column_id inst.now place }
+{
+    match inst.columns().get(place as usize) {
+        Some(column) => Some(column.id),
+        None => None,
+    }
+}
+
+// The cell that the row at a place chooses, by id, where it chooses one.
+fn chosen_cell(inst: &Instance, choice: &Choice, place: u32) -> Option<(u32, u32)>
+    requires over { length choice.now ≡ length inst.now.rows }
+    requires within { place < length choice.now }
+    ensures { result ≡ cell_at inst.now choice.now place }
+{
+    let row = inst.rows()[place as usize];
+    match choice.get(place) {
+        Some(column) => Some((row.id, column_id(inst, column)?)),
+        None => None,
+    }
+}
+
+// The cells of a valid choice by id, in the order of the rows. The error is want of memory.
+fn cells_by_id(alloc: Global, inst: &Instance, choice: &Choice) -> Result<Cells, NoMemory>
+    requires { IsValid inst.now choice.now }
+    ensures cells { IfOk result (λ cells. cells ≡ cells_by_id inst.now choice.now) }
+    ensures text { IfOk result AreCells }
+{
+    let mut cells = Vec::with_capacity(alloc, inst.rows().len())?;
+    for place in 0..choice.len() {
+        if let Some(cell) = chosen_cell(inst, choice, place) {
+            cells.push(cell)?;
+        }
+    }
+    Ok(Cells::from_vec(cells))
+}
+
+// The answer of a valid choice: its value and its cells. The error is want of memory.
+fn answer(
+    alloc: Global,
+    objective: Objective,
+    inst: &Instance,
+    choice: &Choice,
+) -> Result<Answer, NoMemory>
+    requires built { is_built_objective objective ≡ true }
+    requires valid { IsValid inst.now choice.now }
+    ensures value { IfOk result (λ answer.
+        answer.value ≡ choice_value objective inst.now choice.now) }
+    ensures value_text { IfOk result (λ answer. HasValueText objective answer.value) }
+    ensures cells { IfOk result (λ answer. answer.cells ≡ cells_by_id inst.now choice.now) }
+    ensures cells_text { IfOk result (λ answer. AreCells answer.cells) }
+{
+    let value = value(alloc, objective, inst, choice)?;
+    let cells = cells_by_id(alloc, inst, choice)?;
+    Ok(Answer { value, cells })
+}
+
+// The document that claims a choice as best, which these rows prove. The error is want of memory.
+pub(crate) fn best_document(
+    alloc: Global,
+    objective: Objective,
+    inst: &Instance,
+    choice: &Choice,
+    rows: Ids,
+) -> Result<Document, NoMemory>
+    requires built { is_built_objective objective ≡ true }
+    requires proved { IsProvedBest objective inst.now choice.now (Below rows) }
+    ensures { IfOk result (IsBestDocument objective inst.now Solve) }
+{
+    soundness_law();
+    hall_rows_law();
+    let _count = rows.len();
+    let answer = answer(alloc, objective, inst, choice)?;
+    Ok(Document {
+        command: Command::Solve,
+        objective,
+        claim: Claim::Best {
+            answer,
+            proof: Proof::Below(rows),
+        },
+    })
+}
+
+// The document that claims that no choice is valid, with these rows as a Hall set. It takes no
+// memory.
+pub(crate) fn none_document(objective: Objective, inst: &Instance, rows: Ids) -> Document
+    requires built { is_built_objective objective ≡ true }
+    requires hall { IsOutcome objective inst.now (Nothing rows) }
+    ensures { IsNoneDocument objective inst.now Solve result }
+{
+    soundness_law();
+    hall_rows_law();
+    let _count = rows.len();
+    Document {
+        command: Command::Solve,
+        objective,
+        claim: Claim::Nothing { rows },
+    }
+}

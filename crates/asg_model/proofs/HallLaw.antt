@@ -18,7 +18,8 @@ use Rattle.asg_model.specs.Counts.{capacity_at, active_count, slack, is_counted,
 use Rattle.asg_model.specs.ValidChoice.{takes, IsValid}
 use Rattle.asg_model.specs.Bands.{in_band}
 use Rattle.asg_model.specs.HallSet.{is_live_within, is_reached, reached_part, reached_capacity, IsHall, LiesIn}
-use Rattle.asg_model.proofs.Counting.{sum_below, count_below, sum_below-same, sum_below-le, sum_below-add, sum_below-zero, sum_below-exchange, term-le-sum_below, sum_by-below}
+use Rattle.asg_model.specs.Sums.{sum_below, count_below}
+use Rattle.asg_model.specs.laws.Counting.{sum_below-same, sum_below-le, sum_below-add, sum_below-zero, sum_below-exchange, term-le-sum_below, sum_by-below}
 use Rattle.asg_model.proofs.HallRows.{one, chosen, Chooses-from_chosen, is_active-from_live, column-from_live, row-from_active, some_cost, is_in, no_row, no_column, set-le, counted-from_in, reached-from_in}
 
 -- ---- the counted rows

@@ -18,7 +18,8 @@ use Rattle.asg_model.specs.Live.{is_active, is_open, cost_at, live_at}
 use Rattle.asg_model.specs.Counts.{is_counted}
 use Rattle.asg_model.specs.ValidChoice.{Chooses}
 use Rattle.asg_model.specs.HallSet.{row_place_of, is_live_within, reaches, is_reached, is_counted_id, IsHall}
-use Rattle.asg_model.proofs.Counting.{count_below, length-le-count_below}
+use Rattle.asg_model.specs.Sums.{count_below}
+use Rattle.asg_model.specs.laws.Counting.{length-le-count_below}
 
 -- the number of a fact, 1 where it holds
 abbrev pub one : Bool → ℕ

@@ -4,14 +4,16 @@ pub mod Enumerated
 pub mod Steps
 pub mod DescendingLists
 pub mod LessLists
-pub mod Counting
 pub mod ExtremeBounds
 pub mod HallRows
 pub mod HallLaw
 pub mod BottleneckLaw
+pub mod SpreadLaw
 pub mod CellMaps
 pub mod ValueRanges
 pub mod Tables
+pub mod TableRows
 pub mod ShapeLemmas
 pub mod Positions
 pub mod Slots
+pub mod Decisions

@@ -250,7 +250,7 @@ IsWellFormed-table rows columns firsts seconds place parts table =
     (cells_within (length rows) (length columns) firsts seconds table)
     (costs_in_range (length rows) (length columns) firsts seconds table)
 
-row_end : (r rows n : ℕ) → r < rows → r * n + n ≤ rows * n
+pub row_end : (r rows n : ℕ) → r < rows → r * n + n ≤ rows * n
 row_end r rows n there = omega (arith, mul-le-mul_right n there)
 
 -- the entries of a row, side by side, are its costs

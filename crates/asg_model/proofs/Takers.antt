@@ -1,10 +1,14 @@
 -- What is counted is there.
-use Rattle.std.proofs.Common.{◌≡◌, ℕ, suc, ◌⊎◌, Bool, true, false, cond, List, [], ◌∷◌, refl, inl, inr, arith, ap}
-use Rattle.std.specs.Prelude.{Option, Some, None, slice_get, count_by}
+use Rattle.std.proofs.Common.{◌≡◌, ℕ, suc, ◌≤◌, ◌⊎◌, Bool, true, false, cond, List, [], ◌∷◌, length, refl, inl, inr, arith, ap, ◌∙◌}
+use Rattle.std.specs.Prelude.{Option, Some, None, IsSome, slice_get, count_by}
 use Rattle.std.proofs.lemmas.Bool.{false≢true}
 use Rattle.std.proofs.lemmas.Bool.Decides.{nat_tests}
 use Rattle.std.proofs.lemmas.List.Sums.{sum_by-cons}
-use Rattle.asg_model.specs.ValidChoice.{takes}
+use Rattle.asg_model.specs.Counts.{capacity_at}
+use Rattle.asg_model.specs.Live.{live_at}
+use Rattle.asg_model.specs.Problem.{Problem}
+use Rattle.asg_model.specs.ValidChoice.{Chooses, takes}
+use Rattle.asg_model.proofs.HallRows.{column-from_live}
 
 abbrev Found : {X : Type 0} (p : X → Bool) (xs : List X) → Type 0
 Found {X} p xs = (k : ℕ) × (x : X) × (slice_get xs k ≡ Some x) × (p x ≡ true)
@@ -25,3 +29,13 @@ count_by_found p (x ∷ xs) =
 pub takes_itself : (c : ℕ) (chosen : Option ℕ) → takes c chosen ≡ true → chosen ≡ Some c
 takes_itself c None e = absurd (false≢true e)
 takes_itself c (Some d) e = grind (arith, nat_tests)
+
+-- no row chooses a column that isn't there
+pub none_past : (X : Problem) (f : List (Option ℕ)) (c : ℕ) → ((r c : ℕ) → Chooses f r c → IsSome (live_at X r c)) → length X.columns ≤ c → count_by (takes c) f ≤ capacity_at X c
+none_past X f c alive past = by_count (count_by_found (takes c) f)
+  where
+    by_count : (count_by (takes c) f ≡ 0) ⊎ ((k : ℕ) × (x : Option ℕ) × (slice_get f k ≡ Some x) × (takes c x ≡ true)) → count_by (takes c) f ≤ capacity_at X c
+    by_count (inl none) = omega (arith, none)
+    by_count (inr (k, x, at, passes)) =
+        let there = column-from_live X k c (alive k c (at ∙ ap Some (takes_itself c x passes))) in
+        absurd (omega (arith, there, past))

@@ -16,6 +16,10 @@ most_columns = 1000
 abbrev pub most_capacity : ℕ
 most_capacity = 1000
 
+-- the greatest side of a square
+abbrev pub most_side : ℕ
+most_side = 2000
+
 -- the greatest length of a file, in bytes
 abbrev pub longest_file : ℕ
 longest_file = 268435456

@@ -51,3 +51,19 @@ pub record AreRowCosts (X : Problem) (r : ℕ) (costs : List ℤ) : Type 0 where
   pub few : length costs ≤ most_columns
   pub slots : (c : ℕ) → c < length X.columns →
       IsSlotOf (cost_at X.cells r c) (slice_index_or costs c absent)
+
+-- the first and the second parts of a row at place r of a table: the cost of each of the row's cells
+-- is that of its parts
+pub record AreTableParts (columns : ℕ) (firsts seconds : List ℤ) (r : ℕ) (row_firsts row_seconds : List ℤ)
+    : Type 0 where
+  pub whole : length row_firsts ≡ columns
+  pub costs : (c : ℕ) → c < columns →
+      cost_at (table_cells columns firsts seconds) r c
+      ≡ table_cost row_seconds c (slice_index_or row_firsts c absent)
+
+-- the first and the second parts of the costs of the row at place r, column by column
+pub record AreRowParts (X : Problem) (r : ℕ) (firsts seconds : List ℤ) : Type 0 where
+  pub there : r < length X.rows
+  pub whole : length firsts ≡ length X.columns
+  pub costs : (c : ℕ) → c < length X.columns →
+      cost_at X.cells r c ≡ table_cost seconds c (slice_index_or firsts c absent)

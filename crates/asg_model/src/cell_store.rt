@@ -1,12 +1,12 @@
 //! Where the costs of an instance stand.
 
-ghost use Rattle.std.specs.Prelude.{◌≡◌, ◌*◌, ◌<◌, ◌≤◌, length, pos, take, drop, OnSome, IfSome, slice_get, slice_index_or, option_and_then, if◌then◌else◌};
+ghost use Rattle.std.specs.Prelude.{◌≡◌, ℕ, ◌+◌, ◌*◌, ◌<◌, ◌≤◌, length, pos, take, drop, OnSome, IfSome, slice_get, slice_index_or, option_and_then, if◌then◌else◌};
 ghost use Rattle.std.specs.Ordering.{int_eq};
 ghost use Rattle.asg_model.specs.Limits.{most_columns};
 ghost use Rattle.asg_model.specs.Live.{cost_at};
-ghost use Rattle.asg_model.specs.Table.{absent, table_cost, table_cells};
+ghost use Rattle.asg_model.specs.Table.{absent, table_cost, table_cells, AreTableParts};
 
-use crate::parts::{ABSENT, Cost};
+use crate::parts::{ABSENT, Cost, RowParts};
 use std::collections::BTreeMap;
 
 // The costs of cells: in a map by their places, or in a table row by row, the first parts apart from
@@ -48,7 +48,8 @@ fn table_cost(firsts: &[i64], seconds: &[i64], index: usize) -> Option<Cost>
 }
 
 // The cost of these parts, none where the first is that of an absent cell.
-fn present_cost(a: i64, b: i64) -> Option<Cost>
+#[inline]
+pub(crate) fn present_cost(a: i64, b: i64) -> Option<Cost>
     ensures { result ≡ (if int_eq a absent then None else Some (record { a = a; b = b })) }
 {
     if a == ABSENT {
@@ -59,7 +60,8 @@ fn present_cost(a: i64, b: i64) -> Option<Cost>
 }
 
 // The second part at this index, 0 past the last.
-fn second_part(seconds: &[i64], index: usize) -> i64
+#[inline]
+pub(crate) fn second_part(seconds: &[i64], index: usize) -> i64
     ensures { result ≡ slice_index_or seconds.now index (pos 0) }
 {
     match seconds.get(index) {
@@ -81,5 +83,39 @@ pub(crate) fn table_row(rows: usize, columns: usize, firsts: &[i64], row: u32) -
         Some(&firsts[start..start + columns])
     } else {
         None
+    }
+}
+
+// The second parts of the row at this place of a table of so many columns, as far as there are any.
+fn table_seconds(columns: usize, seconds: &[i64], row: u32) -> &[i64]
+    requires few { columns ≤ most_columns }
+    ensures { (c : ℕ) → c < columns → slice_index_or result.now c (pos 0)
+        ≡ slice_index_or seconds.now (row * columns + c) (pos 0) }
+{
+    let start = row as usize * columns;
+    let end = start + columns;
+    &seconds[start.min(seconds.len())..end.min(seconds.len())]
+}
+
+// Both parts of the row at this place of a table of so many rows and columns.
+pub(crate) fn table_parts<'a>(
+    rows: usize,
+    columns: usize,
+    firsts: &'a [i64],
+    seconds: &'a [i64],
+    row: u32,
+) -> Option<RowParts<'a>>
+    requires few { columns ≤ most_columns }
+    requires whole { length firsts.now ≡ rows * columns }
+    ensures there { OnSome result (row < rows) }
+    ensures parts { IfSome result (λ parts.
+        AreTableParts columns firsts.now seconds.now row parts.firsts.now parts.seconds.now) }
+{
+    match table_row(rows, columns, firsts, row) {
+        Some(firsts) => Some(RowParts {
+            firsts,
+            seconds: table_seconds(columns, seconds, row),
+        }),
+        None => None,
     }
 }

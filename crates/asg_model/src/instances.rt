@@ -3,8 +3,8 @@
 ghost use Rattle.std.specs.Prelude.{◌≡◌, ◌<◌, ◌^◌, [], length, All, IfSome};
 ghost use Rattle.asg_model.specs.Problem.{problem_of};
 
-use crate::cell_store::{CellStore, table_cell, table_row};
-use crate::parts::{Column, Cost, Place, Row};
+use crate::cell_store::{CellStore, table_cell, table_parts, table_row};
+use crate::parts::{Column, Cost, Place, Row, RowParts};
 use std::collections::BTreeMap;
 use std::marker::Model;
 
@@ -34,7 +34,7 @@ impl Instance {
     ghost use Rattle.asg_model.specs.Instances.{IsWellFormed, IsInstance, IsCostInRange};
     ghost use Rattle.asg_model.specs.Live.{is_active, is_open, cost_at, live_at};
     ghost use Rattle.asg_model.specs.Counts.{active_count, placed, slack, is_counted};
-    ghost use Rattle.asg_model.specs.Table.{table_cells, IsTable, AreRowCosts};
+    ghost use Rattle.asg_model.specs.Table.{table_cells, IsTable, AreRowCosts, AreRowParts};
 
     /// The instance of these parts. It takes no memory.
     pub fn with(
@@ -198,6 +198,24 @@ impl Instance {
                     row,
                 )
             }
+        }
+    }
+
+    /// Both parts of the costs of the cells of a row, column by column, live or not; `None` where they
+    /// don't stand side by side, or past the last row. So a loop over a row needs no look-up.
+    pub fn row_parts(&self, row: u32) -> Option<RowParts<'_>>
+        ensures { IfSome result (λ parts.
+            AreRowParts self.now row parts.firsts.now parts.seconds.now) }
+    {
+        match &self.store {
+            CellStore::Map(_) => None,
+            CellStore::Table { firsts, seconds } => table_parts(
+                self.rows().len(),
+                self.columns().len(),
+                firsts.as_slice(),
+                seconds.as_slice(),
+                row,
+            ),
         }
     }
 

@@ -1,13 +1,13 @@
 //! Laws over the definitions: each is the contract of a function that does nothing.
 
-ghost use Rattle.std.specs.Prelude.{◌≡◌, ◌≢◌, ◌+◌, ◌*◌, ◌<◌, ◌≤◌, ℕ, ℤ, IsTrue, Option, List, [], length, slice_get, option_and_then, All, AllPairs, Contains, IsPermutation};
+ghost use Rattle.std.specs.Prelude.{◌≡◌, ◌≢◌, ◌+◌, ◌*◌, ◌^◌, ◌<◌, ◌≤◌, ℕ, ℤ, true, IsTrue, Option, List, [], length, slice_get, option_and_then, All, AllPairs, Contains, IsPermutation};
 ghost use Rattle.asg_model.specs.declared.parts.Row.{Row};
 ghost use Rattle.asg_model.specs.declared.parts.Column.{Column};
 ghost use Rattle.asg_model.specs.declared.parts.Place.{Place};
 ghost use Rattle.asg_model.specs.Problem.{Problem, problem_of};
 ghost use Rattle.asg_model.specs.declared.bands.Band.{Band};
 ghost use Rattle.asg_model.specs.declared.bands.Band.TheVariants.{Whole, Under, Over};
-ghost use Rattle.asg_model.specs.declared.objectives.Objective.TheVariants.{Bottleneck, BottleneckMax};
+ghost use Rattle.asg_model.specs.declared.objectives.Objective.TheVariants.{Bottleneck, BottleneckMax, Balanced};
 ghost use Rattle.asg_model.specs.declared.objectives.Value.TheVariants.{One};
 ghost use Rattle.asg_model.specs.ValidChoice.{IsValid};
 ghost use Rattle.std.specs.BTreeMap.{insert_entry};
@@ -15,15 +15,16 @@ ghost use Rattle.asg_model.specs.declared.parts.Cost.{Cost};
 ghost use Rattle.asg_model.specs.declared.parts.Place.{Place};
 ghost use Rattle.asg_model.specs.Instances.{IsCostInRange, IsInstance, IsPlaceInRange, AreCellsOf, IsWellFormed, by_places};
 ghost use Rattle.asg_model.specs.Limits.{most_capacity};
-ghost use Rattle.asg_model.specs.Shapes.{shaped};
+ghost use Rattle.asg_model.specs.Shapes.{shaped, is_range_of};
+ghost use Rattle.asg_model.specs.Spreads.{HasSpread};
 ghost use Rattle.asg_model.specs.Live.{cost_at};
-ghost use Rattle.asg_model.specs.Counts.{slack};
+ghost use Rattle.asg_model.specs.Counts.{slack, total_capacity};
 ghost use Rattle.asg_model.specs.HallSet.{reached_capacity, is_counted_id, IsHall, LiesIn};
 ghost use Rattle.asg_model.specs.Values.{choice_value};
 ghost use Rattle.asg_model.specs.Better.{IsBetter};
 ghost use Rattle.asg_model.specs.Best.{IsBest};
 ghost use Rattle.asg_model.specs.Descending.{descending, IsDescending};
-ghost use Rattle.asg_model.specs.Table.{table_cost, table_cells};
+ghost use Rattle.asg_model.specs.Table.{table_cost, table_cells, IsTable};
 
 /// The pigeonhole principle: different numbers that all stand in a list are no more than it has.
 pub fn pigeonhole_law()
@@ -70,6 +71,13 @@ pub fn hall_rows_law()
         IsHall X band ids → reached_capacity X band ids + slack X < length ids }
 {}
 
+/// Whether a choice is valid, and whether rows are a Hall set under a band, is decided: each holds or
+/// it doesn't.
+pub fn decision_law()
+    ensures valid { (X : Problem) (f : List (Option ℕ)) → Dec (IsValid X f) }
+    ensures hall { (X : Problem) (band : Band) (ids : List ℕ) → Dec (IsHall X band ids) }
+{}
+
 /// The Hall law: an instance with a Hall set under a band has no valid choice whose cells all lie in the
 /// band.
 pub fn hall_law()
@@ -98,6 +106,13 @@ pub fn bottleneck_max_law()
         ¬ IsBetter BottleneckMax (choice_value BottleneckMax X f) (One b) }
 {}
 
+/// The spread law: the costs of a valid choice of an instance lie between that of a cell which it chooses
+/// and as much more as its value for `balanced`.
+pub fn spread_law()
+    ensures { (X : Problem) (f : List (Option ℕ)) (d : ℤ) →
+        IsInstance X → IsValid X f → choice_value Balanced X f ≡ One d → HasSpread X f d }
+{}
+
 /// A valid choice whose bottleneck value is `b` is best where the cells below `b` have a Hall set.
 pub fn best_bottleneck_law()
     ensures { (X : Problem) (b : ℤ) (ids : List ℕ) (f : List (Option ℕ)) →
@@ -121,10 +136,22 @@ pub fn table_law()
         (slice_get firsts (r * columns + c)) }
 {}
 
+/// The law of whole tables: well-formed parts whose ids are below 2^32 are an instance with the cells of
+/// a table of costs that is whole for them.
+pub fn whole_table_law()
+    ensures { (rows : List Row) (columns : List Column) (firsts seconds : List ℤ) (place : Place) →
+        IsWellFormed (problem_of rows columns [] place) →
+        All (λ row. row.id < 2 ^ 32) rows → All (λ column. column.id < 2 ^ 32) columns →
+        IsTable (length rows) (length columns) firsts seconds →
+        IsInstance (problem_of rows columns (table_cells (length columns) firsts seconds) place) }
+{}
+
 /// The law of shapes: an instance stays one with another place rule that is in range then, and with one
-/// capacity in range for all columns.
+/// capacity in range for all columns; and a place rule that passes the test is in range.
 pub fn shape_law()
-    ensures { (X : Problem) (place : Place) (each : ℕ) → IsInstance X → 1 ≤ each →
+    ensures shaped { (X : Problem) (place : Place) (each : ℕ) → IsInstance X → 1 ≤ each →
         each ≤ most_capacity → IsPlaceInRange (shaped X place each) place →
         IsInstance (shaped X place each) }
+    ensures in_range { (X : Problem) (place : Place) →
+        is_range_of place (length X.rows) (total_capacity X) ≡ true → IsPlaceInRange X place }
 {}

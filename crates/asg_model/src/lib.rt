@@ -36,7 +36,7 @@ pub use hall_sets::is_hall;
 pub use instances::Instance;
 pub use negatives::negative;
 pub use objectives::{Costs, Objective, Value};
-pub use parts::{ABSENT, Column, Cost, Place, PlaceRange, Row};
+pub use parts::{ABSENT, Column, Cost, Place, PlaceRange, Row, RowParts};
 pub use validity::is_valid;
 pub use valuation::value;
 

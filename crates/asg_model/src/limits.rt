@@ -1,4 +1,4 @@
-//! Limits on instances and files.
+//! Limits on instances, squares and files.
 
 /// The greatest distance of a part of a cost from 0.
 pub const MOST_COST: i64 = 1_000_000_000;
@@ -11,6 +11,9 @@ pub const MOST_COLUMNS: usize = 1_000;
 
 /// The greatest capacity of a column.
 pub const MOST_CAPACITY: u32 = 1_000;
+
+/// The greatest side of the square of an instance that is taken.
+pub const MOST_SIDE: u32 = 2_000;
 
 /// The greatest length of a file, in bytes.
 pub const LONGEST_FILE: usize = 268_435_456;

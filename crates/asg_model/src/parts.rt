@@ -1,5 +1,10 @@
 //! The parts of an instance.
 
+ghost use Rattle.std.specs.Prelude.{◌≡◌, ◌≢◌, ◌<◌, pos, Some, length, slice_index_or};
+ghost use Rattle.asg_model.specs.Table.{absent, table_cost};
+
+use crate::cell_store::{present_cost, second_part};
+
 /// What stands in a table of costs where there is no cell.
 pub const ABSENT: i64 = i64::MIN;
 
@@ -8,6 +13,59 @@ pub const ABSENT: i64 = i64::MIN;
 pub struct Cost {
     pub a: i64,
     pub b: i64,
+}
+
+/// The costs of the cells of a row of a table, column by column.
+#[derive(Clone, Copy, Debug)]
+pub struct RowParts<'a> {
+    /// The first parts, one for each column, [`ABSENT`] exactly where there is no cell.
+    pub firsts: &'a [i64],
+    /// The second parts, each 0 past the last that is given.
+    pub seconds: &'a [i64],
+}
+
+impl RowParts<'_> {
+    /// The cost in the column at this place; `None` exactly where there is no cell, as past the last.
+    #[inline]
+    pub fn cost(&self, d: u32) -> Option<Cost>
+        ensures { result ≡ table_cost self.now.seconds.now d
+            (slice_index_or self.now.firsts.now d absent) }
+    {
+        present_cost(self.first(d), self.second(d as usize))
+    }
+
+    /// The cost in the column at this place, which has a cell.
+    #[inline]
+    pub fn present_cost(&self, d: usize) -> Cost
+        requires within { d < length self.now.firsts.now }
+        requires there { slice_index_or self.now.firsts.now d absent ≢ absent }
+        ensures { Some result ≡ table_cost self.now.seconds.now d
+            (slice_index_or self.now.firsts.now d absent) }
+    {
+        Cost {
+            a: self.firsts[d],
+            b: self.second(d),
+        }
+    }
+
+    // The second part of the cost in the column at this place, 0 past the last that is given.
+    #[inline]
+    fn second(&self, d: usize) -> i64
+        ensures { result ≡ slice_index_or self.now.seconds.now d (pos 0) }
+    {
+        second_part(self.seconds, d)
+    }
+
+    // The first part in the column at this place, that of no cell past the last.
+    #[inline]
+    fn first(&self, d: u32) -> i64
+        ensures { result ≡ slice_index_or self.now.firsts.now d absent }
+    {
+        match self.firsts.get(d as usize) {
+            Some(a) => *a,
+            None => ABSENT,
+        }
+    }
 }
 
 /// A row: the number by which files name it, and whether it is active or dropped.

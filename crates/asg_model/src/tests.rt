@@ -168,6 +168,10 @@ fn reads_the_square(rt: HostRuntime) -> Result<(), Fail> {
     );
     assert_eq!(rt; table.row_costs(2).ok_or("a row")?, [3, 2, 2].as_slice());
     assert_eq!(rt; table.row_costs(3), None);
+    assert!(rt; map.row_parts(1).is_none() && table.row_parts(3).is_none());
+    let parts = table.row_parts(2).ok_or("a row")?;
+    assert_eq!(rt; parts.firsts, [3, 2, 2].as_slice());
+    assert_eq!(rt; parts.seconds, [6, 4, 4].as_slice());
     let all = plain(rt.alloc(), Place::All, 1, false)?;
     assert_eq!(rt; all.0.placed(), 2);
     assert_eq!(rt; all.1.slack(), 0);

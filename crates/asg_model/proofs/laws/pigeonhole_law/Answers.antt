@@ -1,4 +1,4 @@
-use Rattle.asg_model.proofs.Counting.{length-le_contains}
+use Rattle.asg_model.specs.laws.Counting.{length-le_contains}
 use Rattle.asg_model.proofs.laws.pigeonhole_law.Goals as goal
 
 pub returns : goal.returns

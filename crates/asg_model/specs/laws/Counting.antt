@@ -1,4 +1,4 @@
--- Sums over the numbers below a bound, and the laws of counting by them.
+-- The laws of sums and counts over the numbers below a bound.
 use Rattle.std.specs.Prelude.{◌≡◌, ◌≢◌, ℕ, zero, suc, ◌+◌, ◌<◌, ◌≤◌, Bool, true, false, cond, eqb, List, [], ◌∷◌, length, get_or, All, AllPairs, Contains, refl, sum_by}
 use Rattle.std.specs.List.{list_any}
 use Rattle.std.proofs.Common.{sym, ap, subst, ◌∙◌, arith, ⊎_elim}
@@ -10,11 +10,7 @@ use Rattle.std.proofs.lemmas.List.Sums.{sum_by-cons}
 use Rattle.std.proofs.lemmas.List.Elements.{All-contains}
 use Rattle.std.proofs.lemmas.Map.Views.{list_any-from_Contains, Contains-from_any}
 use Rattle.std.proofs.lemmas.Map.Made.{length-le_from_is_member, IsDistinct-from_AllPairs}
-
--- f added up over the numbers below n
-abbrev pub sum_below : (ℕ → ℕ) → ℕ → ℕ
-sum_below f zero = 0
-sum_below f (suc n) = sum_below f n + f n
+use Rattle.asg_model.specs.Sums.{sum_below, passing_below, count_below}
 
 -- sums that agree
 pub sum_below-same : (f g : ℕ → ℕ) (n : ℕ) → ((k : ℕ) → k < n → f k ≡ g k) → sum_below f n ≡ sum_below g n
@@ -60,7 +56,7 @@ term-le-sum_below f (suc n) k h =
     (cases_lt k n)
 
 -- the first term, and the others
-sum_below-first : (f : ℕ → ℕ) (n : ℕ) → sum_below f (suc n) ≡ f 0 + sum_below (λ k. f (suc k)) n
+pub sum_below-first : (f : ℕ → ℕ) (n : ℕ) → sum_below f (suc n) ≡ f 0 + sum_below (λ k. f (suc k)) n
 sum_below-first f zero = omega arith
 sum_below-first f (suc n) = let rest = sum_below-first f n in omega (arith, rest)
 
@@ -73,20 +69,11 @@ sum_by-below f (x ∷ xs) d =
     let shifted = sum_below-first (λ k. f (get_or (x ∷ xs) k d)) (length xs) in
     omega (arith, rest, first, shifted)
 
--- the numbers below n that pass a test
-abbrev pub passing_below : (ℕ → Bool) → ℕ → List ℕ
-passing_below p zero = []
-passing_below p (suc n) = cond (p n) (n ∷ passing_below p n) (passing_below p n)
-
--- how many numbers below n pass a test
-abbrev pub count_below : (ℕ → Bool) → ℕ → ℕ
-count_below p n = sum_below (λ k. cond (p k) 1 0) n
-
 length-passing_cond : (b : Bool) (n : ℕ) (xs : List ℕ) (m : ℕ) → length xs ≡ m → length (cond b (n ∷ xs) xs) ≡ m + cond b 1 0
 length-passing_cond true n xs m e = omega (arith, e)
 length-passing_cond false n xs m e = omega (arith, e)
 
-length-passing_below : (p : ℕ → Bool) (n : ℕ) → length (passing_below p n) ≡ count_below p n
+pub length-passing_below : (p : ℕ → Bool) (n : ℕ) → length (passing_below p n) ≡ count_below p n
 length-passing_below p zero = refl
 length-passing_below p (suc n) = length-passing_cond (p n) n (passing_below p n) (count_below p n) (length-passing_below p n)
 
@@ -98,7 +85,7 @@ has_here : (b : Bool) (n : ℕ) (xs : List ℕ) → b ≡ true → list_any (eqb
 has_here true n xs e = rw (eq-eqb n n refl) refl
 has_here false n xs e = absurd (false≢true e)
 
-passing_has : (p : ℕ → Bool) (n q : ℕ) → q < n → p q ≡ true → list_any (eqb q) (passing_below p n) ≡ true
+pub passing_has : (p : ℕ → Bool) (n q : ℕ) → q < n → p q ≡ true → list_any (eqb q) (passing_below p n) ≡ true
 passing_has p zero q h passes = absurd (omega arith)
 passing_has p (suc n) q h passes =
     ⊎_elim

@@ -1,9 +1,10 @@
 -- What is read of a line.
-use Rattle.std.proofs.Common.{◌≡◌, ℕ, List, ◌∷◌, ◌++◌, Bor, refl, sym, ap, ◌∙◌, subst}
-use Rattle.std.specs.Prelude.{Result, Ok, Err, IsErrAnd}
+use Rattle.std.proofs.Common.{◌≡◌, ℕ, List, ◌∷◌, ◌++◌, Bor, refl, ap, ◌∙◌, subst}
+use Rattle.std.specs.Prelude.{Option, None, Result, Ok, Err, IsErr}
 use Rattle.std.specs.Fn.{Once, FnOnceReturnsAt}
+use Rattle.std.proofs.lemmas.Bool.{false≢true}
 use Rattle.std.proofs.lemmas.List.{append_cancel_left}
-use Rattle.asg_parts.specs.declared.faults.Fault.{Fault}
+use Rattle.asg_parts.specs.declared.faults.Refusal.{Refusal}
 use Rattle.asg_parts.specs.Lines.{whole_lines}
 use Rattle.asg_parts.specs.Parts.{one_line}
 use Rattle.asg_parts.specs.Reading.{IsRead, ReadsLine}
@@ -11,18 +12,24 @@ use Rattle.asg_parts.specs.Spellings.{IsPair, pair_text, pair_spelling}
 use Rattle.asg_parts.specs.laws.LineCuts.{whole_lines-line}
 use Rattle.asg_parts.specs.laws.SpellingLaws.{IsLegible-pair}
 
-pub ReadsLine-err : {A F : Type 0} {calls : Once F (Bor (List ℕ) × Unit {0}) (Result A Fault)} {spelled : F} {front line text : List ℕ} {old left : List (List ℕ)} (fault : Fault) (result : Result A Fault)
-    → IsErrAnd result (λ y. y ≡ fault) → old ≡ line ∷ left → line ≡ front ++ text → FnOnceReturnsAt calls spelled text (Err fault) → ReadsLine calls spelled front old old result
-ReadsLine-err fault (Ok a) gives next begins met = absurd gives
-ReadsLine-err {calls = calls} {spelled = spelled} {front = front} {line = line} {text = text} {left = left} fault (Err y) gives next begins met = record {
+-- the next line has another front, or none is left
+pub ReadsLine-front : {A F : Type 0} {calls : Once F (Bor (List ℕ) × Unit {0}) (Option A)} {spelled : F} {front : List ℕ} {old : List (List ℕ)} (result : Result A Refusal) → IsErr result → ((text : List ℕ) (more : List (List ℕ)) → old ≡ (front ++ text) ∷ more → ⊥) → ReadsLine calls spelled front old old result
+ReadsLine-front (Ok a) gives other = absurd (false≢true gives)
+ReadsLine-front (Err y) gives other = record {
+  read = tt;
+  left = record { stays = refl; given = λ text more is. absurd (other text more is) };
+}
+
+-- the function gives nothing of what follows the front
+pub ReadsLine-text : {A F : Type 0} {calls : Once F (Bor (List ℕ) × Unit {0}) (Option A)} {spelled : F} {front text : List ℕ} {old left : List (List ℕ)} (result : Result A Refusal) → IsErr result → old ≡ (front ++ text) ∷ left → FnOnceReturnsAt calls spelled text None → ReadsLine calls spelled front old old result
+ReadsLine-text (Ok a) gives next met = absurd (false≢true gives)
+ReadsLine-text {calls = calls} {spelled = spelled} {front = front} {text = text} (Err y) gives next met = record {
   read = tt;
   left = record {
     stays = refl;
     given = λ t more is.
-        let e : line ∷ left ≡ (front ++ t) ∷ more = sym next ∙ is in
-        let same : line ≡ front ++ t = cc (e) in
-        subst (λ z. FnOnceReturnsAt calls spelled z (Err y)) (append_cancel_left front text t (sym begins ∙ same))
-        (subst (λ f. FnOnceReturnsAt calls spelled text (Err f)) (sym gives) met);
+        let heads : front ++ text ≡ front ++ t = cc (next, is) in
+        subst (λ z. FnOnceReturnsAt calls spelled z None) (append_cancel_left front text t heads) met;
   };
 }
 

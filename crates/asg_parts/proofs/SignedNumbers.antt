@@ -3,7 +3,7 @@ use Rattle.std.proofs.Common.{◌≡◌, ℕ, suc, ◌-◌, ◌^◌, ◌<◌, �
 use Rattle.std.specs.Prelude.{ℤ, pos, negsuc, Option, Some, None, FitsSigned, SomeIff}
 use Rattle.std.specs.Int.{w128}
 use Rattle.std.specs.Fmt.{decimal, signed_decimal}
-use Rattle.asg_parts.specs.Spellings.{Spells, number_spelling, signed_spelling}
+use Rattle.asg_parts.specs.Spellings.{Spells, number_spelling, long_spelling, signed_spelling}
 use Rattle.asg_parts.specs.laws.SpellingLaws.{decimal_same, not_minus}
 
 -- after a minus
@@ -47,5 +47,12 @@ plain_gives word size None plain fits same gives = λ z fz is.
 pub small_gives : (word : List ℕ) (size : ℕ) (r : Option ℕ) → size < 2 ^ 128 → word ≡ decimal size → SomeIff r (size < 2 ^ 32) size → Spells number_spelling word r
 small_gives word size (Some n) fits same gives = (omega (arith, gives.0, gives.1), same ∙ ap decimal (sym gives.1))
 small_gives word size None fits same gives = λ n fn is.
+    let sizes : size ≡ n = decimal_same size n (omega arith) (omega arith) (sym same ∙ is) in
+    gives (omega (arith, fn))
+
+-- in 64 bits
+pub long_gives : (word : List ℕ) (size : ℕ) (r : Option ℕ) → size < 2 ^ 128 → word ≡ decimal size → SomeIff r (size < 2 ^ 64) size → Spells long_spelling word r
+long_gives word size (Some n) fits same gives = (omega (arith, gives.0, gives.1), same ∙ ap decimal (sym gives.1))
+long_gives word size None fits same gives = λ n fn is.
     let sizes : size ≡ n = decimal_same size n (omega arith) (omega arith) (sym same ∙ is) in
     gives (omega (arith, fn))

@@ -161,12 +161,12 @@ IsReading-stops {limit} word i value n wide read within stops = not_longer limit
 
 -- ---- digits that come first
 
-pub first_digit : (text rest : List ℕ) (c value : ℕ) → text ≡ c ∷ rest → 48 < c → c ≤ 57 → value ≡ c - 48 → text ≡ decimal value ++ rest
+pub first_digit : (text rest : List ℕ) (c value : ℕ) → text ≡ c ∷ rest → 48 ≤ c → c ≤ 57 → value ≡ c - 48 → text ≡ decimal value ++ rest
 first_digit text rest c value is low high worth =
     let byte : 48 + value ≡ c = omega arith in
     is ∙ ap (λ b. b ∷ rest) (sym byte) ∙ ap (λ ds. ds ++ rest) (sym (decimal_digit value (omega arith)))
 
-pub one_digit_more : (text rest left : List ℕ) (value c next : ℕ) → text ≡ decimal value ++ rest → rest ≡ c ∷ left → 0 < value → value < 2 ^ 32 → 48 ≤ c → c ≤ 57
+pub one_digit_more : (text rest left : List ℕ) (value c next : ℕ) → text ≡ decimal value ++ rest → rest ≡ c ∷ left → 0 < value → value < 10 ^ 18 → 48 ≤ c → c ≤ 57
     → next ≡ value * 10 + (c - 48) → text ≡ decimal next ++ left
 one_digit_more text rest left value c next whole is some few low high worth =
     let tens : next / 10 ≡ value = omega arith in

@@ -1,9 +1,10 @@
 -- What a reader of a part gives.
-use Rattle.std.specs.Prelude.{◌≡◌, ℕ, List, ◌∷◌, ◌++◌, Result, Ok, Err, IfOk, IfErr}
+use Rattle.std.specs.Prelude.{◌≡◌, ℕ, List, ◌∷◌, ◌++◌, Option, Some, None, Result, Ok, Err, IfOk, OnErr}
 use Rattle.std.specs.Fn.{Once, FnOnceReturnsAt}
 use Rattle.std.specs.Borrow.{Bor}
 use Rattle.asg_parts.specs.declared.faults.Fault.{Fault}
 use Rattle.asg_parts.specs.declared.faults.Fault.TheVariants.{Refused}
+use Rattle.asg_parts.specs.declared.faults.Refusal.{Refusal}
 use Rattle.asg_parts.specs.Parts.{Part}
 
 -- reading stops before `rest`: the lines read begin a text, hold no whole one, and no text goes on with
@@ -29,33 +30,39 @@ pub record Halts {A : Type 0} (part : Part A) (old rest : List (List ℕ)) (faul
     : Type 0 where
   pub refused : fault ≡ Refused → Stops part old rest
 
--- what a reader of a part gives: a value that it read, or why it stopped
-abbrev pub Reads : {A : Type 0} → Part A → List (List ℕ) → List (List ℕ) → Result A Fault → Type 0
+-- what a reader of a part gives: a value that it read, or before which line it stopped
+abbrev pub Reads : {A : Type 0} → Part A → List (List ℕ) → List (List ℕ) → Result A Refusal → Type 0
 Reads part old new (Ok a) = IsRead part old new a
-Reads part old new (Err fault) = Halts part old new fault
+Reads part old new (Err _) = Stops part old new
+
+-- the same of a reader that takes memory
+abbrev pub ReadsOrFails : {A : Type 0} → Part A → List (List ℕ) → List (List ℕ) → Result A Fault
+    → Type 0
+ReadsOrFails part old new (Ok a) = IsRead part old new a
+ReadsOrFails part old new (Err fault) = Halts part old new fault
 
 -- what is known of a function that is given the bytes of a text
 abbrev pub Calls : Type 0 → Type 0 → Type 1
-Calls F A = Once F (Bor (List ℕ) × Unit {0}) (Result A Fault)
+Calls F A = Once F (Bor (List ℕ) × Unit {0}) (Option A)
 
 -- the next line has the front, the function gives this of what follows it, and the lines after it are
 -- left
 pub record TakesLine {F A : Type 0} (calls : Calls F A) (spelled : F)
     (front : List ℕ) (old new : List (List ℕ)) (a : A) : Type 0 where
   pub text : List ℕ
-  pub given : FnOnceReturnsAt calls spelled text (Ok a)
+  pub given : FnOnceReturnsAt calls spelled text (Some a)
   pub next : old ≡ (front ++ text) ∷ new
 
--- all lines are left, and where the next one has the front, the function gives this fault of what
+-- all lines are left, and where the next one has the front, the function gives nothing of what
 -- follows it
 pub record LeavesLine {F A : Type 0} (calls : Calls F A) (spelled : F)
-    (front : List ℕ) (old new : List (List ℕ)) (fault : Fault) : Type 0 where
+    (front : List ℕ) (old new : List (List ℕ)) : Type 0 where
   pub stays : new ≡ old
   pub given : (text : List ℕ) (more : List (List ℕ)) → old ≡ (front ++ text) ∷ more
-      → FnOnceReturnsAt calls spelled text (Err fault)
+      → FnOnceReturnsAt calls spelled text None
 
 -- what the next line spells behind its front, as the function tells
 pub record ReadsLine {F A : Type 0} (calls : Calls F A) (spelled : F)
-    (front : List ℕ) (old new : List (List ℕ)) (result : Result A Fault) : Type 0 where
+    (front : List ℕ) (old new : List (List ℕ)) (result : Result A Refusal) : Type 0 where
   pub read : IfOk result (TakesLine calls spelled front old new)
-  pub left : IfErr result (LeavesLine calls spelled front old new)
+  pub left : OnErr result (LeavesLine calls spelled front old new)

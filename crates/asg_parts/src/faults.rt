@@ -1,17 +1,29 @@
 //! Why a part isn't read.
 
 ghost use Rattle.std.specs.Prelude.{◌≡◌};
-ghost use Rattle.asg_parts.specs.declared.faults.Fault.TheVariants.{NoMemory};
+ghost use Rattle.asg_parts.specs.declared.faults.Fault.TheVariants.{Refused, NoMemory};
 
 use std::alloc::{AllocError, AllocFailed};
 
-/// Why a part isn't read.
+/// What stands next is none of the part's texts: the one error of readers that take no memory.
+#[derive(Clone, Copy, Debug, PartialEq, Eq)]
+pub struct Refusal;
+
+/// Why a part isn't read by a reader that takes memory.
 #[derive(Clone, Copy, Debug, PartialEq, Eq)]
 pub enum Fault {
-    /// What stands next is none of the part's texts, nor the beginning of one.
+    /// What stands next is none of the part's texts.
     Refused,
     /// Want of memory.
     NoMemory,
+}
+
+impl From<Refusal> for Fault {
+    ghost from_gives = { λ _ fault. fault ≡ Refused };
+
+    fn from(_refusal: Refusal) -> Fault {
+        Fault::Refused
+    }
 }
 
 impl From<AllocError> for Fault {

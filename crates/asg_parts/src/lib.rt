@@ -16,11 +16,11 @@ mod number_lists;
 mod numerals;
 
 pub use byte_cuts::{after, cut};
-pub use faults::Fault;
-pub use fields::{numbers, pair, positive, signed};
+pub use faults::{Fault, Refusal};
+pub use fields::{graded, next_graded, next_long, numbers, pair, positive, signed_pair};
 pub use line_cursor::{Lines, count_ends};
 pub use number_lists::Numbers;
-pub use numerals::{number, signed_number};
+pub use numerals::{number, signed_number, wide_number};
 
 #[cfg(test)]
 mod tests;

@@ -1,15 +1,16 @@
 //! The lines of a file, one after the other.
 
-ghost use Rattle.std.specs.Prelude.{◌≡◌, ◌↔◌, [], ◌∷◌, length, IsTrue, MatchOption};
+ghost use Rattle.std.specs.Prelude.{◌≡◌, ◌↔◌, ◌++◌, [], ◌∷◌, ℕ, List, length, IsTrue, MatchOption, MatchResult};
 ghost use Rattle.asg_parts.specs.Lines.{whole_lines, line_ends};
 ghost use Rattle.asg_parts.specs.Parts.{the_line, one_line};
-ghost use Rattle.asg_parts.specs.Reading.{Reads, ReadsLine};
-ghost use Rattle.asg_parts.specs.Spellings.{behind, positive_spelling, signed_spelling, pair_spelling, list_spelling};
+ghost use Rattle.asg_parts.specs.Reading.{Reads, ReadsOrFails, ReadsLine};
+ghost use Rattle.asg_parts.specs.Spellings.{behind, positive_spelling, signed_spelling, pair_spelling, signed_pair_spelling, list_spelling};
 
 use crate::byte_cuts::{after, cut};
-use crate::faults::Fault;
-use crate::fields::{leading_pair, numbers, pair, positive, signed};
+use crate::faults::{Fault, Refusal};
+use crate::fields::{leading_pair, numbers, pair, positive, signed_pair};
 use crate::number_lists::Numbers;
+use crate::numerals::signed_number;
 use std::alloc::Global;
 use std::marker::Model;
 
@@ -59,59 +60,82 @@ impl<'a> Lines<'a> {
         count_ends(self.rest)
     }
 
-    /// Goes past the next line where it is this one; else it stays, and the error is `Refused`.
-    pub fn pass(&mut self, line: &[u8]) -> Result<(), Fault>
+    /// What the next line says behind its front, and the lines after it. The error comes where no
+    /// line is left or the next begins otherwise.
+    pub fn next_behind(&self, front: &[u8]) -> Result<(&'a [u8], Lines<'a>), Refusal>
+        ensures { MatchResult result
+            (λ parts. self.now ≡ (front.now ++ parts.0.now) ∷ parts.1)
+            (λ _. (text : List ℕ) (more : List (List ℕ))
+            → self.now ≡ (front.now ++ text) ∷ more → ⊥) }
+    {
+        let Some((line, left)) = self.first() else {
+            return Err(Refusal);
+        };
+        let Some(text) = after(front, line) else {
+            return Err(Refusal);
+        };
+        Ok((text, left))
+    }
+
+    /// Goes past the next line where it is this one; else it stays.
+    pub fn pass(&mut self, line: &[u8]) -> Result<(), Refusal>
         ensures { Reads (the_line line.now) self.old self.new result }
     {
         let Some((first, left)) = self.first() else {
-            return Err(Fault::Refused);
+            return Err(Refusal);
         };
         if first != line {
-            return Err(Fault::Refused);
+            return Err(Refusal);
         }
         *self = left;
         Ok(())
     }
 
-    /// What the next line spells behind its front, as the function tells, and goes past it. It stays,
-    /// and the error is `Refused`, where no line is left or the next begins otherwise; it stays and
-    /// has the function's error where that has one.
-    pub fn read<T, F: FnOnce(&[u8]) -> Result<T, Fault>>(
+    /// What the next line spells behind its front, as the function tells, and goes past it. It
+    /// stays where no line is left, where the next begins otherwise, and where the function tells
+    /// nothing.
+    pub fn read<T, F: FnOnce(&[u8]) -> Option<T>>(
         &mut self,
         front: &[u8],
         spelled: F,
-    ) -> Result<T, Fault>
+    ) -> Result<T, Refusal>
         requires { F.IsAlwaysCallable spelled }
         ensures { ReadsLine F.FnOnce spelled front.now self.old self.new result }
     {
-        let Some((line, left)) = self.first() else {
-            return Err(Fault::Refused);
+        let (text, left) = self.next_behind(front)?;
+        let Some(value) = spelled(text) else {
+            return Err(Refusal);
         };
-        let Some(text) = after(front, line) else {
-            return Err(Fault::Refused);
-        };
-        let value = spelled(text)?;
         *self = left;
         Ok(value)
     }
 
     /// The number of 1 to 2^32 - 1 that the next line spells behind its front, and goes past it.
-    pub fn positive(&mut self, front: &[u8]) -> Result<u32, Fault>
+    pub fn positive(&mut self, front: &[u8]) -> Result<u32, Refusal>
         ensures { Reads (one_line (behind front.now positive_spelling)) self.old self.new result }
     {
         self.read(front, positive)
     }
 
     /// The signed number of 128 bits that the next line spells behind its front, and goes past it.
-    pub fn signed(&mut self, front: &[u8]) -> Result<i128, Fault>
+    pub fn signed(&mut self, front: &[u8]) -> Result<i128, Refusal>
         ensures { Reads (one_line (behind front.now signed_spelling)) self.old self.new result }
     {
-        self.read(front, signed)
+        self.read(front, signed_number)
+    }
+
+    /// The two signed numbers of 128 bits that the next line spells behind its front, with a colon
+    /// between them, and goes past it.
+    pub fn signed_pair(&mut self, front: &[u8]) -> Result<(i128, i128), Refusal>
+        ensures { Reads (one_line (behind front.now signed_pair_spelling))
+            self.old self.new result }
+    {
+        self.read(front, signed_pair)
     }
 
     /// The two numbers that the next line spells, with a space between them, and goes past it.
-    /// Numbers of at most nine digits are read in one pass.
-    pub fn pair(&mut self) -> Result<(u32, u32), Fault>
+    /// They are read in one pass.
+    pub fn pair(&mut self) -> Result<(u32, u32), Refusal>
         ensures { Reads (one_line pair_spelling) self.old self.new result }
     {
         if let Some((pair, rest)) = leading_pair(self.rest) {
@@ -124,9 +148,13 @@ impl<'a> Lines<'a> {
     /// The numbers that the next line lists behind its front, and goes past it. They alone take
     /// memory.
     pub fn numbers(&mut self, alloc: Global, front: &[u8]) -> Result<Numbers, Fault>
-        ensures { Reads (one_line (behind front.now list_spelling)) self.old self.new result }
+        ensures { ReadsOrFails (one_line (behind front.now list_spelling))
+            self.old self.new result }
     {
-        self.read(front, |text| numbers(alloc, text))
+        let (text, left) = self.next_behind(front)?;
+        let numbers = numbers(alloc, text)?;
+        *self = left;
+        Ok(numbers)
     }
 }
 

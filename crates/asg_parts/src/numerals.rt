@@ -2,7 +2,7 @@
 
 ghost use Rattle.std.specs.Prelude.{◌≡◌, ◌+◌, ◌*◌, ◌-◌, ◌<◌, ◌≤◌, ◌^◌, ◌↔◌, ◌++◌, pos, negsuc, IsTrue, IfSome, SomeIff};
 ghost use Rattle.std.specs.Fmt.{decimal};
-ghost use Rattle.asg_parts.specs.Spellings.{Spells, IsPlain, number_spelling, wide_spelling, signed_spelling};
+ghost use Rattle.asg_parts.specs.Spellings.{Spells, IsPlain, number_spelling, long_spelling, wide_spelling, signed_spelling};
 
 use crate::byte_cuts::after;
 
@@ -29,8 +29,8 @@ fn longer(value: u128, byte: u8) -> Option<u128>
     value.checked_mul(10)?.checked_add(u128::from(byte - b'0'))
 }
 
-// The number of 128 bits without a sign that a word spells.
-fn wide_number(word: &[u8]) -> Option<u128>
+/// The number of 128 bits without a sign that a word spells.
+pub fn wide_number(word: &[u8]) -> Option<u128>
     ensures { Spells wide_spelling word.now result }
 {
     if !is_plain(word) {
@@ -57,28 +57,52 @@ pub fn number(word: &[u8]) -> Option<u32>
     small_of(wide_number(word)?)
 }
 
-// The number that comes first, and what follows its digits: some where it is one of 1 to
-// 999,999,999.
-pub(crate) fn leading_number(text: &[u8]) -> Option<(u32, &[u8])>
+// A number below 2^64.
+fn long_of(size: u128) -> Option<u64>
+    ensures { SomeIff result (size < 2 ^ 64) size }
+{
+    u64::try_from(size).ok()
+}
+
+// The number of 64 bits that a word spells.
+pub(crate) fn long_number(word: &[u8]) -> Option<u64>
+    ensures { Spells long_spelling word.now result }
+{
+    long_of(wide_number(word)?)
+}
+
+// The number that comes first, and what follows its digits: some where it has at most 18 digits and
+// none follows a zero. It is read in one pass.
+pub(crate) fn leading_number(text: &[u8]) -> Option<(u64, &[u8])>
     ensures { IfSome result
-        (λ parts. (parts.0 < 2 ^ 32) × (text.now ≡ decimal parts.0 ++ parts.1.now)) }
+        (λ parts. (parts.0 < 10 ^ 18) × (text.now ≡ decimal parts.0 ++ parts.1.now)) }
 {
     let (first, mut rest) = text.split_first()?;
-    if *first <= b'0' || *first > b'9' {
+    if *first < b'0' || *first > b'9' {
         return None;
     }
-    let mut value = u32::from(*first - b'0');
+    if *first == b'0' {
+        return Some((0, rest));
+    }
+    let mut value = u64::from(*first - b'0');
     'digits: while let Some((byte, left)) = rest.split_first() {
         if *byte < b'0' || *byte > b'9' {
             break;
         }
-        if value >= 100_000_000 {
+        if value >= 100_000_000_000_000_000 {
             return None;
         }
-        value = value * 10 + u32::from(*byte - b'0');
+        value = value * 10 + u64::from(*byte - b'0');
         rest = left;
     }
     Some((value, rest))
+}
+
+// A number of 64 bits where it is below 2^32.
+pub(crate) fn short_of(size: u64) -> Option<u32>
+    ensures { SomeIff result (size < 2 ^ 32) size }
+{
+    u32::try_from(size).ok()
 }
 
 // A number below 2^127 with a sign.

@@ -6,9 +6,10 @@ use Rattle.std.proofs.lemmas.List.{append-nil, length-append, length-replicate}
 use Rattle.std.proofs.lemmas.List.Concat.{flat_map-append}
 use Rattle.std.proofs.lemmas.List.Elements.{All-nil, All-cons, All-head, All-tail, All-append, All-push, All-replicate}
 use Rattle.asg_parts.specs.declared.faults.Fault.{Fault}
+use Rattle.asg_parts.specs.declared.faults.Refusal.{Refusal}
 use Rattle.asg_parts.specs.Lines.{Lacks}
 use Rattle.asg_parts.specs.Parts.{Part, no_lines, and_then, counted, IsReadable}
-use Rattle.asg_parts.specs.Reading.{Stops, IsRead, Halts, Reads}
+use Rattle.asg_parts.specs.Reading.{Stops, IsRead, Halts, Reads, ReadsOrFails}
 
 -- ---- no line
 
@@ -125,8 +126,8 @@ module _ {A C : Type 0} {part : Part A} {whole : Part C} (shape : Shape part who
     plain = λ c hc. let x = shaped c hc in subst (All (Lacks 10)) (sym x.3) (law.plain x.0 x.1);
   }
 
-  Stops-shape : (old rest : List (List ℕ)) → Stops part old rest → Stops whole old rest
-  Stops-shape old rest stop = record {
+  pub Stops-shape : {old rest : List (List ℕ)} → Stops part old rest → Stops whole old rest
+  Stops-shape stop = record {
     good = stop.good;
     split = stop.split;
     begun = shape.make stop.begun;
@@ -138,7 +139,7 @@ module _ {A C : Type 0} {part : Part A} {whole : Part C} (shape : Shape part who
   }
 
   pub Halts-shape : {old rest : List (List ℕ)} {fault : Fault} → Halts part old rest fault → Halts whole old rest fault
-  Halts-shape {old} {rest} stop = record { refused = λ is. Stops-shape old rest (stop.refused is) }
+  Halts-shape {old} {rest} stop = record { refused = λ is. Stops-shape (stop.refused is) }
 
   pub IsRead-shape : {old new : List (List ℕ)} {a : A} → IsRead part old new a → IsRead whole old new (shape.make a)
   IsRead-shape {old} {new} {a} read = record { has = shape.has a read.has; split = read.split ∙ ap (λ ls. ls ++ new) (sym (shape.lines a read.has)) }
@@ -226,6 +227,14 @@ IsRead-more {part = part} {read = read} {xs = xs} {x = x} {new = new} so_far nex
 
 -- ---- what a function gives by `?`
 
-pub Reads-err : {A : Type 0} {part : Part A} {old new : List (List ℕ)} {fault : Fault} (result : Result A Fault) → IsErrAnd result (λ y. y ≡ fault) → Halts part old new fault → Reads part old new result
+pub Reads-err : {A : Type 0} {part : Part A} {old new : List (List ℕ)} {y : Refusal} (result : Result A Refusal) → IsErrAnd result (λ z. z ≡ y) → Stops part old new → Reads part old new result
 Reads-err (Ok a) gives stop = absurd gives
-Reads-err (Err y) gives stop = record { refused = λ is. stop.refused (sym gives ∙ is) }
+Reads-err (Err z) gives stop = stop
+
+pub ReadsOrFails-err : {A : Type 0} {part : Part A} {old new : List (List ℕ)} {fault : Fault} (result : Result A Fault) → IsErrAnd result (λ y. y ≡ fault) → Halts part old new fault → ReadsOrFails part old new result
+ReadsOrFails-err (Ok a) gives stop = absurd gives
+ReadsOrFails-err (Err y) gives stop = record { refused = λ is. stop.refused (sym gives ∙ is) }
+
+-- one that takes no memory stops
+pub Halts-stops : {A : Type 0} {part : Part A} {old rest : List (List ℕ)} {fault : Fault} → Stops part old rest → Halts part old rest fault
+Halts-stops stop = record { refused = λ is. stop }

@@ -1,5 +1,5 @@
 -- A value is spelled in one way, and without LF.
-use Rattle.std.proofs.Common.{◌≡◌, ℕ, suc, ◌^◌, ◌<◌, Bool, true, eqb, List, [], ◌∷◌, ◌++◌, length, get_or, Option, Some, refl, sym, ap, ◌∙◌, subst, append_assoc, arith, inl, inr}
+use Rattle.std.proofs.Common.{◌≡◌, ℕ, suc, ◌^◌, ◌<◌, ◌≤◌, Bool, true, eqb, List, [], ◌∷◌, ◌++◌, length, get_or, Option, Some, refl, sym, ap, ◌∙◌, subst, append_assoc, arith, inl, inr}
 use Rattle.std.specs.Prelude.{◌≢◌, ℤ, pos, negsuc, FitsSigned, not}
 use Rattle.std.specs.Int.{w128}
 use Rattle.std.specs.List.{list_all}
@@ -13,7 +13,7 @@ use Rattle.std.proofs.lemmas.List.Elements.{All-nil, All-cons, All-head, All-tai
 use Rattle.std.proofs.lemmas.Str.Parse.{digit_at}
 use Rattle.asg_parts.specs.Lines.{Lacks, IsCutAt}
 use Rattle.asg_parts.specs.NumberLists.{AreNumbers}
-use Rattle.asg_parts.specs.Spellings.{Spelling, behind, positive_spelling, signed_spelling, pair_spelling, list_spelling, IsPair, pair_text, spaced}
+use Rattle.asg_parts.specs.Spellings.{Spelling, behind, number_spelling, positive_spelling, long_spelling, wide_spelling, signed_spelling, pair_spelling, list_spelling, IsPair, pair_text, spaced}
 use Rattle.asg_parts.specs.laws.LineCuts.{cut_unique}
 
 -- a spelling that can be read in one way: some value is spelled, no two alike, and none with LF
@@ -69,6 +69,12 @@ Lacks-decimal at n below h = λ k d within.
     let same : get_or (decimal n) k 0 ≡ get_or (decimal n) k d = get_or_default (decimal n) k 0 d within in
     λ is. absurd (omega (arith, digit.0, same, is))
 
+pub Lacks-decimal_above : (at n : ℕ) → 57 < at → n < 10 ^ 64 → Lacks at (decimal n)
+Lacks-decimal_above at n above h = λ k d within.
+    let digit = digit_at (decimal n) k (decimal_is_IsNumeral_wide n h).0.1 within in
+    let same : get_or (decimal n) k 0 ≡ get_or (decimal n) k d = get_or_default (decimal n) k 0 d within in
+    λ is. absurd (omega (arith, digit.1, same, is))
+
 pub decimal_same : (m n : ℕ) → m < 10 ^ 64 → n < 10 ^ 64 → decimal m ≡ decimal n → m ≡ n
 decimal_same m n hm hn e = sym (decimal_is_IsNumeral_wide m hm).1 ∙ ap (digits_value 10) e ∙ (decimal_is_IsNumeral_wide n hn).1
 
@@ -85,10 +91,33 @@ signed_same (negsuc m) (negsuc n) fy fz e =
     let same : suc m ≡ suc n = decimal_same (suc m) (suc n) (omega arith) (omega arith) tails in
     ap negsuc (omega arith)
 
-Lacks-signed : (at : ℕ) (z : ℤ) → at < 45 → FitsSigned w128 z → Lacks at (signed_decimal z)
+pub Lacks-signed : (at : ℕ) (z : ℤ) → at < 45 → FitsSigned w128 z → Lacks at (signed_decimal z)
 Lacks-signed at (pos n) below fits = Lacks-decimal at n (omega arith) (omega arith)
 Lacks-signed at (negsuc n) below fits =
     All-cons (λ b. b ≢ at) 45 (decimal (suc n)) (λ is. absurd (omega arith)) (Lacks-decimal at (suc n) (omega arith) (omega arith))
+
+pub Lacks-signed_above : (at : ℕ) (z : ℤ) → 57 < at → FitsSigned w128 z → Lacks at (signed_decimal z)
+Lacks-signed_above at (pos n) above fits = Lacks-decimal_above at n above (omega arith)
+Lacks-signed_above at (negsuc n) above fits =
+    All-cons (λ b. b ≢ at) 45 (decimal (suc n)) (λ is. absurd (omega arith)) (Lacks-decimal_above at (suc n) above (omega arith))
+
+-- numbers below a limit
+below_legible : (limit : ℕ) → 0 < limit → limit ≤ 10 ^ 64 → IsLegible (record { bytes = decimal; Has = λ n. n < limit })
+below_legible limit some few = record {
+  some = 0;
+  has = some;
+  same = λ m n fm fn e. decimal_same m n (omega arith) (omega arith) e;
+  plain = λ n fn. Lacks-decimal 10 n (omega arith) (omega arith);
+}
+
+pub IsLegible-number : IsLegible number_spelling
+IsLegible-number = below_legible (2 ^ 32) (omega arith) (omega arith)
+
+pub IsLegible-long : IsLegible long_spelling
+IsLegible-long = below_legible (2 ^ 64) (omega arith) (omega arith)
+
+pub IsLegible-wide : IsLegible wide_spelling
+IsLegible-wide = below_legible (2 ^ 128) (omega arith) (omega arith)
 
 pub IsLegible-positive : IsLegible positive_spelling
 IsLegible-positive = record {

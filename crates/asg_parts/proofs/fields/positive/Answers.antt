@@ -4,5 +4,5 @@ use Rattle.asg_parts.proofs.fields.positive.Goals as goal
 
 pub returns-then-number-eq0 : goal.returns-then-number-eq0
 returns-then-number-eq0 c = λ n fits is.
-    let same : c.in-Some.number ≡ n = decimal_same c.in-Some.number n (omega arith) (wide n fits.1) (sym c.in-Some.ensures.1 ∙ is) in
+    let same : c.in_ok-number.number ≡ n = decimal_same c.in_ok-number.number n (omega arith) (wide n fits.1) (sym c.in_ok-number.ensures.1 ∙ is) in
     omega (arith, fits.0)

@@ -2,6 +2,10 @@ use Rattle.std.proofs.Common.{arith}
 use Rattle.asg_parts.proofs.SpelledDigits.{first_digit, one_digit_more}
 use Rattle.asg_parts.proofs.numerals.leading_number.Goals as goal
 
+pub returns-then-first-eq48 : goal.returns-then-first-eq48
+returns-then-first-eq48 c =
+    (omega arith, first_digit c.args.text.now c.in_ok-first.rest.now c.in_ok-first.first.now 0 c.in_ok-first.ensures.cases.0 (omega arith) (omega arith) (omega arith))
+
 pub digits-init : goal.digits-init
 digits-init c = record {
   some = omega arith;

@@ -1,5 +1,5 @@
 use Rattle.asg_parts.proofs.ListedNumbers.{pair_cut, second_of}
-use Rattle.asg_parts.proofs.fields.pair_of.Goals as goal
+use Rattle.asg_parts.proofs.fields.pair.Goals as goal
 
 pub returns-in_err-after : goal.returns-in_err-after
 returns-in_err-after c = rw c.from_residual.ensures (λ p fits is.

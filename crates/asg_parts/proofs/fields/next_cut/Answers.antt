@@ -1,5 +1,5 @@
 use Rattle.asg_parts.proofs.ListedNumbers.{first_cut}
-use Rattle.asg_parts.proofs.fields.next_number.Goals as goal
+use Rattle.asg_parts.proofs.fields.next_cut.Goals as goal
 
 pub returns-in_err-number : goal.returns-in_err-number
 returns-in_err-number c = rw c.from_residual-in_err-number.ensures (λ id rest lists.

@@ -6,15 +6,17 @@ use Rattle.std.specs.List.{position_or_len}
 use Rattle.std.proofs.lemmas.Bool.{cases_Bool, le-leb}
 use Rattle.std.proofs.lemmas.Int.{ints, to_z-of_z}
 use Rattle.std.proofs.lemmas.List.{drop_all}
+use Rattle.std.proofs.lemmas.List.Elements.{All-nil, All-cons}
 use Rattle.std.proofs.lemmas.Option.{none-some}
 use Rattle.std.proofs.lemmas.Slice.Eq.{bytes_eq-Decides}
 use Rattle.asg_model.specs.declared.parts.Cost.{Cost}
 use Rattle.asg_model.specs.Limits.{most_cost}
 use Rattle.asg_text.specs.Numbers.{integer_of, number_of, integer_in_range}
-use Rattle.asg_text.specs.Pieces.{tokens}
+use Rattle.asg_text.specs.Pieces.{tokens, is_space}
 use Rattle.asg_text.specs.Faults.{Fault, CostRange, BadToken}
 use Rattle.asg_text.specs.Tables.{is_absent, is_in_range, cost_of, pair_cost_of, cost_in_range, cost_faults, cell_of, token_faults}
-use Rattle.asg_text.specs.NextCells.{IsShortInteger, IsCell, HasFaultyCell, cost_of_parts}
+use Rattle.asg_text.specs.NextCells.{IsShortInteger, IsBehindSpace, IsCell, HasFaultyCell, cost_of_parts}
+use Rattle.asg_text.proofs.ShortLemmas.{word_first}
 
 -- the token of an absent cell
 module _ (place : ℕ) (token : List ℕ) (absent : is_absent token ≡ true) where
@@ -155,6 +157,15 @@ pub short_cell : (place : ℕ) (text : List ℕ) (value : ℤ) (rest : List ℕ)
 short_cell place text value rest short =
     let fits : FitsSigned w64 value = let high = short.in_range in omega (arith, ints) in
     subst (λ a. IsCell place text (Some (record { a = a; b = pos 0 })) rest) (sym (to_z-of_z w64 value fits)) (integer_cell place text value rest short)
+
+-- the token of an absent cell, with a separator behind it, is a cell
+pub short_absent_cell : (place : ℕ) (text behind rest : List ℕ) → IsBehindSpace behind rest → text ≡ 45 ∷ behind → IsCell place text None rest
+short_absent_cell place text behind rest space is = record {
+  token = 45 ∷ [];
+  first = ap tokens (is ∙ ap (λ behind. 45 ∷ behind) space.cut) ∙ word_first is_space (45 ∷ []) space.separator rest (omega arith) (All-cons (λ b. is_space b ≡ false) 45 [] refl (All-nil (λ b. is_space b ≡ false))) space.separates;
+  right = absent_faults place (45 ∷ []) refl;
+  is_cost = sym (absent_cell place (45 ∷ []) refl);
+}
 
 -- a token with a fault
 pub faulty_cell : (place : ℕ) (text token : List ℕ) (more : List (List ℕ)) (told : Option Fault) → tokens text ≡ token ∷ more → IfSome told (λ fault. token_faults place token ≡ fault ∷ []) → IfSome told (HasFaultyCell place text)

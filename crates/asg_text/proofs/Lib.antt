@@ -7,7 +7,13 @@ pub mod ReadCells
 pub mod TableInstances
 pub mod LineCuts
 pub mod FieldLemmas
+pub mod OneMoreLine
 pub mod NetworkLemmas
 pub mod NetworkTables
 pub mod AsnReading
+pub mod Spelled
 pub mod SameCellsLaw
+pub mod SpelledTables
+pub mod SpelledNetworks
+pub mod LineRanges
+pub mod InstanceLaw

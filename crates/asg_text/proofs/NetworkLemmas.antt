@@ -1,14 +1,13 @@
 -- What is kept of the lines of an asn file, one line further.
-use Rattle.std.proofs.Common.{◌≡◌, ℕ, suc, ◌+◌, ◌<◌, ◌≤◌, Bool, true, false, cond, ◌&&◌, ◌||◌, ◌==◌, List, [], ◌∷◌, ◌++◌, length, get_or, Option, Some, None, refl, sym, ap, ◌∙◌, ⊎_elim, arith, rules, subst, append-nil, length-append}
-use Rattle.std.specs.Prelude.{ℤ, not, nat_eq, nat_le, is_some, slice_get, find, fold, All, IfSome, IsSome, option_and_then}
+use Rattle.std.proofs.Common.{◌≡◌, ℕ, suc, ◌+◌, ◌<◌, ◌≤◌, Bool, true, false, cond, ◌&&◌, ◌||◌, ◌==◌, List, [], ◌∷◌, ◌++◌, length, get_or, Option, Some, None, refl, sym, ap, ◌∙◌, ⊎_elim, arith, rules, subst, length-append}
+use Rattle.std.specs.Prelude.{ℤ, not, nat_eq, nat_le, is_some, slice_get, find, All, IfSome, IsSome, option_and_then}
 use Rattle.std.specs.Option.{option_or}
-use Rattle.std.specs.List.{filter_map, cons_option, list_any}
+use Rattle.std.specs.List.{list_any}
 use Rattle.std.specs.Ordering.{int_eq}
 use Rattle.std.proofs.lemmas.Bool.{cases_Bool, and_parts, eqb-true, eq-eqb, ne_eqb, false≢true, leb-true}
 use Rattle.std.proofs.lemmas.Bool.Decides.{Decides-int_eq}
 use Rattle.std.proofs.lemmas.List.Folds.{list_any-append, find-append}
-use Rattle.std.proofs.lemmas.List.Elements.{filter_map-append, All-nil, All-push}
-use Rattle.std.proofs.lemmas.List.Sums.{fold_push}
+use Rattle.std.proofs.lemmas.List.Elements.{All-nil, All-push}
 use Rattle.std.specs.Map.{lookup}
 use Rattle.indexmap.specs.IndexMap.{get}
 use Rattle.indexmap.specs.IndexSet.{contains, insert_key}
@@ -19,49 +18,12 @@ use Rattle.asg_text.specs.declared.asn_lines.Line.TheVariants.{Empty, Header, No
 use Rattle.asg_text.specs.declared.asn_lines.Sizes.{Sizes}
 use Rattle.asg_text.specs.declared.network.Network.{Network}
 use Rattle.asg_text.specs.Faults.{SecondProblemLine, BadNode, BadArc, CostRange, ArcTwice, fault_where}
-use Rattle.asg_text.specs.AsnArcs.{stated, arcs, sources, sizes_in, node_in, arc_in, with_id, is_beside, are_unlike, differs_from, is_node, node_faults, arc_faults, goes_right, faults_behind, faults_of_line, cost_between, nodes_of}
+use Rattle.asg_text.specs.AsnArcs.{stated, arcs, sources, with_id, is_beside, are_unlike, differs_from, is_node, node_faults, arc_faults, goes_right, faults_behind, faults_of_line, cost_between, nodes_of}
 use Rattle.asg_text.specs.Networks.{are_same_ends, known_cost, IsSound, IsNetworkOf, PutsArc}
+use Rattle.asg_text.proofs.OneMoreLine.{stated_stays, arcs_stay, arcs_grow, sources_stay, sources_grow, stated_first}
 
 some_same : {A : Type 0} {x y : A} → Some x ≡ Some y → x ≡ y
 some_same e = cc
-
--- one more line adds what it says to a list of what lines say
-module _ {A : Type 0} (h : Line → Option A) (before : List Line) (line : Line) where
-  says_nothing : h line ≡ None → filter_map h (before ++ line ∷ []) ≡ filter_map h before
-  says_nothing none = filter_map-append h before (line ∷ []) ∙ ap (λ x. filter_map h before ++ cons_option x []) none ∙ append-nil (filter_map h before)
-
-  says_more : (x : A) → h line ≡ Some x → filter_map h (before ++ line ∷ []) ≡ filter_map h before ++ x ∷ []
-  says_more x some = filter_map-append h before (line ∷ []) ∙ ap (λ x. filter_map h before ++ cons_option x []) some
-
-module _ (before : List Line) (line : Line) where
-  stated_stays : sizes_in line ≡ None → stated (before ++ line ∷ []) ≡ stated before
-  unfolding stated
-  stated_stays none = ap (λ xs. slice_get xs 0) (says_nothing sizes_in before line none)
-
-  arcs_stay : arc_in line ≡ None → arcs (before ++ line ∷ []) ≡ arcs before
-  unfolding arcs
-  arcs_stay none = says_nothing arc_in before line none
-
-  arcs_grow : (arc : Arc) → arc_in line ≡ Some arc → arcs (before ++ line ∷ []) ≡ arcs before ++ arc ∷ []
-  unfolding arcs
-  arcs_grow arc some = says_more arc_in before line arc some
-
-  sources_stay : node_in line ≡ None → sources (before ++ line ∷ []) ≡ sources before
-  unfolding sources
-  sources_stay none = ap (λ ids. fold with_id [] ids) (says_nothing node_in before line none)
-
-  sources_grow : (id : ℕ) → node_in line ≡ Some id → sources (before ++ line ∷ []) ≡ with_id (sources before) id
-  unfolding sources
-  sources_grow id some = ap (λ ids. fold with_id [] ids) (says_more node_in before line id some) ∙ fold_push with_id [] (filter_map node_in before) id
-
--- sizes are stated once
-none_stated : {A : Type 0} (xs : List A) → slice_get xs 0 ≡ None → xs ≡ []
-none_stated [] none = refl
-none_stated (x ∷ xs) none = cc
-
-stated_first : (before : List Line) (sizes : Sizes) → stated before ≡ None → stated (before ++ Header (Some sizes) ∷ []) ≡ Some sizes
-unfolding stated
-stated_first before sizes none = ap (λ xs. slice_get xs 0) (says_more sizes_in before (Header (Some sizes)) sizes refl ∙ ap (λ xs. xs ++ sizes ∷ []) (none_stated (filter_map sizes_in before) none))
 
 -- before the first line
 pub nothing_kept : (network : Network) → network.sizes ≡ None → network.sources.keys ≡ [] → network.targets.keys ≡ [] → network.arcs ≡ 0 → network.costs.entries ≡ [] → IsNetworkOf [] network
@@ -194,7 +156,7 @@ alike_is cost (Some e) some alike =
     (cases_Bool (int_eq cost e))
 
 -- what is found is one of them
-found_told : (P : Arc → Type 0) (p : Arc → Bool) (xs : List Arc) (x : Arc) → find p xs ≡ Some x → All P xs → P x
+pub found_told : (P : Arc → Type 0) (p : Arc → Bool) (xs : List Arc) (x : Arc) → find p xs ≡ Some x → All P xs → P x
 found_told P p [] x found all = cc
 found_told P p (y ∷ xs) x found all =
     ⊎_elim

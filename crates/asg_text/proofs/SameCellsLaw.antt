@@ -1,22 +1,17 @@
 -- Square and rect files with the same cells.
-use Rattle.std.proofs.Common.{◌≡◌, ℕ, ◌+◌, ◌*◌, ◌↔◌, Bool, true, false, cond, List, [], ◌∷◌, ◌++◌, length, take, map, Option, Some, None, refl, sym, ap, ◌∙◌, ⊎_elim}
+use Rattle.std.proofs.Common.{◌≡◌, ℕ, ◌+◌, ◌*◌, ◌↔◌, Bool, true, false, cond, List, [], ◌∷◌, ◌++◌, take, map, Option, Some, None, refl, sym, ap, ◌∙◌}
 use Rattle.std.specs.Prelude.{not}
 use Rattle.std.specs.List.{range_with_len}
-use Rattle.std.proofs.lemmas.Bool.{cases_Bool}
 use Rattle.asg_model.specs.declared.parts.Cost.{Cost}
 use Rattle.asg_model.specs.Problem.{Problem}
 use Rattle.asg_text.specs.declared.formats.Format.TheVariants.{Square, Rect}
-use Rattle.asg_text.specs.Faults.{Fault, CostRange, BadToken}
+use Rattle.asg_text.specs.Faults.{CostRange}
 use Rattle.asg_text.specs.Numbers.{size_of}
-use Rattle.asg_text.specs.Readings.{Reading, Spells, reading_with, table_of}
+use Rattle.asg_text.specs.Readings.{Spells, reading_with, table_of}
 use Rattle.asg_text.specs.Tables.{is_absent, is_in_range, cost_of, cost_faults, token_faults, cell_faults, cell_of, faults_of_cells, size_faults, table_faults, reading_of_table, reading_of_square, reading_of_rect}
 use Rattle.asg_text.specs.SameCells.{HaveSameCells}
 use Rattle.asg_text.specs.Texts.{reading_of}
-
--- two lists of faults are empty together
-none_in_front : (xs ys : List Fault) → xs ++ ys ≡ [] → (xs ≡ []) × (ys ≡ [])
-none_in_front [] ys none = (refl, none)
-none_in_front (x ∷ xs) ys none = cc
+use Rattle.asg_text.proofs.Spelled.{none_in_front, spelled}
 
 -- whether a cell has a fault doesn't hang on its place
 cost_right : (p q : ℕ) (cost : Option Cost) → cost_faults p cost ≡ [] → cost_faults q cost ≡ []
@@ -41,17 +36,12 @@ cells_right p q (token ∷ cells) right =
     let parts = none_in_front (token_faults p token) (cell_faults (p + 1) cells) right in
     (λ i. token_right p q token parts.0 i ++ cells_right (p + 1) (q + 1) cells parts.1 i)
 
--- a reading that spells an instance has no fault
-spelled : (faults : List Fault) (X Y : Problem) → reading_with faults X ≡ Spells Y → faults ≡ []
-spelled [] X Y e = refl
-spelled (fault ∷ faults) X Y e = cc
-
 table_spells : (p q : ℕ) (n m : Option ℕ) (cells : List (List ℕ)) (X : Problem) → reading_of_table p n m cells ≡ Spells X → reading_of_table q n m cells ≡ Spells X
 table_spells p q None m cells X e = cc
 table_spells p q (Some n) None cells X e = cc
 table_spells p q (Some n) (Some m) cells X e =
     let table : Problem = table_of (range_with_len 1 n) (range_with_len 1 m) (map cell_of cells) in
-    let parts = none_in_front (size_faults n m) (faults_of_cells p (n * m) cells) (spelled (table_faults p n m cells) table X e) in
+    let parts = none_in_front (size_faults n m) (faults_of_cells p (n * m) cells) (spelled (table_faults p n m cells) table X e).0 in
     let more = none_in_front (cell_faults (p + 1) (take (n * m) cells)) _ parts.1 in
     (λ i. reading_with (parts.0 i ++ (cells_right (p + 1) (q + 1) (take (n * m) cells) more.0 i ++ more.1 i)) table)
     ∙ sym (λ i. reading_with (parts.0 i ++ (more.0 i ++ more.1 i)) table) ∙ e

@@ -53,6 +53,7 @@ short_value digits are short =
 pub record IsDigitStep (text : List ℕ) (n i number : ℕ) : Type 0 where
   pub same : get_or (take n text) i 0 ≡ get_or text i 0
   pub small : number < 1000000000
+  pub least : 48 ≤ get_or text i 0
   pub digit : get_or text i 0 - 48 ≤ 9
   pub digits : list_all is_ascii_digit (take (i + 1) text) ≡ true
   pub value : number * 10 + (get_or text i 0 - 48) ≡ digits_value 10 (take (i + 1) text)
@@ -66,6 +67,7 @@ digit_step text i number n within few is_digit digits value =
     record {
       same = get_or-take n text i 0 before;
       small = omega (arith, short_value (take i text) digits (omega (arith, length-take i text)));
+      least = range.0;
       digit = omega (arith, range);
       digits = list_all_more is_ascii_digit text i 0 there ∙ and_from _ _ digits here;
       value = omega (arith, value, digits_value_more 10 text i there, digit_value_is (get_or text i 0) range.0 range.1);

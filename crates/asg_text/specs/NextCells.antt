@@ -32,6 +32,12 @@ pub record IsShortAmount (text : List ℕ) (amount : ℤ) (rest : List ℕ) : Ty
   pub is_amount : amount ≡ pos (digits_value 10 digits)
   pub in_range : digits_value 10 digits ≤ most_cost
 
+-- a text begins with a separator, and this is the text behind it
+pub record IsBehindSpace (text : List ℕ) (rest : List ℕ) : Type 0 where
+  pub separator : ℕ
+  pub cut : text ≡ separator ∷ rest
+  pub separates : is_space separator ≡ true
+
 -- the first token of a text is a cell without a fault at this place, of this cost, or absent, and this
 -- is the text behind it
 pub record IsCell (place : ℕ) (text : List ℕ) (cost : Option Cost) (rest : List ℕ) : Type 0 where

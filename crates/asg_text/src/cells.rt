@@ -1,6 +1,6 @@
 //! The cells of square and rect files.
 
-ghost use Rattle.std.specs.Prelude.{◌≡◌, ◌==◌, ◌∷◌, [], IfOk, IfErr, IfSome, IfNone};
+ghost use Rattle.std.specs.Prelude.{◌≡◌, ℕ, ◌==◌, ◌∷◌, [], IfOk, IfErr, IfSome, IfNone};
 ghost use Rattle.std.specs.Option.{option_map};
 ghost use Rattle.std.specs.List.{position_or_len};
 ghost use Rattle.asg_text.specs.Pieces.{tokens};
@@ -11,7 +11,7 @@ ghost use Rattle.asg_text.specs.NextCells.{IsCell, IsFaultyCell, cost_of_parts};
 use crate::numbers;
 use crate::pieces::{Separators, first_piece};
 use crate::refusals::TextRefusal;
-use crate::short_integers::short_integer;
+use crate::short_integers::{behind_space, short_integer};
 use asg_model::Cost;
 
 /// The cell that a text begins with, its cost where it isn't absent, and the text behind it.
@@ -29,14 +29,53 @@ pub(crate) fn next_cell<'a>(text: &'a [u8], place: u64) -> Result<Option<Cell<'a
     ensures none { IfOk result (λ next. IfNone next (tokens text.now ≡ [])) }
     ensures refused { IfErr result (IsFaultyCell place text.now) }
 {
+    match short_cell(text) {
+        Some(cell) => Ok(Some(cell)),
+        None => next_spaced_cell(Separators::Spaces.skip(text), place),
+    }
+}
+
+// The cell that a text begins with, in the common case of a short integer or an absent cell; `None`
+// tells nothing of the text.
+#[inline(always)]
+fn short_cell<'a>(text: &'a [u8]) -> Option<Cell<'a>>
+    ensures { IfSome result (λ cell. (place : ℕ) → IsCell place text.now cell.cost cell.rest.now) }
+{
     match short_integer(text) {
-        Some(short) => Ok(Some(Cell {
+        Some(short) => Some(Cell {
             cost: Some(Cost {
                 a: short.value,
                 b: 0,
             }),
             rest: short.rest,
-        })),
+        }),
+        None => short_absent_cell(text),
+    }
+}
+
+// The absent cell that a text begins with, where a separator stands behind it, which is taken with it;
+// `None` tells nothing of the text.
+#[inline(always)]
+fn short_absent_cell<'a>(text: &'a [u8]) -> Option<Cell<'a>>
+    ensures { IfSome result (λ cell. (place : ℕ) → IsCell place text.now cell.cost cell.rest.now) }
+{
+    if numbers::is_negative(text) {
+        let rest = behind_space(&text[1..])?;
+        Some(Cell { cost: None, rest })
+    } else {
+        None
+    }
+}
+
+// The same, for a text in front of which separators stood.
+fn next_spaced_cell<'a>(text: &'a [u8], place: u64) -> Result<Option<Cell<'a>>, TextRefusal>
+    ensures cell { IfOk result (λ next.
+        IfSome next (λ cell. IsCell place text.now cell.cost cell.rest.now)) }
+    ensures none { IfOk result (λ next. IfNone next (tokens text.now ≡ [])) }
+    ensures refused { IfErr result (IsFaultyCell place text.now) }
+{
+    match short_cell(text) {
+        Some(cell) => Ok(Some(cell)),
         None => next_plain_cell(text, place),
     }
 }

@@ -5,7 +5,7 @@ ghost use Rattle.std.specs.List.{list_all};
 ghost use Rattle.std.specs.Char.{is_ascii_digit};
 ghost use Rattle.std.specs.Str.Parse.{digits_value};
 ghost use Rattle.asg_text.specs.Pieces.{is_space};
-ghost use Rattle.asg_text.specs.NextCells.{IsShortInteger, IsShortAmount};
+ghost use Rattle.asg_text.specs.NextCells.{IsShortInteger, IsShortAmount, IsBehindSpace};
 
 use crate::numbers::{MOST_AMOUNT, is_negative};
 
@@ -20,8 +20,9 @@ pub(crate) struct ShortInteger<'a> {
 const MOST_DIGITS: usize = 10;
 
 /// The integer that a text begins with, where it has at most ten digits, lies between -10^9 and 10^9, and
-/// a separator stands behind it, which is taken with it. `None` tells nothing of the text.
-#[inline]
+/// a separator stands behind it, which is taken with it. `None` tells nothing of the text; it comes too
+/// where the text has less than eleven bytes behind the sign.
+#[inline(always)]
 pub(crate) fn short_integer<'a>(text: &'a [u8]) -> Option<ShortInteger<'a>>
     ensures { IfSome result (λ short. IsShortInteger text.now short.value short.rest.now) }
 {
@@ -37,18 +38,32 @@ pub(crate) fn short_integer<'a>(text: &'a [u8]) -> Option<ShortInteger<'a>>
 }
 
 // The same, for an integer without a sign.
-#[inline]
+#[inline(always)]
 fn short_amount<'a>(text: &'a [u8]) -> Option<ShortInteger<'a>>
     ensures { IfSome result (λ short. IsShortAmount text.now short.value short.rest.now) }
 {
+    if text.len() <= MOST_DIGITS {
+        return None;
+    }
     let (number, len) = short_number(text);
-    if len == 0 || len >= text.len() || number > MOST_AMOUNT || !is_space(text[len]) {
+    if len == 0 || number > MOST_AMOUNT || !is_space(text[len]) {
         return None;
     }
     Some(ShortInteger {
         value: number as i64,
         rest: &text[len + 1..],
     })
+}
+
+/// The text behind the separator that a text begins with; `None` where it begins with none.
+#[inline(always)]
+pub(crate) fn behind_space<'a>(text: &'a [u8]) -> Option<&'a [u8]>
+    ensures { IfSome result (λ rest. IsBehindSpace text.now rest.now) }
+{
+    if text.is_empty() || !is_space(text[0]) {
+        return None;
+    }
+    Some(&text[1..])
 }
 
 fn is_space(byte: u8) -> bool
@@ -60,13 +75,14 @@ fn is_space(byte: u8) -> bool
 // The number of the digits that the text begins with, at most ten of them, and how many they are.
 #[inline]
 fn short_number(text: &[u8]) -> (u64, usize)
-    ensures within { result.1 ≤ length text.now }
+    requires { 10 ≤ length text.now }
+    ensures within { result.1 ≤ 10 }
     ensures digits { list_all is_ascii_digit (take result.1 text.now) ≡ true }
     ensures value { result.0 ≡ digits_value 10 (take result.1 text.now) }
 {
     let mut number = 0;
     let mut len = 0;
-    for byte in &text[..text.len().min(MOST_DIGITS)] {
+    for byte in &text[..MOST_DIGITS] {
         if !byte.is_ascii_digit() {
             break;
         }

@@ -135,7 +135,7 @@ fn read_costs<'a>(
     let mut seconds = Vec::new(alloc);
     let mut rest = text;
     for place in 0..room {
-        let Some(cell) = next_cell(Separators::Spaces.skip(rest), header + place as u64 + 1)? else {
+        let Some(cell) = next_cell(rest, header + place as u64 + 1)? else {
             return Err(TextRefusal::TokenCount(count as u64, place as u64));
         };
         put_second(alloc, &mut seconds, room, place, second_part(cell.cost))?;

@@ -12,7 +12,7 @@ type CellOf = (u32, u32, i64, i64);
 // A file, its row ids, its column ids, and its cells row by row.
 type File<'a> = (Format, &'a [u8], &'a [u32], &'a [u32], &'a [CellOf]);
 
-const FILES: [File<'static>; 19] = [
+const FILES: [File<'static>; 20] = [
     (
         Format::Asn,
         b"p asn 4 2\nn 1\nn 2\na 1 3 5\na 2 3 6\n",
@@ -121,6 +121,20 @@ const FILES: [File<'static>; 19] = [
     ),
     (
         Format::Rect,
+        b"2 4\n-1000000000 - 0000000012 1000000000 \r\n-  -7\t3:1 000000000005\n          ",
+        &[1, 2],
+        &[1, 2, 3, 4],
+        &[
+            (1, 1, -1_000_000_000, 0),
+            (1, 3, 12, 0),
+            (1, 4, 1_000_000_000, 0),
+            (2, 2, -7, 0),
+            (2, 3, 3, 1),
+            (2, 4, 5, 0),
+        ],
+    ),
+    (
+        Format::Rect,
         b"3 1 7 8 -9:00",
         &[1, 2, 3],
         &[1],
@@ -198,12 +212,14 @@ fn files_are_read(rt: HostRuntime) -> Result<(), Fail> {
 
 #[test]
 fn files_are_refused(rt: HostRuntime) {
-    for (format, text, refusal) in REFUSED {
-        assert!(rt; text.len() <= LONGEST_FILE);
-        let told = match read(rt.alloc(), format, text) {
-            Ok(_) => None,
-            Err(told) => Some(told),
-        };
-        assert!(rt; told == Some(refusal), "{text:?} {told:?}");
+    for (format, files) in REFUSED {
+        for (text, refusal) in files {
+            assert!(rt; text.len() <= LONGEST_FILE);
+            let told = match read(rt.alloc(), format, text) {
+                Ok(_) => None,
+                Err(told) => Some(told),
+            };
+            assert!(rt; told == Some(*refusal), "{text:?} {told:?}");
+        }
     }
 }

@@ -14,15 +14,15 @@ use Rattle.asg_text.proofs.tables.read_costs.Goals.{In-Some}
 pub returns-in_err-cell-clause-refused : goal.returns-in_err-cell-clause-refused
 returns-in_err-cell-clause-refused c =
     handed_on c.from_residual-in_err-cell.result c.in_err-cell.field-0.0 (IsEarliest (faults_of_cells c.args.header c.args.count (tokens c.args.text.now))) c.from_residual-in_err-cell.ensures.1
-    (refused_next c.loop-place.invariant.read c.skip.result.now (c.args.header + c.loop-place.place + 1) c.args.header c.args.count c.in_err-cell.field-0.0 refl (omega (arith, c.min-room.ensures)) (sym c.skip.ensures.same) (omega arith) c.in_err-cell.ensures.refused)
+    (refused_next c.loop-place.invariant.read c.loop-place.rest.now (c.args.header + c.loop-place.place + 1) c.args.header c.args.count c.in_err-cell.field-0.0 refl (omega (arith, c.min-room.ensures)) refl (omega arith) c.in_err-cell.ensures.refused)
 
 pub returns-in_default-clause-refused : goal.returns-in_default-clause-refused
 returns-in_default-clause-refused c =
-    let none : tokens c.loop-place.rest.now ≡ [] = sym c.skip.ensures.same ∙ (rw c.in_default.is at c.in_ok-cell.ensures.none) in
+    let none : tokens c.loop-place.rest.now ≡ [] = rw c.in_default.is at c.in_ok-cell.ensures.none in
     none_next c.loop-place.invariant.read c.args.header c.args.count refl (omega (arith, c.min-room.ensures)) none
 
 -- the cell that is read
-next : (c : In-Some) → IsCell (c.args.header + c.loop-place.place + 1) c.skip.result.now c.in-Some.cell.cost c.in-Some.cell.rest.now
+next : (c : In-Some) → IsCell (c.args.header + c.loop-place.place + 1) c.loop-place.rest.now c.in-Some.cell.cost c.in-Some.cell.rest.now
 next c = rw c.in-Some.is at c.in_ok-cell.ensures.cell
 
 pub put_second-requires-clause-in_range : goal.put_second-requires-clause-in_range
@@ -41,5 +41,5 @@ loop-place-preserved c =
     let len : length c.loop-place.firsts.items ≡ c.min-room.result = inv.room in
     record {
       room = length-set c.loop-place.firsts.items c.loop-place.place _ ∙ len;
-      read = one_more_read inv.read c.skip.result.now c.in-Some.cell.rest.now c.in-Some.cell.cost (c.args.header + c.loop-place.place + 1) _ _ _ _ (omega (arith, len)) (sym c.skip.ensures.same) (omega arith) cell (to_z-of_z w64 c.first_part.result first_fits ∙ c.first_part.ensures) (to_z-of_z w64 c.second_part.result second_fits ∙ c.second_part.ensures) refl puts.put (subst (λ n. AreSeconds n c.put_second.new.seconds.items) (sym len) puts.seconds);
+      read = one_more_read inv.read c.loop-place.rest.now c.in-Some.cell.rest.now c.in-Some.cell.cost (c.args.header + c.loop-place.place + 1) _ _ _ _ (omega (arith, len)) refl (omega arith) cell (to_z-of_z w64 c.first_part.result first_fits ∙ c.first_part.ensures) (to_z-of_z w64 c.second_part.result second_fits ∙ c.second_part.ensures) refl puts.put (subst (λ n. AreSeconds n c.put_second.new.seconds.items) (sym len) puts.seconds);
     }

@@ -1,5 +1,5 @@
-use Rattle.std.proofs.Common.{◌≡◌, [], ◌∷◌, ◌++◌, sym, ap, ◌∙◌, subst, Some, w64, to_z, of_z, rules, true, false}
-use Rattle.std.specs.Prelude.{slice_get, FitsSigned}
+use Rattle.std.proofs.Common.{◌≡◌, [], ◌∷◌, ◌++◌, sym, ◌∙◌, subst, Some, w64, to_z, of_z, rules, true, false}
+use Rattle.std.specs.Prelude.{slice_get}
 use Rattle.std.proofs.lemmas.Int.{to_z-of_z}
 use Rattle.asg_text.specs.declared.asn_lines.Line.TheVariants.{Arrow}
 use Rattle.asg_text.specs.Faults.{ArcTwice}

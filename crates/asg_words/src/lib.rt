@@ -11,6 +11,7 @@ mod command_line;
 mod file_names;
 mod found_words;
 mod jobs;
+pub mod laws;
 mod limits;
 mod named;
 mod numbers;

@@ -1,0 +1,22 @@
+-- What the command takes is what it finds in the words.
+use Rattle.std.proofs.Common.{◌≡◌, Some, None, List, Bool, true, false, if◌then◌else◌}
+use Rattle.clap.specs.Walk.{Text, is_empty}
+use Rattle.clap.specs.Simple.{matches_of}
+use Rattle.clap.specs.Faults.{fault_of}
+use Rattle.asg_words.specs.declared.requests.Request.{Request}
+use Rattle.asg_words.specs.Bounds.{IsRequest}
+use Rattle.asg_words.specs.CommandLine.{Found, command_line, found_in}
+use Rattle.asg_words.specs.Requests.{request_found, request_of}
+use Rattle.asg_words.proofs.RequestBounds.{is_request}
+use Rattle.asg_words.proofs.laws.request_law.Goals as goal
+
+taken : (takes : Bool) (found : Found) (request : Request) → (if takes then request_found found else None) ≡ Some request → IsRequest request
+taken true found request is = is_request found request is
+taken false found request is = cc
+
+is_within : (words : List Text) (request : Request) → request_of words ≡ Some request → IsRequest request
+unfolding request_of
+is_within words request is = taken (is_empty (fault_of command_line words)) (found_in (matches_of command_line words)) request is
+
+pub returns : goal.returns
+returns c = is_within

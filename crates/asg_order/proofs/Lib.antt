@@ -1,3 +1,2 @@
 pub mod Rearrangements
 pub mod PowerLaws
-pub mod DifferenceLaws

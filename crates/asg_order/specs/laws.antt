@@ -3,3 +3,4 @@ pub mod Products
 pub mod Orders
 pub mod Words
 pub mod ChosenCosts
+pub mod Differences

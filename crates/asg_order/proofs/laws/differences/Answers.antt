@@ -1,4 +1,4 @@
-use Rattle.asg_order.proofs.DifferenceLaws.{product_of_difference, difference_monotone, difference_of_difference}
+use Rattle.asg_order.specs.laws.Differences.{product_of_difference, difference_monotone, difference_of_difference}
 use Rattle.asg_order.proofs.laws.differences.Goals as goal
 
 pub returns-clause-whole : goal.returns-clause-whole

@@ -6,4 +6,9 @@ pub mod SquareAssignments
 pub mod PermSteps
 pub mod Presences
 pub mod BitLemmas
+pub mod WordLemmas
+pub mod TablePieces
+pub mod PieceLemmas
 pub mod TableLemmas
+pub mod RowLemmas
+pub mod ChangeLemmas

@@ -17,8 +17,8 @@ use Rattle.asg_model.specs.ValidChoice.{takes, IsValid}
 use Rattle.asg_model.specs.Shapes.{square_side, side_by}
 use Rattle.asg_square.specs.Labels.{row_label, column_label, copies}
 use Rattle.asg_square.specs.Cells.{extra_column_cell, corner_cell, labelled_cell, square_cell, IsAssignment, chosen_by, choice_of}
-use Rattle.asg_square.specs.Sums.{sum_below, count_below, one}
-use Rattle.asg_square.specs.laws.Counting.{sum_below-same, sum_below-le, sum_by-below, sum_below-zero}
+use Rattle.asg_model.specs.Sums.{sum_below, count_below, one}
+use Rattle.asg_model.specs.laws.Counting.{sum_below-same, sum_below-le, sum_by-below, sum_below-zero}
 use Rattle.asg_square.specs.laws.Bijections.{ones_below, sum_below-split, sum_below-upto, permute-count}
 use Rattle.asg_square.specs.laws.Copies.{length-copies, count-copies_at, count-labels}
 use Rattle.asg_square.specs.laws.Rows.{counted_total, row-from_counted, count-map, rows_within, copies_within}

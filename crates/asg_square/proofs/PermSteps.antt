@@ -9,7 +9,7 @@ use Rattle.asg_model.specs.Problem.{Problem}
 use Rattle.asg_model.specs.Shapes.{square_side}
 use Rattle.asg_square.specs.Labels.{first_copy}
 use Rattle.asg_square.specs.ChoiceAssignment.{own_copy, takers_before}
-use Rattle.asg_square.specs.Sums.{count_below, passing_below, one}
+use Rattle.asg_model.specs.Sums.{count_below, passing_below, one}
 use Rattle.asg_square.specs.Completion.{completed, is_free, free_columns}
 use Rattle.asg_square.proofs.ValidPerfect.{own_within}
 use Rattle.asg_model.specs.ValidChoice.{IsValid}

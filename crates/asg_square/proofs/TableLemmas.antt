@@ -4,12 +4,12 @@ use Rattle.std.specs.Prelude.{Option, Some, None, IsSome, is_some, slice_get}
 use Rattle.std.specs.Option.{unwrap_or}
 use Rattle.std.proofs.lemmas.Bool.{false≢true, cases_Bool, cases_lt, lt-ltb, le-ltb}
 use Rattle.std.proofs.lemmas.Bool.Decides.{Decides-eqb}
-use Rattle.std.proofs.lemmas.List.{get_or-set_same, get_or-set_other, get_or-take, get_or-drop, length-set, length-take, length-drop, same_lists}
+use Rattle.std.proofs.lemmas.List.{get_or_past, get_or-set_same, get_or-set_other, get_or-take, get_or-drop, length-set, length-take, length-drop, same_lists}
 use Rattle.std.proofs.lemmas.List.FromFn.{length-map-range_with_len, get_or-map-range_with_len}
 use Rattle.std.proofs.lemmas.Nat.{mul-add-lt, div-mul-add, mod-mul-add, div-add-mod'}
 use Rattle.std.proofs.lemmas.Option.{slice_get-get_or, slice_get_read, slice_get_past, slice_get_cases}
 use Rattle.asg_square.specs.BitTable.{BitTable, has_bit, IsBitTable, PutsBit, AreWordsOf}
-use Rattle.asg_square.specs.CellTable.{CellTable, entry_at, IsCellTable, stored_cell, stored_cells, IsStored, AreValuesOf}
+use Rattle.asg_square.specs.CellTable.{CellTable, entry_at, IsCellTable, stored_cell, stored_cells, IsStored, AreValuesOf, AreAllValuesOf}
 use Rattle.asg_square.specs.laws.Places.{place_hit, place_missed}
 
 -- ---- reads of lists
@@ -26,14 +26,14 @@ get_part xs m n i h fits =
     (λ past. absurd (omega (arith, past.0)))
     (slice_get_cases xs (m + i)).1
 
-get_set_other : {A : Type 0} (xs : List A) (p k : ℕ) (y : A) → k ≢ p → slice_get (set xs p y) k ≡ slice_get xs k
+pub get_set_other : {A : Type 0} (xs : List A) (p k : ℕ) (y : A) → k ≢ p → slice_get (set xs p y) k ≡ slice_get xs k
 get_set_other xs p k y apart =
     ⊎_elim
     (λ found. slice_get_read (set xs p y) (length xs) k found.0 (sym (length-set xs p y)) found.1 (sym (get_or-set_other xs p k y found.0 apart ∙ found.3)) ∙ sym found.2)
     (λ past. slice_get_past (set xs p y) k (omega (arith, length-set xs p y, past.0)) ∙ sym past.1)
     (slice_get_cases xs k).1
 
-get_set_same : {A : Type 0} (xs : List A) (p : ℕ) (y : A) → p < length xs → slice_get (set xs p y) p ≡ Some y
+pub get_set_same : {A : Type 0} (xs : List A) (p : ℕ) (y : A) → p < length xs → slice_get (set xs p y) p ≡ Some y
 get_set_same xs p y h = slice_get-get_or (set xs p y) p y (omega (arith, h, length-set xs p y)) ∙ ap Some (get_or-set_same xs p y y h)
 
 -- ---- the cells
@@ -61,7 +61,7 @@ module _ {V : Type 0} (side : ℕ) (values : List V) (present : BitTable) (s : I
   pub entry_absent : (r c : ℕ) → r < side → c < side → has_bit present r c ≡ false → None ≡ entry_at side (stored_cells side values present) r c
   entry_absent r c h k lacks = sym (entry_is r c h k ∙ ap (λ b. cond b (slice_get values (r * side + c)) None) lacks)
 
-  past_side : (r c : ℕ) → side ≤ c → entry_at side (stored_cells side values present) r c ≡ None
+  pub past_side : (r c : ℕ) → side ≤ c → entry_at side (stored_cells side values present) r c ≡ None
   past_side r c h = ap (λ b. cond b (get_or cells (r * side + c) None) None) (le-ltb c side h)
 
   column_of_entry : (r c : ℕ) → IsSome (entry_at side (stored_cells side values present) r c) → c < side
@@ -87,7 +87,7 @@ module _ {V : Type 0} (side : ℕ) (values : List V) (present : BitTable) (s : I
 
   -- ---- a row
 
-  row_fits : (r : ℕ) → r < side → r * side + side ≤ length values
+  pub row_fits : (r : ℕ) → r < side → r * side + side ≤ length values
   row_fits r h = let last = mul-add-lt r side (side - 1) side h (omega arith) in omega (arith, last, s.count)
 
   pub values_of_row : (r : ℕ) (xs : List V) → r < side → xs ≡ values → AreValuesOf (entry_at side (stored_cells side values present) r) side (take (r * side + side - r * side) (drop (r * side) xs))
@@ -121,6 +121,29 @@ module _ {V : Type 0} (side : ℕ) (values : List V) (present : BitTable) (s : I
           (λ (lacks : has_bit present r c ≡ false). sym lacks)
           (cases_Bool (has_bit present r c)))
           (cases_lt c side)
+
+  -- ---- all values
+
+  cell_is : (k : ℕ) → k < side * side → get_or cells k None ≡ stored_cell side values present k
+  cell_is k h = get_or-map-range_with_len (stored_cell side values present) 0 (side * side) k k None h (omega arith)
+
+  pub all_values : (xs : List V) → xs ≡ values → AreAllValuesOf (stored_cells side values present) xs
+  all_values xs is =
+      let size = length-map-range_with_len (stored_cell side values present) 0 (side * side) in
+      subst (AreAllValuesOf (stored_cells side values present)) (sym is)
+      (record {
+        count = s.count ∙ sym size;
+        each = λ k some.
+            ⊎_elim
+            (λ (within : k < side * side). read (has_bit present (k / side) (k % side)) k (cell_is k within) some)
+            (λ (past : side * side ≤ k).
+            absurd (false≢true (sym (ap is_some (get_or_past (stored_cells side values present) k None (omega (arith, past, size)))) ∙ some)))
+            (cases_lt k (side * side));
+      })
+    where
+      read : (b : Bool) (k : ℕ) → get_or cells k None ≡ cond b (slice_get values k) None → IsSome (get_or cells k None) → slice_get values k ≡ get_or cells k None
+      read true k same some = sym same
+      read false k same some = absurd (false≢true (sym (ap is_some same) ∙ some))
 
   -- ---- one cell changed
 

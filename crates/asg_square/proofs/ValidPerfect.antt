@@ -21,8 +21,8 @@ use Rattle.asg_square.specs.ChoiceAssignment.{chosen, own_copy, perm_column, per
 use Rattle.asg_model.specs.Shapes.{square_side, side_by}
 use Rattle.asg_square.specs.Labels.{row_label, column_label, copies, first_copy}
 use Rattle.asg_square.specs.Cells.{extra_column_cell, corner_cell, labelled_cell, square_cell, IsPresent, IsAssignment, chosen_by, choice_of}
-use Rattle.asg_square.specs.Sums.{sum_below, count_below, passing_below, one}
-use Rattle.asg_square.specs.laws.Counting.{sum_below-same, sum_below-add, sum_by-below, sum_below-zero, term-le-sum_below}
+use Rattle.asg_model.specs.Sums.{sum_below, count_below, passing_below, one}
+use Rattle.asg_model.specs.laws.Counting.{sum_below-same, sum_below-add, sum_by-below, sum_below-zero, term-le-sum_below}
 use Rattle.asg_square.specs.laws.Bijections.{sum_below-upto, rank-less, same-rank, count-not, completed_some, completed_none, completed_below, completed_apart, rank_within, top_high, top_low}
 use Rattle.asg_square.specs.Completion.{is_free, free_columns, lacks}
 use Rattle.asg_square.specs.laws.Copies.{length-copies, label_at, copy_below}

@@ -1,7 +1,7 @@
 -- Rows of bits, in words of 64.
 use Rattle.std.specs.Prelude.{◌≡◌, ℕ, ◌*◌, ◌+◌, ◌/◌, ◌%◌, ◌<◌, ◌≤◌, ◌&&◌, ◌==◌, if◌then◌else◌, nat_lt, Bool, IsTrue, List, length, slice_index}
 use Rattle.std.specs.Int.{bit_at}
-use Rattle.asg_square.specs.Limits.{most_side}
+use Rattle.asg_model.specs.Limits.{most_side}
 
 -- rows of bits: how many rows and columns there are, and the words that hold them, row by row
 pub record BitTable : Type 0 where
@@ -38,6 +38,12 @@ pub record PutsBit (B after : BitTable) (r c : ℕ) (is_set : Bool) : Type 0 whe
   pub rows : after.rows ≡ B.rows
   pub columns : after.columns ≡ B.columns
   pub bits : (s d : ℕ) → has_bit after s d ≡ (if (s == r) && (d == c) then is_set else has_bit B s d)
+
+-- the bits of one word of a row were set or cleared
+pub record PutsWord (B after : BitTable) (r number word : ℕ) : Type 0 where
+  pub rows : after.rows ≡ B.rows
+  pub columns : after.columns ≡ B.columns
+  pub bits : (s d : ℕ) → has_bit after s d ≡ (if (s == r) && (d / 64 == number) then is_bit_set word (d % 64) else has_bit B s d)
 
 -- the words of a row: at each of their places the bit says whether the row has this column
 pub record AreWordsOf (has : ℕ → Bool) (columns : ℕ) (words : List ℕ) : Type 0 where

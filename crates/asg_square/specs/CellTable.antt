@@ -1,8 +1,8 @@
 -- Tables of optional values.
 use Rattle.std.specs.Prelude.{◌≡◌, ℕ, ◌*◌, ◌+◌, ◌/◌, ◌%◌, ◌≤◌, if◌then◌else◌, nat_lt, Option, None, IsSome, List, length, map, slice_get, slice_index_or}
 use Rattle.std.specs.List.{range_with_len}
-use Rattle.asg_square.specs.BitTable.{BitTable, has_bit}
-use Rattle.asg_square.specs.Limits.{most_side}
+use Rattle.asg_square.specs.BitTable.{BitTable, has_bit, is_bit_set}
+use Rattle.asg_model.specs.Limits.{most_side}
 
 -- a side, and the cells of a square table row by row
 pub record CellTable (V : Type 0) : Type 0 where
@@ -37,3 +37,12 @@ pub record IsStored {V : Type 0} (side : ℕ) (values : List V) (present : BitTa
 pub record AreValuesOf {V : Type 0} (row : ℕ → Option V) (side : ℕ) (values : List V) : Type 0 where
   pub count : length values ≡ side
   pub each : (c : ℕ) → IsSome (row c) → slice_get values c ≡ row c
+
+-- the values of all cells, row by row: each cell that is present has its value at its place
+pub record AreAllValuesOf {V : Type 0} (cells : List (Option V)) (values : List V) : Type 0 where
+  pub count : length values ≡ length cells
+  pub each : (k : ℕ) → IsSome (slice_index_or cells k None) → slice_get values k ≡ slice_index_or cells k None
+
+-- the cell at a place of some cells that stand side by side as values, and as a word whose bits say which are present
+abbrev pub piece_cell : {V : Type 0} → List V → ℕ → ℕ → Option V
+piece_cell values word k = if is_bit_set word k then slice_get values k else None

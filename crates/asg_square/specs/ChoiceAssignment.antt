@@ -6,7 +6,7 @@ use Rattle.asg_model.specs.Problem.{Problem}
 use Rattle.asg_model.specs.ValidChoice.{takes}
 use Rattle.asg_model.specs.Shapes.{square_side}
 use Rattle.asg_square.specs.Labels.{first_copy}
-use Rattle.asg_square.specs.Sums.{count_below}
+use Rattle.asg_model.specs.Sums.{count_below}
 use Rattle.asg_square.specs.Completion.{completed}
 
 -- what the row at place r chooses, nothing past the last row

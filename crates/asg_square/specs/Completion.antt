@@ -2,7 +2,7 @@
 use Rattle.std.specs.Prelude.{ℕ, Bool, not, eqb, List, get_or, Option, is_some}
 use Rattle.std.specs.Option.{unwrap_or}
 use Rattle.asg_model.specs.ValidChoice.{takes}
-use Rattle.asg_square.specs.Sums.{count_below, passing_below}
+use Rattle.asg_model.specs.Sums.{count_below, passing_below}
 
 -- no row takes the column
 abbrev pub is_free : (ℕ → Option ℕ) → ℕ → ℕ → Bool

@@ -1,13 +1,62 @@
 -- Tables that are filled row by row.
-use Rattle.std.specs.Prelude.{◌≡◌, ℕ, ◌<◌, ◌==◌, if◌then◌else◌, Option, None, List, slice_index_or}
-use Rattle.asg_square.specs.CellTable.{CellTable, entry_at}
+use Rattle.std.specs.Prelude.{◌≡◌, ℕ, ℤ, ◌+◌, ◌/◌, ◌<◌, ◌≤◌, ◌&&◌, ◌==◌, if◌then◌else◌, Bool, IsTrue, Option, Some, None, List, length, take, drop, ◌++◌, slice_index_or}
+use Rattle.asg_model.specs.Problem.{Problem}
+use Rattle.asg_model.specs.Live.{is_open, live_at}
+use Rattle.asg_model.specs.Table.{absent, table_cost}
+use Rattle.asg_square.specs.BitTable.{is_bit_set}
+use Rattle.asg_square.specs.CellTable.{CellTable, entry_at, piece_cell}
 
 -- the row at place r has this cell for each column label, and all other rows are as before
 pub record FillsRow {V : Type 0} (T after : CellTable V) (r : ℕ) (columns : List (Option ℕ)) (cell : Option ℕ → Option V) : Type 0 where
   pub side : after.side ≡ T.side
   pub each : (s d : ℕ) → d < T.side → entry_at after.side after.cells s d ≡ (if s == r then cell (slice_index_or columns d None) else entry_at T.side T.cells s d)
 
+-- in place of 64 columns of row r, fewer at its end, the cells of these column labels stand, and all other
+-- cells are as before
+pub record FillsPiece {V : Type 0} (T after : CellTable V) (r number : ℕ) (columns : List (Option ℕ)) (cell : Option ℕ → Option V) : Type 0 where
+  pub side : after.side ≡ T.side
+  pub each : (s d : ℕ) → d < T.side → entry_at after.side after.cells s d ≡ (if (s == r) && (d / 64 == number) then cell (slice_index_or columns d None) else entry_at T.side T.cells s d)
+
 -- each row has this cell for its label and each column label
 abbrev pub AreFilled : {V : Type 0} → CellTable V → List (Option ℕ) → List (Option ℕ) → (Option ℕ → Option ℕ → Option V) → Type 0
 AreFilled T rows columns cell =
     (r c : ℕ) → r < T.side → c < T.side → entry_at T.side T.cells r c ≡ cell (slice_index_or rows r None) (slice_index_or columns c None)
+
+-- the costs of the live cells of the row at place r are those of these parts
+abbrev pub IsLiveRow : Problem → ℕ → List ℤ → List ℤ → Type 0
+IsLiveRow X r firsts seconds = (d : ℕ) → live_at X r d ≡ table_cost seconds d (slice_index_or firsts d absent)
+
+-- all columns are open
+abbrev pub AreAllOpen : Problem → Type 0
+AreAllOpen X = (d : ℕ) → d < length X.columns → IsTrue (is_open X d)
+
+-- each of the first columns is the only copy of the column at its place
+abbrev pub ArePlain : ℕ → List (Option ℕ) → Type 0
+ArePlain count columns = (c : ℕ) → c < count → slice_index_or columns c None ≡ Some c
+
+-- no bit of the word is set from a count on
+abbrev pub IsInside : ℕ → ℕ → Type 0
+IsInside count word = (k : ℕ) → IsTrue (is_bit_set word k) → k < count
+
+-- these are so many cells side by side, and no bit is set past them
+pub record ArePieceOf {V : Type 0} (count : ℕ) (values : List V) (word : ℕ) (cell : ℕ → Option V) : Type 0 where
+  pub each : (k : ℕ) → k < count → piece_cell values word k ≡ cell k
+  pub inside : IsInside count word
+
+-- 64 labels are those of the only copies of as many columns, from a place on
+pub record IsPlainPiece (first columns : ℕ) (labels : List (Option ℕ)) : Type 0 where
+  pub full : length labels ≡ 64
+  pub within : first + 64 ≤ columns
+  pub each : (k : ℕ) → k < 64 → slice_index_or labels k None ≡ Some (first + k)
+
+-- the bits of a word below a count are those that pass the test, and no others are set
+pub record AreBitsOf (count : ℕ) (passes : ℕ → Bool) (word : ℕ) : Type 0 where
+  pub each : (k : ℕ) → k < count → is_bit_set word k ≡ passes k
+  pub inside : IsInside count word
+
+-- so many items of a list were written from a place on, of which this holds, and all others are as before
+pub record WritesPiece {V : Type 0} (before after : List V) (start count : ℕ) (Holds : List V → Type 0) : Type 0 where
+  pub piece : List V
+  pub count_is : length piece ≡ count
+  pub written : after ≡ take start before ++ (piece ++ drop (start + count) before)
+  pub holds : Holds piece

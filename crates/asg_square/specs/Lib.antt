@@ -1,12 +1,11 @@
-pub mod Limits
 pub mod Labels
 pub mod Cells
 pub mod Presence
 pub mod BitTable
 pub mod CellTable
 pub mod Filling
+pub mod Changes
 pub mod Grid
-pub mod Sums
 pub mod Completion
 pub mod ChoiceAssignment
 pub mod laws

@@ -1,7 +1,7 @@
--- Laws that upper crates cite: of sums and counts, of completions, of counted rows, of the copies of columns,
--- of places in a table.
-pub mod Counting
+-- Laws that upper crates cite: of completions, of counted rows, of the copies of columns,
+-- of places in a table, of rows whose values change.
 pub mod Bijections
 pub mod Rows
 pub mod Copies
 pub mod Places
+pub mod Changes

@@ -3,14 +3,13 @@
 ghost use Rattle.std.specs.Prelude.{◌≡◌, ◌<◌, ◌≤◌, ◌+◌, ℕ, not, false, length, map, All, IfSome, IfOk, is_some, slice_index_or};
 ghost use Rattle.std.specs.List.{range_with_len};
 ghost use Rattle.std.specs.Option.{unwrap_or};
-ghost use Rattle.asg_model.specs.Limits.{most_rows};
+ghost use Rattle.asg_model.specs.Limits.{most_rows, most_side};
 ghost use Rattle.asg_model.specs.Shapes.{square_side};
 ghost use Rattle.asg_model.specs.ValidChoice.{IsValid, takes};
 ghost use Rattle.asg_square.specs.ChoiceAssignment.{takers_before, own_copy, perm_list};
 ghost use Rattle.asg_square.specs.Completion.{is_free, free_columns, completed};
 ghost use Rattle.asg_square.specs.Labels.{first_copy};
-ghost use Rattle.asg_square.specs.Limits.{most_side};
-ghost use Rattle.asg_square.specs.Sums.{one, passing_below};
+ghost use Rattle.asg_model.specs.Sums.{one, passing_below};
 
 use crate::NoMemory;
 use asg_model::{Choice, Instance};

@@ -1,8 +1,8 @@
 //! Rows of bits, 64 to a word.
 
-ghost use Rattle.std.specs.Prelude.{◌≡◌, ◌≢◌, ◌<◌, ◌≤◌, ℕ, false, length, IfOk};
-ghost use Rattle.asg_square.specs.Limits.{most_side};
-ghost use Rattle.asg_square.specs.BitTable.{BitTable, is_bit_set, has_bit, IsBitTable, PutsBit, AreWordsOf};
+ghost use Rattle.std.specs.Prelude.{◌≡◌, ◌≢◌, ◌<◌, ◌≤◌, ◌+◌, ◌*◌, ℕ, IsTrue, false, length, IfOk};
+ghost use Rattle.asg_model.specs.Limits.{most_side};
+ghost use Rattle.asg_square.specs.BitTable.{BitTable, is_bit_set, has_bit, word_count, IsBitTable, PutsBit, PutsWord, AreWordsOf};
 
 use crate::NoMemory;
 use std::alloc::Global;
@@ -65,6 +65,18 @@ impl BitRows {
         let place = (r * self.width + c / 64) as usize;
         let word = with_bit(self.words[place], c % 64, is_set);
         self.words[place] = word;
+    }
+
+    /// Sets or clears the 64 bits of a word of a row at once, those of the columns from `64 * number`
+    /// on. The word has no bit past the last column. It takes no memory.
+    pub fn put_word(&mut self, r: u32, number: u32, word: u64)
+        requires row_below { r < self.old.rows }
+        requires number_below { number < word_count self.old.columns }
+        requires inside { (k : ℕ) → k < 64 → IsTrue (is_bit_set word k)
+            → 64 * number + k < self.old.columns }
+        ensures { PutsWord self.old self.new r number word }
+    {
+        self.words[(r * self.width + number) as usize] = word;
     }
 
     /// The words of a row: bit `c % 64` of word `c / 64` says whether column `c` is set, and no bit past

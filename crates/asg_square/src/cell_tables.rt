@@ -1,12 +1,20 @@
 //! Square tables of optional values: plain values row by row, and rows of bits that say which are there.
 
-ghost use Rattle.std.specs.Prelude.{◌≡◌, ◌<◌, ◌≤◌, ◌+◌, ◌*◌, is_some, IfOk, slice_set};
-ghost use Rattle.asg_square.specs.BitTable.{AreWordsOf};
-ghost use Rattle.asg_square.specs.CellTable.{CellTable as Table, entry_at, IsCellTable, AreValuesOf};
-ghost use Rattle.asg_square.specs.Limits.{most_side};
+ghost use Rattle.std.specs.Prelude.{◌≡◌, ◌<◌, ◌≤◌, ◌+◌, ◌*◌, length, Some, is_some, IsSome, IfOk, IfSome, slice_set};
+ghost use Rattle.asg_model.specs.declared.parts.Cost.{Cost};
+ghost use Rattle.asg_square.specs.BitTable.{AreWordsOf, word_count};
+ghost use Rattle.asg_square.specs.Cells.{labelled_cell};
+ghost use Rattle.asg_square.specs.Changes.{MapsTableRow, MayMapRow};
+ghost use Rattle.asg_square.specs.CellTable.{CellTable as Table, entry_at, IsCellTable, AreValuesOf, AreAllValuesOf};
+ghost use Rattle.asg_square.specs.Filling.{IsLiveRow, FillsPiece};
+ghost use Rattle.asg_square.specs.Grid.{MayEnterEach, Entering};
+ghost use Rattle.asg_model.specs.Limits.{most_side};
 
 use crate::NoMemory;
 use crate::bit_rows::{BitRows, overwrite};
+use crate::row_changes::change_row;
+use crate::rows::{ColumnLabels, write_piece};
+use asg_model::{Cost, Instance, RowParts};
 use std::alloc::Global;
 use std::marker::Model;
 
@@ -78,6 +86,66 @@ impl<V: Copy> CellTable<V> {
         self.present.put(r, c, cell.is_some());
     }
 
+    // Gives a present cell another value.
+    pub(crate) fn replace(&mut self, r: u32, c: u32, value: V)
+        requires row_below { r < self.old.side }
+        requires column_below { c < self.old.side }
+        requires present { IsSome (entry_at self.old.side self.old.cells r c) }
+        ensures { let place = r * self.old.side + c in
+            self.new ≡ record self.old { cells = slice_set self.old.cells place (Some value) } }
+    {
+        self.values[(r * self.side + c) as usize] = value;
+    }
+
+    // Gives each present cell of a row another value, by its column.
+    pub(crate) fn map_row<F: Fn(u32, V) -> V>(&mut self, r: u32, change: &F)
+        requires row { r < self.old.side }
+        requires changes { MayMapRow (entry_at self.old.side self.old.cells r) (F.pre change.now) }
+        ensures row { MapsTableRow self.old self.new r (F.post change.now) }
+        ensures table { IsCellTable self.new }
+    {
+        let start = (r * self.side) as usize;
+        let side = self.side as usize;
+        let words = self.present.row(r);
+        change_row(&mut self.values, start, side, words, change);
+    }
+
+    // Writes 64 cells of a row, fewer at its end: those of a row with this label, by its parts where it
+    // is counted.
+    pub(crate) fn fill_piece<E: Fn(Cost) -> V>(
+        &mut self,
+        inst: &Instance,
+        free: V,
+        enter: &E,
+        row: Option<u32>,
+        parts: RowParts<'_>,
+        columns: &ColumnLabels<'_>,
+        r: u32,
+        number: u32,
+    )
+        requires enters { MayEnterEach inst.now (E.pre enter.now) }
+        requires live { IfSome row (λ i. IsLiveRow inst.now i parts.firsts.now parts.seconds.now) }
+        requires row_below { r < self.old.side }
+        requires number_below { number < word_count self.old.side }
+        requires count { length columns.now.labels.now ≡ self.old.side }
+        ensures side { self.new.side ≡ self.old.side }
+        ensures table { IsCellTable self.new }
+        ensures piece { Entering inst.now (E.post enter.now) (λ entered.
+            FillsPiece self.old self.new r number columns.now.labels.now
+            (labelled_cell inst.now free entered row)) }
+    {
+        let first = 64 * number as usize;
+        let end = (first + 64).min(self.side as usize);
+        let labels = &columns.labels[first..end];
+        let is_plain = first + 64 <= parts.firsts.len().min(columns.plain as usize);
+        let start = (r * self.side) as usize + first;
+        let values = &mut self.values;
+        let word = write_piece(
+            inst, free, enter, row, parts, first, is_plain, labels, values, start,
+        );
+        self.present.put_word(r, number, word);
+    }
+
     // The values of a row; those of absent cells mean nothing.
     pub(crate) fn row_values(&self, r: u32) -> &[V]
         requires { r < self.now.side }
@@ -85,6 +153,13 @@ impl<V: Copy> CellTable<V> {
     {
         let first = (r * self.side) as usize;
         &self.values[first..first + self.side as usize]
+    }
+
+    // The values of all cells, row by row; those of absent cells mean nothing.
+    pub(crate) fn values(&self) -> &[V]
+        ensures { AreAllValuesOf self.now.cells result.now }
+    {
+        self.values.as_slice()
     }
 
     // The words that say which cells of a row are present.

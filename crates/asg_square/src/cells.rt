@@ -1,16 +1,18 @@
 //! The cells of the square of an instance.
 
-ghost use Rattle.std.specs.Prelude.{◌≡◌, ◌<◌, ◌≤◌, length};
+ghost use Rattle.std.specs.Prelude.{◌≡◌, ◌<◌, ◌≤◌, IsTrue, IfSome, length};
 ghost use Rattle.std.specs.Option.{option_map};
 ghost use Rattle.asg_model.specs.declared.parts.Cost.{Cost};
 ghost use Rattle.asg_model.specs.Live.{live_at};
 ghost use Rattle.asg_square.specs.Cells.{labelled_cell};
 ghost use Rattle.asg_square.specs.CellTable.{IsCellTable};
-ghost use Rattle.asg_square.specs.Filling.{FillsRow, AreFilled};
+ghost use Rattle.asg_square.specs.Filling.{AreAllOpen, IsLiveRow, FillsRow, AreFilled};
 ghost use Rattle.asg_square.specs.Grid.{MayEnterEach, Entering};
 
 use crate::cell_tables::CellTable;
-use asg_model::{Cost, Instance, Place};
+use crate::pieces::extra_cell;
+use crate::rows::{ColumnLabels, are_all_open, column_labels, row_parts};
+use asg_model::{Cost, Instance, Place, RowParts};
 
 // Writes the cells of the square, row by row.
 pub(crate) fn fill_cells<V: Copy, E: Fn(Cost) -> V>(
@@ -30,13 +32,79 @@ pub(crate) fn fill_cells<V: Copy, E: Fn(Cost) -> V>(
         AreFilled cells.new rows.now columns.now (labelled_cell inst.now free entered)) }
 {
     let side = cells.side();
+    let are_open = are_all_open(inst);
+    let labels = column_labels(columns);
     for r in 0..side {
-        fill_row(inst, free, enter, rows[r as usize], columns, r, cells);
+        fill_row(
+            inst,
+            free,
+            enter,
+            rows[r as usize],
+            are_open,
+            &labels,
+            r,
+            cells,
+        );
     }
 }
 
-// Writes the cells of one row of the square.
+// Writes the cells of one row of the square: of a row that isn't counted and of one that is live as a
+// whole 64 at a time, of each other one by one.
 fn fill_row<V: Copy, E: Fn(Cost) -> V>(
+    inst: &Instance,
+    free: V,
+    enter: &E,
+    row: Option<u32>,
+    are_open: bool,
+    columns: &ColumnLabels<'_>,
+    r: u32,
+    cells: &mut CellTable<V>,
+)
+    requires enters { MayEnterEach inst.now (E.pre enter.now) }
+    requires opened { IsTrue are_open → AreAllOpen inst.now }
+    requires below { r < cells.old.side }
+    requires count { length columns.now.labels.now ≡ cells.old.side }
+    ensures side { cells.new.side ≡ cells.old.side }
+    ensures table { IsCellTable cells.new }
+    ensures row { Entering inst.now (E.post enter.now) (λ entered.
+        FillsRow cells.old cells.new r columns.now.labels.now
+        (labelled_cell inst.now free entered row)) }
+{
+    match row_parts(inst, row, are_open) {
+        Some(parts) => fill_pieces(inst, free, enter, row, parts, columns, r, cells),
+        None => fill_one_by_one(inst, free, enter, row, columns.labels, r, cells),
+    }
+}
+
+// Writes the cells of one row of the square, 64 at a time.
+fn fill_pieces<V: Copy, E: Fn(Cost) -> V>(
+    inst: &Instance,
+    free: V,
+    enter: &E,
+    row: Option<u32>,
+    parts: RowParts<'_>,
+    columns: &ColumnLabels<'_>,
+    r: u32,
+    cells: &mut CellTable<V>,
+)
+    requires enters { MayEnterEach inst.now (E.pre enter.now) }
+    requires live { IfSome row (λ i. IsLiveRow inst.now i parts.firsts.now parts.seconds.now) }
+    requires below { r < cells.old.side }
+    requires count { length columns.now.labels.now ≡ cells.old.side }
+    ensures side { cells.new.side ≡ cells.old.side }
+    ensures table { IsCellTable cells.new }
+    ensures row { Entering inst.now (E.post enter.now) (λ entered.
+        FillsRow cells.old cells.new r columns.now.labels.now
+        (labelled_cell inst.now free entered row)) }
+{
+    let side = cells.side();
+    for number in 0..side.div_ceil(64) {
+        cells.fill_piece(inst, free, enter, row, parts, columns, r, number);
+    }
+}
+
+// Writes the cells of one row of the square, one by one.
+fn fill_one_by_one<V: Copy, E: Fn(Cost) -> V>(
     inst: &Instance,
     free: V,
     enter: &E,
@@ -74,10 +142,7 @@ fn labelled_cell<V: Copy, E: Fn(Cost) -> V>(
 {
     match (row, column) {
         (Some(r), Some(d)) => entered_cost(inst, enter, r, d),
-        (Some(_), None) => match inst.place() {
-            Place::All => None,
-            Place::Exactly(_) => Some(free),
-        },
+        (Some(_), None) => extra_cell(inst.place(), free),
         (None, Some(_)) => Some(free),
         (None, None) => match inst.place() {
             Place::All => Some(free),

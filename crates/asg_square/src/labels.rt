@@ -2,9 +2,9 @@
 
 ghost use Rattle.std.specs.Prelude.{◌≡◌, ◌<◌, ◌≤◌, ◌*◌, ℕ, length, map, Some, None, slice_index_or};
 ghost use Rattle.std.specs.List.{range_with_len};
+ghost use Rattle.asg_model.specs.Limits.{most_side};
 ghost use Rattle.asg_model.specs.Live.{is_active};
 ghost use Rattle.asg_square.specs.Labels.{row_label, column_label};
-ghost use Rattle.asg_square.specs.Limits.{most_side};
 
 use asg_model::{Instance, Place};
 
@@ -20,7 +20,7 @@ fn row_label(inst: &Instance, r: u32) -> Option<u32>
 }
 
 // Whether there is a row at this place, and it is active.
-fn is_active(inst: &Instance, r: u32) -> bool
+pub(crate) fn is_active(inst: &Instance, r: u32) -> bool
     ensures { result ≡ is_active inst.now r }
 {
     match inst.rows().get(r as usize) {

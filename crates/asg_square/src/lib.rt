@@ -11,10 +11,14 @@ mod assignments;
 mod bit_rows;
 mod cell_tables;
 mod cells;
+#[cfg(test)]
+mod change_tests;
 mod choices;
 mod labels;
 pub mod laws;
-pub mod limits;
+mod pieces;
+mod row_changes;
+mod rows;
 #[cfg(test)]
 mod samples;
 mod squares;

@@ -5,7 +5,7 @@ ghost use Rattle.asg_model.specs.Counts.{placed_by};
 ghost use Rattle.asg_model.specs.Instances.{IsCostInRange, AreCellsOf};
 
 use asg_model::laws::insert_law;
-use asg_model::{Column, Cost, Instance, NoMemory, Place, Row};
+use asg_model::{ABSENT, Column, Cost, Instance, NoMemory, Place, Row};
 use std::alloc::Global;
 use std::collections::BTreeMap;
 
@@ -100,4 +100,34 @@ pub(crate) fn sample(alloc: Global, count: u32, second: bool) -> Result<Instance
         },
     ]?;
     Ok(Instance::with(rows, columns, cells, place))
+}
+
+// The table `3 1 / - 5` of costs, with two columns of capacity 2. `second` tells whether its second
+// column is open.
+pub(crate) fn table(alloc: Global, second: bool) -> Result<Instance, NoMemory> {
+    let rows = vec![in alloc;
+        Row {
+            id: 1,
+            active: true
+        },
+        Row {
+            id: 2,
+            active: true
+        },
+    ]?;
+    let columns = vec![in alloc;
+        Column {
+            id: 1,
+            cap: 2,
+            usable: true
+        },
+        Column {
+            id: 2,
+            cap: 2,
+            usable: second
+        },
+    ]?;
+    let costs = vec![in alloc; 3, 1, ABSENT, 5]?;
+    let seconds = Vec::new(alloc);
+    Ok(Instance::of_table(rows, columns, costs, seconds, Place::All))
 }

@@ -1,11 +1,12 @@
 //! Squares.
 
-ghost use Rattle.std.specs.Prelude.{◌≡◌, ◌<◌, ◌≤◌, ◌+◌, ◌*◌, Some, is_some, IfOk, slice_get, slice_set};
+ghost use Rattle.std.specs.Prelude.{◌≡◌, ◌<◌, ◌≤◌, ◌+◌, ◌*◌, Some, is_some, IsSome, IfOk, slice_get, slice_set};
 ghost use Rattle.asg_model.specs.declared.parts.Cost.{Cost};
 ghost use Rattle.asg_square.specs.BitTable.{AreWordsOf};
-ghost use Rattle.asg_square.specs.CellTable.{AreValuesOf};
+ghost use Rattle.asg_square.specs.Changes.{MapsRow, MayMapRow};
+ghost use Rattle.asg_square.specs.CellTable.{AreValuesOf, AreAllValuesOf};
 ghost use Rattle.asg_square.specs.Grid.{Grid, IsGrid, cell_at, MayEnterEach, IsSquareBy, HasLabelsOf};
-ghost use Rattle.asg_square.specs.Limits.{most_side};
+ghost use Rattle.asg_model.specs.Limits.{most_side};
 ghost use Rattle.asg_model.specs.Shapes.{square_side};
 
 use crate::NoMemory;
@@ -133,12 +134,41 @@ impl<V: Copy> Square<V> {
         self.cells.set(r, c, cell);
     }
 
+    /// Gives a present cell another value. All other cells, the side and the labels stay. It takes no
+    /// memory.
+    pub fn replace(&mut self, r: u32, c: u32, value: V)
+        requires row_below { r < self.old.side }
+        requires column_below { c < self.old.side }
+        requires present { IsSome (cell_at self.old r c) }
+        ensures { let place = r * self.old.side + c in
+            self.new ≡ record self.old { cells = slice_set self.old.cells place (Some value) } }
+    {
+        self.cells.replace(r, c, value);
+    }
+
+    /// Gives each present cell of a row the value that `change` makes of its column and its value. All
+    /// other cells, the side and the labels stay. It takes no memory.
+    pub fn map_row<F: Fn(u32, V) -> V>(&mut self, r: u32, change: &F)
+        requires row { r < self.old.side }
+        requires changes { MayMapRow (cell_at self.old r) (F.pre change.now) }
+        ensures { MapsRow self.old self.new r (F.post change.now) }
+    {
+        self.cells.map_row(r, change);
+    }
+
     /// The values of a row, one for each column; that of an absent cell means nothing.
     pub fn row_values(&self, r: u32) -> &[V]
         requires { r < self.now.side }
         ensures { AreValuesOf (cell_at self.now r) self.now.side result.now }
     {
         self.cells.row_values(r)
+    }
+
+    /// The values of all cells, row by row; that of an absent cell means nothing.
+    pub fn values(&self) -> &[V]
+        ensures { AreAllValuesOf self.now.cells result.now }
+    {
+        self.cells.values()
     }
 
     /// Which cells of a row are present: bit `c % 64` of word `c / 64` says it of column `c`, and no

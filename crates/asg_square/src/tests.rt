@@ -5,9 +5,9 @@ ghost use Rattle.asg_model.specs.Shapes.{square_side};
 ghost use Rattle.asg_square.specs.Grid.{CoversSquareOf};
 
 use super::laws::grid_law;
-use super::limits::MOST_SIDE;
-use super::samples::sample;
+use super::samples::{sample, table};
 use super::*;
+use asg_model::limits::MOST_SIDE;
 use asg_model::{Choice, Cost, Instance, Place, PlaceRange, is_valid};
 use std::alloc::Global;
 use std::test::Fail;
@@ -146,6 +146,45 @@ fn fills_the_square_of_an_instance(rt: HostRuntime) -> Result<(), Fail> {
         assert!(rt; inst.side() <= 6);
         let square = filled(rt.alloc(), &inst)?;
         assert!(rt; has_rows(&square, &want), "{count} {second}");
+    }
+    Ok(())
+}
+
+// Whether the second column of the table is open, and the cells of its square.
+const TABLES: [(bool, [[i64; 6]; 6]); 2] = [
+    (
+        true,
+        [
+            [3, 3, 1, 1, 0, 0],
+            [-1, -1, 5, 5, 0, 0],
+            [9, 9, 9, 9, 0, 0],
+            [9, 9, 9, 9, 0, 0],
+            [0; 6],
+            [0; 6],
+        ],
+    ),
+    (
+        false,
+        [
+            [3, 3, -1, -1, 0, 0],
+            [-1, -1, -1, -1, 0, 0],
+            [9, 9, 9, 9, 0, 0],
+            [9, 9, 9, 9, 0, 0],
+            [0; 6],
+            [0; 6],
+        ],
+    ),
+];
+
+#[test]
+fn fills_the_square_of_a_table(rt: HostRuntime) -> Result<(), Fail> {
+    for (second, want) in TABLES {
+        let inst = table(rt.alloc(), second)?;
+        assert_eq!(rt; inst.side(), 4);
+        let square = filled(rt.alloc(), &inst)?;
+        assert!(rt; has_rows(&square, &want), "{second}");
+        assert_eq!(rt; square.values().len(), 16);
+        assert_eq!(rt; square.values()[1], 3);
     }
     Ok(())
 }

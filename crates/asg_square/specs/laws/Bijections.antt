@@ -8,9 +8,9 @@ use Rattle.std.proofs.lemmas.Bool.Decides.{Decides-eqb}
 use Rattle.std.proofs.lemmas.List.{get_or-map, length-map}
 use Rattle.std.proofs.lemmas.List.Folds.{Any-from_list_any}
 use Rattle.asg_model.specs.ValidChoice.{takes}
-use Rattle.asg_square.specs.Sums.{sum_below, count_below, passing_below, one}
+use Rattle.asg_model.specs.Sums.{sum_below, count_below, passing_below, one}
 use Rattle.asg_square.specs.Completion.{is_free, free_columns, lacks, completed}
-use Rattle.asg_square.specs.laws.Counting.{sum_below-same, sum_below-le, sum_below-add, sum_below-zero, sum_below-exchange, term-le-sum_below, length-passing_below, length-le-count_below, length-le_contains}
+use Rattle.asg_model.specs.laws.Counting.{sum_below-same, sum_below-le, sum_below-add, sum_below-zero, sum_below-exchange, term-le-sum_below, length-passing_below, length-le-count_below, length-le_contains}
 
 -- a sum over the first numbers and over those after them
 pub sum_below-split : (f : ℕ → ℕ) (n m : ℕ) → sum_below f (n + m) ≡ sum_below f n + sum_below (λ k. f (n + k)) m

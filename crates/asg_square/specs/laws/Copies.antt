@@ -12,8 +12,8 @@ use Rattle.asg_model.specs.declared.parts.Column.{Column}
 use Rattle.asg_model.specs.Problem.{Problem}
 use Rattle.asg_model.specs.Counts.{capacity_at, total_capacity}
 use Rattle.asg_square.specs.Labels.{copies_of, copies, first_copy, column_label}
-use Rattle.asg_square.specs.Sums.{sum_below, count_below, one}
-use Rattle.asg_square.specs.laws.Counting.{sum_below-same, sum_by-below}
+use Rattle.asg_model.specs.Sums.{sum_below, count_below, one}
+use Rattle.asg_model.specs.laws.Counting.{sum_below-same, sum_by-below}
 use Rattle.asg_square.specs.laws.Bijections.{sum_below-split}
 
 -- as many copies as capacities in all

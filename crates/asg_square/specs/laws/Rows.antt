@@ -16,8 +16,8 @@ use Rattle.asg_model.specs.Instances.{IsPlaceInRange}
 use Rattle.asg_model.specs.Live.{is_active, is_open, cost_at, live_at}
 use Rattle.asg_model.specs.Counts.{active_count, counted_by, is_counted_by, total_capacity}
 use Rattle.asg_model.specs.Shapes.{square_side, side_by}
-use Rattle.asg_square.specs.Sums.{sum_below, count_below, one}
-use Rattle.asg_square.specs.laws.Counting.{sum_below-same, sum_by-below}
+use Rattle.asg_model.specs.Sums.{sum_below, count_below, one}
+use Rattle.asg_model.specs.laws.Counting.{sum_below-same, sum_by-below}
 use Rattle.asg_square.specs.laws.Bijections.{ones_below}
 
 pub no_row : Row

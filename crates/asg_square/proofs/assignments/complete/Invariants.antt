@@ -1,6 +1,6 @@
 use Rattle.std.proofs.Common.{◌≡◌, ◌≤◌, length, get_or, None, map}
 use Rattle.std.specs.List.{range_with_len}
-use Rattle.asg_square.specs.Sums.{count_below}
+use Rattle.asg_model.specs.Sums.{count_below}
 use Rattle.asg_square.specs.Completion.{lacks, completed}
 use Rattle.asg_square.proofs.assignments.complete.Given as goal
 

@@ -2,7 +2,7 @@ use Rattle.std.proofs.Common.{◌≡◌, ◌<◌, ℕ, length, get_or, None, fal
 use Rattle.std.specs.List.{range_with_len}
 use Rattle.std.proofs.lemmas.Result.{IfOk-weaker}
 use Rattle.asg_model.specs.Shapes.{square_side}
-use Rattle.asg_square.specs.Sums.{passing_below}
+use Rattle.asg_model.specs.Sums.{passing_below}
 use Rattle.asg_square.specs.Completion.{is_free, free_columns, completed}
 use Rattle.std.proofs.lemmas.List.FromFn.{length-map-range_with_len}
 use Rattle.asg_square.specs.laws.Rows.{rows_within}

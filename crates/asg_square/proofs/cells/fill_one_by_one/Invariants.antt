@@ -3,7 +3,7 @@ use Rattle.asg_square.specs.Cells.{labelled_cell}
 use Rattle.asg_square.specs.CellTable.{IsCellTable}
 use Rattle.asg_square.specs.Grid.{Entering}
 use Rattle.asg_square.proofs.SquareFilling.{FilledTo}
-use Rattle.asg_square.proofs.cells.fill_row.Given as goal
+use Rattle.asg_square.proofs.cells.fill_one_by_one.Given as goal
 
 abbrev pub invariant-loop-c : goal.invariant-loop-c
 invariant-loop-c g l =

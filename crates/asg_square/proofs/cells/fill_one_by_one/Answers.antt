@@ -2,7 +2,7 @@ use Rattle.std.proofs.Common.{◌≡◌, ◌<◌, ◌≤◌, ◌+◌, ◌*◌, �
 use Rattle.asg_square.specs.Cells.{labelled_cell}
 use Rattle.asg_square.specs.CellTable.{IsCellTable}
 use Rattle.asg_square.proofs.SquareFilling.{FilledTo, filled_more, filled_row, set_is_table}
-use Rattle.asg_square.proofs.cells.fill_row.Goals as goal
+use Rattle.asg_square.proofs.cells.fill_one_by_one.Goals as goal
 
 pub loop-c-preserved : goal.loop-c-preserved
 loop-c-preserved g c =

@@ -1,0 +1,153 @@
+-- Rows of a square that are filled 64 cells at a time.
+use Rattle.std.proofs.Common.{◌≡◌, ℕ, ◌+◌, ◌-◌, ◌*◌, ◌/◌, ◌%◌, ◌<◌, ◌≤◌, min, Bool, true, false, ◌&&◌, cond, eqb, ltb, List, ◌++◌, leb, length, get_or, take, drop, Option, None, refl, arith, sym, ap, subst, ◌∙◌, ⊎_elim, ℤ}
+use Rattle.std.specs.Prelude.{IsTrue}
+use Rattle.std.specs.Option.{option_map_or}
+use Rattle.std.proofs.lemmas.Bool.{cases_lt, cases_order, eq-eqb, ne_eqb, lt-ltb, le-ltb, leb-true}
+use Rattle.std.proofs.lemmas.List.{get_or_past, get_or-take, get_or-drop, length-append, length-take, length-take-le, length-drop, drop-drop, drop_all, append-nil, take_all}
+use Rattle.std.proofs.lemmas.Option.{slice_get_past, none-some}
+use Rattle.asg_model.specs.declared.parts.Column.{Column}
+use Rattle.asg_model.specs.Problem.{Problem}
+use Rattle.asg_model.specs.Live.{is_active, is_open, cost_at}
+use Rattle.asg_model.specs.Table.{absent, table_cost, AreRowParts}
+use Rattle.asg_square.specs.CellTable.{CellTable, entry_at, stored_cells, IsStored, piece_cell}
+use Rattle.asg_square.specs.Filling.{IsLiveRow, ArePlain, IsPlainPiece, ArePieceOf, FillsPiece, FillsRow}
+use Rattle.asg_square.specs.BitTable.{BitTable, word_count, PutsWord}
+use Rattle.asg_square.proofs.TablePieces.{PutsPiece, spliced, stored_after, puts_piece}
+
+-- ---- a row that is live as a whole
+
+-- the parts of a row, where it is active and all columns are open
+pub live_of_parts : (X : Problem) (r : ℕ) (firsts seconds : List ℤ) → is_active X r ≡ true → ((d : ℕ) → d < length X.columns → IsTrue (is_open X d)) → AreRowParts X r firsts seconds → IsLiveRow X r firsts seconds
+live_of_parts X r firsts seconds active opened parts d =
+    ⊎_elim
+    (λ (within : d < length X.columns).
+    ap (λ b. cond (b && is_open X d) (cost_at X.cells r d) None) active
+    ∙ ap (λ b. cond b (cost_at X.cells r d) None) (opened d within)
+    ∙ parts.costs d within)
+    (λ (past : length X.columns ≤ d).
+    let closed : is_open X d ≡ false = ap (λ o. option_map_or (λ (column : Column). column.usable) o false) (slice_get_past X.columns d past) in
+    ap (λ b. cond (b && is_open X d) (cost_at X.cells r d) None) active
+    ∙ ap (λ b. cond b (cost_at X.cells r d) None) closed
+    ∙ sym (ap (table_cost seconds d) (get_or_past firsts d absent (omega (arith, past, parts.whole)))))
+    (cases_lt d (length X.columns))
+
+-- ---- pieces
+
+-- the labels of a piece
+pub piece_labels : {A : Type 0} (columns : List A) (first count k : ℕ) (o : A) → k < count → get_or (take count (drop first columns)) k o ≡ get_or columns (first + k) o
+piece_labels columns first count k o h = get_or-take count (drop first columns) k o h ∙ get_or-drop first columns k o
+
+-- what was written is the piece of these columns
+pub fills_piece : {V : Type 0} (T after : CellTable V) (r number : ℕ) (columns : List (Option ℕ)) (cell : Option ℕ → Option V) (values : List V) (word count : ℕ) → min 64 (T.side - 64 * number) ≤ count → PutsPiece T after r number values word → ArePieceOf count values word (λ k. cell (get_or columns (64 * number + k) None)) → FillsPiece T after r number columns cell
+fills_piece T after r number columns cell values word count enough puts piece = record {
+  side = puts.side;
+  each = λ s d h. puts.each s d h ∙ here s d h (eqb s r);
+}
+  where
+    inner : (s d : ℕ) → d < T.side → d / 64 ≡ number → piece_cell values word (d % 64) ≡ cell (get_or columns d None)
+    inner s d h e =
+        piece.each (d % 64) (omega (arith, e, h, enough))
+        ∙ ap (λ i. cell (get_or columns i None)) (omega (arith, e))
+
+    here : (s d : ℕ) → d < T.side → (b : Bool) → cond (b && eqb (d / 64) number) (piece_cell values word (d % 64)) (entry_at T.side T.cells s d) ≡ cond (b && eqb (d / 64) number) (cell (get_or columns d None)) (entry_at T.side T.cells s d)
+    here s d h false = refl
+    here s d h true =
+        ⊎_elim
+        (λ (same : d / 64 ≡ number). rw (eq-eqb (d / 64) number same) (inner s d h same))
+        (⊎_elim
+        (λ (before : d / 64 < number). rw (ne_eqb (d / 64) number (λ e. omega (arith, e, before))) refl)
+        (λ (after_it : number < d / 64). rw (ne_eqb (d / 64) number (λ e. omega (arith, e, after_it))) refl))
+        (cases_order (d / 64) number)
+
+-- the row as far as its first n pieces is filled
+abbrev pub FilledPieces : {V : Type 0} → CellTable V → CellTable V → ℕ → ℕ → List (Option ℕ) → (Option ℕ → Option V) → Type 0
+FilledPieces T now r n columns cell = (s d : ℕ) → d < T.side → entry_at now.side now.cells s d ≡ cond (eqb s r && ltb (d / 64) n) (cell (get_or columns d None)) (entry_at T.side T.cells s d)
+
+-- nothing yet
+pub pieces_none : {V : Type 0} (T : CellTable V) (r : ℕ) (columns : List (Option ℕ)) (cell : Option ℕ → Option V) → FilledPieces T T r 0 columns cell
+pieces_none T r columns cell s d within = none (eqb s r)
+  where
+    none : (b : Bool) → entry_at T.side T.cells s d ≡ cond (b && ltb (d / 64) 0) (cell (get_or columns d None)) (entry_at T.side T.cells s d)
+    none true = rw (le-ltb (d / 64) 0 (omega arith)) refl
+    none false = refl
+
+step_by : {A : Type 0} (c d : ℕ) (x old : A) (b : Bool) → cond (b && eqb d c) x (cond (b && ltb d c) x old) ≡ cond (b && ltb d (c + 1)) x old
+step_by c d x old false = refl
+step_by c d x old true =
+    ⊎_elim
+    (λ (here : d ≡ c). rw (eq-eqb d c here, lt-ltb d (c + 1) (omega arith)) refl)
+    (⊎_elim
+    (λ (before : d < c). rw (ne_eqb d c (λ e. omega arith), lt-ltb d c before, lt-ltb d (c + 1) (omega arith)) refl)
+    (λ (after : c < d). rw (ne_eqb d c (λ e. omega arith), le-ltb d c (omega arith), le-ltb d (c + 1) (omega arith)) refl))
+    (cases_order d c)
+
+-- one piece more
+pub pieces_more : {V : Type 0} (T now after : CellTable V) (r n : ℕ) (columns : List (Option ℕ)) (cell : Option ℕ → Option V) → now.side ≡ T.side → FillsPiece now after r n columns cell → FilledPieces T now r n columns cell → FilledPieces T after r (n + 1) columns cell
+pieces_more T now after r n columns cell side fills filled s d within =
+    fills.each s d (omega (arith, within, side))
+    ∙ ap (cond (eqb s r && eqb (d / 64) n) (cell (get_or columns d None))) (filled s d within)
+    ∙ step_by n (d / 64) (cell (get_or columns d None)) (entry_at T.side T.cells s d) (eqb s r)
+
+-- the whole row
+pub pieces_all : {V : Type 0} (T now : CellTable V) (r n : ℕ) (columns : List (Option ℕ)) (cell : Option ℕ → Option V) → now.side ≡ T.side → T.side ≤ 64 * n → FilledPieces T now r n columns cell → FillsRow T now r columns cell
+pieces_all T now r n columns cell side enough filled = record { side = side; each = λ s d within. filled s d within ∙ whole s d within (eqb s r) }
+  where
+    whole : (s d : ℕ) → d < T.side → (b : Bool) → cond (b && ltb (d / 64) n) (cell (get_or columns d None)) (entry_at T.side T.cells s d) ≡ cond b (cell (get_or columns d None)) (entry_at T.side T.cells s d)
+    whole s d within true = rw (lt-ltb (d / 64) n (omega (arith, within, enough))) refl
+    whole s d within false = refl
+
+-- ---- a piece written into a list
+
+-- the list that is given back has the piece
+pub written_back : {V : Type 0} (len start count : ℕ) (old xs new : List V) → xs ≡ old → len ≡ length old → length new ≡ count → start + count ≤ length old → take len ((take start xs ++ (new ++ drop (start + count - start) (drop start xs))) ++ drop (length (take start xs ++ (new ++ drop (start + count - start) (drop start xs)))) old) ≡ take start old ++ (new ++ drop (start + count) old)
+written_back len start count old xs new same long size fits =
+    let back = take start old ++ (new ++ drop (start + count) old) in
+    let is : take start xs ++ (new ++ drop (start + count - start) (drop start xs)) ≡ back =
+    ap (λ ys. take start ys ++ (new ++ drop (start + count - start) (drop start ys))) same
+    ∙ ap (λ ys. take start old ++ (new ++ ys)) (drop-drop (start + count - start) start old ∙ ap (λ n. drop n old) (omega arith)) in
+    let whole : length back ≡ length old =
+    omega (arith, length-append (take start old) (new ++ drop (start + count) old), length-append new (drop (start + count) old), length-take-le start old (omega (arith, fits)), length-drop (start + count) old, fits, size) in
+    ap (λ ys. take len (ys ++ drop (length ys) old)) is
+    ∙ ap (λ ys. take len (back ++ ys)) (drop_all (length back) old (omega (arith, whole)))
+    ∙ ap (take len) (append-nil back)
+    ∙ take_all len back (omega (arith, whole, long))
+
+-- labels that are plain as far as 64 of them
+pub plain_piece : (side plain columns number end few : ℕ) (labels : List (Option ℕ)) → ArePlain plain labels → length labels ≡ side → end ≡ min (64 * number + 64) side → few ≡ min columns plain → IsTrue (leb (64 * number + 64) few) → IsPlainPiece (64 * number) columns (take (end - 64 * number) (drop (64 * number) labels))
+plain_piece side plain columns number end few labels only count ends least is =
+    let first = 64 * number in
+    let upto : first + 64 ≤ few = leb-true (first + 64) few is in
+    let last = only (first + 63) (omega (arith, upto, least)) in
+    let within : first + 64 ≤ side =
+    ⊎_elim
+    (λ (below : first + 63 < length labels). omega (arith, below, count))
+    (λ (past : length labels ≤ first + 63). absurd (none-some (first + 63) (sym (get_or_past labels (first + 63) None past) ∙ last)))
+    (cases_lt (first + 63) (length labels)) in
+    record {
+      full = omega (arith, length-take (end - first) (drop first labels), length-drop first labels, within, ends, count);
+      within = omega (arith, upto, least);
+      each = λ k h. piece_labels labels first (end - first) k None (omega (arith, h, ends, within)) ∙ only (first + k) (omega (arith, h, upto, least));
+    }
+
+-- what was written into a table is the piece of these columns
+pub stored_piece : {V : Type 0} (side : ℕ) (values new : List V) (present after : BitTable) → IsStored side values present → (r number word end : ℕ) (columns : List (Option ℕ)) (piece : List V) → r < side → number < word_count side → length columns ≡ side → end ≡ min (64 * number + 64) side → length piece ≡ length (take (end - 64 * number) (drop (64 * number) columns)) → PutsWord present after r number word → new ≡ take (r * side + 64 * number) values ++ (piece ++ drop (r * side + 64 * number + length (take (end - 64 * number) (drop (64 * number) columns))) values) → IsStored side new after × PutsPiece (record { side = side; cells = stored_cells side values present }) (record { side = side; cells = stored_cells side new after }) r number piece word
+stored_piece side values new present after s r number word end columns piece row below count ends size puts written =
+    let start = r * side + 64 * number in
+    let is : new ≡ spliced values piece start = written ∙ ap (λ n. take start values ++ (piece ++ drop (start + n) values)) (sym size) in
+    let size_is : length piece ≡ min 64 (side - 64 * number) = omega (arith, size, length-take (end - 64 * number) (drop (64 * number) columns), length-drop (64 * number) columns, ends, count, below) in (
+      subst (λ xs. IsStored side xs after) (sym is) (stored_after side values present after s r number piece word row below size_is puts),
+      subst (λ xs. PutsPiece (record { side = side; cells = stored_cells side values present }) (record { side = side; cells = stored_cells side xs after }) r number piece word) (sym is)
+          (puts_piece side values present after s r number piece word row below size_is puts),
+    )
+
+-- the piece goes as far as the row
+pub piece_enough : (side number end : ℕ) (columns : List (Option ℕ)) → length columns ≡ side → end ≡ min (64 * number + 64) side → min 64 (side - 64 * number) ≤ length (take (end - 64 * number) (drop (64 * number) columns))
+piece_enough side number end columns count ends =
+    omega (arith, length-take (end - 64 * number) (drop (64 * number) columns), length-drop (64 * number) columns, ends, count)
+
+-- the cells by the labels of the piece are those by all labels
+pub labelled_piece : {V : Type 0} (count first : ℕ) (columns : List (Option ℕ)) (cell : Option ℕ → Option V) (values : List V) (word : ℕ) → ArePieceOf (length (take count (drop first columns))) values word (λ k. cell (get_or (take count (drop first columns)) k None)) → ArePieceOf (length (take count (drop first columns))) values word (λ k. cell (get_or columns (first + k) None))
+labelled_piece count first columns cell values word piece = record {
+  each = λ k h. piece.each k h ∙ ap cell (piece_labels columns first count k None (omega (arith, h, length-take count (drop first columns))));
+  inside = piece.inside;
+}

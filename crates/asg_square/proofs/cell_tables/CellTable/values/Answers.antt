@@ -1,0 +1,10 @@
+use Rattle.std.proofs.Common.{subst}
+use Rattle.asg_square.specs.CellTable.{AreAllValuesOf}
+use Rattle.asg_square.proofs.TableLemmas.{all_values}
+use Rattle.asg_square.proofs.cell_tables.CellTable.values.Goals as goal
+
+pub returns : goal.returns
+returns g c =
+    let s = c.self.inside in
+    subst (λ t. AreAllValuesOf t.cells c.as_slice.result.now) c.self.view_is
+    (all_values s.side s.values.items s.present c.self.invariant c.as_slice.result.now c.as_slice.ensures.value)

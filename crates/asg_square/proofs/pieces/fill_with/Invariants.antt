@@ -1,0 +1,11 @@
+use Rattle.std.proofs.Common.{◌≡◌, ℕ, ◌<◌, Some, length}
+use Rattle.std.specs.Prelude.{slice_get}
+use Rattle.asg_square.proofs.pieces.fill_with.Given as goal
+
+-- the values so far
+abbrev pub invariant-loop-k : goal.invariant-loop-k
+invariant-loop-k g l =
+    record {
+      count : length l.values ≡ length l.fn.values;
+      values : (k : ℕ) → k < l.k → slice_get l.values k ≡ Some l.value;
+    }

@@ -1,0 +1,18 @@
+use Rattle.std.proofs.Common.{sym}
+use Rattle.std.specs.Prelude.{Option, Some, None, IfSome}
+use Rattle.asg_model.specs.Table.{AreRowParts}
+use Rattle.asg_square.specs.Filling.{IsLiveRow}
+use Rattle.asg_square.proofs.RowLemmas.{live_of_parts}
+use Rattle.asg_square.proofs.rows.live_row.Goals as goal
+
+weaker : {A : Type 0} (o : Option A) (P Q : A → Type 0) → IfSome o P → ((x : A) → P x → Q x) → IfSome o Q
+weaker None P Q h f = tt
+weaker (Some x) P Q h f = f x h
+
+pub returns-then-is_active : goal.returns-then-is_active
+returns-then-is_active c =
+    let X = c.args.inst.now in
+    weaker c.row_parts.result (λ parts. AreRowParts X c.args.i parts.firsts.now parts.seconds.now)
+    (λ parts. IsLiveRow X c.args.i parts.firsts.now parts.seconds.now)
+    c.row_parts.ensures
+    (λ parts are. live_of_parts X c.args.i parts.firsts.now parts.seconds.now (sym c.if-is_active.ensures) c.requires are)

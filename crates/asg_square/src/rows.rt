@@ -1,0 +1,132 @@
+//! Rows of the square of an instance, 64 cells at a time.
+
+ghost use Rattle.std.specs.Prelude.{◌≡◌, ℕ, ◌+◌, ◌<◌, ◌≤◌, ◌&&◌, ◌||◌, IsTrue, IfSome, true, false, None, Some, is_some, length, slice_get, slice_index_or};
+ghost use Rattle.asg_model.specs.declared.parts.Cost.{Cost};
+ghost use Rattle.asg_square.specs.BitTable.{word_count};
+ghost use Rattle.asg_square.specs.Cells.{labelled_cell};
+ghost use Rattle.asg_square.specs.CellTable.{IsCellTable};
+ghost use Rattle.asg_square.specs.Filling.{AreAllOpen, ArePlain, IsPlainPiece, IsInside, IsLiveRow, ArePieceOf, WritesPiece};
+ghost use Rattle.asg_model.specs.Limits.{most_side};
+ghost use Rattle.asg_square.specs.Grid.{MayEnterEach, Entering};
+ghost use Rattle.asg_square.specs.Presence.{has_corner};
+
+use crate::cell_tables::CellTable;
+use crate::labels::is_active;
+use crate::pieces::row_piece;
+use asg_model::{Cost, Instance, Place, RowParts};
+
+// What the columns of the square are copies of. The first `plain` of them are the only copies of the
+// columns at their places.
+#[derive(Clone, Copy)]
+pub(crate) struct ColumnLabels<'a> {
+    pub(crate) labels: &'a [Option<u32>],
+    pub(crate) plain: u32,
+    ghost only: { ArePlain plain labels.now },
+}
+
+// Whether the label is that of the column at this place.
+fn is_label_of(label: Option<u32>, c: u32) -> bool
+    ensures { IsTrue result → label ≡ Some c }
+{
+    match label {
+        Some(d) => d == c,
+        None => false,
+    }
+}
+
+// How many of the first columns are the only copies of the columns at their places.
+fn plain_count(labels: &[Option<u32>]) -> u32
+    requires { length labels.now ≤ most_side }
+    ensures { ArePlain result labels.now }
+{
+    let count = labels.len() as u32;
+    for c in 0..count {
+        if !is_label_of(labels[c as usize], c) {
+            return c;
+        }
+    }
+    count
+}
+
+// These labels, and how many of the first ones are plain.
+pub(crate) fn column_labels(labels: &[Option<u32>]) -> ColumnLabels<'_>
+    requires { length labels.now ≤ most_side }
+    ensures { result.labels.now ≡ labels.now }
+{
+    let plain = plain_count(labels);
+    ColumnLabels { labels, plain }
+}
+
+// Whether all columns of the instance are open.
+pub(crate) fn are_all_open(inst: &Instance) -> bool
+    ensures { IsTrue result → AreAllOpen inst.now }
+{
+    for column in inst.columns() {
+        if !column.usable {
+            return false;
+        }
+    }
+    true
+}
+
+// The parts of the costs of a row where they stand side by side and all its cells are live.
+fn live_row(inst: &Instance, i: u32) -> Option<RowParts<'_>>
+    requires { AreAllOpen inst.now }
+    ensures { IfSome result (λ parts.
+        IsLiveRow inst.now i parts.firsts.now parts.seconds.now) }
+{
+    if is_active(inst, i) {
+        inst.row_parts(i)
+    } else {
+        None
+    }
+}
+
+// What the cells of a row with this label are made of, 64 at a time: nothing where it isn't counted, else
+// the parts of its costs, where they stand side by side and all its cells are live.
+pub(crate) fn row_parts(inst: &Instance, row: Option<u32>, are_open: bool) -> Option<RowParts<'_>>
+    requires { IsTrue are_open → AreAllOpen inst.now }
+    ensures { IfSome result (λ parts.
+        IfSome row (λ i. IsLiveRow inst.now i parts.firsts.now parts.seconds.now)) }
+{
+    match row {
+        None => Some(RowParts {
+            firsts: &[],
+            seconds: &[],
+        }),
+        Some(i) if are_open => live_row(inst, i),
+        Some(_) => None,
+    }
+}
+
+// Writes a piece of the row with this label into a list of values, from a place on.
+#[inline]
+pub(crate) fn write_piece<V: Copy, E: Fn(Cost) -> V>(
+    inst: &Instance,
+    free: V,
+    enter: &E,
+    row: Option<u32>,
+    parts: RowParts<'_>,
+    first: usize,
+    is_plain: bool,
+    columns: &[Option<u32>],
+    values: &mut Vec<V>,
+    start: usize,
+) -> u64
+    requires enters { MayEnterEach inst.now (E.pre enter.now) }
+    requires live { IfSome row (λ i. IsLiveRow inst.now i parts.firsts.now parts.seconds.now) }
+    requires plain { IsTrue is_plain
+        → IsPlainPiece first (length parts.firsts.now) columns.now }
+    requires within { start + length columns.now ≤ length values.old.items }
+    requires few { length columns.now ≤ 64 }
+    ensures inside { IsInside (length columns.now) result }
+    ensures piece { WritesPiece values.old.items values.new.items start (length columns.now)
+        (λ piece. Entering inst.now (E.post enter.now) (λ entered.
+        ArePieceOf (length columns.now) piece result
+        (λ k. labelled_cell inst.now free entered row (slice_index_or columns.now k None)))) }
+{
+    let values = &mut values.as_mut_slice()[start..start + columns.len()];
+    row_piece(
+        inst, free, enter, row, parts, first, is_plain, columns, values,
+    )
+}

@@ -24,9 +24,9 @@ use Rattle.asg_model.specs.Shapes.{square_side, side_by}
 use Rattle.asg_square.specs.Labels.{row_label, column_label, copies}
 use Rattle.asg_square.specs.Presence.{leaves_rows, has_corner, is_labelled_within, has_cell}
 use Rattle.asg_match.specs.HallSets.{AllowsCells, labelled_id, hall_ids}
-use Rattle.asg_square.specs.Sums.{sum_below, count_below}
-use Rattle.asg_square.specs.laws.Counting.{sum_below-same, sum_below-zero, length-le-count_below}
-use Rattle.asg_square.specs.Sums.{one}
+use Rattle.asg_model.specs.Sums.{sum_below, count_below}
+use Rattle.asg_model.specs.laws.Counting.{sum_below-same, sum_below-zero, length-le-count_below}
+use Rattle.asg_model.specs.Sums.{one}
 use Rattle.asg_square.specs.laws.Bijections.{ones_below, sum_below-split, count-le-within}
 use Rattle.asg_square.specs.laws.Copies.{length-copies, count-copies, count-labels}
 use Rattle.asg_square.specs.laws.Rows.{no_row, row-from_counted, copies_within}

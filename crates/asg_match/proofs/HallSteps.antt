@@ -21,8 +21,8 @@ use Rattle.asg_model.specs.Counts.{is_counted, is_counted_by, total_capacity}
 use Rattle.asg_model.specs.Shapes.{square_side, side_by}
 use Rattle.asg_square.specs.Labels.{row_label}
 use Rattle.asg_match.specs.HallSets.{labelled_id, hall_ids}
-use Rattle.asg_square.specs.laws.Counting.{length-le-count_below}
-use Rattle.asg_square.specs.Sums.{one}
+use Rattle.asg_model.specs.laws.Counting.{length-le-count_below}
+use Rattle.asg_model.specs.Sums.{one}
 use Rattle.asg_square.specs.laws.Bijections.{ones_below}
 use Rattle.asg_square.specs.laws.Rows.{row-from_counted}
 

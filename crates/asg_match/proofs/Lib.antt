@@ -1,11 +1,5 @@
-pub mod MatchingLemmas
 pub mod PairedLemmas
-pub mod BitLemmas
-pub mod ColumnLemmas
-pub mod Counting
-pub mod TreeLemmas
 pub mod PathLemmas
-pub mod HallLemmas
 pub mod SearchLemmas
 pub mod HallSteps
 pub mod HallIds

@@ -4,7 +4,7 @@ use Rattle.std.proofs.lemmas.List.{length-set}
 use Rattle.std.proofs.lemmas.Option.{none-some, same_Some}
 use Rattle.asg_match.specs.Matching.{column_at, Matches, IsFree, IsMatching}
 use Rattle.asg_match.specs.Paired.{IsPaired}
-use Rattle.asg_match.proofs.MatchingLemmas.{Matches-below, Matches-set_cases, Matches-set_other}
+use Rattle.asg_match.specs.laws.Matchings.{Matches-below, Matches-set_cases, Matches-set_other}
 
 -- the list by rows is a matching
 pub IsMatching-from_paired : {side : ℕ} {columns rows : List (Option ℕ)} → IsPaired side columns rows → IsMatching columns

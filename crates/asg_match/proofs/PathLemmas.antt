@@ -7,7 +7,7 @@ use Rattle.std.proofs.lemmas.Option.{none-some, same_Some}
 use Rattle.asg_match.specs.Matching.{column_at, Matches, IsMatched, IsFree, IsMatching}
 use Rattle.asg_match.specs.Alternating.{HasParent, IsTree}
 use Rattle.asg_match.specs.Flipped.{IsLink, Flips}
-use Rattle.asg_match.proofs.MatchingLemmas.{Matches-same, Matches-set_cases, IsMatching-set}
+use Rattle.asg_match.specs.laws.Matchings.{Matches-same, Matches-set_cases, IsMatching-set}
 
 -- the row at a place is about to get a free column; rows up to that place have what they had
 pub record IsFlipping (rows : List ℕ) (parents : ℕ → Option ℕ) (end_place end_column : ℕ) (before now : List (Option ℕ)) (place row column : ℕ) : Type 0 where

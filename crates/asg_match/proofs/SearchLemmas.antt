@@ -3,7 +3,7 @@ use Rattle.std.proofs.Common.{◌≡◌, ℕ, ◌<◌, ◌⊎◌, ⊎_elim, List
 use Rattle.asg_match.specs.declared.alternating_tree.Branches.{Branches}
 use Rattle.asg_match.specs.Alternating.{HasParent, IsReached}
 use Rattle.asg_match.specs.Searched.{parents_in, IsGrown, IsSearch, Extends}
-use Rattle.asg_match.proofs.MatchingLemmas.{Some-from_test}
+use Rattle.asg_match.specs.laws.Matchings.{Some-from_test}
 
 pub Extends-join : (first second third : Branches) → Extends first second → Extends second third → Extends first third
 Extends-join first second third e f =

@@ -7,10 +7,13 @@ use std::marker::Model;
 /// The rows that a search reached, in the order of reaching, for each column that was reached the
 /// place in `rows` of the row that it was reached from, and the other columns as bits.
 #[derive(Drop)]
-pub(crate) struct Branches {
-    pub(crate) rows: Vec<u32>,
-    pub(crate) parents: Vec<u32>,
-    pub(crate) unseen: Vec<u64>,
+pub struct Branches {
+    /// The rows of the tree, the root first.
+    pub rows: Vec<u32>,
+    /// For each column that was reached the place in `rows` of the row that it was reached from.
+    pub parents: Vec<u32>,
+    /// Which columns weren't reached: bit `c % 64` of word `c / 64` for column `c`.
+    pub unseen: Vec<u64>,
 }
 
 /// An alternating tree: rows that a root reaches by allowed cells and back by matched ones. Its

@@ -22,9 +22,9 @@ pub(crate) fn fill(words: &mut Vec<u64>, side: usize)
     }
 }
 
-// Takes a column out of the set.
+/// Takes a column out of the set: bit `column % 64` of word `column / 64`.
 #[inline]
-pub(crate) fn remove(words: &mut Vec<u64>, side: usize, column: usize)
+pub fn remove(words: &mut Vec<u64>, side: usize, column: usize)
     requires set { IsColumnSet side words.old.items }
     requires below { column < side }
     ensures set { IsColumnSet side words.new.items }

@@ -6,7 +6,7 @@ ghost use Rattle.std.specs.Option.{option_map};
 ghost use Rattle.asg_match.specs.HallSets.{GivesHallSets, labelled_id, hall_ids};
 ghost use Rattle.asg_match.specs.Deficient.{IsDeficient};
 ghost use Rattle.asg_square.specs.Grid.{HasLabelsOf};
-ghost use Rattle.asg_square.specs.Sums.{one};
+ghost use Rattle.asg_model.specs.Sums.{one};
 
 use crate::Allowed;
 use asg_model::Instance;

@@ -21,12 +21,15 @@ mod search;
 mod tests;
 
 pub use allowed::Allowed;
-pub use alternating_tree::Tree;
+pub use alternating_tree::{Branches, Tree};
 pub use augmentation::{Grown, augment};
+pub use column_set::remove;
 pub use hall_set::hall_of;
 pub use matching::Matching;
+pub use path::flip;
 pub use perfect::{Pairing, Rows, complete, perfect_or_hall, short_or_perfect};
 pub use pruning::prune;
+pub use search::{Exit, start};
 use std::alloc::AllocError;
 
 /// There was not enough memory.

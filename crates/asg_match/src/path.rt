@@ -16,9 +16,9 @@ fn parent(tree: &Branches, column: u32) -> u32
     tree.parents[column as usize]
 }
 
-// Gives the exit's column to the exit's row, that row's former column to the row that reached it,
-// and so on up to the root.
-pub(crate) fn flip(matching: &mut Matching, tree: &Branches, exit: Exit)
+/// Gives the exit's column to the exit's row, that row's former column to the row that reached it,
+/// and so on up to the root: the root and every row that had a column have one. It takes no memory.
+pub fn flip(matching: &mut Matching, tree: &Branches, exit: Exit)
     requires grown { IsTree matching.old tree.now.rows.items (parents_in tree.now) }
     requires place_within { exit.place < length tree.now.rows.items }
     requires column_below { exit.column < length matching.old }

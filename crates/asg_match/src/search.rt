@@ -10,13 +10,15 @@ use crate::{Allowed, Matching};
 
 /// A column that no row has, and the place in the tree of a row that may have it.
 #[derive(Clone, Copy)]
-pub(crate) struct Exit {
-    pub(crate) place: u32,
-    pub(crate) column: u32,
+pub struct Exit {
+    /// The place of the row in the tree.
+    pub place: u32,
+    /// The column.
+    pub column: u32,
 }
 
-// Begins the tree again at a root.
-pub(crate) fn start(tree: &mut Branches, root: u32)
+/// Begins the tree again at a root, with no column reached. It takes no memory.
+pub fn start(tree: &mut Branches, root: u32)
     requires room { 0 < vec_capacity tree.old.rows }
     requires words { vec_len tree.old.unseen ≡ word_count (vec_len tree.old.parents) }
     ensures rows { tree.new.rows.items ≡ root ∷ [] }

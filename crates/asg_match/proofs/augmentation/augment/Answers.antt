@@ -4,7 +4,7 @@ use Rattle.asg_match.specs.Matching.{AllAllowed}
 use Rattle.asg_match.specs.Alternating.{AllParentsAllowed}
 use Rattle.asg_match.specs.Flipped.{Flips}
 use Rattle.asg_match.specs.Searched.{parents_in}
-use Rattle.asg_match.proofs.HallLemmas.{IsStuck-from_tree, IsDeficient-from_tree}
+use Rattle.asg_match.specs.laws.Deficiency.{IsStuck-from_tree, IsDeficient-from_tree}
 use Rattle.asg_match.proofs.augmentation.augment.Goals as goal
 use Rattle.asg_match.proofs.augmentation.augment.Goals.{in-Some, in-None}
 

@@ -1,6 +1,6 @@
 use Rattle.std.proofs.Common.{◌/◌, ◌<◌, length, arith}
 use Rattle.std.proofs.lemmas.List.{get_or_read}
-use Rattle.asg_match.proofs.ColumnLemmas.{IsColumnSet-removed, HasColumn-removed}
+use Rattle.asg_match.specs.laws.Columns.{IsColumnSet-removed, HasColumn-removed}
 use Rattle.asg_match.proofs.column_set.remove.Goals as goal
 
 pub returns-clause-set : goal.returns-clause-set

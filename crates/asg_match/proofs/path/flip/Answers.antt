@@ -4,7 +4,7 @@ use Rattle.std.proofs.lemmas.Option.{same_Some, none-some}
 use Rattle.asg_match.specs.Matching.{IsFree}
 use Rattle.asg_match.specs.Flipped.{Flips}
 use Rattle.asg_match.specs.Searched.{parents_in}
-use Rattle.asg_match.proofs.MatchingLemmas.{Matches-set_cases}
+use Rattle.asg_match.specs.laws.Matchings.{Matches-set_cases}
 use Rattle.asg_match.proofs.PathLemmas.{IsFlipping, row_below, parent_of, IsFlipping-step, Flips-done}
 use Rattle.asg_match.proofs.path.flip.Goals as goal
 

@@ -2,7 +2,7 @@ use Rattle.std.proofs.Common.{None, length, ap, ◌∙◌, subst}
 use Rattle.std.proofs.lemmas.Bool.{OnFalse_at}
 use Rattle.std.proofs.lemmas.List.{length-replicate}
 use Rattle.asg_match.specs.Deficient.{IsDeficient}
-use Rattle.asg_match.proofs.HallLemmas.{IsDeficient-refutes}
+use Rattle.asg_match.specs.laws.Deficiency.{IsDeficient-refutes}
 use Rattle.asg_match.proofs.perfect.perfect_or_hall.Goals as goal
 
 pub returns-clause-perfect : goal.returns-clause-perfect

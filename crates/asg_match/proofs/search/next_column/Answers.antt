@@ -2,8 +2,8 @@ use Rattle.std.proofs.Common.{arith, subst, sym, ◌+◌, ◌*◌, w64}
 use Rattle.std.specs.Int.{trailing_zeros}
 use Rattle.std.proofs.lemmas.List.{get_or_read}
 use Rattle.asg_match.specs.ColumnSet.{HasBit}
-use Rattle.asg_match.proofs.BitLemmas.{bit_below, HasBit-trailing_zeros}
-use Rattle.asg_match.proofs.ColumnLemmas.{HasColumn-at}
+use Rattle.asg_match.specs.laws.Bits.{bit_below, HasBit-trailing_zeros}
+use Rattle.asg_match.specs.laws.Columns.{HasColumn-at}
 use Rattle.asg_match.proofs.search.next_column.Goals as goal
 
 pub returns-clause-there : goal.returns-clause-there

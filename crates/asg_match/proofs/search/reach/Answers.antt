@@ -2,9 +2,9 @@ use Rattle.std.proofs.Common.{ℕ, ◌<◌, length, List, subst, sym, ◌∙◌,
 use Rattle.std.proofs.lemmas.List.{length_push, length-set}
 use Rattle.asg_match.specs.Alternating.{IsTree, parent_of}
 use Rattle.asg_match.specs.ColumnSet.{IsColumnSet}
-use Rattle.asg_match.proofs.ColumnLemmas.{parent-unseen, parent-here, parent-others}
-use Rattle.asg_match.proofs.Counting.{length-le_from_below}
-use Rattle.asg_match.proofs.TreeLemmas.{IsTree-push}
+use Rattle.asg_match.specs.laws.Columns.{parent-unseen, parent-here, parent-others}
+use Rattle.asg_match.specs.laws.Distinct.{length-le_from_below}
+use Rattle.asg_match.specs.laws.Trees.{IsTree-push}
 use Rattle.asg_match.proofs.search.reach.Goals as goal
 
 pub push_reserved-requires : goal.push_reserved-requires

@@ -4,8 +4,8 @@ use Rattle.asg_match.specs.Alternating.{HasParent, AllParentsAllowed}
 use Rattle.asg_match.specs.Searched.{parents_in, IsGrown, IsSearch, Extends}
 use Rattle.asg_match.specs.declared.alternating_tree.Branches.{Branches}
 use Rattle.asg_match.specs.Matching.{Matches}
-use Rattle.asg_match.proofs.ColumnLemmas.{unseen_or_reached}
-use Rattle.asg_match.proofs.Counting.{length-le_from_below}
+use Rattle.asg_match.specs.laws.Columns.{unseen_or_reached}
+use Rattle.asg_match.specs.laws.Distinct.{length-le_from_below}
 use Rattle.asg_match.proofs.SearchLemmas.{Extends-join, IsSearch-more}
 use Rattle.asg_match.proofs.search.scan_word.Goals as goal
 

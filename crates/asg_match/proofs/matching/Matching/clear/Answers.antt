@@ -1,5 +1,5 @@
 use Rattle.std.proofs.Common.{ap, arith, length}
-use Rattle.asg_match.proofs.MatchingLemmas.{Matches-below, Matches-read}
+use Rattle.asg_match.specs.laws.Matchings.{Matches-below, Matches-read}
 use Rattle.asg_match.proofs.PairedLemmas.{IsPaired-clear}
 use Rattle.asg_match.proofs.matching.Matching.clear.Goals as goal
 

@@ -1,7 +1,7 @@
 use Rattle.std.proofs.Common.{◌≡◌, None, replicate, subst, sym, arith}
 use Rattle.std.proofs.lemmas.Grind.{common_steps}
 use Rattle.asg_match.specs.Matching.{IsMatching}
-use Rattle.asg_match.proofs.MatchingLemmas.{IsMatching-empty}
+use Rattle.asg_match.specs.laws.Matchings.{IsMatching-empty}
 use Rattle.asg_match.proofs.matching.Matching.make.Goals as goal
 
 pub returns-clause-matching : goal.returns-clause-matching

@@ -8,8 +8,8 @@ use Rattle.asg_match.specs.Matching.{column_at, Matches, IsMatched, IsMatching, 
 use Rattle.asg_match.specs.Deficient.{IsColumnOf, IsDeficient}
 use Rattle.asg_match.specs.Augmentation.{IsStuck}
 use Rattle.asg_match.specs.Alternating.{IsTree, AllParentsAllowed, IsClosed}
-use Rattle.asg_match.proofs.MatchingLemmas.{Matches-same, Some-from_test}
-use Rattle.asg_match.proofs.Counting.{length-le_from_within}
+use Rattle.asg_match.specs.laws.Matchings.{Matches-same, Some-from_test}
+use Rattle.asg_match.specs.laws.Distinct.{length-le_from_within}
 
 -- the column of a row that has one
 abbrev pub column_of_row : List (Option ℕ) → ℕ → ℕ

@@ -7,7 +7,7 @@ use Rattle.std.proofs.lemmas.Bool.{cases_lt, cases_eq}
 use Rattle.std.proofs.lemmas.Option.{none-some, same_Some}
 use Rattle.asg_match.specs.Matching.{column_at, Matches}
 use Rattle.asg_match.specs.Alternating.{HasParent, IsFollowed, IsJoined, IsTree}
-use Rattle.asg_match.proofs.MatchingLemmas.{Matches-below, Matches-same}
+use Rattle.asg_match.specs.laws.Matchings.{Matches-below, Matches-same}
 
 -- a row whose column was not reached is none of the tree's
 next_apart : {m : List (Option ℕ)} {rows : List ℕ} {parents : ℕ → Option ℕ} → IsTree m rows parents → (c next : ℕ) → parents c ≡ None → Matches m next c → (k : ℕ) → k < length rows → get_or rows k 0 ≢ next

@@ -1,1 +1,11 @@
+pub mod Counts
+pub mod StepLaw
+pub mod PhasesLaw
+pub mod LowerBound
+pub mod PhasesAreBest
+pub mod WindowsAreBest
 pub mod BestLaw
+pub mod Raised
+pub mod RaisedInstances
+pub mod WorkedPhase
+pub mod WorkedWindows

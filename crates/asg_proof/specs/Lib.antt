@@ -1,4 +1,10 @@
 pub mod RowIds
 pub mod Threshold
+pub mod Windows
+pub mod Steps
+pub mod Phases
+pub mod PhaseProofs
+pub mod FoldProofs
 pub mod Proves
 pub mod Outcomes
+pub mod laws

@@ -1,21 +1,39 @@
 -- What a proof of each kind must hold for a choice, and which objectives take the kind.
 use Rattle.std.specs.Prelude.{ℕ, Bool, true, false, List, Option}
 use Rattle.asg_model.specs.declared.objectives.Objective.{Objective}
-use Rattle.asg_model.specs.declared.objectives.Objective.TheVariants.{Bottleneck, BottleneckMax}
+use Rattle.asg_model.specs.declared.objectives.Objective.TheVariants.{Balanced, Lex}
 use Rattle.asg_model.specs.Problem.{Problem}
 use Rattle.asg_model.specs.Values.{choice_value}
+use Rattle.asg_monoids.specs.Entered.{is_peak_objective}
 use Rattle.asg_proof.specs.declared.outcomes.Proof.{Proof}
-use Rattle.asg_proof.specs.declared.outcomes.Proof.TheVariants.{Below}
+use Rattle.asg_proof.specs.declared.outcomes.Proof.TheVariants.{Below, Phases, Windows}
+use Rattle.asg_proof.specs.FoldProofs.{ProvesPhases}
 use Rattle.asg_proof.specs.Threshold.{ProvesBelow}
+use Rattle.asg_proof.specs.Windows.{ProvesWindows}
 
--- the objective takes proofs of this kind: `below` for the two bottleneck objectives
+-- the objectives whose costs enter a monoid with differences: all but `balanced` and `lex`
+abbrev pub is_algebraic : Objective → Bool
+is_algebraic Balanced = false
+is_algebraic Lex = false
+is_algebraic _ = true
+
+-- the objective whose values are spreads
+abbrev pub is_spread_objective : Objective → Bool
+is_spread_objective Balanced = true
+is_spread_objective _ = false
+
+-- the objective takes proofs of this kind: phases for the algebraic objectives, `below` for the two
+-- bottleneck objectives, windows for `balanced`
 abbrev pub takes : Objective → Proof → Bool
-takes Bottleneck (Below rows) = true
-takes BottleneckMax (Below rows) = true
-takes _ (Below rows) = false
+takes objective (Phases words) = is_algebraic objective
+takes objective (Below rows) = is_peak_objective objective
+takes objective (Windows windows) = is_spread_objective objective
 
--- the proof proves that no valid choice is better than this one: `below` is a threshold proof of
--- its value
+-- the proof proves that no valid choice is better than this one: phases prove its fold, `below` is a
+-- threshold proof of its value, and windows prove its spread
 abbrev pub Proves : Objective → Problem → List (Option ℕ) → Proof → Type 0
+Proves objective X choice (Phases words) = ProvesPhases objective X choice words
 Proves objective X choice (Below rows) =
     ProvesBelow objective X (choice_value objective X choice) rows
+Proves objective X choice (Windows windows) =
+    ProvesWindows objective X (choice_value objective X choice) windows

@@ -5,14 +5,28 @@
 //! instance, the laws that a choice which is proved so is best. Contracts see a list of ids as a
 //! list of numbers, and a proof and an outcome by their variants. The solving crates give outcomes,
 //! documents write them, and the checker tests them; nothing here solves or tests.
+//!
+//! Phases of steps on a square prove lower bounds for algebraic objectives: an admitted step takes its
+//! value from the product of each perfect assignment, whatever d-monoid the values are of.
 #![tactic(auto)]
 
 pub mod laws;
 mod outcomes;
+mod phase_lists;
+mod phases;
 mod row_ids;
+#[cfg(test)]
+mod samples;
+mod windows;
 
 pub use outcomes::{Outcome, Proof};
+pub use phase_lists::Phases;
+pub use phases::{Phase, words};
 pub use row_ids::Ids;
+pub use windows::{Window, Windows};
+
+/// There was not enough memory.
+pub type NoMemory = std::alloc::AllocError;
 
 #[cfg(test)]
 mod tests;

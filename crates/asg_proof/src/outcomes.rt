@@ -1,14 +1,22 @@
 //! What a solving call gives.
 
+use crate::phase_lists::Phases;
 use crate::row_ids::Ids;
+use crate::windows::Windows;
 use asg_model::Choice;
 
 /// What shows that a choice is best.
 #[derive(Debug, Drop)]
 pub enum Proof {
+    /// For the algebraic objectives: phases that are admitted in turn from the square of the
+    /// instance, and whose index is the product of the choice's entered costs.
+    Phases(Phases),
     /// For the two bottleneck objectives: rows that are a Hall set of the cells whose costs are
     /// strictly better than the value.
     Below(Ids),
+    /// For `balanced`: windows whose rows are Hall sets of their bands, and of which, where the value d
+    /// is above 0, for each cost v of a live cell one holds the costs from v to v + d - 1.
+    Windows(Windows),
 }
 
 /// What a solving call gives.

@@ -1,0 +1,22 @@
+use Rattle.std.proofs.Common.{length, ap, subst, ◌∙◌}
+use Rattle.asg_pool.specs.Forest.{phases_of, IsForest}
+use Rattle.asg_pool.specs.Paths.{phase_at}
+use Rattle.asg_pool.proofs.ForestLemmas.{there_in, length_shown, forest_shown}
+use Rattle.asg_pool.proofs.regions.Region.len.Goals as goal
+
+pub link-requires : goal.link-requires
+link-requires g c =
+    let s = c.self.inside in
+    there_in s.side s.links (phase_at s.steps s.enters s.leaves) c.args.self.now c.args.trail c.number.result c.self.view_is c.requires c.number.ensures
+
+pub returns-clause-value : goal.returns-clause-value
+returns-clause-value g c =
+    let s = c.self.inside in
+    length_shown s.side s.links (phase_at s.steps s.enters s.leaves) c.self.invariant.rooted c.number.result c.link.result c.link.ensures
+    ∙ ap (λ F. length (phases_of F c.number.result)) c.self.view_is
+    ∙ ap (λ k. length (phases_of c.args.self.now k)) c.number.ensures
+
+pub returns-clause-forest : goal.returns-clause-forest
+returns-clause-forest g c =
+    let s = c.self.inside in
+    subst IsForest c.self.view_is (forest_shown s.side s.links (phase_at s.steps s.enters s.leaves) c.self.invariant.rooted c.self.invariant.over)

@@ -1,0 +1,10 @@
+use Rattle.std.proofs.Common.{subst}
+use Rattle.asg_pool.specs.Forest.{IsForest}
+use Rattle.asg_pool.specs.Paths.{phase_at}
+use Rattle.asg_pool.proofs.ForestLemmas.{forest_shown}
+use Rattle.asg_pool.proofs.regions.Region.spare.Goals as goal
+
+pub returns-clause-forest : goal.returns-clause-forest
+returns-clause-forest g c =
+    let s = c.self.inside in
+    subst IsForest c.self.view_is (forest_shown s.side s.links (phase_at s.steps s.enters s.leaves) c.self.invariant.rooted c.self.invariant.over)

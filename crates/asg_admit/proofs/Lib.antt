@@ -1,0 +1,11 @@
+mod ProductLemmas
+mod SquareLemmas
+mod SettleLemmas
+mod ReplayLemmas
+mod AdmissionLemmas
+mod GreatestLemmas
+mod SumLemmas
+mod DualLemmas
+mod DualPhases
+mod CountLemmas
+mod LeftLemmas

@@ -1,0 +1,10 @@
+use Rattle.std.proofs.Common.{ℕ, ◌<◌}
+use Rattle.asg_order.specs.Monoid.{IsValue}
+use Rattle.asg_admit.specs.Settled.{step_of}
+use Rattle.asg_admit.proofs.admission.are_values.Given as goal
+
+-- the steps so far are values
+abbrev pub invariant-loop-t : goal.invariant-loop-t
+invariant-loop-t g l =
+    let M = g.M.Ordered.monoid_of l.m in
+    (t : ℕ) → t < l.t → IsValue M (step_of M l.steps t)

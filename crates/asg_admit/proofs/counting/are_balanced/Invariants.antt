@@ -1,0 +1,8 @@
+use Rattle.std.proofs.Common.{◌≡◌, ℕ, ◌+◌, ◌*◌, ◌<◌, length}
+use Rattle.asg_proof.specs.Steps.{count_below}
+use Rattle.asg_admit.specs.Admission.{has_mark}
+use Rattle.asg_admit.proofs.counting.are_balanced.Given as goal
+
+-- the steps of the windows so far are balanced
+abbrev pub invariant-loop-window : goal.invariant-loop-window
+invariant-loop-window l = (i : ℕ) → i < 2000 * l.window → i < l.count → count_below (has_mark l.enters (1 + i)) (length l.enters) ≡ count_below (has_mark l.leaves (1 + i)) (length l.leaves)

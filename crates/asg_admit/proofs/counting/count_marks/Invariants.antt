@@ -1,0 +1,13 @@
+use Rattle.std.proofs.Common.{◌≡◌, ℕ, ◌+◌, ◌<◌, length}
+use Rattle.std.specs.Prelude.{slice_index}
+use Rattle.asg_proof.specs.Steps.{count_below}
+use Rattle.asg_admit.specs.Admission.{has_mark}
+use Rattle.asg_admit.proofs.counting.count_marks.Given as goal
+
+-- the marks so far are counted
+abbrev pub invariant-loop-k : goal.invariant-loop-k
+invariant-loop-k l =
+    record {
+      size : length l.counts ≡ length l.fn.counts;
+      counts : (i : ℕ) → i < length l.fn.counts → slice_index l.counts i ≡ count_below (has_mark l.marks (l.first + i)) l.k;
+    }

@@ -1,0 +1,110 @@
+-- A square of sums that is kept as it was, with a dual variable for each row and each column.
+use Rattle.std.specs.Prelude.{◌≡◌, ◌≢◌, ◌⊎◌, ℕ, ◌+◌, ◌-◌, ◌*◌, ◌/◌, ◌%◌, ◌^◌, ◌<◌, ◌≤◌, List, length, take, map, min, Option, Some, None, slice_index, slice_index_or}
+use Rattle.std.specs.List.{range_with_len, sum}
+use Rattle.std.specs.Option.{option_map}
+use Rattle.asg_square.specs.Grid.{Grid, IsGrid, cell_at}
+use Rattle.asg_admit.specs.declared.reduced.Reduced.{Reduced}
+use Rattle.asg_admit.specs.Reduced.{KeepsLabels}
+
+-- a number with the dual variable of its row more and that of its column less
+abbrev pub dual_value : ℕ → ℕ → ℕ → ℕ
+dual_value row column x = (x + row) - column
+
+-- the cell at a place, by the dual variables of its row and its column
+abbrev pub dual_cell : Grid ℕ → List ℕ → List ℕ → ℕ → Option ℕ
+dual_cell Q rows columns place =
+    option_map
+    (dual_value (slice_index rows (place / Q.side)) (slice_index columns (place % Q.side)))
+    (slice_index_or Q.cells place None)
+
+-- the square of these cells
+abbrev pub dual_grid : Grid ℕ → List ℕ → List ℕ → Grid ℕ
+dual_grid Q rows columns =
+    record Q { cells = map (dual_cell Q rows columns) (range_with_len 0 (Q.side * Q.side)) }
+
+-- the reduced square of these cells
+abbrev pub dual_reduced : Grid ℕ → List ℕ → List ℕ → ℕ → Reduced ℕ
+dual_reduced Q rows columns index = record { now = dual_grid Q rows columns; index = index }
+
+-- no present cell of the first so many rows is greater, and it is one of the square's or 0
+pub record IsGreatest (n : ℕ) (square : ℕ → ℕ → Option ℕ) (greatest : ℕ) : Type 0 where
+  pub above : (r k x : ℕ) → r < n → square r k ≡ Some x → x ≤ greatest
+  pub reached : (greatest ≡ 0) ⊎ ((r : ℕ) × (k : ℕ) × (square r k ≡ Some greatest))
+
+-- no present cell of a row in the first so many columns is greater, and it is one of the row's or 0
+pub record IsGreatestOf (n : ℕ) (row : ℕ → Option ℕ) (greatest : ℕ) : Type 0 where
+  pub above : (k x : ℕ) → k < n → row k ≡ Some x → x ≤ greatest
+  pub reached : (greatest ≡ 0) ⊎ ((k : ℕ) × (row k ≡ Some greatest))
+
+-- what dual variables keep: there is one for each row and column, none is greater than the index, that of a
+-- column is at most each present cell with that of the row more, and no number passes 2^120
+pub record AreDuals (Q : Grid ℕ) (rows columns : List ℕ) (index greatest : ℕ) : Type 0 where
+  pub grid : IsGrid Q
+  pub row_count : length rows ≡ Q.side
+  pub column_count : length columns ≡ Q.side
+  pub rows_within : (r : ℕ) → r < Q.side → slice_index rows r ≤ index
+  pub columns_within : (k : ℕ) → k < Q.side → slice_index columns k ≤ index
+  pub cells : (r k x : ℕ) → cell_at Q r k ≡ Some x → slice_index columns k ≤ x + slice_index rows r
+  pub is_greatest : IsGreatest Q.side (cell_at Q) greatest
+  pub few_index : index ≤ 2 ^ 120
+  pub few_greatest : greatest ≤ 2 ^ 120
+
+-- no sum reaches the top while steps are applied that add up to this: neither the index nor a present cell
+-- does with the sum more
+pub record HasRoom (top : ℕ) (reduced : Reduced ℕ) (sum : ℕ) : Type 0 where
+  pub index : reduced.index + sum < top
+  pub cells : (r k x : ℕ) → cell_at reduced.now r k ≡ Some x → x + sum < top
+
+-- sums come near the top: the index, or some present cell with the index twice, reaches it with the sum more
+abbrev pub IsNearTop : ℕ → Reduced ℕ → ℕ → Type 0
+IsNearTop top reduced sum =
+    (top ≤ reduced.index + sum)
+    ⊎ ((r : ℕ) × (k : ℕ) × (x : ℕ) × (cell_at reduced.now r k ≡ Some x)
+    × (top ≤ x + 2 * reduced.index + sum))
+
+-- the sum of the first so many numbers
+abbrev pub sum_before : List ℕ → ℕ → ℕ
+sum_before numbers n = sum (take n numbers)
+
+-- at each place the sum of the steps before it
+abbrev pub AreSums : List ℕ → List ℕ → Type 0
+AreSums steps sums = (t : ℕ) → t ≤ length steps → slice_index sums t ≡ sum_before steps t
+
+-- each dual variable became greater by the sum of the steps before its mark
+pub record RaisesDuals (steps marks before after : List ℕ) : Type 0 where
+  pub count : length after ≡ length before
+  pub each : (i : ℕ) → i < length before
+      → slice_index after i ≡ slice_index before i + sum_before steps (min (slice_index marks i) (length steps))
+
+-- what is left in 128 bits of a number with one more and one less
+abbrev pub dual_bits : ℕ → ℕ → ℕ → ℕ
+dual_bits row column x = ((x + row) % 2 ^ 128 + (2 ^ 128 - column)) % 2 ^ 128
+
+-- the values of a row by the dual variables of the row and of the columns
+abbrev pub dual_values : List ℕ → List ℕ → ℕ → List ℕ
+dual_values values columns row =
+    map (λ k. dual_bits row (slice_index columns k) (slice_index values k)) (range_with_len 0 (length values))
+
+-- the cell, if it is present, is a number with these dual variables, and fits 128 bits on the way
+abbrev pub FitsDuals : ℕ → ℕ → Option ℕ → Type 0
+FitsDuals row column cell =
+    (x : ℕ) → cell ≡ Some x → (column ≤ x + row) × (x + row < 2 ^ 128)
+
+-- the cells of a row have the dual variable of the row more and those of the columns less, and all others stay
+pub record WritesDuals (row : ℕ) (columns : List ℕ) (before after : Grid ℕ) (r : ℕ) : Type 0 where
+  pub labels : KeepsLabels before after
+  pub cells : (k : ℕ) → k < before.side
+      → cell_at after r k ≡ option_map (dual_value row (slice_index columns k)) (cell_at before r k)
+  pub others : (i k : ℕ) → i ≢ r → cell_at after i k ≡ cell_at before i k
+
+-- each present cell of a row that enters at a step is, with the dual variable of the row and the steps before
+-- that, at least the dual variable of its column; of a row that never enters nothing is asked
+abbrev pub FitsRow : Grid ℕ → ℕ → List ℕ → List ℕ → ℕ → ℕ → Type 0
+FitsRow Q row columns steps enter r =
+    enter < length steps → (k x : ℕ) → k < Q.side → cell_at Q r k ≡ Some x
+    → slice_index columns k ≤ (x + row) + sum_before steps enter
+
+-- each row does so
+abbrev pub FitsRows : Grid ℕ → List ℕ → List ℕ → List ℕ → List ℕ → Type 0
+FitsRows Q rows columns steps enters =
+    (r : ℕ) → r < Q.side → FitsRow Q (slice_index rows r) columns steps (slice_index enters r) r

@@ -1,0 +1,2 @@
+-- What follows from the definitions, for crates above.
+pub mod SettledCells

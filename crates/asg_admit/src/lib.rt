@@ -1,0 +1,42 @@
+//! Admissible transformations of a square: steps and phases, tested and applied.
+//!
+//! A step by c on rows I and columns J, one more than the side together, takes c from each cell of
+//! both and multiplies each cell of neither by c, so that each perfect assignment has c less. A
+//! phase is a list of steps whose rows grow and whose columns shrink, as an alternating tree does
+//! [Burkard, Hahn and Zimmermann 1977]. A reduced square carries the product of the steps that led
+//! to it, its index. Contracts see a phase as its three lists, and what it makes of a square cell by
+//! cell.
+//!
+//! Where a square holds sums that stay below the top, a phase adds to each cell what its row takes
+//! and subtracts what its column gives: [`DualSquare`] keeps those as dual variables, so that a phase
+//! doesn't go over the cells. Making one takes memory; nothing else here does.
+#![tactic(auto)]
+
+mod admission;
+mod counting;
+mod dual_cells;
+mod dual_fits;
+mod dual_rows;
+mod dual_squares;
+mod dual_sums;
+mod greatest_cells;
+mod left_columns;
+mod products;
+mod reduced;
+mod replayed_cells;
+mod replaying;
+#[cfg(test)]
+mod samples;
+mod settling;
+mod stepping;
+#[cfg(test)]
+mod tests;
+
+pub use dual_rows::DualRow;
+pub use dual_squares::{DualSquare, Replayed};
+pub use products::range;
+pub use reduced::Reduced;
+pub use replayed_cells::replay_cell;
+pub use replaying::replay;
+pub use settling::settle;
+pub use stepping::step;

@@ -1,0 +1,15 @@
+pub mod SplitCounts
+pub mod GrowingLaws
+pub mod SearchingLaws
+pub mod KeyLaws
+pub mod KeyStates
+pub mod WordLemmas
+pub mod LeadLemmas
+pub mod ScanLemmas
+pub mod UnderwayLaws
+pub mod PhaseEnds
+pub mod GrowthLaws
+pub mod SolvedLaws
+pub mod FinishLaws
+pub mod SolvingLaws
+pub mod FoldLaws

@@ -1,0 +1,129 @@
+-- Columns of sets, word by word and bit by bit.
+use Rattle.std.proofs.Common.{◌≡◌, ◌↔◌, ◌⊎◌, inl, inr, ℕ, ◌+◌, ◌*◌, ◌/◌, ◌%◌, ◌<◌, ◌≤◌, ◌^◌, List, length, get_or, set, sym, ◌∙◌, ap, subst, arith, ⊎_elim, w64}
+use Rattle.std.specs.Prelude.{bit_and, bit_or}
+use Rattle.std.specs.Int.{bit_at, trailing_zeros}
+use Rattle.std.proofs.lemmas.Bool.{cases_eq, cases_lt}
+use Rattle.std.proofs.lemmas.List.{get_or_past, get_or-set_other}
+use Rattle.std.proofs.lemmas.Nat.Bits.{bit_at-lt, bit_at_and, bit_at_or}
+use Rattle.asg_match.specs.ColumnSet.{HasBit, HasColumn}
+use Rattle.asg_match.specs.laws.Bits.{with_bit, without_bit, bit_below, HasBit-zero, HasBit-with, HasBit-with_same, HasBit-with_kept, HasBit-without, HasBit-without_other, HasBit-trailing_zeros, without_bit-lt}
+use Rattle.std.proofs.lemmas.Grind.{get_or-set_at}
+
+-- a bit is set, or it isn't
+pub cases_column : (words : List ℕ) (k : ℕ) → HasColumn words k ⊎ (HasColumn words k → ⊥)
+cases_column words k = cases_eq (bit_at (get_or words (k / 64) 0) (k % 64)) 1
+
+-- a column of a set stands in one of its words
+pub column_word : (words : List ℕ) (k n : ℕ) → HasColumn words k → length words ≤ n → k / 64 < n
+column_word words k n has h =
+    ⊎_elim
+    (λ within. omega (arith, within))
+    (λ past. absurd (HasBit-zero (k % 64) (sym (ap (λ w. bit_at w (k % 64)) (get_or_past words (k / 64) 0 past)) ∙ has)))
+    (cases_lt (k / 64) (length words))
+
+-- one more column in a set
+pub HasColumn-added : (words : List ℕ) (c x : ℕ) → c / 64 < length words → x ≡ get_or words (c / 64) 0 → (k : ℕ) → HasColumn (set words (c / 64) (with_bit x (c % 64))) k ↔ (HasColumn words k ⊎ (k ≡ c))
+HasColumn-added words c x within read k =
+    let after = set words (c / 64) (with_bit x (c % 64)) in (
+      λ has.
+          ⊎_elim
+          (λ same.
+          let at = get_or-set_at words (c / 64) (k / 64) (with_bit x (c % 64)) 0 same within in
+          ⊎_elim
+          (λ old. inl (ap (λ n. bit_at n (k % 64)) (ap (λ j. get_or words j 0) same ∙ sym read) ∙ old))
+          (λ new. inr (omega (arith, same, new)))
+          (HasBit-with x (c % 64) (k % 64) (omega arith) (sym (ap (λ n. bit_at n (k % 64)) at) ∙ has)))
+          (λ other. inl (sym (ap (λ n. bit_at n (k % 64)) (get_or-set_other words (c / 64) (k / 64) (with_bit x (c % 64)) 0 other)) ∙ has))
+          (cases_eq (k / 64) (c / 64)),
+      λ either.
+          ⊎_elim
+          (λ old.
+          ⊎_elim
+          (λ same.
+          ap (λ n. bit_at n (k % 64)) (get_or-set_at words (c / 64) (k / 64) (with_bit x (c % 64)) 0 same within)
+          ∙ HasBit-with_kept x (c % 64) (k % 64) (omega arith) (ap (λ n. bit_at n (k % 64)) (read ∙ sym (ap (λ j. get_or words j 0) same)) ∙ old))
+          (λ other. ap (λ n. bit_at n (k % 64)) (get_or-set_other words (c / 64) (k / 64) (with_bit x (c % 64)) 0 other) ∙ old)
+          (cases_eq (k / 64) (c / 64)))
+          (λ here.
+          let same : k / 64 ≡ c / 64 = ap (λ n. n / 64) here in
+          let bit : k % 64 ≡ c % 64 = ap (λ n. n % 64) here in
+          ap (λ n. bit_at n (k % 64)) (get_or-set_at words (c / 64) (k / 64) (with_bit x (c % 64)) 0 same within)
+          ∙ subst (HasBit (with_bit x (c % 64))) (sym bit) (HasBit-with_same x (c % 64) (omega arith)))
+          either,
+    )
+
+-- bits that two words both have
+pub HasBit-and : (a b i : ℕ) → HasBit (bit_and a b) i ↔ (HasBit a i × HasBit b i)
+HasBit-and a b i = (
+  λ has. (omega (arith, has, bit_at_and a b i, bit_at-lt a i, bit_at-lt b i), omega (arith, has, bit_at_and a b i, bit_at-lt a i, bit_at-lt b i)),
+  λ both. omega (arith, both.0, both.1, bit_at_and a b i),
+)
+
+-- bits that one of two words has
+pub HasBit-or : (a b i : ℕ) → HasBit (bit_or a b) i → (HasBit a i → ⊥) → HasBit b i
+HasBit-or a b i has none =
+    ⊎_elim
+    (λ here. absurd (none here))
+    (λ other. omega (arith, has, other, bit_at_or a b i, bit_at-lt a i, bit_at-lt b i))
+    (cases_eq (bit_at a i) 1)
+
+pub HasBit-or_left : (a b i : ℕ) → HasBit a i → HasBit (bit_or a b) i
+HasBit-or_left a b i has = omega (arith, has, bit_at_or a b i, bit_at-lt a i, bit_at-lt b i)
+
+pub HasBit-or_right : (a b i : ℕ) → HasBit b i → HasBit (bit_or a b) i
+HasBit-or_right a b i has = omega (arith, has, bit_at_or a b i, bit_at-lt a i, bit_at-lt b i)
+
+-- a column of a set in a word up to this one, whose bit is no longer in the rest
+pub record IsCompared (number : ℕ) (words : List ℕ) (rest k : ℕ) : Type 0 where
+  pub before : k / 64 < number + 1
+  pub there : HasColumn words k
+  pub passed : k / 64 ≡ number → HasBit rest (k % 64) → ⊥
+
+-- the next bit of the rest: its column, and the rest without it
+module _ (number rest : ℕ) (some : 0 < rest) (fits : rest < 2 ^ 64) where
+  abbrev pub next_bit : ℕ
+  next_bit = trailing_zeros w64 rest
+
+  abbrev pub next_column : ℕ
+  next_column = 64 * number + next_bit
+
+  pub next_has : HasBit rest next_bit
+  next_has = HasBit-trailing_zeros rest some fits
+
+  pub next_below : next_bit < 64
+  next_below = bit_below rest next_bit fits next_has
+
+  next_place : next_column % 64 ≡ next_bit
+  next_place = let h = next_below in omega arith
+
+  pub next_smaller : without_bit rest next_bit < rest
+  next_smaller = without_bit-lt rest next_bit next_below next_has
+
+  -- a column whose bit leaves the rest is the next one
+  pub next_cases : (k : ℕ) → k / 64 ≡ number → (HasBit (without_bit rest next_bit) (k % 64) → ⊥) → (HasBit rest (k % 64) → ⊥) ⊎ (k ≡ next_column)
+  next_cases k here none =
+      let h = next_below in
+      ⊎_elim
+      (λ has.
+      ⊎_elim
+      (λ same. inr (omega (arith, same, here)))
+      (λ other. absurd (none (HasBit-without_other rest next_bit (k % 64) next_below (omega arith) has other)))
+      (cases_eq (k % 64) next_bit))
+      (λ not_there. inl not_there)
+      (cases_eq (bit_at rest (k % 64)) 1)
+
+  pub next_kept : (k : ℕ) → (HasBit rest (k % 64) → ⊥) → HasBit (without_bit rest next_bit) (k % 64) → ⊥
+  next_kept k none has = none (HasBit-without rest next_bit (k % 64) next_below has).0
+
+  pub next_gone : (k : ℕ) → k ≡ next_column → HasBit (without_bit rest next_bit) (k % 64) → ⊥
+  next_gone k e has = (HasBit-without rest next_bit (k % 64) next_below has).1 (ap (λ n. n % 64) e ∙ next_place)
+
+  pub next_there : (k : ℕ) → k ≡ next_column → HasBit rest (k % 64)
+  next_there k e = subst (HasBit rest) (sym (ap (λ n. n % 64) e ∙ next_place)) next_has
+
+-- a column whose bit a word of a set has
+pub column_in : (words : List ℕ) (number k : ℕ) → k / 64 ≡ number → HasBit (get_or words number 0) (k % 64) → HasColumn words k
+column_in words number k here has = ap (λ i. bit_at (get_or words i 0) (k % 64)) here ∙ has
+
+pub bit_in : (words : List ℕ) (number k : ℕ) → k / 64 ≡ number → HasColumn words k → HasBit (get_or words number 0) (k % 64)
+bit_in words number k here has = ap (λ i. bit_at (get_or words i 0) (k % 64)) (sym here) ∙ has

@@ -1,0 +1,7 @@
+use Rattle.std.proofs.Common.{◌≡◌, ◌++◌, take, drop}
+use Rattle.asg_algebra.specs.Rest.{cut}
+use Rattle.asg_algebra.proofs.phases.cut_marks.Given as goal
+
+-- the marks so far are cut
+abbrev pub invariant-loop-mark : goal.invariant-loop-mark
+invariant-loop-mark l = l.marks ≡ cut l.steps (take l.mark-index l.fn.marks) ++ drop l.mark-index l.fn.marks

@@ -1,0 +1,12 @@
+pub mod Growing
+pub mod Searching
+pub mod Keys
+pub mod Leads
+pub mod Scanned
+pub mod Underway
+pub mod Rest
+pub mod Growths
+pub mod Solved
+pub mod Served
+pub mod Benches
+pub mod Ended

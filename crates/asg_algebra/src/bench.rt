@@ -1,0 +1,67 @@
+//! The memory of a solver.
+
+ghost use Rattle.std.specs.Prelude.{◌≡◌, ◌≢◌, ◌<◌, [], IfOk, All, AllPairs};
+
+use crate::NoMemory;
+use crate::growth::Growth;
+use asg_match::Branches;
+use std::alloc::Global;
+use std::marker::Model;
+
+/// The memory of a solver for squares of a side, with the rows of the last tree that couldn't grow.
+#[derive(Drop)]
+pub struct Bench<V: Copy> {
+    pub(crate) growth: Growth<V>,
+}
+
+impl<V: Copy> Model for Bench<V> {
+    ghost use Rattle.std.specs.Prelude.{vec_len};
+    ghost use Rattle.asg_match.specs.Tree.{Reach};
+    ghost use Rattle.asg_algebra.specs.Benches.{IsBench};
+
+    ghost Value = { Reach };
+
+    ghost view = { λ b. record {
+      side = vec_len b.growth.enters;
+      rows = b.growth.tree.rows.items;
+    } };
+
+    ghost invariant = { λ b. IsBench (vec_len b.growth.enters) b.growth };
+}
+
+impl<V: Copy> Bench<V> {
+    /// A bench for a side, with no rows yet. The error is want of memory.
+    pub fn make(alloc: Global, side: u32) -> Result<Bench<V>, NoMemory>
+        ensures side { IfOk result (λ b. b.side ≡ side) }
+        ensures rows { IfOk result (λ b. b.rows ≡ []) }
+    {
+        let columns = side as usize;
+        let tree = Branches {
+            rows: Vec::with_capacity(alloc, columns)?,
+            parents: vec![in alloc; 0; columns]?,
+            unseen: vec![in alloc; 0; columns.div_ceil(64)]?,
+        };
+        Ok(Bench {
+            growth: Growth {
+                tree,
+                sums: Vec::with_capacity(alloc, columns)?,
+                keys: Vec::with_capacity(alloc, columns)?,
+                keyed: vec![in alloc; 0; columns.div_ceil(64)]?,
+                enters: vec![in alloc; 0; columns]?,
+                leaves: vec![in alloc; 0; columns]?,
+                steps: Vec::with_capacity(alloc, columns)?,
+                room: Vec::with_capacity(alloc, columns + 1)?,
+            },
+        })
+    }
+
+    /// The rows of the last tree that was grown, without repeats and all below the side: after a search
+    /// that ended short, rows with fewer columns than they are.
+    pub fn violator(&self) -> &[u32]
+        ensures rows { result.now ≡ self.now.rows }
+        ensures below { All (λ r. r < self.now.side) self.now.rows }
+        ensures apart { AllPairs ◌≢◌ self.now.rows }
+    {
+        self.growth.tree.rows.as_slice()
+    }
+}

@@ -1,0 +1,228 @@
+//! The solver of each monoid.
+
+ghost use Rattle.std.specs.Prelude.{◌≡◌, ◌≤◌, ℕ, length, IfOk, IfSome};
+ghost use Rattle.asg_admit.specs.Reduced.{IsReduced};
+ghost use Rattle.asg_match.specs.Matching.{AllAllowed};
+ghost use Rattle.asg_monoids.specs.BoundedSums.{bounded_sums, bounded_difference};
+ghost use Rattle.asg_monoids.specs.Grades.{graded, graded_difference};
+ghost use Rattle.asg_monoids.specs.Maxima.{maxima, maxima_difference};
+ghost use Rattle.asg_pool.specs.Forest.{IsLive};
+ghost use Rattle.asg_square.specs.Grid.{cell_at};
+ghost use Rattle.asg_algebra.specs.Ended.{last_of, EndsIn};
+ghost use Rattle.asg_algebra.specs.Growing.{IsAbsorbed};
+ghost use Rattle.asg_algebra.specs.Rest.{IsRestOf};
+ghost use Rattle.asg_algebra.specs.Solved.{HasSolved, unmatched};
+
+use crate::NoMemory;
+use crate::bench::Bench;
+use crate::solving::{Progress, Solved, serve_all, solve};
+use asg_admit::{DualSquare, Reduced};
+use asg_match::Matching;
+use asg_monoids::{Bounded, Graded, Greatest};
+use asg_order::{DMonoid, Written};
+use asg_pool::{Region, Trail};
+use std::alloc::Global;
+
+/// A reduced square that was solved, and what it came to.
+#[derive(Drop)]
+pub struct SolvedSquare<V: Copy> {
+    /// The square with the index, as the phases led to it.
+    pub reduced: Reduced<V>,
+    /// What the solver came to, with the last trail.
+    pub ended: Solved,
+}
+
+/// The monoids of the objectives, each with the way to solve its squares that is fastest.
+pub trait SquareSolver: Written {
+    /// Does what [`solve`] does to a reduced square, under the same conditions. The error is want of
+    /// memory. The time grows with the cube of the side at most.
+    fn solve_square(
+        &self,
+        alloc: Global,
+        reduced: Reduced<Self::Value>,
+        matching: &mut Matching,
+        bench: &mut Bench<Self::Value>,
+        region: &mut Region<Self::Value>,
+        trail: Option<Trail>,
+    ) -> Result<SolvedSquare<Self::Value>, NoMemory>
+        requires reduced { IsReduced (Self.monoid_of self.now) reduced }
+        requires matching_side { length matching.old ≡ reduced.now.side }
+        requires absorbed { AllAllowed
+            (IsAbsorbed (Self.monoid_of self.now) reduced.index (cell_at reduced.now))
+            matching.old }
+        requires bench_side { bench.old.side ≡ reduced.now.side }
+        requires region_side { region.old.side ≡ reduced.now.side }
+        requires spare { unmatched matching.old ≤ region.old.spare }
+        requires live { IfSome trail (IsLive region.old) }
+        ensures solved { IfOk result (λ s. HasSolved (Self.monoid_of self.now)
+            (Self.difference self.now) reduced s.reduced matching.old matching.new region.old
+            region.new trail (last_of s.ended)) }
+        ensures ends { IfOk result (λ s. EndsIn (Self.monoid_of self.now) s.reduced matching.new
+            bench.new.rows s.ended) }
+        ensures bench_side { bench.new.side ≡ bench.old.side };
+}
+
+// Solves a square whose cells are rewritten after each phase.
+fn solve_rewriting<M: DMonoid>(
+    m: &M,
+    reduced: Reduced<M::Value>,
+    matching: &mut Matching,
+    bench: &mut Bench<M::Value>,
+    region: &mut Region<M::Value>,
+    trail: Option<Trail>,
+) -> SolvedSquare<M::Value>
+    requires reduced { IsReduced (M.monoid_of m.now) reduced }
+    requires matching_side { length matching.old ≡ reduced.now.side }
+    requires absorbed { AllAllowed
+        (IsAbsorbed (M.monoid_of m.now) reduced.index (cell_at reduced.now)) matching.old }
+    requires bench_side { bench.old.side ≡ reduced.now.side }
+    requires region_side { region.old.side ≡ reduced.now.side }
+    requires spare { unmatched matching.old ≤ region.old.spare }
+    requires live { IfSome trail (IsLive region.old) }
+    ensures solved { HasSolved (M.monoid_of m.now) (M.difference m.now) reduced result.reduced
+        matching.old matching.new region.old region.new trail (last_of result.ended) }
+    ensures ends { EndsIn (M.monoid_of m.now) result.reduced matching.new bench.new.rows
+        result.ended }
+    ensures bench_side { bench.new.side ≡ bench.old.side }
+{
+    let mut reduced = reduced;
+    let ended = solve(m, &mut reduced, matching, bench, region, trail);
+    SolvedSquare { reduced, ended }
+}
+
+/// Solves a square of sums, as [`solve`] does and under the same conditions. While no sum reaches the top
+/// the square is kept by dual variables, so that a phase costs the rows that it looked at and not the
+/// cells of the whole square; from there on its cells are rewritten. The error is want of memory,
+/// which it takes for the dual variables alone. The time grows with the cube of the side at most.
+pub fn solve_sums(
+    alloc: Global,
+    m: &Bounded,
+    reduced: Reduced<u128>,
+    matching: &mut Matching,
+    bench: &mut Bench<u128>,
+    region: &mut Region<u128>,
+    trail: Option<Trail>,
+) -> Result<SolvedSquare<u128>, NoMemory>
+    requires reduced { IsReduced (bounded_sums m.now.top) reduced }
+    requires matching_side { length matching.old ≡ reduced.now.side }
+    requires absorbed { AllAllowed
+        (IsAbsorbed (bounded_sums m.now.top) reduced.index (cell_at reduced.now)) matching.old }
+    requires bench_side { bench.old.side ≡ reduced.now.side }
+    requires region_side { region.old.side ≡ reduced.now.side }
+    requires spare { unmatched matching.old ≤ region.old.spare }
+    requires live { IfSome trail (IsLive region.old) }
+    ensures solved { IfOk result (λ s. HasSolved (bounded_sums m.now.top) bounded_difference
+        reduced s.reduced matching.old matching.new region.old region.new trail
+        (last_of s.ended)) }
+    ensures ends { IfOk result (λ s. EndsIn (bounded_sums m.now.top) s.reduced matching.new
+        bench.new.rows s.ended) }
+    ensures bench_side { bench.new.side ≡ bench.old.side }
+{
+    let _ = (reduced.now.side(), matching.side());
+    let mut dual = DualSquare::make(alloc, m, reduced)?;
+    match serve_all(m, &mut dual, matching, &mut bench.growth, region, trail) {
+        Progress::Ended(ended) => Ok(SolvedSquare {
+            reduced: dual.reduce(),
+            ended,
+        }),
+        Progress::Full(last) => Ok(solve_rewriting(
+            m,
+            dual.reduce(),
+            matching,
+            bench,
+            region,
+            last,
+        )),
+    }
+}
+
+impl SquareSolver for Bounded {
+    fn solve_square(
+        &self,
+        alloc: Global,
+        reduced: Reduced<u128>,
+        matching: &mut Matching,
+        bench: &mut Bench<u128>,
+        region: &mut Region<u128>,
+        trail: Option<Trail>,
+    ) -> Result<SolvedSquare<u128>, NoMemory>
+        requires reduced { IsReduced (bounded_sums self.now.top) reduced }
+        requires matching_side { length matching.old ≡ reduced.now.side }
+        requires absorbed { AllAllowed (IsAbsorbed (bounded_sums self.now.top) reduced.index
+            (cell_at reduced.now)) matching.old }
+        requires bench_side { bench.old.side ≡ reduced.now.side }
+        requires region_side { region.old.side ≡ reduced.now.side }
+        requires spare { unmatched matching.old ≤ region.old.spare }
+        requires live { IfSome trail (IsLive region.old) }
+        ensures solved { IfOk result (λ s. HasSolved (bounded_sums self.now.top)
+            bounded_difference reduced s.reduced matching.old matching.new
+            region.old region.new trail (last_of s.ended)) }
+        ensures ends { IfOk result (λ s. EndsIn (bounded_sums self.now.top) s.reduced
+            matching.new bench.new.rows s.ended) }
+        ensures bench_side { bench.new.side ≡ bench.old.side }
+    {
+        solve_sums(alloc, self, reduced, matching, bench, region, trail)
+    }
+}
+
+impl SquareSolver for Greatest {
+    fn solve_square(
+        &self,
+        alloc: Global,
+        reduced: Reduced<u64>,
+        matching: &mut Matching,
+        bench: &mut Bench<u64>,
+        region: &mut Region<u64>,
+        trail: Option<Trail>,
+    ) -> Result<SolvedSquare<u64>, NoMemory>
+        requires reduced { IsReduced maxima reduced }
+        requires matching_side { length matching.old ≡ reduced.now.side }
+        requires absorbed { AllAllowed (IsAbsorbed maxima reduced.index
+            (cell_at reduced.now)) matching.old }
+        requires bench_side { bench.old.side ≡ reduced.now.side }
+        requires region_side { region.old.side ≡ reduced.now.side }
+        requires spare { unmatched matching.old ≤ region.old.spare }
+        requires live { IfSome trail (IsLive region.old) }
+        ensures solved { IfOk result (λ s. HasSolved maxima
+            maxima_difference reduced s.reduced matching.old matching.new
+            region.old region.new trail (last_of s.ended)) }
+        ensures ends { IfOk result (λ s. EndsIn maxima s.reduced
+            matching.new bench.new.rows s.ended) }
+        ensures bench_side { bench.new.side ≡ bench.old.side }
+    {
+        let _ = alloc;
+        Ok(solve_rewriting(self, reduced, matching, bench, region, trail))
+    }
+}
+
+impl SquareSolver for Graded<Bounded> {
+    fn solve_square(
+        &self,
+        alloc: Global,
+        reduced: Reduced<(u64, u128)>,
+        matching: &mut Matching,
+        bench: &mut Bench<(u64, u128)>,
+        region: &mut Region<(u64, u128)>,
+        trail: Option<Trail>,
+    ) -> Result<SolvedSquare<(u64, u128)>, NoMemory>
+        requires reduced { IsReduced (graded (bounded_sums self.now.inner.top)) reduced }
+        requires matching_side { length matching.old ≡ reduced.now.side }
+        requires absorbed { AllAllowed
+            (IsAbsorbed (graded (bounded_sums self.now.inner.top)) reduced.index
+            (cell_at reduced.now)) matching.old }
+        requires bench_side { bench.old.side ≡ reduced.now.side }
+        requires region_side { region.old.side ≡ reduced.now.side }
+        requires spare { unmatched matching.old ≤ region.old.spare }
+        requires live { IfSome trail (IsLive region.old) }
+        ensures solved { let sums = bounded_sums self.now.inner.top in
+            IfOk result (λ s. HasSolved (graded sums)
+            (graded_difference sums bounded_difference) reduced s.reduced matching.old matching.new
+            region.old region.new trail (last_of s.ended)) }
+        ensures ends { IfOk result (λ s. EndsIn (graded (bounded_sums self.now.inner.top)) s.reduced
+            matching.new bench.new.rows s.ended) }
+        ensures bench_side { bench.new.side ≡ bench.old.side }
+    {
+        let _ = alloc;
+        Ok(solve_rewriting(self, reduced, matching, bench, region, trail))
+    }
+}

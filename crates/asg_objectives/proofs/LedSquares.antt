@@ -1,0 +1,200 @@
+-- What phases that lead on from the square of an instance show of it.
+use Rattle.std.proofs.Common.{◌≡◌, ℕ, ◌<◌, ◌≤◌, List, [], ◌∷◌, length, map, get_or, Option, refl, sym, ◌∙◌, ap, subst, arith, is_some}
+use Rattle.std.proofs.lemmas.List.{length-map}
+use Rattle.std.specs.Prelude.{All, IfSome, is_none}
+use Rattle.std.proofs.lemmas.List.Sums.{count_by-le-length}
+use Rattle.std.proofs.lemmas.List.Elements.{All-nil, All-cons, All-head, All-tail}
+use Rattle.asg_admit.specs.Reduced.{KeepsLabels}
+use Rattle.asg_admit.specs.declared.reduced.Reduced.{Reduced}
+use Rattle.asg_algebra.specs.Growing.{IsAbsorbed}
+use Rattle.asg_algebra.specs.Solved.{LeadTo, unmatched}
+use Rattle.asg_match.specs.Matching.{Matches, IsPerfect}
+use Rattle.asg_model.specs.declared.bands.Band.TheVariants.{Whole}
+use Rattle.asg_model.specs.declared.parts.Cost.{Cost}
+use Rattle.asg_model.specs.Instances.{IsInstance}
+use Rattle.asg_model.specs.Live.{live_at}
+use Rattle.asg_model.specs.Problem.{Problem}
+use Rattle.asg_model.specs.Shapes.{square_side}
+use Rattle.asg_model.specs.Values.{costs_of}
+use Rattle.asg_order.specs.declared.words.Word.{Word}
+use Rattle.asg_order.specs.Bridge.{costs_fold, choice_fold}
+use Rattle.asg_order.specs.Monoid.{Monoid, IsValue, IsOrderedMonoid, fold_of}
+use Rattle.asg_pool.specs.Forest.{Forest, IsPhaseOver}
+use Rattle.asg_proof.specs.declared.outcomes.Outcome.{Outcome}
+use Rattle.asg_proof.specs.declared.outcomes.Outcome.TheVariants.{Best, Nothing}
+use Rattle.asg_proof.specs.declared.outcomes.Proof.TheVariants.{Phases}
+use Rattle.asg_proof.specs.FoldProofs.{ProvesFold}
+use Rattle.asg_proof.specs.PhaseProofs.{EntersValues}
+use Rattle.asg_proof.specs.Phases.{PhaseOf, worded, after_phase, after_phases, AreAdmittedPhases, index_of}
+use Rattle.asg_proof.specs.Steps.{HasSide, HasValues, assignment_fold}
+use Rattle.asg_proof.specs.laws.PhaseLists.{is_some-phases, index_is_value}
+use Rattle.asg_proof.specs.laws.PhaseSteps.{phase_has_values}
+use Rattle.asg_proof.specs.laws.Squares.{HasSide-square_cell, HasValues-square_cell}
+use Rattle.asg_square.specs.Cells.{square_cell, IsAssignment, IsPresent, choice_of, assignment_values}
+use Rattle.asg_square.specs.Grid.{Grid, cell_at, HasLabelsOf, IsSquareOf, IsWithinSquareOf, IsPerm, grid_choice}
+use Rattle.asg_square.specs.Presence.{has_cell}
+use Rattle.asg_objectives.specs.FoldOutcomes.{IsFoldOutcome, AreFewPhases, GivesFewPhases}
+use Rattle.asg_objectives.specs.SolvedSquares.{AreOfValues, IsChoiceBy, IsBestBy, IsNothingBy}
+
+-- the square of an instance, whose live costs enter as values, is of values
+pub HasValues-of_square : {V : Type 0} (M : Monoid V) → IsOrderedMonoid M → (X : Problem) (enter : Cost → V) (Q : Grid V) → IsSquareOf X M.unit enter Q → EntersValues M enter X → HasValues M Q.side (cell_at Q)
+HasValues-of_square M laws X enter Q square live r k x hr hk e =
+    HasValues-square_cell M laws enter X live r k x
+    (subst (λ n. r < n) square.labels.side hr) (subst (λ n. k < n) square.labels.side hk) (sym (square.cells r k) ∙ e)
+
+-- absorbed cells are present
+pub IsPerfect-present : {V : Type 0} (M : Monoid V) (z : V) (square : ℕ → ℕ → Option V) (side : ℕ) (matching : List (Option ℕ)) → IsPerfect (IsAbsorbed M z square) side matching → IsPerfect (IsPresent square) side matching
+IsPerfect-present M z square side matching perfect = record {
+  rows = perfect.rows;
+  columns = perfect.columns;
+  all = perfect.all;
+  cells = λ r k has. let absorbed = perfect.cells r k has in ap is_some absorbed.there;
+}
+
+module _ {V : Type 0} (M : Monoid V) (difference : V → V → V) (side : ℕ) where
+  -- the steps of admitted phases are values
+  pub admitted_values : (phases : List (PhaseOf V)) (square : ℕ → ℕ → Option V) → AreAdmittedPhases M difference side phases square → AreOfValues M phases
+  admitted_values [] square all = All-nil (λ (phase : PhaseOf V). All (IsValue M) phase.steps)
+  admitted_values (phase ∷ rest) square all =
+      All-cons (λ (p : PhaseOf V). All (IsValue M) p.steps) phase rest (phase_has_values M difference side phase square all.0) (admitted_values rest (after_phase M difference phase square) all.1)
+
+  -- admitted phases of 1 to side steps, with each step in another form
+  pub worded_over : {W : Type 0} (word_of : V → W) (phases : List (PhaseOf V)) (square : ℕ → ℕ → Option V) → AreAdmittedPhases M difference side phases square → All (λ phase. (1 ≤ length phase.steps) × (length phase.steps ≤ side)) phases → All (IsPhaseOver side) (map (worded word_of) phases)
+  worded_over word_of [] square all sizes = All-nil (IsPhaseOver side)
+  worded_over word_of (phase ∷ rest) square all sizes =
+      let Sized : PhaseOf V → Type 0 = λ p. (1 ≤ length p.steps) × (length p.steps ≤ side) in
+      let size = All-head Sized phase rest sizes in
+      All-cons (IsPhaseOver side) (worded word_of phase) (map (worded word_of) rest)
+      (record {
+        some = omega (arith, size.0, length-map phase.steps word_of);
+        few = omega (arith, size.1, length-map phase.steps word_of);
+        enters = all.0.rows;
+        leaves = all.0.columns;
+      })
+      (worded_over word_of rest (after_phase M difference phase square) all.1 (All-tail Sized phase rest sizes))
+
+-- labels that are kept
+pub HasLabelsOf-kept : {V : Type 0} (X : Problem) (before after : Grid V) → HasLabelsOf X before → KeepsLabels before after → HasLabelsOf X after
+HasLabelsOf-kept X before after labels kept = record {
+  side = kept.side ∙ labels.side;
+  rows = kept.rows ∙ labels.rows;
+  row_labels = kept.row_labels ∙ labels.row_labels;
+  column_labels = kept.column_labels ∙ labels.column_labels;
+}
+
+-- as few phases as rows have no column, with each step as its word
+pub AreFewPhases-words : {V : Type 0} (M : Monoid V) (difference : V → V → V) (word_of : V → Word) (before after : Reduced V) (phases : List (PhaseOf V)) (forest forest_after : Forest V) (trail last : Option ℕ) → LeadTo M difference phases before after forest forest_after trail last → (matching : List (Option ℕ)) → length phases ≤ unmatched matching → length matching ≡ before.now.side → AreFewPhases before.now.side (map (worded word_of) phases)
+AreFewPhases-words M difference word_of before after phases forest forest_after trail last lead matching few whole = record {
+  few = omega (arith, few, whole, count_by-le-length (is_none {T = ℕ}) matching, length-map phases (worded word_of));
+  each = worded_over M difference before.now.side word_of phases (cell_at before.now) lead.admitted lead.sizes;
+}
+
+-- ---- the outcome
+
+-- what the fold law says of a square
+abbrev pub FoldLaw : {V : Type 0} → Monoid V → (V → V → V) → Type 0
+FoldLaw {V} M difference =
+    (side : ℕ) (phases : List (PhaseOf V)) (square after : ℕ → ℕ → Option V) (matching : List (Option ℕ)) (p : List ℕ)
+    → HasSide side square
+    → HasValues M side square
+    → AreAdmittedPhases M difference side phases square
+    → ((r k : ℕ) → after r k ≡ after_phases M difference phases square r k)
+    → IsPerfect (IsAbsorbed M (index_of M phases) after) side matching
+    → length p ≡ side
+    → ((r : ℕ) → r < side → Matches matching r (get_or p r 0))
+    → IsAssignment square side p × (assignment_fold M side square p ≡ index_of M phases)
+
+-- what the laws of squares say
+pub record SquareLaws (V : Type 0) : Type 0 where
+  pub folds : (M : Monoid V) (X : Problem) (enter : Cost → V) (p : List ℕ) → IsOrderedMonoid M → IsInstance X → ((r c : ℕ) → IfSome (live_at X r c) (λ cost. IsValue M (enter cost))) → IsAssignment (square_cell X M.unit enter) (square_side X) p → fold_of M (assignment_values (square_cell X M.unit enter) (square_side X) p) ≡ costs_fold M enter (costs_of X (choice_of X p))
+  pub presence : (X : Problem) (free : V) (enter : Cost → V) (r c : ℕ) → is_some (square_cell X free enter r c) ≡ has_cell X Whole r c
+  pub choice : (X : Problem) (Q : Grid V) (p : List ℕ) → IsInstance X → IsWithinSquareOf X Q → IsPerm Q p → grid_choice Q p ≡ choice_of X p
+
+module _ {V : Type 0} (M : Monoid V) (laws : IsOrderedMonoid M) (difference : V → V → V) (X : Problem) (instance : IsInstance X) (Q : Grid V) (before after : Reduced V) (start : before.now ≡ Q) (unit : before.index ≡ M.unit)
+    (phases : List (PhaseOf V)) (forest forest_after : Forest V) (trail last : Option ℕ) (lead : LeadTo M difference phases before after forest forest_after trail last) (squares : SquareLaws V)
+  where
+    module _ (enter : Cost → V) (square : IsSquareOf X M.unit enter Q) where
+      cells_are : cell_at before.now ≡ square_cell X M.unit enter
+      cells_are = ap cell_at start ∙ (λ i r k. square.cells r k i)
+
+      side_is : before.now.side ≡ square_side X
+      side_is = ap (λ (g : Grid V). g.side) start ∙ square.labels.side
+
+      pub labels_after : HasLabelsOf X after.now
+      labels_after = HasLabelsOf-kept X before.now after.now (subst (HasLabelsOf X) (sym start) square.labels) lead.labels
+
+      admitted : AreAdmittedPhases M difference (square_side X) phases (square_cell X M.unit enter)
+      admitted = subst (λ n. AreAdmittedPhases M difference n phases (square_cell X M.unit enter)) side_is
+          (subst (AreAdmittedPhases M difference before.now.side phases) cells_are lead.admitted)
+
+      outcome_is : (r k : ℕ) → cell_at after.now r k ≡ after_phases M difference phases (square_cell X M.unit enter) r k
+      outcome_is r k = lead.outcome r k ∙ ap (λ q. after_phases M difference phases q r k) cells_are
+
+      -- the same cells are present as in the square of the instance
+      presence_is : (r k : ℕ) → is_some (cell_at after.now r k) ≡ has_cell X Whole r k
+      presence_is r k =
+          ap is_some (outcome_is r k)
+          ∙ is_some-phases M difference phases (square_cell X M.unit enter) r k
+          ∙ squares.presence X M.unit enter r k
+
+      within : IsWithinSquareOf X after.now
+      within = record { labels = labels_after; cells = λ r k h. sym (presence_is r k) ∙ h }
+
+      -- rows that are deficient give a Hall set of the whole instance
+      pub IsFoldOutcome-nothing : (word_of : V → Word) (outcome : Outcome) → IsNothingBy X after.now outcome → IsFoldOutcome M difference word_of enter X outcome
+      IsFoldOutcome-nothing word_of (Best choice proof) by = absurd by
+      IsFoldOutcome-nothing word_of (Nothing rows) gives =
+          gives X Whole refl refl refl (λ r k. (λ h. sym (presence_is r k) ∙ h, λ h. presence_is r k ∙ h))
+
+      module _ (live : EntersValues M enter X) (fold : FoldLaw M difference) (matching : List (Option ℕ)) (perfect : IsPerfect (IsAbsorbed M after.index (cell_at after.now)) after.now.side matching) where
+        index_is : after.index ≡ index_of M phases
+        index_is =
+            lead.index
+            ∙ ap (λ z. M.product z (index_of M phases)) unit
+            ∙ laws.unit_neutral (index_of M phases) (index_is_value M laws difference (square_side X) phases (square_cell X M.unit enter) admitted)
+
+        perfect_is : IsPerfect (IsAbsorbed M (index_of M phases) (cell_at after.now)) (square_side X) matching
+        perfect_is = subst (λ n. IsPerfect (IsAbsorbed M (index_of M phases) (cell_at after.now)) n matching) labels_after.side
+            (subst (λ z. IsPerfect (IsAbsorbed M z (cell_at after.now)) after.now.side matching) index_is perfect)
+
+        module _ (choice : List (Option ℕ)) (by : IsChoiceBy after.now matching choice) where
+          solved_by : IsAssignment (square_cell X M.unit enter) (square_side X) by.columns × (assignment_fold M (square_side X) (square_cell X M.unit enter) by.columns ≡ index_of M phases)
+          solved_by =
+              fold (square_side X) phases (square_cell X M.unit enter) (cell_at after.now) matching by.columns
+              (HasSide-square_cell X M.unit enter)
+              (HasValues-square_cell M laws enter X live)
+              admitted outcome_is perfect_is
+              (by.over ∙ perfect_is.rows)
+              (λ r h. by.matched r (subst (λ n. r < n) (sym perfect_is.rows) h))
+
+          fold_is : index_of M phases ≡ choice_fold M enter X choice
+          fold_is =
+              sym solved_by.1
+              ∙ squares.folds M X enter by.columns laws instance live solved_by.0
+              ∙ ap (λ f. costs_fold M enter (costs_of X f)) (sym (by.chosen ∙ squares.choice X after.now by.columns instance within by.perm))
+
+          proves : (word_of : V → Word) (words : List (PhaseOf Word)) → words ≡ map (worded word_of) phases → ProvesFold M difference word_of enter X choice words
+          proves word_of words e = record {
+            phases = phases;
+            written = sym e;
+            proved = record { admitted = admitted; index = fold_is };
+          }
+
+        -- the choice is valid, and the phases prove its fold
+        pub IsFoldOutcome-best : (word_of : V → Word) (outcome : Outcome) → IsBestBy after.now matching (map (worded word_of) phases) outcome → IsFoldOutcome M difference word_of enter X outcome
+        IsFoldOutcome-best word_of (Best choice (Phases words)) by = record {
+          valid = by.0.valid X instance within;
+          proved = proves choice by.0 word_of words by.1;
+        }
+        IsFoldOutcome-best word_of (Best choice _) by = absurd by.1
+        IsFoldOutcome-best word_of (Nothing rows) by = absurd by
+
+-- the phases of a best outcome
+pub GivesFewPhases-best : {V : Type 0} (Q : Grid V) (matching : List (Option ℕ)) (words : List (PhaseOf Word)) (side : ℕ) (outcome : Outcome) → AreFewPhases side words → IsBestBy Q matching words outcome → GivesFewPhases side outcome
+GivesFewPhases-best Q matching words side (Best choice (Phases phases)) few by = subst (AreFewPhases side) (sym by.1) few
+GivesFewPhases-best Q matching words side (Best choice _) few by = absurd by.1
+GivesFewPhases-best Q matching words side (Nothing rows) few by = tt
+
+pub GivesFewPhases-nothing : {V : Type 0} (X : Problem) (Q : Grid V) (side : ℕ) (outcome : Outcome) → IsNothingBy X Q outcome → GivesFewPhases side outcome
+GivesFewPhases-nothing X Q side (Best choice proof) by = absurd by
+GivesFewPhases-nothing X Q side (Nothing rows) by = tt

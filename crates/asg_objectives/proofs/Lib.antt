@@ -1,0 +1,5 @@
+mod TrailWalks
+mod LedSquares
+mod EnteredCosts
+mod KindOutcomes
+mod MatchedColumns

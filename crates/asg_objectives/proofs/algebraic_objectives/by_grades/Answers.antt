@@ -1,0 +1,19 @@
+use Rattle.std.proofs.lemmas.Result.{IfOk-weaker}
+use Rattle.asg_model.specs.declared.objectives.Objective.TheVariants.{TimeCost}
+use Rattle.asg_monoids.specs.BoundedSums.{bounded_sums, bounded_difference}
+use Rattle.asg_monoids.specs.Entered.{time_entered}
+use Rattle.asg_monoids.specs.Grades.{graded, graded_difference, graded_word}
+use Rattle.asg_proof.specs.Outcomes.{IsOutcome}
+use Rattle.asg_objectives.specs.FoldOutcomes.{IsFoldOutcome}
+use Rattle.asg_objectives.proofs.KindOutcomes.{IsOutcome-grades}
+use Rattle.asg_objectives.proofs.algebraic_objectives.by_grades.Goals as goal
+
+pub returns-clause-outcome : goal.returns-clause-outcome
+returns-clause-outcome c =
+    let X = c.args.inst.now in
+    let top = c.new.result.monoid.inner.top in
+    IfOk-weaker c.algebraic.result
+    (IsFoldOutcome (graded (bounded_sums top)) (graded_difference (bounded_sums top) bounded_difference) graded_word time_entered X)
+    (IsOutcome TimeCost X)
+    (λ outcome by. IsOutcome-grades top c.new.ensures X outcome by)
+    c.algebraic.ensures.outcome

@@ -1,0 +1,3 @@
+pub mod FoldOutcomes
+pub mod SolvedSquares
+pub mod Workspaces

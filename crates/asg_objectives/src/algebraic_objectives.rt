@@ -1,0 +1,109 @@
+//! The outcome of an algebraic objective: a best choice with its phases, or a Hall set.
+
+ghost use Rattle.std.specs.Prelude.{◌≡◌, ◌≤◌, IsTrue, IfOk};
+ghost use Rattle.asg_model.specs.declared.objectives.Objective.TheVariants.{TimeCost};
+ghost use Rattle.asg_model.specs.Limits.{most_cost, most_side};
+ghost use Rattle.asg_model.specs.Refused.{PassesNegative};
+ghost use Rattle.asg_model.specs.Shapes.{square_side};
+ghost use Rattle.asg_monoids.specs.Entered.{is_sum_objective, is_peak_objective};
+ghost use Rattle.asg_order.specs.Entering.{MayEnter};
+ghost use Rattle.asg_proof.specs.Outcomes.{IsOutcome};
+ghost use Rattle.asg_proof.specs.Proves.{is_algebraic};
+ghost use Rattle.asg_objectives.specs.FoldOutcomes.{IsFoldOutcome, GivesFewPhases};
+
+use crate::NoMemory;
+use crate::solved_squares::outcome;
+use crate::workspaces::Workspace;
+use asg_algebra::SquareSolver;
+use asg_model::{Cost, Instance, Objective};
+use asg_monoids::{PeakKind, SumKind, TimeKind};
+use asg_order::{Kind, Ordered};
+use asg_proof::Outcome;
+use asg_square::Square;
+use std::alloc::Global;
+
+/// A valid choice of least fold in the monoid of a kind, with at most as many phases as the side that
+/// prove its fold; where no choice is valid, a Hall set of the whole instance. So the choice is best for
+/// the kind's objective. The side of the instance's square is at most 2,000, the objective refuses no
+/// live cost of the instance, and the kind's reach is at least the cost limit. The error is want of
+/// memory. The time grows with the cube of the side at most, by shortest augmenting paths over a
+/// d-monoid [Burkard, Hahn and Zimmermann 1977].
+pub fn algebraic<K: Kind>(alloc: Global, kind: &K, inst: &Instance) -> Result<Outcome, NoMemory>
+where
+    K::M: SquareSolver,
+    requires side { square_side inst.now ≤ most_side }
+    requires passes { PassesNegative (K.objective kind.now) inst.now }
+    requires reach { most_cost ≤ K.reach kind.now }
+    ensures outcome { let m = K.monoid kind.now in
+        IfOk result (IsFoldOutcome (K.M.monoid_of m) (K.M.difference m) (K.M.word_of m)
+        (K.entered kind.now) inst.now) }
+    ensures phases { IfOk result (GivesFewPhases (square_side inst.now)) }
+{
+    let workspace = Workspace::make(alloc, inst.side())?;
+    let m = kind.monoid();
+    let _rows = inst.rows();
+    let enter = |cost: Cost| -> <K::M as Ordered>::Value
+        requires { MayEnter (K.objective kind.now) (K.reach kind.now) cost }
+        ensures { result ≡ K.entered kind.entry.now cost }
+    { kind.enter(cost) };
+    let square = Square::of(alloc, inst, m.unit(), &enter)?;
+    outcome(alloc, m, inst, square, workspace)
+}
+
+// The outcome of an objective whose costs enter sums.
+fn by_sums(alloc: Global, objective: Objective, inst: &Instance) -> Result<Outcome, NoMemory>
+    requires objective { IsTrue (is_sum_objective objective) }
+    requires side { square_side inst.now ≤ most_side }
+    requires passes { PassesNegative objective inst.now }
+    ensures outcome { IfOk result (IsOutcome objective inst.now) }
+    ensures phases { IfOk result (GivesFewPhases (square_side inst.now)) }
+{
+    algebraic(alloc, &SumKind::of(objective), inst)
+}
+
+// The outcome of an objective whose costs enter maxima.
+fn by_maxima(alloc: Global, objective: Objective, inst: &Instance) -> Result<Outcome, NoMemory>
+    requires objective { IsTrue (is_peak_objective objective) }
+    requires side { square_side inst.now ≤ most_side }
+    requires passes { PassesNegative objective inst.now }
+    ensures outcome { IfOk result (IsOutcome objective inst.now) }
+    ensures phases { IfOk result (GivesFewPhases (square_side inst.now)) }
+{
+    algebraic(alloc, &PeakKind::of(objective), inst)
+}
+
+// The outcome of `time-cost`.
+fn by_grades(alloc: Global, inst: &Instance) -> Result<Outcome, NoMemory>
+    requires side { square_side inst.now ≤ most_side }
+    requires passes { PassesNegative TimeCost inst.now }
+    ensures outcome { IfOk result (IsOutcome TimeCost inst.now) }
+    ensures phases { IfOk result (GivesFewPhases (square_side inst.now)) }
+{
+    algebraic(alloc, &TimeKind::new(), inst)
+}
+
+/// A best choice for an algebraic objective, with phases that prove it: at most as many as the side of
+/// the instance's square, each of 1 to side steps. Where no choice is valid, a Hall set of the whole
+/// instance. The objective is any but `Balanced` and `Lex`, it refuses no live cost of the instance
+/// (`asg_model::negative`), and the side is at most 2,000. The error is want of memory. The method and
+/// its time are those of [`algebraic`].
+pub fn algebraic_assignment(
+    alloc: Global,
+    objective: Objective,
+    inst: &Instance,
+) -> Result<Outcome, NoMemory>
+    requires objective { IsTrue (is_algebraic objective) }
+    requires side { square_side inst.now ≤ most_side }
+    requires passes { PassesNegative objective inst.now }
+    ensures outcome { IfOk result (IsOutcome objective inst.now) }
+    ensures phases { IfOk result (GivesFewPhases (square_side inst.now)) }
+{
+    match objective {
+        Objective::Sum | Objective::SumMax | Objective::SumPair | Objective::Capped(_) => {
+            by_sums(alloc, objective, inst)
+        }
+        Objective::Bottleneck | Objective::BottleneckMax => by_maxima(alloc, objective, inst),
+        Objective::TimeCost => by_grades(alloc, inst),
+        Objective::Balanced | Objective::Lex => unreachable!(),
+    }
+}

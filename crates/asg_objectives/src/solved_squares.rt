@@ -1,0 +1,153 @@
+//! What the square of an instance comes to: a choice with its phases, or a Hall set.
+
+ghost use Rattle.std.specs.Prelude.{◌≡◌, ℕ, ◌<◌, length, map, slice_index, IfOk, IfSome};
+ghost use Rattle.asg_match.specs.Deficient.{IsDeficient};
+ghost use Rattle.asg_match.specs.HallSets.{GivesHallSets};
+ghost use Rattle.asg_match.specs.Matching.{Matches, IsMatched, IsPerfect};
+ghost use Rattle.asg_pool.specs.Forest.{IsLive, phases_to};
+ghost use Rattle.asg_proof.specs.Phases.{worded};
+ghost use Rattle.asg_proof.specs.Steps.{HasValues};
+ghost use Rattle.asg_square.specs.Cells.{IsPresent};
+ghost use Rattle.asg_square.specs.Grid.{cell_at, HasLabelsOf};
+ghost use Rattle.asg_objectives.specs.FoldOutcomes.{GivesFewPhases};
+ghost use Rattle.asg_objectives.specs.SolvedSquares.{AreOfValues, IsChoiceBy, IsBestBy, IsNothingBy, IsSquareOutcome};
+ghost use Rattle.asg_objectives.specs.Workspaces.{IsReady};
+
+use crate::NoMemory;
+use crate::present_cells::PresentCells;
+use crate::trail_phases::trail_phases;
+use crate::workspaces::Workspace;
+use asg_admit::Reduced;
+use asg_algebra::laws::fold_law;
+use asg_algebra::{Solved, SolvedSquare, SquareSolver};
+use asg_match::{Matching, hall_of};
+use asg_model::{Choice, Instance};
+use asg_order::Written;
+use asg_pool::{Region, Trail};
+use asg_proof::{Ids, Outcome, Proof};
+use asg_square::Square;
+use asg_square::laws::{grid_law, square_law};
+use std::alloc::Global;
+
+// The column of a row that has one.
+fn column_in(matching: &Matching, r: u32) -> u32
+    requires below { r < length matching.now }
+    requires matched { IsMatched matching.now r }
+    ensures { Matches matching.now r result }
+{
+    match matching.column_of(r) {
+        Some(column) => column,
+        None => unreachable!(),
+    }
+}
+
+// The columns of the rows, all of which have one.
+fn columns_of(alloc: Global, matching: &Matching) -> Result<Vec<u32>, NoMemory>
+    requires { (r : ℕ) → r < length matching.now → IsMatched matching.now r }
+    ensures count { IfOk result (λ columns. length columns.items ≡ length matching.now) }
+    ensures columns { IfOk result (λ columns. (r : ℕ) → r < length matching.now
+        → Matches matching.now r (slice_index columns.items r)) }
+{
+    let mut columns = Vec::with_capacity(alloc, matching.side() as usize)?;
+    for r in 0..matching.side() {
+        columns.push(column_in(matching, r))?;
+    }
+    Ok(columns)
+}
+
+// The choice of a perfect assignment by present cells of a square, which is let go of.
+fn choice_by<V: Copy>(
+    alloc: Global,
+    square: Square<V>,
+    matching: &Matching,
+) -> Result<Choice, NoMemory>
+    requires { IsPerfect (IsPresent (cell_at square)) square.side matching.now }
+    ensures { IfOk result (IsChoiceBy square matching.now) }
+{
+    let _side = matching.side();
+    let columns = columns_of(alloc, matching)?;
+    square.choice_of(alloc, columns.as_slice())
+}
+
+// The best choice and the phases that led to it. The square is let go of before they are written.
+fn best<M: Written>(
+    alloc: Global,
+    m: &M,
+    square: Square<M::Value>,
+    matching: &Matching,
+    region: &Region<M::Value>,
+    last: Option<Trail>,
+) -> Result<Outcome, NoMemory>
+    requires perfect { IsPerfect (IsPresent (cell_at square)) square.side matching.now }
+    requires live { IfSome last (IsLive region.now) }
+    requires values { AreOfValues (M.monoid_of m.now) (phases_to region.now last) }
+    ensures { let words = map (worded (M.word_of m.now)) (phases_to region.now last) in
+        IfOk result (IsBestBy square matching.now words) }
+{
+    let choice = choice_by(alloc, square, matching)?;
+    let phases = trail_phases(alloc, m, region, last)?;
+    Ok(Outcome::Best {
+        choice,
+        proof: Proof::Phases(phases),
+    })
+}
+
+// The Hall set of rows that have fewer present cells than they are.
+fn nothing<V: Copy>(
+    alloc: Global,
+    inst: &Instance,
+    square: &Square<V>,
+    rows: &[u32],
+) -> Result<Outcome, NoMemory>
+    requires labels { HasLabelsOf inst.now square.now }
+    requires short { IsDeficient (IsPresent (cell_at square.now)) square.now.side rows.now }
+    ensures { IfOk result (IsNothingBy inst.now square.now) }
+{
+    let _side = square.side();
+    let _rows = inst.rows();
+    let cells = PresentCells { square };
+    let mut ids = [0; 1001];
+    let count = hall_of(square, inst, &cells, rows, &mut ids);
+    let ids = Vec::from_slice(alloc, &ids[..count as usize])?;
+    Ok(Outcome::Nothing {
+        rows: Ids::from_vec(ids),
+    })
+}
+
+/// Solves the square of an instance, whose present cells are values and whose free cells are units: a
+/// valid choice with phases that prove its fold, or a Hall set of the whole instance. The error is want
+/// of memory.
+pub(crate) fn outcome<M: SquareSolver>(
+    alloc: Global,
+    m: &M,
+    inst: &Instance,
+    square: Square<M::Value>,
+    workspace: Workspace<M::Value>,
+) -> Result<Outcome, NoMemory>
+    requires labels { HasLabelsOf inst.now square }
+    requires values { HasValues (M.monoid_of m.now) square.side (cell_at square) }
+    requires ready { IsReady square.side workspace }
+    ensures outcome { IfOk result (IsSquareOutcome (M.monoid_of m.now) (M.difference m.now)
+        (M.word_of m.now) inst.now square) }
+    ensures phases { IfOk result (GivesFewPhases square.side) }
+{
+    fold_law(m);
+    square_law::<M::Value>();
+    grid_law::<M::Value>();
+    let _rows = inst.rows();
+    let Workspace {
+        mut matching,
+        mut bench,
+        mut region,
+    } = workspace;
+    let reduced = Reduced {
+        now: square,
+        index: m.unit(),
+    };
+    let solved = m.solve_square(alloc, reduced, &mut matching, &mut bench, &mut region, None)?;
+    let SolvedSquare { reduced, ended } = solved;
+    match ended {
+        Solved::Perfect(last) => best(alloc, m, reduced.now, &matching, &region, last),
+        Solved::Short(_) => nothing(alloc, inst, &reduced.now, bench.violator()),
+    }
+}

@@ -1,0 +1,36 @@
+//! The memory of a solve.
+
+ghost use Rattle.std.specs.Prelude.{IfOk};
+ghost use Rattle.asg_objectives.specs.Workspaces.{IsReady};
+
+use crate::NoMemory;
+use asg_algebra::Bench;
+use asg_match::Matching;
+use asg_pool::Region;
+use std::alloc::Global;
+
+/// What the solver of one square works in: a matching, a bench and a region.
+#[derive(Drop)]
+pub(crate) struct Workspace<V: Copy> {
+    pub(crate) matching: Matching,
+    pub(crate) bench: Bench<V>,
+    pub(crate) region: Region<V>,
+}
+
+impl<V: Copy> Workspace<V> {
+    /// A workspace for a side: no row has a column, no phase was pushed, and there is a record spare for
+    /// each row. The error is want of memory.
+    pub(crate) fn make(alloc: Global, side: u32) -> Result<Workspace<V>, NoMemory>
+        ensures { IfOk result (IsReady side) }
+    {
+        let matching = Matching::make(alloc, side)?;
+        let bench = Bench::make(alloc, side)?;
+        let mut region = Region::make(alloc, side)?;
+        region.reserve(side)?;
+        Ok(Workspace {
+            matching,
+            bench,
+            region,
+        })
+    }
+}

@@ -1,5 +1,5 @@
 -- Assignments and deficient rows among the cells of a square up to a limit.
-use Rattle.std.proofs.Common.{◌≡◌, ◌≢◌, refl, ℕ, ◌+◌, ◌-◌, ◌*◌, ◌<◌, ◌≤◌, ⊎_elim, sym, ◌∙◌, subst, ap, arith, List, [], ◌∷◌, length, get_or, map, cond, ltb, Option, All, AllPairs, Contains}
+use Rattle.std.proofs.Common.{◌≡◌, ◌≢◌, refl, ℕ, ◌+◌, ◌-◌, ◌<◌, ◌≤◌, ⊎_elim, sym, ◌∙◌, subst, ap, arith, List, [], ◌∷◌, length, get_or, map, cond, ltb, Option, Contains}
 use Rattle.std.specs.List.{range_with_len}
 use Rattle.std.proofs.lemmas.Bool.{cases_lt, lt-ltb, le-ltb}
 use Rattle.std.proofs.lemmas.List.{get_or_default}

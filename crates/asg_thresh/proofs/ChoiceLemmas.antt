@@ -1,13 +1,13 @@
 -- The costs that a choice picks, as a list and row by row.
-use Rattle.std.proofs.Common.{◌≡◌, refl, ℕ, ◌<◌, ◌≤◌, List, [], ◌∷◌, length, get_or, map, Option, Some, None, cond, ◌&&◌, Bool, true, false, sym, ◌∙◌, subst, ap, arith, ⊎_elim, eqb, zero, suc, zero-add}
+use Rattle.std.proofs.Common.{◌≡◌, refl, ℕ, ◌<◌, ◌≤◌, List, [], ◌∷◌, length, Option, Some, None, cond, ◌&&◌, Bool, true, false, sym, ◌∙◌, subst, ap, arith, ⊎_elim, eqb, suc, zero-add}
 use Rattle.std.specs.Prelude.{ℤ, ◌≤ℤ◌, All, IfSome, IsSome, is_some, count_by, slice_get, filter_map, fold, option_and_then}
 use Rattle.std.specs.Int.{int_max, int_min}
 use Rattle.std.specs.List.{range_with_len, cons_option}
 use Rattle.std.proofs.lemmas.Bool.{cases_lt}
-use Rattle.std.proofs.lemmas.Int.{ints, fold-int_max_reached, fold-int_min_reached}
-use Rattle.std.proofs.lemmas.List.Elements.{All-head, All-tail, All-cons, All-nil, All-contains, All-map}
+use Rattle.std.proofs.lemmas.Int.{fold-int_max_reached, fold-int_min_reached}
+use Rattle.std.proofs.lemmas.List.Elements.{All-head, All-tail, All-cons, All-nil, All-contains}
 use Rattle.std.proofs.lemmas.List.FromFn.{length-range_with_len, get_or-range_with_len}
-use Rattle.std.proofs.lemmas.Option.{none-some, same_Some, slice_get-get_or, slice_get_past}
+use Rattle.std.proofs.lemmas.Option.{none-some, slice_get_past}
 use Rattle.asg_model.specs.declared.parts.Cost.{Cost}
 use Rattle.asg_model.specs.Problem.{Problem}
 use Rattle.asg_model.specs.Live.{cost_at, is_active, is_open, live_at}
@@ -17,7 +17,7 @@ use Rattle.asg_model.specs.declared.parts.Place.TheVariants.{All as PlaceAll, Ex
 use Rattle.asg_model.specs.Counts.{active_count, placed_by}
 use Rattle.asg_model.specs.Instances.{IsCostInRange, IsPlaceInRange, IsInstance}
 use Rattle.asg_model.specs.ValidChoice.{Chooses, IsValid}
-use Rattle.asg_model.specs.Values.{chosen_cost, costs_of, first_parts}
+use Rattle.asg_model.specs.Values.{chosen_cost, costs_of}
 use Rattle.asg_model.specs.Extremes.{greatest, least}
 
 -- what holds of each value that is there holds of the list of them

@@ -1,3 +1,4 @@
+pub mod GradeLemmas
 pub mod WordLemmas
 pub mod CellLemmas
 pub mod ChoiceLemmas

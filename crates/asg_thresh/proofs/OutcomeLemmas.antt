@@ -1,20 +1,16 @@
 -- What a least threshold shows of an instance.
-use Rattle.std.proofs.Common.{◌≡◌, ◌≢◌, ◌↔◌, refl, ℕ, ◌+◌, ◌*◌, ◌<◌, ◌≤◌, List, [], ◌∷◌, length, get_or, map, Option, Some, None, Bool, true, false, sym, ◌∙◌, subst, ap, arith, ⊎_elim}
-use Rattle.std.specs.Prelude.{ℤ, pos, ◌+ℤ◌, ◌-ℤ◌, ◌≤ℤ◌, ◌<ℤ◌, All, IfSome, IsSome, is_some, int_lt, slice_index, unsigned_abs}
+use Rattle.std.proofs.Common.{◌≡◌, refl, ℕ, ◌<◌, ◌≤◌, List, length, Option, Some, None, sym, ◌∙◌, subst, ap, arith}
+use Rattle.std.specs.Prelude.{ℤ, pos, ◌-ℤ◌, ◌≤ℤ◌, ◌<ℤ◌, All, IfSome, IsSome, slice_index, unsigned_abs}
 use Rattle.std.specs.Option.{option_map_or, unwrap_or}
-use Rattle.std.proofs.lemmas.Bool.{cases_lt, false≢true}
 use Rattle.std.proofs.lemmas.Int.{ints, by_lt_z}
 use Rattle.std.proofs.lemmas.List.{length-map}
-use Rattle.std.proofs.lemmas.List.Elements.{All-map, All-contains}
-use Rattle.std.proofs.lemmas.Option.{same_Some, none-some}
-use Rattle.asg_model.specs.declared.bands.Band.{Band}
+use Rattle.std.proofs.lemmas.List.Elements.{All-map}
 use Rattle.asg_model.specs.declared.bands.Band.TheVariants.{Whole, Under, Over}
 use Rattle.asg_model.specs.declared.objectives.Objective.{Objective}
 use Rattle.asg_model.specs.declared.objectives.Objective.TheVariants.{Sum, SumMax, SumPair, Capped, Bottleneck, BottleneckMax, TimeCost, Balanced, Lex}
 use Rattle.asg_model.specs.declared.parts.Cost.{Cost}
-use Rattle.asg_model.specs.Bands.{in_band}
 use Rattle.asg_model.specs.Extremes.{greatest, least}
-use Rattle.asg_model.specs.HallSet.{IsHall, LiesIn}
+use Rattle.asg_model.specs.HallSet.{IsHall}
 use Rattle.asg_model.specs.Instances.{IsInstance, IsCostInRange}
 use Rattle.asg_model.specs.Limits.{most_cost}
 use Rattle.asg_model.specs.Live.{live_at}
@@ -26,7 +22,7 @@ use Rattle.asg_match.specs.HallSets.{GivesHallSets}
 use Rattle.asg_proof.specs.Threshold.{ProvesBelow}
 use Rattle.asg_square.specs.Cells.{square_cell, entered_or_free}
 use Rattle.asg_square.specs.Grid.{Grid, cell_at, IsSquareOf, IsPerm}
-use Rattle.asg_thresh.specs.Grades.{grade_of, free_grade, no_grade, grade_at, IsUnder, AreGradesOf}
+use Rattle.asg_thresh.specs.Grades.{grade_of, free_grade, no_grade, IsUnder, AreGradesOf}
 use Rattle.asg_thresh.specs.Objectives.{IsBottleneck}
 use Rattle.asg_thresh.specs.Thresholds.{IsAssignmentUpTo}
 use Rattle.asg_thresh.proofs.ChoiceLemmas.{costs_each, costs_some, chosen_live, live_in_range, greatest-le, least-ge, some_cost, if_some, from_if_some}

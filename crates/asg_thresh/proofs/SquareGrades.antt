@@ -1,11 +1,9 @@
 -- Grades of the cells of an instance's square, against bands of costs.
-use Rattle.std.proofs.Common.{◌≡◌, ◌↔◌, refl, ℕ, ◌+◌, ◌*◌, ◌<◌, ◌≤◌, Option, Some, None, cond, ◌&&◌, Bool, true, false, sym, ◌∙◌, subst, ap, arith, ⊎_elim}
-use Rattle.std.specs.Prelude.{ℤ, pos, ◌+ℤ◌, ◌-ℤ◌, ◌≤ℤ◌, ◌<ℤ◌, IfSome, IsTrue, IsSome, is_some, nat_lt, int_lt, unsigned_abs, slice_index, List}
+use Rattle.std.proofs.Common.{◌≡◌, ◌↔◌, refl, ℕ, ◌<◌, ◌≤◌, Option, Some, None, cond, ◌&&◌, Bool, true, false, sym, ◌∙◌, subst, ap, arith, ⊎_elim}
+use Rattle.std.specs.Prelude.{IfSome, IsTrue, nat_lt, unsigned_abs, List}
 use Rattle.std.specs.Option.{option_map, option_map_or, unwrap_or}
 use Rattle.std.proofs.lemmas.Bool.{cases_lt, lt-ltb, le-ltb, false≢true}
-use Rattle.std.proofs.lemmas.Int.{ints}
 use Rattle.asg_model.specs.declared.bands.Band.{Band}
-use Rattle.asg_model.specs.declared.bands.Band.TheVariants.{Whole, Under, Over}
 use Rattle.asg_model.specs.declared.objectives.Objective.{Objective}
 use Rattle.asg_model.specs.declared.parts.Cost.{Cost}
 use Rattle.asg_model.specs.declared.parts.Place.{Place}
@@ -16,7 +14,7 @@ use Rattle.asg_model.specs.Live.{live_at}
 use Rattle.asg_model.specs.Problem.{Problem}
 use Rattle.asg_match.specs.HallSets.{AllowsCells}
 use Rattle.asg_square.specs.Cells.{extra_column_cell, corner_cell, labelled_cell, square_cell}
-use Rattle.asg_square.specs.Grid.{Grid, cell_at, IsSquareOf}
+use Rattle.asg_square.specs.Grid.{Grid, IsSquareOf}
 use Rattle.asg_model.specs.Shapes.{square_side}
 use Rattle.asg_square.specs.Labels.{row_label, column_label}
 use Rattle.asg_square.specs.Presence.{leaves_rows, has_corner, is_labelled_within, has_cell}

@@ -1,5 +1,5 @@
 -- Words of the bits of a square, up to a limit.
-use Rattle.std.proofs.Common.{◌≡◌, ◌↔◌, refl, ℕ, ◌+◌, ◌-◌, ◌*◌, ◌/◌, ◌%◌, ◌^◌, ◌<◌, ◌≤◌, ◌⊎◌, inl, inr, ⊎_elim, sym, ◌∙◌, subst, ap, arith, w64, List, length, get_or, min, Bool, true, false, leb, zero-mul}
+use Rattle.std.proofs.Common.{◌≡◌, ◌↔◌, ℕ, ◌+◌, ◌-◌, ◌*◌, ◌/◌, ◌%◌, ◌^◌, ◌<◌, ◌≤◌, ⊎_elim, sym, ◌∙◌, subst, ap, arith, w64, List, get_or, min, Bool, true, false, leb, zero-mul}
 use Rattle.std.specs.Prelude.{bit_or, bit_and}
 use Rattle.std.specs.Int.{bit_at}
 use Rattle.std.proofs.Math.Nat.{mul_comm}
@@ -9,7 +9,7 @@ use Rattle.std.proofs.lemmas.Bool.{cases_eq, cases_lt, leb-true, leb-false}
 use Rattle.std.proofs.lemmas.Nat.{div-mul-add, mod-mul-add, mul-add-lt}
 use Rattle.std.proofs.lemmas.Nat.Bits.{bit_at-lt, bit_at_above, bit_at_and, bit_at_set_same, bit_at_set_other}
 use Rattle.asg_match.specs.ColumnSet.{HasBit, word_count}
-use Rattle.asg_thresh.specs.Grades.{grade_at, IsUpTo}
+use Rattle.asg_thresh.specs.Grades.{grade_at}
 use Rattle.asg_thresh.specs.Words.{IsMarked, AreBitsUpTo, MarksUpTo}
 
 -- one more grade, whose bit is set exactly where it is at most the limit

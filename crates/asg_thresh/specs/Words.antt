@@ -1,7 +1,7 @@
 -- Rows of bits, as words of 64.
 use Rattle.std.specs.Prelude.{ℕ, ◌+◌, ◌*◌, ◌/◌, ◌%◌, ◌<◌, ◌≤◌, ◌↔◌, List, slice_index}
 use Rattle.asg_match.specs.ColumnSet.{HasBit, word_count}
-use Rattle.asg_thresh.specs.Grades.{grade_at, IsUpTo}
+use Rattle.asg_thresh.specs.Grades.{IsUpTo}
 
 -- row r may have column c by the words, of which each row has as many as its columns need
 pub record IsMarked (words : List ℕ) (side : ℕ) (r c : ℕ) : Type 0 where

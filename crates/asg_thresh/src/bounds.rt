@@ -1,8 +1,8 @@
 //! Lower bounds of the greatest grade of an assignment, from rows and from columns.
 
 ghost use Rattle.std.specs.Prelude.{◌≡◌, ℕ, ◌+◌, ◌*◌, ◌<◌, ◌≤◌, ◌^◌, IfOk, length, slice_index};
+ghost use Rattle.asg_model.specs.Limits.{most_side};
 ghost use Rattle.asg_match.specs.Deficient.{IsDeficient};
-ghost use Rattle.asg_square.specs.Limits.{most_side};
 ghost use Rattle.asg_thresh.specs.Bounds.{IsRowBound, IsColumnBound, AreAllBelow};
 ghost use Rattle.asg_thresh.specs.Grades.{IsUnder, grade_at};
 

@@ -1,7 +1,7 @@
 //! The cells of a lower grade than a limit.
 
 ghost use Rattle.std.specs.Prelude.{◌≡◌, ◌*◌, ◌≤◌, length};
-ghost use Rattle.asg_square.specs.Limits.{most_side};
+ghost use Rattle.asg_model.specs.Limits.{most_side};
 
 use asg_match::Allowed;
 

@@ -1,18 +1,14 @@
 //! Grades of costs and of the cells of a square.
 
-ghost use Rattle.std.specs.Prelude.{◌≡◌, ℕ, ◌*◌, ◌/◌, ◌%◌, ◌<◌, ◌≤◌, if◌then◌else◌, IfOk, length, slice_index, unsigned_abs};
-ghost use Rattle.std.specs.Option.{unwrap_or};
-ghost use Rattle.asg_model.specs.Limits.{most_cost};
-ghost use Rattle.asg_square.specs.BitTable.{is_bit_set};
-ghost use Rattle.asg_square.specs.Grid.{cell_at};
-ghost use Rattle.asg_square.specs.Limits.{most_side};
-ghost use Rattle.asg_thresh.specs.Grades.{grade_of, grade_at, no_grade, AreGradesOf};
+ghost use Rattle.std.specs.Prelude.{◌≡◌, ℕ, ◌+◌, ◌*◌, ◌<◌, ◌≤◌, min, IsTrue, IsSome, unsigned_abs};
+ghost use Rattle.asg_model.specs.Limits.{most_cost, most_side};
+ghost use Rattle.asg_square.specs.BitTable.{word_count};
+ghost use Rattle.asg_square.specs.Grid.{IsGrid, cell_at};
+ghost use Rattle.asg_thresh.specs.Grades.{grade_of, Grades};
 
-use crate::NoMemory;
 use asg_model::limits::MOST_COST;
 use asg_model::{Cost, Objective};
 use asg_square::Square;
-use std::alloc::Global;
 
 /// The grade of a free cell, under those of all costs.
 pub(crate) const FREE_GRADE: u32 = 0;
@@ -32,50 +28,79 @@ pub(crate) fn grade(objective: Objective, cost: Cost) -> u32
     }
 }
 
-// The value of a column of a row of a square, or the grade of no cell where none is there.
-#[inline]
-fn value_or_none(values: &[u32], words: &[u64], column: usize) -> u32
-    requires value { column < length values.now }
-    requires word { column / 64 < length words.now }
-    ensures { result ≡ (if is_bit_set (slice_index words.now (column / 64)) (column % 64)
-        then slice_index values.now column else no_grade) }
+// Gives a cell the grade of no cell, if it is absent.
+fn grade_cell(square: &mut Square<u32>, row: u32, column: u32)
+    requires row_below { row < square.old.side }
+    requires column_below { column < square.old.side }
+    requires grid { IsGrid square.old }
+    ensures { let place = row * square.old.side + column in
+        Grades square.old square.new place (place + 1) }
 {
-    if words[column / 64] >> (column % 64) & 1 == 1 {
-        values[column]
-    } else {
-        NO_GRADE
+    match square.at(row, column) {
+        Some(_) => {}
+        None => square.set(row, column, Some(NO_GRADE)),
     }
 }
 
-// Writes the grades of a row of a square into a list of grades.
-fn write_row(square: &Square<u32>, row: u32, grades: &mut [u32])
+// Gives the absent cells of a row from one column to another the grade of no cell.
+fn grade_cells(square: &mut Square<u32>, row: u32, first: u32, end: u32)
+    requires row_below { row < square.old.side }
+    requires order { first ≤ end }
+    requires end_within { end ≤ square.old.side }
+    ensures { let start = row * square.old.side in
+        Grades square.old square.new (start + first) (start + end) }
+{
+    for column in first..end {
+        let _ = square.side();
+        grade_cell(square, row, column);
+    }
+}
+
+// Whether all 64 cells of a word of a row are present.
+fn is_full(square: &Square<u32>, row: u32, number: u32) -> bool
     requires row_below { row < square.now.side }
-    requires few { square.now.side ≤ most_side }
-    requires count { length grades.old ≡ square.now.side * square.now.side }
-    ensures row { (c : ℕ) → c < square.now.side
-        → grade_at grades.new square.now.side row c ≡ unwrap_or (cell_at square.now row c) no_grade }
-    ensures others { (r c : ℕ) → r < row → c < square.now.side
-        → grade_at grades.new square.now.side r c ≡ grade_at grades.old square.now.side r c }
+    requires number_below { number < word_count square.now.side }
+    ensures { IsTrue result → (k : ℕ) → k < 64
+        → IsSome (cell_at square.now row (64 * number + k)) }
 {
-    let side = square.side() as usize;
-    let start = row as usize * side;
-    let values = square.row_values(row);
-    let words = square.row_words(row);
-    for column in 0..side {
-        grades[start + column] = value_or_none(values, words, column);
-    }
+    square.row_words(row)[number as usize] == u64::MAX
 }
 
-/// The grades of the cells of a square, row by row. The error is want of memory.
-pub(crate) fn grades_of(alloc: Global, square: &Square<u32>) -> Result<Vec<u32>, NoMemory>
-    requires { square.now.side ≤ most_side }
-    ensures { IfOk result (λ grades. AreGradesOf square.now grades.items) }
+// Gives the absent cells of a word of a row the grade of no cell.
+fn grade_word(square: &mut Square<u32>, row: u32, number: u32)
+    requires row_below { row < square.old.side }
+    requires number_below { number < word_count square.old.side }
+    requires few { square.old.side ≤ most_side }
+    ensures { let start = row * square.old.side in
+        Grades square.old square.new (start + 64 * number)
+        (start + min (64 * number + 64) square.old.side) }
 {
     let side = square.side();
-    let count = side as usize * side as usize;
-    let mut grades = vec![in alloc; NO_GRADE; count]?;
-    for row in 0..side {
-        write_row(square, row, &mut grades);
+    if is_full(square, row, number) {
+        return;
     }
-    Ok(grades)
+    grade_cells(square, row, 64 * number, (64 * number + 64).min(side));
+}
+
+// Gives the absent cells of a row the grade of no cell.
+fn grade_row(square: &mut Square<u32>, row: u32)
+    requires row_below { row < square.old.side }
+    requires few { square.old.side ≤ most_side }
+    ensures { let start = row * square.old.side in
+        Grades square.old square.new start (start + square.old.side) }
+{
+    for number in 0..square.side().div_ceil(64) {
+        grade_word(square, row, number);
+    }
+}
+
+/// Gives each absent cell of a square the grade of no cell, so that the square's values are the grades
+/// of all its cells. Takes no memory.
+pub(crate) fn grade_absent(square: &mut Square<u32>)
+    requires { square.old.side ≤ most_side }
+    ensures { Grades square.old square.new 0 (square.old.side * square.old.side) }
+{
+    for row in 0..square.side() {
+        grade_row(square, row);
+    }
 }

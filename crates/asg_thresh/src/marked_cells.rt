@@ -2,7 +2,6 @@
 
 ghost use Rattle.std.specs.Prelude.{◌≡◌, ℕ, ◌*◌, ◌<◌, ◌≤◌, IfOk, length, vec_len};
 ghost use Rattle.asg_match.specs.ColumnSet.{word_count};
-ghost use Rattle.asg_square.specs.Limits.{most_side};
 ghost use Rattle.asg_thresh.specs.Words.{AreBitsUpTo, MarksUpTo};
 
 use crate::NoMemory;
@@ -125,4 +124,5 @@ fn mark_words(words: &mut Vec<u64>, grades: &[u32], side: u32, limit: u32)
 }
 
 ghost use Rattle.std.specs.Prelude.{◌+◌, ◌-◌, min, slice_index};
+ghost use Rattle.asg_model.specs.Limits.{most_side};
 ghost use Rattle.asg_thresh.specs.Grades.{grade_at};

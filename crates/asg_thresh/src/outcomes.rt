@@ -1,20 +1,20 @@
 //! The outcome of a bottleneck objective: a best choice with its proof, or a Hall set.
 
-ghost use Rattle.std.specs.Prelude.{◌≡◌, ◌≤◌, IfOk, unsigned_abs};
+ghost use Rattle.std.specs.Prelude.{◌≡◌, ◌*◌, ◌≤◌, IfOk, length, unsigned_abs};
 ghost use Rattle.asg_match.specs.Deficient.{IsDeficient};
 ghost use Rattle.asg_match.specs.HallSets.{GivesHallSets};
-ghost use Rattle.asg_model.specs.Limits.{most_cost};
+ghost use Rattle.asg_model.specs.Limits.{most_cost, most_side};
 ghost use Rattle.asg_proof.specs.Outcomes.{IsOutcome};
-ghost use Rattle.asg_square.specs.Grid.{HasLabelsOf, IsSquareOf};
+ghost use Rattle.asg_square.specs.CellTable.{AreAllValuesOf};
+ghost use Rattle.asg_square.specs.Grid.{HasLabelsOf};
 ghost use Rattle.asg_model.specs.Shapes.{square_side};
-ghost use Rattle.asg_square.specs.Limits.{most_side};
-ghost use Rattle.asg_thresh.specs.Grades.{grade_of, free_grade, no_grade, AreGradesOf, IsUnder};
-ghost use Rattle.asg_thresh.specs.Objectives.{IsBottleneck};
+ghost use Rattle.asg_thresh.specs.Grades.{grade_of, no_grade, IsGradedSquareOf, IsUnder};
+ghost use Rattle.asg_thresh.specs.Objectives.{HasThresholdProof, IsBottleneck};
 ghost use Rattle.asg_thresh.specs.Thresholds.{IsLeast};
 
 use crate::NoMemory;
 use crate::cells_under::CellsUnder;
-use crate::grades::{FREE_GRADE, NO_GRADE, grade, grades_of};
+use crate::grades::{FREE_GRADE, NO_GRADE, grade, grade_absent};
 use crate::thresholds::{Threshold, least_threshold};
 use asg_match::hall_of;
 use asg_model::laws::{bottleneck_law, bottleneck_max_law};
@@ -35,7 +35,7 @@ fn hall_ids(
 ) -> Result<Ids, NoMemory>
     requires labels { HasLabelsOf inst.now square.now }
     requires few { square.now.side ≤ most_side }
-    requires grades { AreGradesOf square.now grades.now }
+    requires count { length grades.now ≡ square.now.side * square.now.side }
     requires least { IsLeast grades.now square.now.side found.now.limit
         found.now.perm.items found.now.rows.items }
     ensures { IfOk result (GivesHallSets inst.now
@@ -63,13 +63,15 @@ fn outcome(
     found: &Threshold,
 ) -> Result<Outcome, NoMemory>
     requires objective { IsBottleneck objective }
-    requires square { IsSquareOf inst.now free_grade (grade_of objective) square.now }
+    requires square { IsGradedSquareOf inst.now objective square.now }
     requires few { square.now.side ≤ most_side }
-    requires grades { AreGradesOf square.now grades.now }
+    requires count { length grades.now ≡ square.now.side * square.now.side }
+    requires grades { AreAllValuesOf square.now.cells grades.now }
     requires limit { found.now.limit ≤ no_grade }
     requires least { IsLeast grades.now square.now.side found.now.limit
         found.now.perm.items found.now.rows.items }
-    ensures { IfOk result (IsOutcome objective inst.now) }
+    ensures outcome { IfOk result (IsOutcome objective inst.now) }
+    ensures threshold { IfOk result HasThresholdProof }
 {
     square_law::<u32>();
     grid_law::<u32>();
@@ -95,15 +97,18 @@ fn outcome(
 pub fn bottleneck(alloc: Global, objective: Objective, inst: &Instance) -> Result<Outcome, NoMemory>
     requires objective { IsBottleneck objective }
     requires side { square_side inst.now ≤ most_side }
-    ensures { IfOk result (IsOutcome objective inst.now) }
+    ensures outcome { IfOk result (IsOutcome objective inst.now) }
+    ensures threshold { IfOk result HasThresholdProof }
 {
     let _rows = inst.rows();
     let enter = |cost: Cost| -> u32
         requires { unsigned_abs cost.a ≤ most_cost }
         ensures { result ≡ grade_of objective cost }
     { grade(objective, cost) };
-    let square = Square::of(alloc, inst, FREE_GRADE, &enter)?;
-    let grades = grades_of(alloc, &square)?;
-    let found = least_threshold(alloc, grades.as_slice(), square.side())?;
-    outcome(alloc, objective, inst, &square, grades.as_slice(), &found)
+    let mut square = Square::of(alloc, inst, FREE_GRADE, &enter)?;
+    grade_absent(&mut square);
+    let grades = square.values();
+    let side = square.side();
+    let found = least_threshold(alloc, grades, side)?;
+    outcome(alloc, objective, inst, &square, grades, &found)
 }

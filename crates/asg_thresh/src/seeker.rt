@@ -2,9 +2,9 @@
 
 ghost use Rattle.std.specs.Prelude.{◌≡◌, ℕ, ◌*◌, ◌<◌, ◌≤◌, Some, IfOk, length, slice_index};
 ghost use Rattle.std.specs.Bool.{OnTrue, OnFalse};
+ghost use Rattle.asg_model.specs.Limits.{most_side};
 ghost use Rattle.asg_match.specs.Matching.{Matches, IsMatched};
 ghost use Rattle.asg_match.specs.Deficient.{IsDeficient};
-ghost use Rattle.asg_square.specs.Limits.{most_side};
 ghost use Rattle.asg_thresh.specs.Grades.{IsUpTo};
 ghost use Rattle.asg_thresh.specs.Seekers.{HaveSide};
 ghost use Rattle.asg_thresh.specs.Thresholds.{IsAssignmentUpTo};

@@ -1,14 +1,15 @@
 //! Best choices and Hall sets of small instances of every shape, by hand.
 
 ghost use Rattle.std.specs.Prelude.{◌≤◌};
+ghost use Rattle.asg_model.specs.Limits.{most_side};
 ghost use Rattle.asg_model.specs.Shapes.{square_side};
 ghost use Rattle.asg_thresh.specs.Objectives.{IsBottleneck};
 
 use super::bottleneck;
 use super::samples::{NONE, sample};
+use asg_model::limits::MOST_SIDE;
 use asg_model::{Band, Instance, NoMemory, Objective, Value, is_hall, is_valid, value};
-use asg_proof::{Ids, Outcome, Proof};
-use asg_square::limits::MOST_SIDE;
+use asg_proof::{Outcome, Proof};
 use std::alloc::Global;
 use std::test::Fail;
 
@@ -75,10 +76,11 @@ fn better_cells(objective: Objective, cost: i64) -> Band {
     }
 }
 
-// The rows that prove a best choice.
-fn rows_of(proof: &Proof) -> &Ids {
+// Whether a proof is rows that are a Hall set of the cells with a strictly better cost than a value.
+fn is_proved(objective: Objective, inst: &Instance, cost: i64, proof: &Proof) -> bool {
     match proof {
-        Proof::Below(rows) => rows,
+        Proof::Below(rows) => is_hall(inst, better_cells(objective, cost), rows.as_slice()),
+        _ => false,
     }
 }
 
@@ -91,14 +93,13 @@ fn is_right(
     want: Option<i64>,
 ) -> Result<bool, NoMemory>
     requires objective { IsBottleneck objective }
-    requires side { square_side inst.now ≤ 2000 }
+    requires side { square_side inst.now ≤ most_side }
 {
     match (bottleneck(alloc, objective, inst)?, want) {
         (Outcome::Best { choice, proof }, Some(cost)) => {
             let found = value(alloc, objective, inst, &choice)?;
             let is_value = matches!(found, Value::One(one) if one == i128::from(cost));
-            let band = better_cells(objective, cost);
-            let is_proved = is_hall(inst, band, rows_of(&proof).as_slice());
+            let is_proved = is_proved(objective, inst, cost, &proof);
             Ok(is_value && is_valid(inst, &choice) && is_proved)
         }
         (Outcome::Nothing { rows }, None) => Ok(is_hall(inst, Band::Whole, rows.as_slice())),

@@ -1,8 +1,8 @@
 //! The least limit within which a perfect assignment exists.
 
 ghost use Rattle.std.specs.Prelude.{◌≡◌, ℕ, ◌+◌, ◌*◌, ◌<◌, ◌≤◌, IfOk, All, length, slice_index};
+ghost use Rattle.asg_model.specs.Limits.{most_side};
 ghost use Rattle.asg_match.specs.Deficient.{IsDeficient};
-ghost use Rattle.asg_square.specs.Limits.{most_side};
 ghost use Rattle.asg_thresh.specs.Grades.{no_grade, grade_at, IsUpTo, IsUnder};
 ghost use Rattle.asg_thresh.specs.Thresholds.{IsAssignmentUpTo, IsLeast};
 

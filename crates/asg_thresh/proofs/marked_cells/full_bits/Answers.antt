@@ -4,7 +4,6 @@ use Rattle.std.specs.Int.{bit_at}
 use Rattle.std.proofs.lemmas.Bool.{cases_lt, cases_Bool, leb-true, le-leb}
 use Rattle.std.proofs.lemmas.List.{get_or-map, get_or-take, get_or_past, length-map, length-take}
 use Rattle.std.proofs.lemmas.Simd.{bitmask_splat, bit_mask_l}
-use Rattle.asg_match.specs.ColumnSet.{HasBit}
 use Rattle.asg_thresh.specs.Words.{AreBitsUpTo}
 use Rattle.asg_thresh.proofs.marked_cells.full_bits.Goals as goal
 

@@ -1,11 +1,11 @@
-use Rattle.std.proofs.Common.{ℕ, ◌<◌, ◌≤◌, List, length, arith, subst, sym}
+use Rattle.std.proofs.Common.{ℕ, ◌<◌, ◌≤◌, arith, subst, sym}
 use Rattle.std.specs.Prelude.{All}
 use Rattle.std.proofs.lemmas.Bool.{OnTrue_at, OnFalse_at}
 use Rattle.std.proofs.lemmas.List.Elements.{All-contains}
 use Rattle.asg_match.specs.Deficient.{IsDeficient}
-use Rattle.asg_thresh.specs.Grades.{no_grade, grade_at, IsUpTo, IsUnder}
+use Rattle.asg_thresh.specs.Grades.{grade_at, IsUpTo, IsUnder}
 use Rattle.asg_thresh.specs.Thresholds.{IsAssignmentUpTo}
-use Rattle.asg_thresh.proofs.CellLemmas.{IsDeficient-fewer, IsAssignmentUpTo-more}
+use Rattle.asg_thresh.proofs.CellLemmas.{IsDeficient-fewer}
 use Rattle.asg_thresh.proofs.thresholds.least_threshold.Goals as goal
 
 pub limits-smaller-then-branch : goal.limits-smaller-then-branch

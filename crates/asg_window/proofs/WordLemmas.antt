@@ -1,0 +1,76 @@
+-- Words of bits, and the rows of bits that they are.
+use Rattle.std.proofs.Common.{◌≡◌, ◌↔◌, ℕ, ◌+◌, ◌*◌, ◌/◌, ◌%◌, ◌<◌, ◌⊎◌, inl, inr, ⊎_elim, ◌≤◌, sym, ◌∙◌, ap, arith, List, length, get_or, set}
+use Rattle.std.specs.Prelude.{IsTrue, bit_and, bit_or}
+use Rattle.std.specs.Int.{bit_at}
+use Rattle.std.proofs.lemmas.Bool.{cases_eq, cases_lt}
+use Rattle.std.proofs.lemmas.Bool.Decides.{Decides-eqb}
+use Rattle.std.proofs.lemmas.List.{get_or-set_same, get_or-set_other}
+use Rattle.std.proofs.lemmas.Nat.Bits.{bit_at-lt, bit_at_and, bit_at_or}
+use Rattle.asg_match.specs.ColumnSet.{HasBit}
+use Rattle.asg_square.specs.BitTable.{BitTable, has_bit, is_bit_set, AreWordsOf}
+
+-- a bit of two words at once, and of one of them
+pub HasBit-and : (a b k : ℕ) → HasBit (bit_and a b) k ↔ (HasBit a k × HasBit b k)
+HasBit-and a b k =
+    let both = bit_at_and a b k in
+    let one = bit_at-lt a k in
+    let two = bit_at-lt b k in (
+      λ has. (omega (arith, both, one, two, has), omega (arith, both, one, two, has)),
+      λ h. omega (arith, both, h.0, h.1),
+    )
+
+pub HasBit-or : (a b k : ℕ) → HasBit (bit_or a b) k ↔ (HasBit a k ⊎ HasBit b k)
+HasBit-or a b k =
+    let both = bit_at_or a b k in
+    let one = bit_at-lt a k in
+    let two = bit_at-lt b k in (
+      λ has. ⊎_elim (λ h. inl h) (λ other. inr (omega (arith, both, one, two, has, other))) (cases_eq (bit_at a k) 1),
+      λ h. ⊎_elim (λ x. omega (arith, both, x, two)) (λ y. omega (arith, both, y, one)) h,
+    )
+
+-- a bit of a word of a row
+pub word_bit : (B : BitTable) (r columns n k : ℕ) (words : List ℕ) → AreWordsOf (has_bit B r) columns words → n < length words → k < 64 → HasBit (get_or words n 0) k ↔ IsTrue (has_bit B r (64 * n + k))
+word_bit B r columns n k words are within below =
+    let word : (64 * n + k) / 64 ≡ n = omega (arith, below) in
+    let bit : (64 * n + k) % 64 ≡ k = omega (arith, below) in
+    let at = ap (λ i. is_bit_set (get_or words i 0) k) (sym word) ∙ ap (is_bit_set (get_or words ((64 * n + k) / 64) 0)) (sym bit) ∙ are.each (64 * n + k) (omega (arith, within, below)) in (
+      λ has. sym at ∙ (Decides-eqb (bit_at (get_or words n 0) k) 1).1 has,
+      λ is. (Decides-eqb (bit_at (get_or words n 0) k) 1).0 (at ∙ is),
+    )
+
+-- the first words are joined with others, the rest are as they were
+pub record AreJoined (before words now : List ℕ) (number : ℕ) : Type 0 where
+  pub bits : (i k : ℕ) → i < number → HasBit (get_or now i 0) k ↔ (HasBit (get_or before i 0) k ⊎ HasBit (get_or words i 0) k)
+  pub rest : (i : ℕ) → number ≤ i → get_or now i 0 ≡ get_or before i 0
+
+pub joined_next : (before words now : List ℕ) (number word : ℕ) → number < length now → word ≡ bit_or (get_or now number 0) (get_or words number 0) → AreJoined before words now number → AreJoined before words (set now number word) (number + 1)
+joined_next before words now number word within is j = record {
+  bits = λ i k h.
+      ⊎_elim
+      (λ (less : i < number).
+      let same = get_or-set_other now number i word 0 (λ e. omega (arith, e, less)) in
+      let both = j.bits i k less in (
+        λ has. both.0 (sym (ap (λ n. bit_at n k) same) ∙ has),
+        λ h. ap (λ n. bit_at n k) same ∙ both.1 h,
+      ))
+      (λ (from : number ≤ i).
+      let here : i ≡ number = omega (arith, h, from) in
+      let same = ap (λ n. get_or (set now number word) n 0) here ∙ get_or-set_same now number word 0 within ∙ is in
+      let both = HasBit-or (get_or now number 0) (get_or words number 0) k in
+      let old = j.rest number (omega arith) in (
+        λ has.
+            ⊎_elim
+            (λ x. inl (ap (λ n. bit_at (get_or before n 0) k) here ∙ sym (ap (λ n. bit_at n k) old) ∙ x))
+            (λ y. inr (ap (λ n. bit_at (get_or words n 0) k) here ∙ y))
+            (both.0 (sym (ap (λ n. bit_at n k) same) ∙ has)),
+        λ h.
+            ap (λ n. bit_at n k) same
+            ∙ both.1 (
+            ⊎_elim
+            (λ x. inl (ap (λ n. bit_at n k) old ∙ sym (ap (λ n. bit_at (get_or before n 0) k) here) ∙ x))
+            (λ y. inr (sym (ap (λ n. bit_at (get_or words n 0) k) here) ∙ y))
+            h),
+      ))
+      (cases_lt i number);
+  rest = λ i from. get_or-set_other now number i word 0 (λ e. omega (arith, e, from)) ∙ j.rest i (omega (arith, from));
+}

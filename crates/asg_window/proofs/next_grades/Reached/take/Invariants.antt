@@ -1,0 +1,17 @@
+use Rattle.std.proofs.Common.{◌≡◌, ℕ, ◌<◌, length, get_or}
+use Rattle.std.specs.Prelude.{IsTrue}
+use Rattle.asg_match.specs.ColumnSet.{HasColumn}
+use Rattle.asg_match.specs.Deficient.{IsColumnOf}
+use Rattle.asg_square.specs.BitTable.{has_bit}
+use Rattle.asg_window.specs.Reaching.{HasRoom, IsRowMarked}
+use Rattle.asg_window.proofs.next_grades.Reached.take.Given as goal
+
+-- the rows so far are marked
+abbrev pub invariant-loop-place : goal.invariant-loop-place
+invariant-loop-place l =
+    record {
+      end : l.place-end ≡ length l.rows;
+      room : HasRoom l.band.side l.self;
+      marked : (k : ℕ) → k < l.place → IsRowMarked l.self (get_or l.rows k 0);
+      columns : (c : ℕ) → HasColumn l.self.columns.items c → IsColumnOf (λ r d. IsTrue (has_bit l.band.bits r d)) l.rows c;
+    }

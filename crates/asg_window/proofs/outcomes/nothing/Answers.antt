@@ -1,0 +1,12 @@
+use Rattle.std.proofs.Common.{refl}
+use Rattle.asg_model.specs.declared.bands.Band.TheVariants.{Whole}
+use Rattle.asg_window.specs.Grades.{no_bound}
+use Rattle.asg_window.proofs.SquareBands.{AllowsCells-within, IsBandOf-whole}
+use Rattle.asg_window.proofs.ValueLemmas.{ranges_of}
+use Rattle.asg_window.proofs.outcomes.nothing.Goals as goal
+
+pub returns : goal.returns
+returns c =
+    let X = c.args.inst.now in
+    c.in_ok-rows.ensures X Whole refl refl refl
+    (AllowsCells-within 1 no_bound Whole IsBandOf-whole X (ranges_of X c.rows-rows.ensures.instance) c.args.square.now c.requires.square)

@@ -1,0 +1,14 @@
+use Rattle.std.proofs.Common.{◌-◌, ◌<◌, ◌≤◌, length}
+use Rattle.std.specs.Prelude.{slice_index_or}
+use Rattle.asg_window.specs.declared.gaps.Gap.{Gap}
+use Rattle.asg_window.proofs.windows.last_gap.Given as goal
+
+abbrev pub invariant-gaps : goal.invariant-gaps
+invariant-gaps l =
+    record {
+      within : l.place < length l.gaps;
+      begun : (d : Gap) → (slice_index_or l.gaps l.place d).low ≤ l.grade;
+    }
+
+abbrev pub decreases-gaps : goal.decreases-gaps
+decreases-gaps l = length l.gaps - l.place

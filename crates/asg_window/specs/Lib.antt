@@ -1,0 +1,12 @@
+pub mod Grades
+pub mod LiveCells
+pub mod Marks
+pub mod Bands
+pub mod Reaching
+pub mod EmptyLines
+pub mod Assignments
+pub mod Extremes
+pub mod Seekers
+pub mod Gaps
+pub mod CostWindows
+pub mod Costs

@@ -1,0 +1,162 @@
+//! Perfect assignments within one band after another.
+
+ghost use Rattle.std.specs.Prelude.{◌≡◌, ℕ, ◌<◌, ◌≤◌, IfOk, IfSome, IfNone, length, slice_index};
+ghost use Rattle.std.specs.Bool.{OnTrue, OnFalse};
+ghost use Rattle.asg_match.specs.Matching.{Matches, IsMatched, IsPerfect};
+ghost use Rattle.asg_match.specs.Deficient.{IsDeficient};
+ghost use Rattle.asg_window.specs.Assignments.{IsAssignmentWithin, IsMarkedAssignment};
+ghost use Rattle.asg_window.specs.Bands.{IsWithin};
+ghost use Rattle.asg_window.specs.LiveCells.{AreEntries};
+ghost use Rattle.asg_window.specs.Marks.{IsMarked};
+ghost use Rattle.asg_window.specs.Seekers.{HaveSide, IsSeeker};
+
+use crate::NoMemory;
+use crate::band_cells::BandCells;
+use crate::empty_lines::{all_rows, empty_column, empty_row};
+use crate::live_cells::LiveCells;
+use crate::next_grades::Reached;
+use asg_match::{Matching, Tree, complete, prune};
+use std::alloc::Global;
+
+/// Looks for perfect assignments within one band after another, each time from the matching that the
+/// last search left, and keeps what it found.
+#[derive(Drop)]
+pub(crate) struct Seeker {
+    band: BandCells,
+    matching: Matching,
+    tree: Tree,
+    reached: Reached,
+    pub(crate) perm: Vec<u32>,
+    pub(crate) rows: Vec<u32>,
+}
+
+// Makes the list that of the columns of the rows, each of which has one.
+fn copy_columns(matching: &Matching, perm: &mut [u32])
+    requires count { length perm.old ≡ length matching.now }
+    requires all { (r : ℕ) → r < length matching.now → IsMatched matching.now r }
+    ensures { (r : ℕ) → r < length matching.now → Matches matching.now r (slice_index perm.new r) }
+{
+    for row in 0..matching.side() {
+        perm[row as usize] = matching.column_of(row).unwrap();
+    }
+}
+
+impl Seeker {
+    /// With an empty matching and an empty band. The error is want of memory.
+    pub(crate) fn make(alloc: Global, cells: &LiveCells<'_>) -> Result<Seeker, NoMemory>
+        requires { AreEntries cells.now.square.now cells.now.entries.now }
+        ensures seeker { IfOk result (IsSeeker cells.now.square.now cells.now.entries.now) }
+        ensures low { IfOk result (λ s. s.band.low ≡ 1) }
+    {
+        let side = cells.square.side();
+        Ok(Seeker {
+            band: BandCells::make(alloc, cells)?,
+            matching: Matching::make(alloc, side)?,
+            tree: Tree::make(alloc, side)?,
+            reached: Reached::make(alloc, side)?,
+            perm: vec![in alloc; 0; side as usize]?,
+            rows: Vec::with_capacity(alloc, side as usize)?,
+        })
+    }
+
+    // Whether a row or a column has no marked cell. True: the rows are deficient.
+    fn is_blocked(&mut self) -> Result<bool, NoMemory>
+        requires sides { HaveSide self.old.band.side self.old }
+        ensures sides { HaveSide self.old.band.side self.new }
+        ensures band { self.new.band ≡ self.old.band }
+        ensures columns_stay { self.new.perm.items ≡ self.old.perm.items }
+        ensures deficient { IfOk result (λ yes. OnTrue yes
+            (IsDeficient (IsMarked self.old.band.bits self.old.band.side) self.old.band.side
+            self.new.rows.items)) }
+    {
+        if let Some(row) = empty_row(&self.band) {
+            self.rows.clear();
+            self.rows.push(row)?;
+            return Ok(true);
+        }
+        if let Some(column) = empty_column(&mut self.reached.columns, &self.band) {
+            all_rows(&mut self.rows, &self.band, column)?;
+            return Ok(true);
+        }
+        Ok(false)
+    }
+
+    // Lengthens the matching as far as the marked cells allow. True: the list of columns is a perfect
+    // assignment. False: the rows are deficient, and the columns as before.
+    fn is_completed(&mut self) -> Result<bool, NoMemory>
+        requires sides { HaveSide self.old.band.side self.old }
+        ensures sides { HaveSide self.old.band.side self.new }
+        ensures band { self.new.band ≡ self.old.band }
+        ensures assignment { IfOk result (λ yes. OnTrue yes
+            (IsMarkedAssignment self.old.band.bits self.old.band.side self.new.perm.items)) }
+        ensures deficient { IfOk result (λ yes. OnFalse yes
+            (IsDeficient (IsMarked self.old.band.bits self.old.band.side) self.old.band.side
+            self.new.rows.items)) }
+        ensures columns_stay { IfOk result (λ yes. OnFalse yes
+            (self.new.perm.items ≡ self.old.perm.items)) }
+    {
+        prune(&self.band, &mut self.matching);
+        if complete(&self.band, &mut self.matching, &mut self.tree) {
+            copy_columns(&self.matching, &mut self.perm);
+            return Ok(true);
+        }
+        self.rows.clear();
+        self.rows.extend_from_slice(self.tree.rows())?;
+        Ok(false)
+    }
+
+    // Looks for a perfect assignment by marked cells. True: the list of columns is one. False: the
+    // rows are deficient, and the columns as before.
+    fn seek(&mut self) -> Result<bool, NoMemory>
+        requires sides { HaveSide self.old.band.side self.old }
+        ensures sides { HaveSide self.old.band.side self.new }
+        ensures band { self.new.band ≡ self.old.band }
+        ensures assignment { IfOk result (λ yes. OnTrue yes
+            (IsMarkedAssignment self.old.band.bits self.old.band.side self.new.perm.items)) }
+        ensures deficient { IfOk result (λ yes. OnFalse yes
+            (IsDeficient (IsMarked self.old.band.bits self.old.band.side) self.old.band.side
+            self.new.rows.items)) }
+        ensures columns_stay { IfOk result (λ yes. OnFalse yes
+            (self.new.perm.items ≡ self.old.perm.items)) }
+    {
+        if self.is_blocked()? {
+            return Ok(false);
+        }
+        self.is_completed()
+    }
+
+    /// Looks for a perfect assignment within the band from one grade on and below another, of which
+    /// the first isn't less than that of the last search. `None`: the list of columns is one. Else the
+    /// rows are deficient, and stay so up to the grade, which is at least the upper end; the columns
+    /// are as before.
+    pub(crate) fn test(
+        &mut self,
+        cells: &LiveCells<'_>,
+        low: u32,
+        high: u32,
+    ) -> Result<Option<u32>, NoMemory>
+        requires seeker { IsSeeker cells.now.square.now cells.now.entries.now self.old }
+        requires up { self.old.band.low ≤ low }
+        requires order { low ≤ high }
+        ensures seeker { IfOk result (λ _.
+            IsSeeker cells.now.square.now cells.now.entries.now self.new) }
+        ensures low { IfOk result (λ _. self.new.band.low ≡ low) }
+        ensures assignment { IfOk result (λ next. IfNone next
+            (IsAssignmentWithin cells.now.square.now low high self.new.perm.items)) }
+        ensures deficient { IfOk result (λ next. IfSome next (λ bound.
+            IsDeficient (IsWithin cells.now.square.now low bound) cells.now.square.now.side
+            self.new.rows.items)) }
+        ensures above { IfOk result (λ next. IfSome next (λ bound. high ≤ bound)) }
+        ensures columns_stay { IfOk result (λ next. IfSome next (λ _.
+            self.new.perm.items ≡ self.old.perm.items)) }
+    {
+        self.band.move_to(cells, low, high);
+        if self.seek()? {
+            return Ok(None);
+        }
+        let next = self
+            .reached
+            .next_grade(cells, &self.band, self.rows.as_slice());
+        Ok(Some(next))
+    }
+}

@@ -1,11 +1,15 @@
 -- The parts of proofs, of claims and of documents.
 use Rattle.std.proofs.Common.{◌≡◌, ℕ, List, ◌∷◌, length, map, codes, refl, sym, ap, ◌∙◌, arith}
+use Rattle.std.specs.List.{flat_map}
 use Rattle.std.specs.Fmt.{decimal}
 use Rattle.std.specs.Prelude.{◌++◌}
 use Rattle.std.proofs.lemmas.List.Concat.{flat_map_single}
 use Rattle.asg_model.specs.declared.objectives.Objective.{Objective}
 use Rattle.asg_proof.specs.declared.outcomes.Proof.{Proof}
-use Rattle.asg_proof.specs.declared.outcomes.Proof.TheVariants.{Below}
+use Rattle.asg_proof.specs.declared.outcomes.Proof.TheVariants.{Below, Phases, Windows}
+use Rattle.asg_proof.specs.declared.windows.Window.{Window}
+use Rattle.asg_proof.specs.Phases.{PhaseOf}
+use Rattle.asg_order.specs.declared.words.Word.{Word}
 use Rattle.asg_parts.specs.Parts.{Part, the_line, no_lines, and_then, counted, IsReadable}
 use Rattle.asg_parts.specs.laws.PartLaws.{IsReadable-none, IsReadable-counted, IsReadable-chain, IsReadable-shape, Chain, Shape}
 use Rattle.asg_doc.specs.declared.documents.Answer.{Answer}
@@ -16,42 +20,60 @@ use Rattle.asg_doc.specs.declared.documents.ProofHead.{ProofHead}
 use Rattle.asg_doc.specs.declared.documents.ProofHead.TheVariants as heads
 use Rattle.asg_doc.specs.declared.documents.Status.{Status}
 use Rattle.asg_doc.specs.declared.documents.Status.TheVariants as statuses
-use Rattle.asg_doc.specs.DocumentParts.{answer_part, claim_part, command_part, objective_part, status_part, value_part, count_part, cell_part, hall_part, proof_head_part, HasProofHead, proof_part, document_part}
+use Rattle.asg_doc.specs.DocumentParts.{answer_part, claim_part, command_part, objective_part, status_part, value_part, count_part, cell_part, hall_part, proof_head_part, HasProofHead, phase_part, window_part, proof_part, document_part}
 use Rattle.asg_doc.specs.HasText.{HasProofText, HasClaimText}
-use Rattle.asg_doc.specs.Text.{cell_line, value_line}
-use Rattle.asg_doc.specs.Words.{HasWord}
+use Rattle.asg_doc.specs.Text.{cell_line, value_line, phase_lines, window_line}
+use Rattle.asg_doc.specs.Words.{has_grades}
+use Rattle.asg_doc.proofs.PhaseParts.{phase_law}
+use Rattle.asg_doc.proofs.WindowParts.{window_law}
 use Rattle.asg_doc.proofs.Leaves.{title_law, command_law, objective_law, status_law, value_law, count_law, cell_law, hall_law, proof_head_law, end_law}
 
 -- ---- proofs
 
 abbrev Rest : ProofHead → Type 0
+Rest (heads.Phases count) = List (PhaseOf Word)
 Rest (heads.Below rows) = Unit {0}
+Rest (heads.Windows count) = List Window
 
-abbrev rest_part : (head : ProofHead) → Part (Rest head)
-rest_part (heads.Below rows) = no_lines tt
+abbrev rest_part : Objective → (head : ProofHead) → Part (Rest head)
+rest_part o (heads.Phases count) = counted count (phase_part (has_grades o))
+rest_part o (heads.Below rows) = no_lines tt
+rest_part o (heads.Windows count) = counted count window_part
 
-rest_law : (head : ProofHead) → HasProofHead head → IsReadable (rest_part head)
-rest_law (heads.Below rows) has = IsReadable-none tt
+rest_law : (o : Objective) (head : ProofHead) → HasProofHead head → IsReadable (rest_part o head)
+rest_law o (heads.Phases count) has = IsReadable-counted (phase_law (has_grades o)) count
+rest_law o (heads.Below rows) has = IsReadable-none tt
+rest_law o (heads.Windows count) has = IsReadable-counted window_law count
 
-pub head_rest : Chain proof_head_part rest_part
-head_rest = record { first_law = proof_head_law; second_law = rest_law }
+pub head_rest : (o : Objective) → Chain proof_head_part (rest_part o)
+head_rest o = record { first_law = proof_head_law; second_law = rest_law o }
 
 abbrev proof_of : (head : ProofHead) → Rest head → Proof
+proof_of (heads.Phases count) phases = Phases phases
 proof_of (heads.Below rows) rest = Below rows
+proof_of (heads.Windows count) windows = Windows windows
 
-pub proof_shape : (o : Objective) → Shape (and_then proof_head_part rest_part) (proof_part o)
+pub proof_shape : (o : Objective) → Shape (and_then proof_head_part (rest_part o)) (proof_part o)
 proof_shape o = record { make = λ t. proof_of t.0 t.1; has = λ t. has t.0 t.1; lines = λ t. lines t.0 t.1; back = back } where
-  has : (head : ProofHead) (rest : Rest head) → (and_then proof_head_part rest_part).Has (head, rest) → HasProofText o (proof_of head rest)
+  has : (head : ProofHead) (rest : Rest head) → (and_then proof_head_part (rest_part o)).Has (head, rest) → HasProofText o (proof_of head rest)
+  has (heads.Phases count) phases h = record { few = omega (arith, h.0, h.1.0); each = h.1.1 }
   has (heads.Below rows) rest h = h.0
+  has (heads.Windows count) windows h = record { few = omega (arith, h.0, h.1.0); each = h.1.1 }
 
-  lines : (head : ProofHead) (rest : Rest head) → (and_then proof_head_part rest_part).Has (head, rest) → (proof_part o).lines (proof_of head rest) ≡ (and_then proof_head_part rest_part).lines (head, rest)
+  lines : (head : ProofHead) (rest : Rest head) → (and_then proof_head_part (rest_part o)).Has (head, rest) → (proof_part o).lines (proof_of head rest) ≡ (and_then proof_head_part (rest_part o)).lines (head, rest)
+  lines (heads.Phases count) phases h = ap (λ n. (codes "proof phases " ++ decimal n) ∷ flat_map (phase_lines (has_grades o)) phases) h.1.0
   lines (heads.Below rows) rest h = refl
+  lines (heads.Windows count) windows h =
+      ap (λ n. (codes "proof windows " ++ decimal n) ∷ map window_line windows) h.1.0
+      ∙ ap (λ ls. (codes "proof windows " ++ decimal count) ∷ ls) (sym (flat_map_single window_line windows))
 
-  back : (p : Proof) → HasProofText o p → (t : (head : ProofHead) × Rest head) × (and_then proof_head_part rest_part).Has t × (p ≡ proof_of t.0 t.1)
+  back : (p : Proof) → HasProofText o p → (t : (head : ProofHead) × Rest head) × (and_then proof_head_part (rest_part o)).Has t × (p ≡ proof_of t.0 t.1)
+  back (Phases phases) h = ((heads.Phases (length phases), phases), (h.few, (refl, h.each)), refl)
   back (Below rows) h = ((heads.Below rows, tt), (h, refl), refl)
+  back (Windows windows) h = ((heads.Windows (length windows), windows), (h.few, (refl, h.each)), refl)
 
 pub proof_law : (o : Objective) → IsReadable (proof_part o)
-proof_law o = IsReadable-shape (proof_shape o) (IsReadable-chain head_rest)
+proof_law o = IsReadable-shape (proof_shape o) (IsReadable-chain (head_rest o))
 
 -- ---- answers
 
@@ -61,21 +83,20 @@ counted_cells = record { first_law = count_law; second_law = λ count _. IsReada
 abbrev cells_part : Part ((count : ℕ) × List (ℕ × ℕ))
 cells_part = and_then count_part (λ count. counted count cell_part)
 
-module _ (o : Objective) (word : HasWord o) where
-  pub value_cells : Chain (value_part o) (λ _. cells_part)
-  value_cells = record { first_law = value_law o word; second_law = λ _ _. IsReadable-chain counted_cells }
+pub value_cells : (o : Objective) → Chain (value_part o) (λ _. cells_part)
+value_cells o = record { first_law = value_law o; second_law = λ _ _. IsReadable-chain counted_cells }
 
 unfoldable pub answer_shape : (o : Objective) → Shape (and_then (value_part o) (λ _. cells_part)) (answer_part o)
 answer_shape o = record {
   make = λ t. record { value = t.0; cells = t.1.1 };
   has = λ t h. record { value = h.0; cells = record { some = omega (arith, h.1.0.0, h.1.1.0); few = omega (arith, h.1.0.1, h.1.1.0); ids = h.1.1.1 } };
-  lines = λ t h. ap (λ n. value_line o t.0 ∷ (codes "cells " ++ decimal n) ∷ map cell_line t.1.1) h.1.1.0
-      ∙ ap (λ ls. value_line o t.0 ∷ (codes "cells " ++ decimal t.1.0) ∷ ls) (sym (flat_map_single cell_line t.1.1));
+  lines = λ t h. ap (λ n. value_line t.0 ∷ (codes "cells " ++ decimal n) ∷ map cell_line t.1.1) h.1.1.0
+      ∙ ap (λ ls. value_line t.0 ∷ (codes "cells " ++ decimal t.1.0) ∷ ls) (sym (flat_map_single cell_line t.1.1));
   back = λ a h. ((a.value, (length a.cells, a.cells)), (h.value, ((h.cells.some, h.cells.few), (refl, h.cells.ids))), refl);
 }
 
-pub answer_law : (o : Objective) → HasWord o → IsReadable (answer_part o)
-answer_law o word = IsReadable-shape (answer_shape o) (IsReadable-chain (value_cells o word))
+pub answer_law : (o : Objective) → IsReadable (answer_part o)
+answer_law o = IsReadable-shape (answer_shape o) (IsReadable-chain (value_cells o))
 
 -- ---- claims
 
@@ -85,8 +106,8 @@ end_part = the_line (codes "end")
 pub proof_end : (o : Objective) → Chain (proof_part o) (λ _. end_part)
 proof_end o = record { first_law = proof_law o; second_law = λ _ _. end_law }
 
-pub answer_proof : (o : Objective) → HasWord o → Chain (answer_part o) (λ _. and_then (proof_part o) (λ _. end_part))
-answer_proof o word = record { first_law = answer_law o word; second_law = λ _ _. IsReadable-chain (proof_end o) }
+pub answer_proof : (o : Objective) → Chain (answer_part o) (λ _. and_then (proof_part o) (λ _. end_part))
+answer_proof o = record { first_law = answer_law o; second_law = λ _ _. IsReadable-chain (proof_end o) }
 
 pub hall_end : Chain hall_part (λ _. end_part)
 hall_end = record { first_law = hall_law; second_law = λ _ _. end_law }
@@ -99,12 +120,12 @@ abbrev claimed_part : Objective → (status : Status) → Part (Claimed status)
 claimed_part o statuses.Best = and_then (answer_part o) (λ _. and_then (proof_part o) (λ _. end_part))
 claimed_part o statuses.Nothing = and_then hall_part (λ _. end_part)
 
-claimed_law : (o : Objective) → HasWord o → (status : Status) → IsReadable (claimed_part o status)
-claimed_law o word statuses.Best = IsReadable-chain (answer_proof o word)
-claimed_law o word statuses.Nothing = IsReadable-chain hall_end
+claimed_law : (o : Objective) (status : Status) → IsReadable (claimed_part o status)
+claimed_law o statuses.Best = IsReadable-chain (answer_proof o)
+claimed_law o statuses.Nothing = IsReadable-chain hall_end
 
-pub status_claimed : (o : Objective) → HasWord o → Chain status_part (claimed_part o)
-status_claimed o word = record { first_law = status_law; second_law = λ status _. claimed_law o word status }
+pub status_claimed : (o : Objective) → Chain status_part (claimed_part o)
+status_claimed o = record { first_law = status_law; second_law = λ status _. claimed_law o status }
 
 abbrev claim_of : (status : Status) → Claimed status → Claim
 claim_of statuses.Best rest = Best rest.0 rest.1.0
@@ -124,8 +145,8 @@ claim_shape o = record { make = λ t. claim_of t.0 t.1; has = λ t. has t.0 t.1;
   back (Best answer proof) h = ((statuses.Best, (answer, (proof, tt))), (tt, (h.0, (h.1, tt))), refl)
   back (Nothing rows) h = ((statuses.Nothing, (rows, tt)), (tt, (h, tt)), refl)
 
-pub claim_law : (o : Objective) → HasWord o → IsReadable (claim_part o)
-claim_law o word = IsReadable-shape (claim_shape o) (IsReadable-chain (status_claimed o word))
+pub claim_law : (o : Objective) → IsReadable (claim_part o)
+claim_law o = IsReadable-shape (claim_shape o) (IsReadable-chain (status_claimed o))
 
 -- ---- documents
 
@@ -136,7 +157,7 @@ abbrev command_objective_part : Part ((command : Command) × ((objective : Objec
 command_objective_part = and_then command_part (λ _. objective_claim_part)
 
 pub objective_claim : Chain objective_part claim_part
-objective_claim = record { first_law = objective_law; second_law = claim_law }
+objective_claim = record { first_law = objective_law; second_law = λ o _. claim_law o }
 
 pub command_objective : Chain command_part (λ _. objective_claim_part)
 command_objective = record { first_law = command_law; second_law = λ _ _. IsReadable-chain objective_claim }

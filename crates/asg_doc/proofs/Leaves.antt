@@ -1,27 +1,34 @@
 -- The laws of single lines.
-use Rattle.std.proofs.Common.{◌≡◌, ℕ, true, List, [], ◌∷◌, codes, Option, Some, refl, ap}
-use Rattle.std.specs.Prelude.{ℤ, FitsSigned, find}
+use Rattle.std.proofs.Common.{◌≡◌, ℕ, ◌<◌, ◌^◌, Bool, true, false, cond, List, [], ◌∷◌, take, drop, codes, Option, Some, refl, sym, ap, ◌∙◌, arith}
+use Rattle.std.specs.Prelude.{◌≢◌, ℤ, FitsSigned, find}
+use Rattle.std.specs.Fmt.{decimal}
+use Rattle.std.specs.Str.Parse.{digits_value}
+use Rattle.std.proofs.lemmas.Fmt.{decimal_is_IsNumeral_wide}
+use Rattle.std.proofs.lemmas.List.Elements.{All-cons, All-append}
 use Rattle.std.specs.Str.{bytes_eq}
 use Rattle.std.specs.Int.{w128}
 use Rattle.asg_model.specs.declared.objectives.Objective.{Objective}
-use Rattle.asg_model.specs.declared.objectives.Objective.TheVariants.{Bottleneck, BottleneckMax}
+use Rattle.asg_model.specs.declared.objectives.Objective.TheVariants.{Sum, SumMax, SumPair, Capped, Bottleneck, BottleneckMax, TimeCost, Balanced, Lex}
 use Rattle.asg_model.specs.declared.objectives.Value.{Value}
-use Rattle.asg_model.specs.declared.objectives.Value.TheVariants.{One}
+use Rattle.asg_model.specs.declared.objectives.Value.TheVariants.{One, Two}
 use Rattle.asg_parts.specs.Lines.{Lacks}
 use Rattle.asg_parts.specs.Parts.{the_line, IsReadable}
-use Rattle.asg_parts.specs.Spellings.{behind, list_spelling}
+use Rattle.asg_parts.specs.Spellings.{behind, number_spelling, list_spelling, listed}
+use Rattle.asg_parts.specs.laws.JoinLaws.{IsLegible-signed_pair, IsLegible-graded}
+use Rattle.asg_parts.specs.laws.LineCuts.{heads_same}
+use Rattle.asg_parts.specs.laws.ListLaws.{IsWord, IsLegible-listed}
 use Rattle.asg_parts.specs.laws.LineLaws.{IsReadable-line, IsReadable-this}
 use Rattle.asg_parts.specs.laws.PartLaws.{IsReadable-shape, Shape}
-use Rattle.asg_parts.specs.laws.SpellingLaws.{IsLegible, IsLegible-behind, IsLegible-decoded, IsLegible-positive, IsLegible-signed, IsLegible-pair, IsLegible-list, is_plain}
+use Rattle.asg_parts.specs.laws.SpellingLaws.{IsLegible, IsLegible-behind, IsLegible-decoded, IsLegible-number, IsLegible-wide, IsLegible-positive, IsLegible-signed, IsLegible-pair, IsLegible-list, is_plain, Lacks-literal, Lacks-decimal, decimal_same}
 use Rattle.asg_doc.specs.declared.documents.Command.{Command}
 use Rattle.asg_doc.specs.declared.documents.Command.TheVariants.{Solve}
 use Rattle.asg_doc.specs.declared.documents.ProofHead.{ProofHead}
 use Rattle.asg_doc.specs.declared.documents.ProofHead.TheVariants as heads
 use Rattle.asg_doc.specs.declared.documents.Status.{Status}
 use Rattle.asg_doc.specs.declared.documents.Status.TheVariants.{Best, Nothing}
-use Rattle.asg_doc.specs.DocumentParts.{command_part, objective_part, status_part, number_part, value_part, count_part, cell_part, hall_part, proof_head_part, proof_head_spelling, proof_head_text, HasProofHead}
-use Rattle.asg_doc.specs.HasText.{HasValueText}
-use Rattle.asg_doc.specs.Words.{HasWord, command_word, objective_word, status_word, command_spelling, objective_spelling, status_spelling}
+use Rattle.asg_doc.specs.DocumentParts.{command_part, objective_part, status_part, number_part, number_pair_part, formed_part, value_part, step_spelling, steps_part, enters_part, leaves_part, count_part, cell_part, hall_part, proof_head_part, proof_head_spelling, proof_head_text, HasProofHead}
+use Rattle.asg_doc.specs.HasText.{IsWrittenValue}
+use Rattle.asg_doc.specs.Words.{HasWord, has_pairs, cap_spelling, command_word, objective_word, status_word, command_spelling, objective_spelling, status_spelling}
 
 pub title_law : IsReadable (the_line (codes "assignment 1"))
 title_law = IsReadable-this (codes "assignment 1") refl
@@ -47,18 +54,49 @@ command_legible = IsLegible-decoded (named command_word (Solve ∷ [])) Solve tt
 pub command_law : IsReadable command_part
 command_law = IsReadable-line (IsLegible-behind (codes "command ") refl command_legible)
 
+-- the objective of a word: a cap behind its front, or the first with the word
+objective_named : List ℕ → Option Objective
+objective_named bytes =
+    cond (bytes_eq (codes "capped=") (take 7 bytes)) (Some (Capped (digits_value 10 (drop 7 bytes))))
+    (named objective_word (Sum ∷ SumMax ∷ SumPair ∷ Bottleneck ∷ BottleneckMax ∷ TimeCost ∷ Balanced ∷ []) bytes)
+
+pub cap_legible : IsLegible (behind (codes "capped=") cap_spelling)
+cap_legible = IsLegible-behind (codes "capped=") refl (record {
+  some = 1;
+  has = (omega arith, omega arith);
+  same = λ m n hm hn e. decimal_same m n (omega (arith, hm.1)) (omega (arith, hn.1)) e;
+  plain = λ n hn. Lacks-decimal 10 n (omega arith) (omega (arith, hn.1));
+})
+
 pub objective_legible : IsLegible objective_spelling
-unfolding named
-objective_legible = IsLegible-decoded (named objective_word (Bottleneck ∷ BottleneckMax ∷ [])) Bottleneck tt inverse plain where
-  inverse : (o : Objective) → HasWord o → named objective_word (Bottleneck ∷ BottleneckMax ∷ []) (objective_word o) ≡ Some o
+unfolding named objective_named
+objective_legible = record {
+  some = Bottleneck;
+  has = tt;
+  same = λ a b ha hb e. let found : Some a ≡ Some b = sym (inverse a ha) ∙ ap objective_named e ∙ inverse b hb in cc (found);
+  plain = plain;
+} where
+  inverse : (o : Objective) → HasWord o → objective_named (objective_word o) ≡ Some o
+  inverse Sum has = refl
+  inverse SumMax has = refl
+  inverse SumPair has = refl
+  inverse (Capped cap) has = ap (λ n. Some (Capped n)) (decimal_is_IsNumeral_wide cap (omega (arith, has.1))).1
   inverse Bottleneck has = refl
   inverse BottleneckMax has = refl
-  inverse _ has = absurd has
+  inverse TimeCost has = refl
+  inverse Balanced has = refl
+  inverse Lex has = absurd has
 
-  plain : (o : Objective) → HasWord o → is_plain (objective_word o) ≡ true
-  plain Bottleneck has = refl
-  plain BottleneckMax has = refl
-  plain _ has = absurd has
+  plain : (o : Objective) → HasWord o → Lacks 10 (objective_word o)
+  plain Sum has = Lacks-literal (codes "sum") refl
+  plain SumMax has = Lacks-literal (codes "sum-max") refl
+  plain SumPair has = Lacks-literal (codes "pair") refl
+  plain (Capped cap) has = cap_legible.plain cap has
+  plain Bottleneck has = Lacks-literal (codes "bottleneck") refl
+  plain BottleneckMax has = Lacks-literal (codes "bottleneck-max") refl
+  plain TimeCost has = Lacks-literal (codes "time-cost") refl
+  plain Balanced has = Lacks-literal (codes "balanced") refl
+  plain Lex has = absurd has
 
 pub objective_law : IsReadable objective_part
 objective_law = IsReadable-line (IsLegible-behind (codes "objective ") refl objective_legible)
@@ -82,21 +120,27 @@ status_law = IsReadable-line (IsLegible-behind (codes "status ") refl status_leg
 number_law : IsReadable number_part
 number_law = IsReadable-line (IsLegible-behind (codes "value ") refl IsLegible-signed)
 
--- a value that documents speak of is one number
-pub number_of : (o : Objective) (v : Value) → HasValueText o v → (number : ℤ) × FitsSigned w128 number × (v ≡ One number)
-number_of Bottleneck (One number) fits = (number, fits, refl)
-number_of BottleneckMax (One number) fits = (number, fits, refl)
-number_of _ _ fits = absurd fits
+number_pair_law : IsReadable number_pair_part
+number_pair_law = IsReadable-line (IsLegible-behind (codes "value ") refl IsLegible-signed_pair)
 
-pub value_shape : (o : Objective) → HasWord o → Shape number_part (value_part o)
-value_shape o has = record { make = One; has = λ n h. fits o n has h; lines = λ n h. refl; back = λ v h. let found = number_of o v h in (found.0, found.1, found.2) } where
-  fits : (p : Objective) (n : ℤ) → HasWord p → FitsSigned w128 n → HasValueText p (One n)
-  fits Bottleneck n has h = h
-  fits BottleneckMax n has h = h
-  fits _ n has h = absurd has
+pub one_shape : Shape number_part (formed_part false)
+one_shape = record { make = One; has = λ n h. h; lines = λ n h. refl; back = back } where
+  back : (v : Value) → IsWrittenValue false v → (n : ℤ) × FitsSigned w128 n × (v ≡ One n)
+  back (One n) h = (n, h, refl)
+  back _ h = absurd h
 
-pub value_law : (o : Objective) → HasWord o → IsReadable (value_part o)
-value_law o has = IsReadable-shape (value_shape o has) number_law
+pub two_shape : Shape number_pair_part (formed_part true)
+two_shape = record { make = λ p. Two p.0 p.1; has = λ p h. h; lines = λ p h. refl; back = back } where
+  back : (v : Value) → IsWrittenValue true v → (p : ℤ × ℤ) × (FitsSigned w128 p.0 × FitsSigned w128 p.1) × (v ≡ Two p.0 p.1)
+  back (Two x y) h = ((x, y), h, refl)
+  back _ h = absurd h
+
+pub formed_law : (pairs : Bool) → IsReadable (formed_part pairs)
+formed_law true = IsReadable-shape two_shape number_pair_law
+formed_law false = IsReadable-shape one_shape number_law
+
+pub value_law : (o : Objective) → IsReadable (value_part o)
+value_law o = formed_law (has_pairs o)
 
 -- ---- counts, cells and lists
 
@@ -109,16 +153,83 @@ cell_law = IsReadable-line IsLegible-pair
 pub hall_law : IsReadable hall_part
 hall_law = IsReadable-line (IsLegible-behind (codes "hall") refl IsLegible-list)
 
+-- ---- steps
+
+no_space-decimal : (n : ℕ) → n < 2 ^ 128 → Lacks 32 (decimal n)
+no_space-decimal n fits = Lacks-decimal 32 n (omega arith) (omega arith)
+
+plain_word : IsWord (step_spelling false)
+plain_word = record {
+  legible = record {
+    some = record { grade = 0; amount = 0 };
+    has = (refl, omega arith);
+    same = λ x y hx hy e.
+        let amounts : x.amount ≡ y.amount = IsLegible-wide.same x.amount y.amount hx.1 hy.1 e in
+        ap (λ g. record { grade = g; amount = x.amount }) (hx.0 ∙ sym hy.0) ∙ ap (λ a. record { grade = y.grade; amount = a }) amounts;
+    plain = λ x hx. IsLegible-wide.plain x.amount hx.1;
+  };
+  no_space = λ x hx. no_space-decimal x.amount hx.1;
+}
+
+graded_word : IsWord (step_spelling true)
+graded_word = record {
+  legible = record {
+    some = record { grade = 0; amount = 0 };
+    has = (omega arith, omega arith);
+    same = λ x y hx hy e.
+        let both : (x.grade, x.amount) ≡ (y.grade, y.amount) = IsLegible-graded.same (x.grade, x.amount) (y.grade, y.amount) hx hy e in
+        ap (λ p. record { grade = p.0; amount = p.1 }) both;
+    plain = λ x hx. IsLegible-graded.plain (x.grade, x.amount) hx;
+  };
+  no_space = λ x hx. All-append (λ b. b ≢ 32) (decimal x.grade) (58 ∷ decimal x.amount)
+      (no_space-decimal x.grade (omega (arith, hx.0)))
+      (All-cons (λ b. b ≢ 32) 58 (decimal x.amount) (λ is. absurd (omega arith)) (no_space-decimal x.amount hx.1));
+}
+
+pub step_word : (graded : Bool) → IsWord (step_spelling graded)
+step_word true = graded_word
+step_word false = plain_word
+
+pub steps_legible : (graded : Bool) → IsLegible (listed (step_spelling graded))
+steps_legible graded = IsLegible-listed (step_word graded)
+
+pub steps_law : (graded : Bool) → IsReadable (steps_part graded)
+steps_law graded = IsReadable-line (IsLegible-behind (codes "steps") refl (steps_legible graded))
+
+pub enters_law : IsReadable enters_part
+enters_law = IsReadable-line (IsLegible-behind (codes "enters") refl IsLegible-list)
+
+pub leaves_law : IsReadable leaves_part
+leaves_law = IsReadable-line (IsLegible-behind (codes "leaves") refl IsLegible-list)
+
+-- ---- the first line of a proof
+
 below_legible : IsLegible (behind (codes "below") list_spelling)
 below_legible = IsLegible-behind (codes "below") refl IsLegible-list
+
+phases_legible : IsLegible (behind (codes "phases ") number_spelling)
+phases_legible = IsLegible-behind (codes "phases ") refl IsLegible-number
+
+windows_legible : IsLegible (behind (codes "windows ") number_spelling)
+windows_legible = IsLegible-behind (codes "windows ") refl IsLegible-number
 
 pub proof_head_legible : IsLegible proof_head_spelling
 proof_head_legible = record { some = heads.Below IsLegible-list.some; has = IsLegible-list.has; same = same; plain = plain } where
   same : (g h : ProofHead) → HasProofHead g → HasProofHead h → proof_head_text g ≡ proof_head_text h → g ≡ h
+  same (heads.Phases m) (heads.Phases n) hm hn e = ap heads.Phases (phases_legible.same m n hm hn e)
+  same (heads.Phases m) (heads.Below ys) hm hy e = absurd (omega (arith, heads_same 112 98 _ _ e))
+  same (heads.Below xs) (heads.Phases n) hx hn e = absurd (omega (arith, heads_same 98 112 _ _ e))
   same (heads.Below xs) (heads.Below ys) hx hy e = ap heads.Below (below_legible.same xs ys hx hy e)
+  same (heads.Windows m) (heads.Windows n) hm hn e = ap heads.Windows (windows_legible.same m n hm hn e)
+  same (heads.Windows m) (heads.Phases n) hm hn e = absurd (omega (arith, heads_same 119 112 _ _ e))
+  same (heads.Windows m) (heads.Below ys) hm hy e = absurd (omega (arith, heads_same 119 98 _ _ e))
+  same (heads.Phases m) (heads.Windows n) hm hn e = absurd (omega (arith, heads_same 112 119 _ _ e))
+  same (heads.Below xs) (heads.Windows n) hx hn e = absurd (omega (arith, heads_same 98 119 _ _ e))
 
   plain : (h : ProofHead) → HasProofHead h → Lacks 10 (proof_head_text h)
+  plain (heads.Phases n) hn = phases_legible.plain n hn
   plain (heads.Below xs) hx = below_legible.plain xs hx
+  plain (heads.Windows n) hn = windows_legible.plain n hn
 
 pub proof_head_law : IsReadable proof_head_part
 proof_head_law = IsReadable-line (IsLegible-behind (codes "proof ") refl proof_head_legible)

@@ -1,6 +1,8 @@
 pub mod Flows
 pub mod ListTexts
 pub mod Leaves
+pub mod PhaseParts
+pub mod WindowParts
 pub mod ClaimParts
 pub mod DocumentTexts
 pub mod RefusedLines

@@ -1,8 +1,13 @@
 -- Texts of lists, one member more.
-use Rattle.std.proofs.Common.{◌≡◌, ◌+◌, ◌<◌, ℕ, List, [], ◌∷◌, ◌++◌, length, get_or, take, map, sym, ap, ◌∙◌}
-use Rattle.std.specs.Fmt.{decimal}
+use Rattle.std.specs.List.{flat_map}
+use Rattle.std.proofs.Common.{◌≡◌, ◌+◌, ◌<◌, ℕ, Bool, List, [], ◌∷◌, ◌++◌, length, get_or, take, map, codes, sym, ap, ◌∙◌, append_assoc}
+use Rattle.std.specs.Fmt.{decimal, signed_decimal}
 use Rattle.std.proofs.lemmas.List.{take_more, flat_map_more, map-append}
-use Rattle.asg_doc.specs.Text.{spaced, ended, cell_line}
+use Rattle.asg_order.specs.declared.words.Word.{Word}
+use Rattle.asg_proof.specs.declared.windows.Window.{Window}
+use Rattle.asg_proof.specs.Phases.{PhaseOf}
+use Rattle.asg_parts.specs.laws.LineCuts.{ended-append}
+use Rattle.asg_doc.specs.Text.{spaced, ended, cell_line, step_text, spaced_steps, phase_lines, window_line}
 
 pub spaced_more : (numbers : List ℕ) (i : ℕ) → i < length numbers
     → spaced (take i numbers) ++ 32 ∷ decimal (get_or numbers i 0) ≡ spaced (take (i + 1) numbers)
@@ -15,3 +20,28 @@ cells_more cells i cell within =
     let last = get_or cells i cell in
     flat_map_more (λ line. line ++ 10 ∷ []) [] (map cell_line (take i cells)) (cell_line last)
     ∙ ap ended (sym (map-append cell_line (take i cells) (last ∷ [])) ∙ ap (map cell_line) (sym (take_more cells i cell within)))
+
+-- the line of a window, piece by piece
+pub window_whole : (window : Window) → codes "window " ++ (signed_decimal window.lo ++ (32 ∷ (signed_decimal window.hi ++ (spaced window.rows ++ 10 ∷ [])))) ≡ window_line window ++ 10 ∷ []
+window_whole window =
+    ap (λ rest. codes "window " ++ (signed_decimal window.lo ++ 32 ∷ rest)) (sym (append_assoc (signed_decimal window.hi) (spaced window.rows) (10 ∷ [])))
+    ∙ ap (λ rest. codes "window " ++ rest) (sym (append_assoc (signed_decimal window.lo) (32 ∷ (signed_decimal window.hi ++ spaced window.rows)) (10 ∷ [])))
+
+pub windows_more : (windows : List Window) (i : ℕ) (window : Window) → i < length windows
+    → ended (map window_line (take i windows)) ++ (window_line (get_or windows i window) ++ 10 ∷ []) ≡ ended (map window_line (take (i + 1) windows))
+windows_more windows i window within =
+    let last = get_or windows i window in
+    flat_map_more (λ line. line ++ 10 ∷ []) [] (map window_line (take i windows)) (window_line last)
+    ∙ ap ended (sym (map-append window_line (take i windows) (last ∷ [])) ∙ ap (map window_line) (sym (take_more windows i window within)))
+
+pub steps_more : (graded : Bool) (steps : List Word) (i : ℕ) (step : Word) → i < length steps
+    → spaced_steps graded (take i steps) ++ 32 ∷ step_text graded (get_or steps i step) ≡ spaced_steps graded (take (i + 1) steps)
+steps_more graded steps i step within =
+    flat_map_more (λ one. 32 ∷ step_text graded one) [] (take i steps) (get_or steps i step) ∙ ap (spaced_steps graded) (sym (take_more steps i step within))
+
+pub phases_more : (graded : Bool) (phases : List (PhaseOf Word)) (i : ℕ) (phase : PhaseOf Word) → i < length phases
+    → ended (flat_map (phase_lines graded) (take i phases)) ++ ended (phase_lines graded (get_or phases i phase)) ≡ ended (flat_map (phase_lines graded) (take (i + 1) phases))
+phases_more graded phases i phase within =
+    let last = get_or phases i phase in
+    sym (ended-append (flat_map (phase_lines graded) (take i phases)) (phase_lines graded last))
+    ∙ ap ended (flat_map_more (phase_lines graded) [] (take i phases) last ∙ ap (flat_map (phase_lines graded)) (sym (take_more phases i phase within)))

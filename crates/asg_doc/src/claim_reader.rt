@@ -1,43 +1,57 @@
 //! Readers of what a document claims.
 
-ghost use Rattle.asg_model.specs.declared.objectives.Objective.{Objective};
+ghost use Rattle.std.specs.Prelude.{true, false};
 ghost use Rattle.asg_parts.specs.Parts.{counted};
-ghost use Rattle.asg_parts.specs.Reading.{Reads};
+ghost use Rattle.asg_parts.specs.Reading.{Reads, ReadsOrFails};
 ghost use Rattle.asg_parts.specs.Spellings.{SpellsOrFails};
-ghost use Rattle.asg_doc.specs.DocumentParts.{status_part, value_part, cell_part, answer_part, proof_head_spelling, proof_head_part, proof_part, hall_part, claim_part};
-ghost use Rattle.asg_doc.specs.Words.{HasWord};
+ghost use Rattle.asg_doc.specs.DocumentParts.{status_part, formed_part, value_part, cell_part, answer_part, proof_head_spelling, proof_head_part, proof_part, hall_part, claim_part};
 
 use crate::documents::{Answer, Cells, Claim, ProofHead, Status};
-use crate::words::status_of;
+use crate::phase_reader::phases;
+use crate::window_reader::windows;
+use crate::words::{has_grades, has_pairs, status_of};
 use asg_model::{Objective, Value};
-use asg_parts::{Fault, Lines, after, numbers};
+use asg_parts::{Fault, Lines, Refusal, after, number, numbers};
 use asg_proof::{Ids, Proof};
 use std::alloc::Global;
 
 // The status of its line.
-fn status(lines: &mut Lines) -> Result<Status, Fault>
+fn status(lines: &mut Lines) -> Result<Status, Refusal>
     ensures { Reads status_part lines.old lines.new result }
 {
     lines.read(b"status ", status_of)
 }
 
+// The value of its line: one number.
+fn one_value(lines: &mut Lines) -> Result<Value, Refusal>
+    ensures { Reads (formed_part false) lines.old lines.new result }
+{
+    let number = lines.signed(b"value ")?;
+    Ok(Value::One(number))
+}
+
+// The value of its line: two numbers.
+fn two_value(lines: &mut Lines) -> Result<Value, Refusal>
+    ensures { Reads (formed_part true) lines.old lines.new result }
+{
+    let (first, second) = lines.signed_pair(b"value ")?;
+    Ok(Value::Two(first, second))
+}
+
 // The value of its line, which has the form that the objective asks for.
-fn value(objective: Objective, lines: &mut Lines) -> Result<Value, Fault>
-    requires { HasWord objective }
+fn value(objective: Objective, lines: &mut Lines) -> Result<Value, Refusal>
     ensures { Reads (value_part objective) lines.old lines.new result }
 {
-    match objective {
-        Objective::Bottleneck | Objective::BottleneckMax => {
-            let number = lines.signed(b"value ")?;
-            Ok(Value::One(number))
-        }
-        _ => unreachable!(),
+    if has_pairs(objective) {
+        two_value(lines)
+    } else {
+        one_value(lines)
     }
 }
 
 // As many cells as the count says. The count takes no memory, only the cells that are read.
 fn cells(alloc: Global, count: u32, lines: &mut Lines) -> Result<Cells, Fault>
-    ensures { Reads (counted count cell_part) lines.old lines.new result }
+    ensures { ReadsOrFails (counted count cell_part) lines.old lines.new result }
 {
     let mut cells = Vec::new(alloc);
     for _ in 0..count {
@@ -48,8 +62,7 @@ fn cells(alloc: Global, count: u32, lines: &mut Lines) -> Result<Cells, Fault>
 
 // A value and cells.
 fn answer(alloc: Global, objective: Objective, lines: &mut Lines) -> Result<Answer, Fault>
-    requires { HasWord objective }
-    ensures { Reads (answer_part objective) lines.old lines.new result }
+    ensures { ReadsOrFails (answer_part objective) lines.old lines.new result }
 {
     let value = value(objective, lines)?;
     let count = lines.positive(b"cells ")?;
@@ -61,45 +74,67 @@ fn answer(alloc: Global, objective: Objective, lines: &mut Lines) -> Result<Answ
 fn proof_head_of(alloc: Global, line: &[u8]) -> Result<ProofHead, Fault>
     ensures { SpellsOrFails proof_head_spelling line.now result }
 {
+    if let Some(count) = after(b"phases ", line) {
+        let Some(count) = number(count) else {
+            return Err(Fault::Refused);
+        };
+        return Ok(ProofHead::Phases(count));
+    }
     if let Some(rows) = after(b"below", line) {
         let rows = numbers(alloc, rows)?;
         return Ok(ProofHead::Below(Ids::from_vec(rows.into_vec())));
+    }
+    if let Some(count) = after(b"windows ", line) {
+        let Some(count) = number(count) else {
+            return Err(Fault::Refused);
+        };
+        return Ok(ProofHead::Windows(count));
     }
     Err(Fault::Refused)
 }
 
 // The first line of a proof.
 fn proof_head(alloc: Global, lines: &mut Lines) -> Result<ProofHead, Fault>
-    ensures { Reads proof_head_part lines.old lines.new result }
+    ensures { ReadsOrFails proof_head_part lines.old lines.new result }
 {
-    lines.read(b"proof ", |line| proof_head_of(alloc, line))
+    let (text, left) = lines.next_behind(b"proof ")?;
+    let head = proof_head_of(alloc, text)?;
+    *lines = left;
+    Ok(head)
 }
 
-// A proof, whatever the objective.
-fn proof(alloc: Global, lines: &mut Lines) -> Result<Proof, Fault>
-    ensures { (objective : Objective) → Reads (proof_part objective) lines.old lines.new result }
+// A proof.
+fn proof(alloc: Global, objective: Objective, lines: &mut Lines) -> Result<Proof, Fault>
+    ensures { ReadsOrFails (proof_part objective) lines.old lines.new result }
 {
     match proof_head(alloc, lines)? {
+        ProofHead::Phases(count) => {
+            let phases = phases(alloc, has_grades(objective), count, lines)?;
+            Ok(Proof::Phases(phases))
+        }
         ProofHead::Below(rows) => Ok(Proof::Below(rows)),
+        ProofHead::Windows(count) => {
+            let windows = windows(alloc, count, lines)?;
+            Ok(Proof::Windows(windows))
+        }
     }
 }
 
 // The rows of a Hall set.
 fn hall(alloc: Global, lines: &mut Lines) -> Result<Ids, Fault>
-    ensures { Reads hall_part lines.old lines.new result }
+    ensures { ReadsOrFails hall_part lines.old lines.new result }
 {
     Ok(Ids::from_vec(lines.numbers(alloc, b"hall")?.into_vec()))
 }
 
 // What a document claims, with its last line.
 pub(crate) fn claim(alloc: Global, objective: Objective, lines: &mut Lines) -> Result<Claim, Fault>
-    requires { HasWord objective }
-    ensures { Reads (claim_part objective) lines.old lines.new result }
+    ensures { ReadsOrFails (claim_part objective) lines.old lines.new result }
 {
     match status(lines)? {
         Status::Best => {
             let answer = answer(alloc, objective, lines)?;
-            let proof = proof(alloc, lines)?;
+            let proof = proof(alloc, objective, lines)?;
             lines.pass(b"end")?;
             Ok(Claim::Best { answer, proof })
         }

@@ -8,25 +8,25 @@ ghost use Rattle.asg_doc.specs.RefusedLine.{AllHaveText, IsRefusal, DocumentsHal
 ghost use Rattle.asg_doc.specs.Text.{lines_of, texts_of};
 ghost use Rattle.asg_model.specs.Limits.{longest_file};
 ghost use Rattle.asg_parts.specs.Lines.{ended, whole_lines, line_ends};
-ghost use Rattle.asg_parts.specs.Reading.{Reads};
+ghost use Rattle.asg_parts.specs.Reading.{Reads, ReadsOrFails};
 
 use crate::claim_reader::claim;
 use crate::documents::{Command, Document};
 use crate::refusals::DocRefusal;
 use crate::words::{command_of, objective_of};
 use asg_model::Objective;
-use asg_parts::{Fault, Lines, count_ends};
+use asg_parts::{Fault, Lines, Refusal, count_ends};
 use std::alloc::Global;
 
 // The command of its line.
-fn command(lines: &mut Lines) -> Result<Command, Fault>
+fn command(lines: &mut Lines) -> Result<Command, Refusal>
     ensures { Reads command_part lines.old lines.new result }
 {
     lines.read(b"command ", command_of)
 }
 
 // The objective of its line.
-fn objective(lines: &mut Lines) -> Result<Objective, Fault>
+fn objective(lines: &mut Lines) -> Result<Objective, Refusal>
     ensures { Reads objective_part lines.old lines.new result }
 {
     lines.read(b"objective ", objective_of)
@@ -34,7 +34,7 @@ fn objective(lines: &mut Lines) -> Result<Objective, Fault>
 
 // A document.
 fn document(alloc: Global, lines: &mut Lines) -> Result<Document, Fault>
-    ensures { Reads document_part lines.old lines.new result }
+    ensures { ReadsOrFails document_part lines.old lines.new result }
 {
     lines.pass(b"assignment 1")?;
     let command = command(lines)?;

@@ -107,5 +107,7 @@ pub(crate) enum Status {
 // What the first line of a proof says.
 #[derive(Debug, Drop)]
 pub(crate) enum ProofHead {
+    Phases(u32),
     Below(Ids),
+    Windows(u32),
 }

@@ -1,16 +1,16 @@
 //! Writes single lines of documents over a page.
 
-ghost use Rattle.std.specs.Prelude.{◌∷◌, ◌++◌, [], codes, map};
-ghost use Rattle.std.specs.Fmt.{decimal};
+ghost use Rattle.std.specs.Prelude.{◌∷◌, ◌++◌, [], map};
+ghost use Rattle.std.specs.Fmt.{decimal, signed_decimal};
 ghost use Rattle.asg_parts.specs.Lines.{ended};
 ghost use Rattle.asg_parts.specs.Spellings.{spaced};
 ghost use Rattle.asg_doc.specs.Flow.{Wrote};
-ghost use Rattle.asg_doc.specs.HasText.{HasValueText};
+ghost use Rattle.asg_doc.specs.HasText.{IsWrittenValue};
 ghost use Rattle.asg_doc.specs.Text.{cell_line, value_line};
 
 use crate::page_buffer::{Page, emit};
 use asg_io::Sink;
-use asg_model::{Objective, Value};
+use asg_model::Value;
 use itoa::Buffer;
 
 // Appends a line that has two parts.
@@ -23,28 +23,56 @@ pub(crate) fn emit_words<K: Sink>(front: &[u8], back: &[u8], page: &mut Page, ou
     emit(b"\n", page, out);
 }
 
-// Appends the line of a value.
-pub(crate) fn emit_value<K: Sink>(objective: Objective, value: &Value, page: &mut Page, out: &mut K)
-    requires { HasValueText objective value.now }
+// Appends a signed number.
+fn emit_signed<K: Sink>(number: i128, page: &mut Page, out: &mut K)
+    ensures { Wrote K.written K.faults out.old out.new page.old page.new (signed_decimal number) }
+{
+    let mut buffer = Buffer::new();
+    emit(buffer.format(number).as_bytes(), page, out);
+}
+
+// Appends the line of a value of one number.
+fn emit_one<K: Sink>(number: i128, page: &mut Page, out: &mut K)
     ensures { Wrote K.written K.faults out.old out.new page.old page.new
-        (value_line objective value.now ++ 10 ∷ []) }
+        (value_line (Value.One number) ++ 10 ∷ []) }
+{
+    emit(b"value ", page, out);
+    emit_signed(number, page, out);
+    emit(b"\n", page, out);
+}
+
+// Appends the line of a value of two numbers.
+fn emit_two<K: Sink>(first: i128, second: i128, page: &mut Page, out: &mut K)
+    ensures { Wrote K.written K.faults out.old out.new page.old page.new
+        (value_line (Value.Two first second) ++ 10 ∷ []) }
+{
+    emit(b"value ", page, out);
+    emit_signed(first, page, out);
+    emit(b":", page, out);
+    emit_signed(second, page, out);
+    emit(b"\n", page, out);
+}
+
+// Appends the line of a value, of two numbers or of one.
+pub(crate) fn emit_value<K: Sink>(pairs: bool, value: &Value, page: &mut Page, out: &mut K)
+    requires { IsWrittenValue pairs value.now }
+    ensures { Wrote K.written K.faults out.old out.new page.old page.new
+        (value_line value.now ++ 10 ∷ []) }
 {
     match value {
-        Value::One(number) => {
-            let mut buffer = Buffer::new();
-            emit_words(b"value ", buffer.format(*number).as_bytes(), page, out);
-        }
+        Value::One(number) => emit_one(*number, page, out),
+        Value::Two(first, second) => emit_two(*first, *second, page, out),
         _ => unreachable!(),
     }
 }
 
-// Appends the line of a number of cells.
-pub(crate) fn emit_count<K: Sink>(count: u32, page: &mut Page, out: &mut K)
+// Appends the line of a number behind its word.
+pub(crate) fn emit_number_line<K: Sink>(word: &[u8], number: u32, page: &mut Page, out: &mut K)
     ensures { Wrote K.written K.faults out.old out.new page.old page.new
-        ((codes "cells " ++ decimal count) ++ 10 ∷ []) }
+        ((word.now ++ decimal number) ++ 10 ∷ []) }
 {
     let mut buffer = Buffer::new();
-    emit_words(b"cells ", buffer.format(count).as_bytes(), page, out);
+    emit_words(word, buffer.format(number).as_bytes(), page, out);
 }
 
 // Appends a number.
@@ -56,7 +84,7 @@ fn emit_number<K: Sink>(number: u32, page: &mut Page, out: &mut K)
 }
 
 // Appends numbers, each after a space.
-fn emit_spaced<K: Sink>(numbers: &[u32], page: &mut Page, out: &mut K)
+pub(crate) fn emit_spaced<K: Sink>(numbers: &[u32], page: &mut Page, out: &mut K)
     ensures { Wrote K.written K.faults out.old out.new page.old page.new (spaced numbers.now) }
 {
     'numbers: for number in numbers {

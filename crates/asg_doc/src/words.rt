@@ -1,12 +1,12 @@
 //! The words of documents, written and read.
 
 ghost use Rattle.std.specs.Prelude.{◌≡◌};
-ghost use Rattle.asg_parts.specs.Spellings.{SpellsOrFails};
-ghost use Rattle.asg_doc.specs.Words.{command_word, objective_word, status_word, command_spelling, objective_spelling, status_spelling};
+ghost use Rattle.asg_parts.specs.Spellings.{Spells};
+ghost use Rattle.asg_doc.specs.Words.{command_word, status_word, has_pairs, has_grades, command_spelling, cap_spelling, named_spelling, objective_spelling, status_spelling};
 
 use crate::documents::{Command, Status};
 use asg_model::Objective;
-use asg_parts::Fault;
+use asg_parts::{after, wide_number};
 
 // The word of a command.
 pub(crate) fn word_of_command(command: Command) -> &'static [u8]
@@ -17,38 +17,80 @@ pub(crate) fn word_of_command(command: Command) -> &'static [u8]
     }
 }
 
-// The command that has this word.
-pub(crate) fn command_of(word: &[u8]) -> Result<Command, Fault>
-    ensures { SpellsOrFails command_spelling word.now result }
+// The command that has this word; none where none has.
+pub(crate) fn command_of(word: &[u8]) -> Option<Command>
+    ensures { Spells command_spelling word.now result }
 {
     if word == word_of_command(Command::Solve) {
-        return Ok(Command::Solve);
+        return Some(Command::Solve);
     }
-    Err(Fault::Refused)
+    None
 }
 
-// The word of an objective; none for one that documents don't speak of.
-pub(crate) fn word_of_objective(objective: Objective) -> &'static [u8]
-    ensures { result.now ≡ objective_word objective }
+// The cap that a word spells, 1 to 10^12.
+fn cap_of(word: &[u8]) -> Option<u64>
+    ensures { Spells cap_spelling word.now result }
 {
-    match objective {
-        Objective::Bottleneck => b"bottleneck",
-        Objective::BottleneckMax => b"bottleneck-max",
-        _ => b"",
+    let cap = wide_number(word)?;
+    if cap == 0 {
+        return None;
     }
+    if cap > 1_000_000_000_000 {
+        return None;
+    }
+    Some(cap as u64)
 }
 
-// The objective that has this word.
-pub(crate) fn objective_of(word: &[u8]) -> Result<Objective, Fault>
-    ensures { SpellsOrFails objective_spelling word.now result }
+// The objective without a cap that has this word; none where none has.
+fn named_objective(word: &[u8]) -> Option<Objective>
+    ensures { Spells named_spelling word.now result }
 {
-    if word == word_of_objective(Objective::Bottleneck) {
-        return Ok(Objective::Bottleneck);
+    if word == b"sum".as_slice() {
+        return Some(Objective::Sum);
     }
-    if word == word_of_objective(Objective::BottleneckMax) {
-        return Ok(Objective::BottleneckMax);
+    if word == b"sum-max".as_slice() {
+        return Some(Objective::SumMax);
     }
-    Err(Fault::Refused)
+    if word == b"pair".as_slice() {
+        return Some(Objective::SumPair);
+    }
+    if word == b"bottleneck".as_slice() {
+        return Some(Objective::Bottleneck);
+    }
+    if word == b"bottleneck-max".as_slice() {
+        return Some(Objective::BottleneckMax);
+    }
+    if word == b"time-cost".as_slice() {
+        return Some(Objective::TimeCost);
+    }
+    if word == b"balanced".as_slice() {
+        return Some(Objective::Balanced);
+    }
+    None
+}
+
+// The objective that has this word; none where none has.
+pub(crate) fn objective_of(word: &[u8]) -> Option<Objective>
+    ensures { Spells objective_spelling word.now result }
+{
+    if let Some(cap) = after(b"capped=", word) {
+        return Some(Objective::Capped(cap_of(cap)?));
+    }
+    named_objective(word)
+}
+
+// Whether the objective's values are two numbers.
+pub(crate) fn has_pairs(objective: Objective) -> bool
+    ensures { result ≡ has_pairs objective }
+{
+    matches!(objective, Objective::SumPair | Objective::TimeCost)
+}
+
+// Whether the objective's steps have grades.
+pub(crate) fn has_grades(objective: Objective) -> bool
+    ensures { result ≡ has_grades objective }
+{
+    matches!(objective, Objective::TimeCost)
 }
 
 // The word of a status.
@@ -61,15 +103,15 @@ fn word_of_status(status: Status) -> &'static [u8]
     }
 }
 
-// The status that has this word.
-pub(crate) fn status_of(word: &[u8]) -> Result<Status, Fault>
-    ensures { SpellsOrFails status_spelling word.now result }
+// The status that has this word; none where none has.
+pub(crate) fn status_of(word: &[u8]) -> Option<Status>
+    ensures { Spells status_spelling word.now result }
 {
     if word == word_of_status(Status::Best) {
-        return Ok(Status::Best);
+        return Some(Status::Best);
     }
     if word == word_of_status(Status::Nothing) {
-        return Ok(Status::Nothing);
+        return Some(Status::Nothing);
     }
-    Err(Fault::Refused)
+    None
 }

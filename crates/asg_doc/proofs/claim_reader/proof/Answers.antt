@@ -1,6 +1,21 @@
-use Rattle.asg_parts.specs.laws.PartLaws.{Halts-first, Halts-shape, Reads-err}
+use Rattle.std.proofs.Common.{subst}
+use Rattle.asg_parts.specs.Parts.{counted}
+use Rattle.asg_parts.specs.Reading.{IsRead, Halts}
+use Rattle.asg_parts.specs.laws.PartLaws.{Halts-first, Halts-second, Halts-shape, ReadsOrFails-err}
+use Rattle.asg_doc.specs.DocumentParts.{proof_head_part, phase_part}
 use Rattle.asg_doc.proofs.ClaimParts.{proof_shape, head_rest}
 use Rattle.asg_doc.proofs.claim_reader.proof.Goals as goal
 
-pub returns-in_err-rows : goal.returns-in_err-rows
-returns-in_err-rows c = λ objective. Reads-err c.from_residual.result c.from_residual.ensures.1 (Halts-shape (proof_shape objective) (Halts-first head_rest c.in_err-rows.ensures))
+pub returns-in_err-count : goal.returns-in_err-count
+returns-in_err-count c = ReadsOrFails-err c.from_residual.result c.from_residual.ensures.1 (Halts-shape (proof_shape c.args.objective) (Halts-first (head_rest c.args.objective) c.in_err-count.ensures))
+
+pub returns-in_err-phases-in-Phases : goal.returns-in_err-phases-in-Phases
+returns-in_err-phases-in-Phases c = ReadsOrFails-err c.from_residual-in_err-phases-in-Phases.result c.from_residual-in_err-phases-in-Phases.ensures.1
+    (Halts-shape (proof_shape c.args.objective)
+    (Halts-second (head_rest c.args.objective) (subst (IsRead proof_head_part c.args.lines.now c.proof_head.new.lines) c.in-Phases.is c.in_ok-count.ensures)
+    (subst (λ graded. Halts (counted c.in-Phases.count (phase_part graded)) c.proof_head.new.lines c.phases.new.lines c.in_err-phases-in-Phases.field-0.0) c.has_grades.ensures c.in_err-phases-in-Phases.ensures)))
+
+pub returns-in_err-windows-in-Windows : goal.returns-in_err-windows-in-Windows
+returns-in_err-windows-in-Windows c = ReadsOrFails-err c.from_residual-in_err-windows-in-Windows.result c.from_residual-in_err-windows-in-Windows.ensures.1
+    (Halts-shape (proof_shape c.args.objective)
+    (Halts-second (head_rest c.args.objective) (subst (IsRead proof_head_part c.args.lines.now c.proof_head.new.lines) c.in-Windows.is c.in_ok-count.ensures) c.in_err-windows-in-Windows.ensures))

@@ -6,5 +6,5 @@ use Rattle.asg_doc.proofs.document_writer.emit_answer.Goals as goal
 
 pub returns : goal.returns
 returns g c = Wrote-append c.emit_value.ensures (Wrote-append
-    (Wrote-as (ap (λ n. (codes "cells " ++ decimal n) ++ 10 ∷ []) c.len.ensures.count) c.emit_count.ensures)
+    (Wrote-as (ap (λ n. (codes "cells " ++ decimal n) ++ 10 ∷ []) c.len.ensures.count) c.emit_number_line.ensures)
     (Wrote-as (ap (λ cells. ended (map cell_line cells)) c.as_slice.ensures.items) c.emit_cells.ensures))

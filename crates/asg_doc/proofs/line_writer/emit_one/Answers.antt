@@ -1,0 +1,10 @@
+use Rattle.std.proofs.Common.{ap}
+use Rattle.std.specs.Fmt.{signed_decimal}
+use Rattle.std.specs.Int.{w128}
+use Rattle.std.proofs.lemmas.Int.{to_z-of_z}
+use Rattle.asg_doc.proofs.Flows.{Wrote-append, Wrote-as}
+use Rattle.asg_doc.proofs.line_writer.emit_one.Goals as goal
+
+pub returns : goal.returns
+returns g c = Wrote-append c.emit.ensures
+    (Wrote-append (Wrote-as (ap signed_decimal (to_z-of_z w128 c.args.number c.ranges.number)) c.emit_signed.ensures) c.emit-2.ensures)

@@ -1,0 +1,11 @@
+use Rattle.std.proofs.Common.{arith}
+use Rattle.asg_parts.specs.laws.PartLaws.{Halts-counted, ReadsOrFails-err}
+use Rattle.asg_doc.proofs.PhaseParts.{phase_law, ArePhases-from_text}
+use Rattle.asg_doc.proofs.phase_reader.phases.Goals as goal
+
+pub returns-in_err-phase : goal.returns-in_err-phase
+returns-in_err-phase c = ReadsOrFails-err c.from_residual.result c.from_residual.ensures.1
+    (Halts-counted (phase_law c.args.has_grades) c.loop.invariant (omega arith) c.in_err-phase.ensures)
+
+pub from_vec-requires : goal.from_vec-requires
+from_vec-requires c = ArePhases-from_text c.args.has_grades c.loop.phases.items c.loop.invariant.has.1

@@ -1,0 +1,11 @@
+use Rattle.std.proofs.Common.{arith}
+use Rattle.asg_parts.specs.laws.PartLaws.{Halts-counted, ReadsOrFails-err}
+use Rattle.asg_doc.proofs.WindowParts.{window_law, AreWindows-from_text}
+use Rattle.asg_doc.proofs.window_reader.windows.Goals as goal
+
+pub returns-in_err-window : goal.returns-in_err-window
+returns-in_err-window c = ReadsOrFails-err c.from_residual.result c.from_residual.ensures.1
+    (Halts-counted window_law c.loop.invariant (omega arith) c.in_err-window.ensures)
+
+pub from_vec-requires : goal.from_vec-requires
+from_vec-requires c = AreWindows-from_text c.loop.windows.items c.loop.invariant.has.1

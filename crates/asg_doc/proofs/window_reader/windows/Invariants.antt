@@ -1,0 +1,7 @@
+use Rattle.asg_parts.specs.Parts.{counted}
+use Rattle.asg_parts.specs.Reading.{IsRead}
+use Rattle.asg_doc.specs.DocumentParts.{window_part}
+use Rattle.asg_doc.proofs.window_reader.windows.Given as goal
+
+abbrev pub invariant-loop : goal.invariant-loop
+invariant-loop l = IsRead (counted l.counter window_part) l.fn.lines l.lines l.windows.items

@@ -1,0 +1,13 @@
+use Rattle.std.proofs.Common.{◌≡◌, arith, sym, ◌∙◌}
+use Rattle.asg_parts.specs.laws.SpellingLaws.{decimal_same}
+use Rattle.asg_doc.proofs.words.cap_of.Goals as goal
+
+pub returns-then-cap-eq0 : goal.returns-then-cap-eq0
+returns-then-cap-eq0 c = λ n has is.
+    let same : c.in_ok-cap.cap ≡ n = decimal_same c.in_ok-cap.cap n (omega arith) (omega (arith, has.1)) (sym c.in_ok-cap.ensures.1 ∙ is) in
+    omega (arith, has.0)
+
+pub returns-then-cap-gt1000000000000 : goal.returns-then-cap-gt1000000000000
+returns-then-cap-gt1000000000000 c = λ n has is.
+    let same : c.in_ok-cap.cap ≡ n = decimal_same c.in_ok-cap.cap n (omega arith) (omega (arith, has.1)) (sym c.in_ok-cap.ensures.1 ∙ is) in
+    omega (arith, has.1)

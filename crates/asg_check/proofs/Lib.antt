@@ -1,5 +1,11 @@
 pub mod Reading
+pub mod ToldReasons
 pub mod Decisions
-pub mod FirstReasons
-pub mod Judged
-pub mod Tested
+pub mod PhaseWords
+pub mod Replaying
+pub mod ByObjective
+pub mod LiveCosts
+pub mod PhaseTold
+pub mod WindowGaps
+pub mod WindowTold
+pub mod Certified

@@ -1,19 +1,25 @@
 -- Why a document doesn't certify: what stands against it, and the first reason that does.
-use Rattle.std.specs.Prelude.{◌≡◌, ◌≢◌, ℕ, ℤ, pos, ◌≤ℤ◌, false, List, [], ◌∷◌, ◌++◌, Option, All}
+use Rattle.std.specs.Prelude.{◌≡◌, ◌≢◌, ◌⊎◌, ℕ, ℤ, false, List, [], ◌∷◌, Option, All}
 use Rattle.asg_model.specs.declared.bands.Band.TheVariants.{Whole}
 use Rattle.asg_model.specs.declared.objectives.Objective.{Objective}
 use Rattle.asg_model.specs.HallSet.{IsHall}
 use Rattle.asg_model.specs.Problem.{Problem}
 use Rattle.asg_model.specs.Values.{choice_value}
 use Rattle.asg_proof.specs.Threshold.{ProvesBelow}
-use Rattle.asg_proof.specs.declared.outcomes.Proof.TheVariants.{Below}
+use Rattle.asg_proof.specs.declared.outcomes.Proof.TheVariants.{Below, Phases, Windows}
+use Rattle.asg_proof.specs.Windows.{IsHallWindow}
 use Rattle.asg_doc.specs.declared.documents.Claim.{Claim}
 use Rattle.asg_doc.specs.declared.documents.Claim.TheVariants.{Best, Nothing}
 use Rattle.asg_doc.specs.declared.documents.Document.{Document}
 use Rattle.asg_check.specs.declared.verdicts.Form.{Form}
 use Rattle.asg_check.specs.declared.verdicts.Reason.{Reason}
-use Rattle.asg_check.specs.declared.verdicts.Reason.TheVariants.{OtherObjective, WrongForm, NotValid, WrongValue, NotHall}
+use Rattle.asg_check.specs.declared.verdicts.Reason.TheVariants.{OtherObjective, WrongForm, NotValid, WrongValue, NotHall, WindowGap, BadPhase, IndexDiffers}
+use Rattle.asg_check.specs.declared.verdicts.Verdict.{Verdict}
+use Rattle.asg_check.specs.declared.verdicts.Verdict.TheVariants.{No, Yes}
 use Rattle.asg_check.specs.DocumentForm.{has_form}
+use Rattle.asg_check.specs.PhaseReasons.{AreAdmittedFor, AreBadAt, HaveOtherIndexFor}
+use Rattle.asg_check.specs.WindowReasons.{AreNoHallSetsAt, LeaveGapAt}
+use Rattle.asg_check.specs.Spots.{ForWhole, IsNoLater, Spot, place_of}
 use Rattle.asg_check.specs.Written.{IsWrittenAs}
 
 -- the number of a reason
@@ -23,80 +29,102 @@ reason_number WrongForm = 2
 reason_number NotValid = 3
 reason_number WrongValue = 4
 reason_number NotHall = 5
+reason_number WindowGap = 8
+reason_number BadPhase = 6
+reason_number IndexDiffers = 7
 
--- the reasons in the order in which they are tested
+-- the reasons in the order in which they are tested, those against a claim, against its
+-- proof, and against phases last; and those against windows
+abbrev pub phase_reasons : List Reason
+phase_reasons = BadPhase ∷ (IndexDiffers ∷ [])
+
+abbrev pub window_reasons : List Reason
+window_reasons = NotHall ∷ (WindowGap ∷ [])
+
+abbrev pub proof_reasons : List Reason
+proof_reasons = NotHall ∷ (WindowGap ∷ phase_reasons)
+
+abbrev pub claim_reasons : List Reason
+claim_reasons = NotValid ∷ (WrongValue ∷ proof_reasons)
+
 abbrev pub reasons_in_order : List Reason
-reasons_in_order = OtherObjective ∷ (WrongForm ∷ (NotValid ∷ (WrongValue ∷ (NotHall ∷ []))))
+reasons_in_order = OtherObjective ∷ (WrongForm ∷ claim_reasons)
 
--- where a reason stands: at a place, or for the whole
-pub data Spot : Type 0 where
-  At : (place : ℤ) → Spot
-  Overall : Spot
-
--- the place that a verdict names: 0 for the whole
-abbrev pub place_of : Spot → ℤ
-place_of (At place) = place
-place_of Overall = pos 0
-
--- a spot comes no later than another: lesser places first, the whole last
-abbrev pub IsNoLater : Spot → Spot → Type 0
-IsNoLater spot Overall = Unit {0}
-IsNoLater (At place) (At other) = place ≤ℤ other
-IsNoLater Overall (At other) = ⊥
-
--- 3: no valid choice has the answer's cells, in the order of the rows
+-- no valid choice has the answer's cells, in the order of the rows
 abbrev pub HasNoChoice : Problem → Claim → Type 0
 HasNoChoice X (Best answer proof) = (f : List (Option ℕ)) → IsWrittenAs X answer.cells f → ⊥
 HasNoChoice X (Nothing rows) = ⊥
 
--- 4: the answer's cells are those of a valid choice, and its value is another than the choice's
+-- the answer's cells are those of a valid choice, and its value is another than the choice's
 abbrev pub HasOtherValue : Objective → Problem → Claim → Type 0
 HasOtherValue objective X (Best answer proof) =
     (f : List (Option ℕ)) × IsWrittenAs X answer.cells f
     × (answer.value ≢ choice_value objective X f)
 HasOtherValue objective X (Nothing rows) = ⊥
 
--- 5: the rows aren't the Hall set that they must be: of the costs strictly better than the answer's
--- value, or of the whole instance
-abbrev pub HasNoHallSet : Objective → Problem → Claim → Type 0
-HasNoHallSet objective X (Best answer (Below rows)) = ¬ ProvesBelow objective X answer.value rows
-HasNoHallSet objective X (Nothing rows) = ¬ IsHall X Whole rows
+-- the rows, where the claim names some, are the Hall set that they must be: of the costs strictly better
+-- than the answer's value, of the bands of windows, or of the whole instance
+abbrev pub HasHallSet : Objective → Problem → Claim → Type 0
+HasHallSet objective X (Best answer (Phases words)) = Unit {0}
+HasHallSet objective X (Best answer (Below rows)) = ProvesBelow objective X answer.value rows
+HasHallSet objective X (Best answer (Windows windows)) = All (IsHallWindow X) windows
+HasHallSet objective X (Nothing rows) = IsHall X Whole rows
 
--- a reason stands against a claim, each by itself
+-- where they aren't: at a window, or for the whole
+abbrev pub LacksHallSet : Objective → Problem → Claim → Spot → Type 0
+LacksHallSet objective X (Best answer (Windows windows)) = AreNoHallSetsAt X windows
+LacksHallSet objective X claim = ForWhole (¬ HasHallSet objective X claim)
+
+-- where the answer's windows leave a gap
+abbrev pub LeavesGap : Problem → Claim → Spot → Type 0
+LeavesGap X (Best answer (Windows windows)) = LeaveGapAt X answer.value windows
+LeavesGap X claim = λ spot. ⊥
+
+-- where the answer's phases are bad
+abbrev pub HasBadPhase : Objective → Problem → Claim → Spot → Type 0
+HasBadPhase objective X (Best answer (Phases words)) = AreBadAt (AreAdmittedFor objective X) words
+HasBadPhase objective X claim = λ spot. ⊥
+
+-- the answer's cells are those of a valid choice, its phases are admitted, and their index is another
+-- value than the choice's fold
+abbrev pub HasOtherIndex : Objective → Problem → Claim → Type 0
+HasOtherIndex objective X (Best answer (Phases words)) =
+    (f : List (Option ℕ)) × IsWrittenAs X answer.cells f × HaveOtherIndexFor objective X f words
+HasOtherIndex objective X claim = ⊥
+
+-- where a reason stands against a claim, each by itself
 abbrev pub StandsAgainst : Objective → Problem → Claim → Reason → Spot → Type 0
-StandsAgainst objective X claim NotValid Overall = HasNoChoice X claim
-StandsAgainst objective X claim WrongValue Overall = HasOtherValue objective X claim
-StandsAgainst objective X claim NotHall Overall = HasNoHallSet objective X claim
-StandsAgainst objective X claim reason spot = ⊥
+StandsAgainst objective X claim NotValid = ForWhole (HasNoChoice X claim)
+StandsAgainst objective X claim WrongValue = ForWhole (HasOtherValue objective X claim)
+StandsAgainst objective X claim NotHall = LacksHallSet objective X claim
+StandsAgainst objective X claim WindowGap = LeavesGap X claim
+StandsAgainst objective X claim BadPhase = HasBadPhase objective X claim
+StandsAgainst objective X claim IndexDiffers = ForWhole (HasOtherIndex objective X claim)
+StandsAgainst objective X claim reason = ForWhole ⊥
 
--- a reason stands against a document, each by itself: it is of another objective than the asked
--- one, it doesn't have the asked form, or the reason stands against its claim
+-- where a reason stands against a document, each by itself: it is of another objective than the
+-- asked one, it doesn't have the asked form, or the reason stands against its claim
 abbrev pub Stands : Objective → Problem → Form → Document → Reason → Spot → Type 0
-Stands objective X form document OtherObjective Overall = document.objective ≢ objective
-Stands objective X form document WrongForm Overall = has_form objective form document ≡ false
-Stands objective X form document reason spot = StandsAgainst objective X document.claim reason spot
+Stands objective X form document OtherObjective = ForWhole (document.objective ≢ objective)
+Stands objective X form document WrongForm = ForWhole (has_form objective form document ≡ false)
+Stands objective X form document reason = StandsAgainst objective X document.claim reason
 
--- of what stands, the first: the reason stands, none before it in the order does, and it stands at
--- no lesser spot
-pub record IsFirstOf (Against : Reason → Spot → Type 0) (reason : Reason)
-    (spot : Spot) : Type 0 where
-  pub before : List Reason
-  pub after : List Reason
-  pub order : reasons_in_order ≡ before ++ (reason ∷ after)
-  pub none_before : All (λ earlier. (other : Spot) → ¬ Against earlier other) before
-  pub stands : Against reason spot
-  pub least : (other : Spot) → Against reason other → IsNoLater spot other
+-- a verdict tells of a reason: it stands, and the verdict names its number and its least spot
+pub record IsToldOf (Against : Spot → Type 0) (reason : Reason) (verdict : Verdict) : Type 0 where
+  pub spot : Spot
+  pub stands : Against spot
+  pub least : (other : Spot) → Against other → IsNoLater spot other
+  pub told : verdict ≡ No (reason_number reason) (place_of spot)
 
--- the first reason against a document, and where it stands
-abbrev pub IsFirst : Objective → Problem → Form → Document → Reason → Spot → Type 0
-IsFirst objective X form document reason spot =
-    IsFirstOf (Stands objective X form document) reason spot
+-- a verdict on reasons, one after the other: it tells of the first that stands, or is `Yes` where
+-- none does
+abbrev pub Tells : (Reason → Spot → Type 0) → List Reason → Verdict → Type 0
+Tells Against [] verdict = verdict ≡ Yes
+Tells Against (reason ∷ rest) verdict =
+    IsToldOf (Against reason) reason verdict
+    ⊎ (((spot : Spot) → ¬ Against reason spot) × Tells Against rest verdict)
 
--- a number and a place tell the first reason against a document
+-- a number and a place tell the first reason against a document, and where it stands
 pub record IsFirstReason (objective : Objective) (X : Problem) (form : Form)
     (document : Document) (number : ℕ) (place : ℤ) : Type 0 where
-  pub reason : Reason
-  pub spot : Spot
-  pub first : IsFirst objective X form document reason spot
-  pub numbered : number ≡ reason_number reason
-  pub placed : place ≡ place_of spot
+  pub told : Tells (Stands objective X form document) reasons_in_order (No number place)

@@ -1,5 +1,5 @@
 -- The choice that written cells spell.
-use Rattle.std.specs.Prelude.{◌≡◌, ◌==◌, if◌then◌else◌, ℕ, List, Option, None}
+use Rattle.std.specs.Prelude.{◌≡◌, ◌==◌, if◌then◌else◌, ℕ, List, [], ◌∷◌, Option, Some, None}
 use Rattle.asg_model.specs.declared.parts.Row.{Row}
 use Rattle.asg_model.specs.HallSet.{column_place_of}
 use Rattle.asg_model.specs.Problem.{Problem}
@@ -11,7 +11,22 @@ pub record IsWrittenAs (X : Problem) (cells : List (ℕ × ℕ)) (f : List (Opti
   pub valid : IsValid X f
   pub written : cells ≡ cells_by_id X f
 
--- the place of the column that a written cell gives the row: none where it names another row, or no
--- column
-abbrev pub column_given : Problem → Row → ℕ × ℕ → Option ℕ
-column_given X row cell = if cell.0 == row.id then column_place_of X cell.1 else None
+-- the place of the column that the first of the cells gives the row: none where that names another
+-- row, or no column
+abbrev pub column_given : Problem → Row → List (ℕ × ℕ) → Option ℕ
+column_given X row [] = None
+column_given X row (cell ∷ cells) =
+    if cell.0 == row.id then column_place_of X cell.1 else None
+
+-- the cells that are left for the rows after one that chose this
+abbrev pub cells_left : Option ℕ → List (ℕ × ℕ) → List (ℕ × ℕ)
+cells_left (Some column) (cell ∷ cells) = cells
+cells_left chosen cells = cells
+
+-- what rows choose, each by the first of the cells that are left, and the cells that none reads
+abbrev pub read_cells : Problem → List Row → List (ℕ × ℕ) → List (Option ℕ) × List (ℕ × ℕ)
+read_cells X [] cells = ([], cells)
+read_cells X (row ∷ rows) cells =
+    let chosen = column_given X row cells in
+    let more = read_cells X rows (cells_left chosen cells) in
+    (chosen ∷ more.0, more.1)

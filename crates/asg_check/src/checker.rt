@@ -1,26 +1,38 @@
 //! Whether a document certifies.
 
-ghost use Rattle.std.specs.Prelude.{◌≡◌, ◌↔◌, ℕ, ℤ, IfOk, IfSome, None};
+ghost use Rattle.std.specs.Prelude.{◌≡◌, ◌↔◌, ◌≤◌, ℕ, ℤ, IfOk};
+ghost use Rattle.asg_model.specs.Limits.{most_side};
+ghost use Rattle.asg_model.specs.Refused.{PassesNegative};
+ghost use Rattle.asg_model.specs.Shapes.{square_side};
 ghost use Rattle.asg_check.specs.Certifies.{Certifies};
-ghost use Rattle.asg_check.specs.Reasons.{IsFirst, IsFirstReason, Overall};
+ghost use Rattle.asg_check.specs.Reasons.{IsFirstReason, Stands, Tells, reasons_in_order};
 ghost use Rattle.asg_check.specs.TrueClaim.{ClaimsTruly};
 
 use crate::NoMemory;
-use crate::claims::claim_reason;
-use crate::document_forms::{has_form, is_same_objective};
-use crate::laws::{one_reason, soundness_law};
+use crate::claims::claim_verdict;
+use crate::document_forms::has_form;
+use crate::laws::soundness_law;
 use crate::verdicts::{Form, Reason, Verdict};
 use asg_doc::Document;
+use asg_model::laws::decision_law;
 use asg_model::{Instance, Objective};
 use std::alloc::Global;
 
 /// Whether the document certifies for the objective, the instance and the form: `Yes` exactly where
 /// it does, and then what it claims of the instance is true. Else `No`, with the number of the
-/// first reason of these, tested in this order, and the place 0: 1, the document is of another
-/// objective; 2, its command isn't that of the form, or its proof is of a kind that the objective
-/// doesn't take; 3, its cells aren't those of a valid choice, in the order of the rows; 4, its value
-/// isn't that of the cells; 5, its rows aren't a Hall set, of the instance or of the costs that are
-/// strictly better than the value. The error is want of memory.
+/// first reason of these, tested in this order: 1, the document is of another objective; 2, its
+/// command isn't that of the form, or its proof is of a kind that the objective doesn't take; 3, its
+/// cells aren't those of a valid choice, in the order of the rows; 4, its value isn't that of the
+/// cells; 5, its rows aren't a Hall set, of the instance, of the costs that are strictly better
+/// than the value, or of the band of a window, which is tested also where the value is 0; 8, the
+/// value d is above 0, and for the cost v of a live cell no window holds the costs from v to
+/// v + d - 1; 6, a phase is bad: a list hasn't the length of the side of the instance's square,
+/// a step is no value of the objective's monoid, or it isn't admitted after the phases before it; 7,
+/// the product of all steps isn't that of the entered costs of the cells. The place is the number of
+/// the first bad phase, from 1, for 6, that of the first window which is no Hall set for 5, the least
+/// such v for 8, and 0 else. The side of the square is at
+/// most 2,000, and the objective refuses no cost of the instance ([`asg_model::negative`]). The
+/// error is want of memory.
 pub fn check(
     alloc: Global,
     objective: Objective,
@@ -28,6 +40,8 @@ pub fn check(
     form: Form,
     doc: &Document,
 ) -> Result<Verdict, NoMemory>
+    requires side { square_side inst.now ≤ most_side }
+    requires passes { PassesNegative objective inst.now }
     ensures exact { IfOk result (λ verdict. (verdict ≡ Verdict.Yes) ↔
         Certifies objective inst.now form doc.now) }
     ensures reason { IfOk result (λ verdict. (number : ℕ) (place : ℤ) →
@@ -39,34 +53,28 @@ pub fn check(
     // What each instance keeps, on which the laws rest, is told by a reader.
     let _ = inst.rows();
     soundness_law();
-    one_reason();
-    match first_reason(alloc, objective, inst, form, doc)? {
-        Some(reason) => Ok(Verdict::No {
-            reason: reason.number(),
-            place: 0,
-        }),
-        None => Ok(Verdict::Yes),
-    }
+    decision_law();
+    let verdict = document_verdict(alloc, objective, inst, form, doc)?;
+    Ok(verdict)
 }
 
-// The first reason against a document, if there is one. The error is want of memory.
-fn first_reason(
+// The verdict on a document, by its reasons in order. The error is want of memory.
+fn document_verdict(
     alloc: Global,
     objective: Objective,
     inst: &Instance,
     form: Form,
     doc: &Document,
-) -> Result<Option<Reason>, NoMemory>
-    ensures none { IfOk result (λ found. found ≡ None →
-        Certifies objective inst.now form doc.now) }
-    ensures first { IfOk result (λ found. IfSome found (λ reason.
-        IsFirst objective inst.now form doc.now reason Overall)) }
+) -> Result<Verdict, NoMemory>
+    requires side { square_side inst.now ≤ most_side }
+    requires passes { PassesNegative objective inst.now }
+    ensures { IfOk result (Tells (Stands objective inst.now form doc.now) reasons_in_order) }
 {
-    if !is_same_objective(doc.objective, objective) {
-        return Ok(Some(Reason::OtherObjective));
+    if doc.objective != objective {
+        return Ok(Reason::OtherObjective.verdict());
     }
     if !has_form(objective, form, doc) {
-        return Ok(Some(Reason::WrongForm));
+        return Ok(Reason::WrongForm.verdict());
     }
-    claim_reason(alloc, objective, inst, &doc.claim)
+    claim_verdict(alloc, objective, inst, &doc.claim)
 }

@@ -1,105 +1,109 @@
 //! What stands against a claim.
 
-ghost use Rattle.std.specs.Prelude.{◌≡◌, ◌↔◌, IsTrue, IfOk, IfSome, None, unsigned_abs, ◌≤◌};
+ghost use Rattle.std.specs.Prelude.{◌≡◌, ◌↔◌, ◌≤◌, IsTrue, IfOk, unsigned_abs};
 ghost use Rattle.asg_model.specs.Instances.{IsInstance};
-ghost use Rattle.asg_model.specs.Limits.{most_cost};
+ghost use Rattle.asg_model.specs.Limits.{most_cost, most_side};
+ghost use Rattle.asg_model.specs.Refused.{PassesNegative};
+ghost use Rattle.asg_model.specs.Shapes.{square_side};
 ghost use Rattle.asg_model.specs.ValueRange.{IsValueInRange};
-ghost use Rattle.asg_model.specs.Values.{choice_value};
-ghost use Rattle.asg_proof.specs.Proves.{Proves};
+ghost use Rattle.asg_proof.specs.Proves.{takes};
 ghost use Rattle.asg_proof.specs.Threshold.{ProvesBelow};
+ghost use Rattle.asg_check.specs.DocumentForm.{takes_claim};
+ghost use Rattle.asg_check.specs.Reasons.{StandsAgainst, Tells, claim_reasons, proof_reasons};
 ghost use Rattle.asg_check.specs.Written.{IsWrittenAs};
-ghost use Rattle.asg_check.specs.Certifies.{CertifiesAnswer, CertifiesClaim};
-ghost use Rattle.asg_check.specs.Reasons.{IsFirstOf, Overall, StandsAgainst};
 
 use crate::NoMemory;
-use crate::verdicts::Reason;
-use crate::written_choices::valid_choice;
+use crate::phase_verdicts::phases_verdict;
+use crate::verdicts::{Reason, Verdict};
+use crate::window_verdicts::windows_verdict;
+use crate::written_choices::written_choice;
 use crate::written_values::is_same_value;
 use asg_doc::{Answer, Claim};
 use asg_model::{Band, Choice, Instance, Objective, Value, is_hall, value};
-use asg_proof::{Ids, Proof};
+use asg_proof::Proof;
 use std::alloc::Global;
 
-// The first reason against a claim, if there is one. The error is want of memory.
-pub(crate) fn claim_reason(
+// The verdict on a claim, by its reasons in order. The error is want of memory.
+pub(crate) fn claim_verdict(
     alloc: Global,
     objective: Objective,
     inst: &Instance,
     claim: &Claim,
-) -> Result<Option<Reason>, NoMemory>
-    ensures none { IfOk result (λ found. found ≡ None →
-        CertifiesClaim objective inst.now claim.now) }
-    ensures first { IfOk result (λ found. IfSome found (λ reason.
-        IsFirstOf (StandsAgainst objective inst.now claim.now) reason Overall)) }
+) -> Result<Verdict, NoMemory>
+    requires takes { IsTrue (takes_claim objective claim.now) }
+    requires side { square_side inst.now ≤ most_side }
+    requires passes { PassesNegative objective inst.now }
+    ensures { IfOk result (Tells (StandsAgainst objective inst.now claim.now) claim_reasons) }
 {
     match claim {
-        Claim::Best { answer, proof } => answer_reason(alloc, objective, inst, answer, proof),
-        Claim::Nothing { rows } => Ok(rows_reason(objective, inst, rows)),
+        Claim::Best { answer, proof } => answer_verdict(alloc, objective, inst, answer, proof),
+        Claim::Nothing { rows } => {
+            if is_hall(inst, Band::Whole, rows.as_slice()) {
+                Ok(Verdict::Yes)
+            } else {
+                Ok(Reason::NotHall.verdict())
+            }
+        }
     }
 }
 
-// The first reason against an answer with its proof, if there is one. The error is want of memory.
-fn answer_reason(
+// The verdict on an answer with its proof, by its reasons in order. The error is want of memory.
+fn answer_verdict(
     alloc: Global,
     objective: Objective,
     inst: &Instance,
     answer: &Answer,
     proof: &Proof,
-) -> Result<Option<Reason>, NoMemory>
-    ensures none { IfOk result (λ found. found ≡ None →
-        CertifiesAnswer objective inst.now answer.now proof.now) }
-    ensures first { let claim = Claim.Best answer.now proof.now in
-        IfOk result (λ found. IfSome found (λ reason.
-        IsFirstOf (StandsAgainst objective inst.now claim) reason Overall)) }
+) -> Result<Verdict, NoMemory>
+    requires takes { IsTrue (takes objective proof.now) }
+    requires side { square_side inst.now ≤ most_side }
+    requires passes { PassesNegative objective inst.now }
+    ensures { IfOk result (Tells
+        (StandsAgainst objective inst.now (Claim.Best answer.now proof.now)) claim_reasons) }
 {
-    match valid_choice(alloc, inst, answer.cells.as_slice())? {
-        Some(choice) => choice_reason(alloc, objective, inst, answer, &choice, proof),
-        None => Ok(Some(Reason::NotValid)),
+    let Some(choice) = written_choice(alloc, inst, answer.cells.as_slice())? else {
+        return Ok(Reason::NotValid.verdict());
+    };
+    let right = value(alloc, objective, inst, &choice)?;
+    if !is_same_value(&answer.value, &right) {
+        return Ok(Reason::WrongValue.verdict());
     }
+    proof_verdict(alloc, objective, inst, answer, &choice, proof)
 }
 
-// The first reason against an answer whose cells are those of a valid choice, if there is one. The
-// error is want of memory.
-fn choice_reason(
+// The verdict on the proof of an answer, whose choice this is, by its reasons in order. The error is
+// want of memory.
+fn proof_verdict(
     alloc: Global,
     objective: Objective,
     inst: &Instance,
     answer: &Answer,
     choice: &Choice,
     proof: &Proof,
-) -> Result<Option<Reason>, NoMemory>
+) -> Result<Verdict, NoMemory>
+    requires takes { IsTrue (takes objective proof.now) }
+    requires side { square_side inst.now ≤ most_side }
+    requires passes { PassesNegative objective inst.now }
     requires instance { IsInstance inst.now }
     requires written { IsWrittenAs inst.now answer.now.cells choice.now }
-    ensures none { IfOk result (λ found. found ≡ None →
-        CertifiesAnswer objective inst.now answer.now proof.now) }
-    ensures first { let claim = Claim.Best answer.now proof.now in
-        IfOk result (λ found. IfSome found (λ reason.
-        IsFirstOf (StandsAgainst objective inst.now claim) reason Overall)) }
-{
-    let right = value(alloc, objective, inst, choice)?;
-    if !is_same_value(&answer.value, &right) {
-        return Ok(Some(Reason::WrongValue));
-    }
-    if !proves(objective, inst, choice, &right, proof) {
-        return Ok(Some(Reason::NotHall));
-    }
-    Ok(None)
-}
-
-// Whether the proof proves the choice, which has this value.
-fn proves(
-    objective: Objective,
-    inst: &Instance,
-    choice: &Choice,
-    value: &Value,
-    proof: &Proof,
-) -> bool
-    requires range { IsValueInRange objective value.now }
-    requires value { value.now ≡ choice_value objective inst.now choice.now }
-    ensures { IsTrue result ↔ Proves objective inst.now choice.now proof.now }
+    requires in_range { IsValueInRange objective answer.now.value }
+    ensures { IfOk result (Tells
+        (StandsAgainst objective inst.now (Claim.Best answer.now proof.now)) proof_reasons) }
 {
     match proof {
-        Proof::Below(rows) => proves_below(objective, inst, value, rows.as_slice()),
+        Proof::Phases(phases) => {
+            phases_verdict(alloc, objective, inst, choice, phases.as_slice())
+        }
+        Proof::Below(rows) => {
+            if proves_below(objective, inst, &answer.value, rows.as_slice()) {
+                Ok(Verdict::Yes)
+            } else {
+                Ok(Reason::NotHall.verdict())
+            }
+        }
+        Proof::Windows(windows) => {
+            windows_verdict(alloc, inst, &answer.value, windows.as_slice())
+        }
     }
 }
 
@@ -125,17 +129,4 @@ fn bound(value: i128) -> i64
     ensures { result ≡ value }
 {
     value as i64
-}
-
-// The reason against rows as a Hall set of the instance, if there is one.
-fn rows_reason(objective: Objective, inst: &Instance, rows: &Ids) -> Option<Reason>
-    ensures none { result ≡ None → CertifiesClaim objective inst.now (Claim.Nothing rows.now) }
-    ensures first { IfSome result (λ reason.
-        IsFirstOf (StandsAgainst objective inst.now (Claim.Nothing rows.now)) reason Overall) }
-{
-    if is_hall(inst, Band::Whole, rows.as_slice()) {
-        None
-    } else {
-        Some(Reason::NotHall)
-    }
 }

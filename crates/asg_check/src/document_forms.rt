@@ -1,6 +1,6 @@
 //! The form that a document must have.
 
-ghost use Rattle.std.specs.Prelude.{◌≡◌, ◌↔◌, IsTrue};
+ghost use Rattle.std.specs.Prelude.{◌≡◌};
 ghost use Rattle.asg_proof.specs.Proves.{takes};
 ghost use Rattle.asg_check.specs.DocumentForm.{has_form, is_command_of, takes_claim};
 
@@ -8,13 +8,6 @@ use crate::verdicts::Form;
 use asg_doc::{Claim, Command, Document};
 use asg_model::Objective;
 use asg_proof::Proof;
-
-// Whether two objectives are the same.
-pub(crate) fn is_same_objective(x: Objective, y: Objective) -> bool
-    ensures { IsTrue result ↔ (x ≡ y) }
-{
-    x == y
-}
 
 // Whether the document has the asked form: its command, and a proof of a kind that the objective
 // takes.
@@ -48,6 +41,8 @@ fn takes(objective: Objective, proof: &Proof) -> bool
     ensures { result ≡ takes objective proof.now }
 {
     match proof {
+        Proof::Phases(_) => !matches!(objective, Objective::Balanced | Objective::Lex),
         Proof::Below(_) => matches!(objective, Objective::Bottleneck | Objective::BottleneckMax),
+        Proof::Windows(_) => matches!(objective, Objective::Balanced),
     }
 }

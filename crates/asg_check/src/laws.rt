@@ -4,20 +4,24 @@ ghost use Rattle.std.specs.Prelude.{◌≡◌, ◌↔◌, ℕ, ℤ};
 ghost use Rattle.asg_model.specs.declared.objectives.Objective.{Objective};
 ghost use Rattle.asg_model.specs.Instances.{IsInstance};
 ghost use Rattle.asg_model.specs.Problem.{Problem};
+ghost use Rattle.asg_model.specs.Refused.{PassesNegative};
 ghost use Rattle.asg_doc.specs.declared.documents.Document.{Document};
 ghost use Rattle.asg_check.specs.declared.verdicts.Form.{Form};
 ghost use Rattle.asg_check.specs.declared.verdicts.Reason.{Reason};
 ghost use Rattle.asg_check.specs.Certifies.{Certifies};
-ghost use Rattle.asg_check.specs.Reasons.{IsFirstReason, Spot, Stands};
+ghost use Rattle.asg_check.specs.Reasons.{IsFirstReason, Stands};
+ghost use Rattle.asg_check.specs.Spots.{Spot};
 ghost use Rattle.asg_check.specs.TrueClaim.{ClaimsTruly};
 
-use asg_model::laws::{hall_rows_law, infeasible_law};
+use asg_model::laws::{decision_law, infeasible_law};
 use asg_proof::laws::best_law;
 
-/// The soundness law: a document that certifies claims what is true of the instance.
+/// The soundness law: a document that certifies claims what is true of the instance, where the
+/// objective refuses no cost of it.
 pub fn soundness_law()
     ensures { (objective : Objective) (X : Problem) (form : Form) (document : Document) →
-        Certifies objective X form document → ClaimsTruly objective X document }
+        IsInstance X → PassesNegative objective X → Certifies objective X form document →
+        ClaimsTruly objective X document }
 {
     infeasible_law();
     best_law();
@@ -29,7 +33,7 @@ pub fn reasons_law()
         IsInstance X → Certifies objective X form document ↔
         ((reason : Reason) (spot : Spot) → ¬ Stands objective X form document reason spot) }
 {
-    hall_rows_law();
+    decision_law();
 }
 
 /// The first reason against a document is one, with one number and one place. A document over an
@@ -47,5 +51,5 @@ pub fn one_reason()
         IsFirstReason objective X form document other elsewhere →
         (number ≡ other) × (place ≡ elsewhere) }
 {
-    hall_rows_law();
+    decision_law();
 }

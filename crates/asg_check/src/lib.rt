@@ -2,7 +2,9 @@
 //! doesn't, the first reason against it.
 //!
 //! It trusts nothing that the document says: it reads the cells as a choice, tests that the choice
-//! is valid and has the written value, and tests the proof by the definition of its kind. Contracts
+//! is valid and has the written value, and tests the proof by the definition of its kind: phases are
+//! replayed on a square of the instance, and their index compared with the choice's fold; the rows of
+//! windows are tested as Hall sets, and the windows for gaps. Contracts
 //! see a document by what it claims, and an instance by its rows, columns and costs; a law says
 //! that what certifies is true. It stands on no solver: a user can trust an answer without one.
 #![tactic(auto)]
@@ -11,7 +13,14 @@ mod checker;
 mod claims;
 mod document_forms;
 pub mod laws;
+mod phase_verdicts;
+mod replays;
+mod square_verdicts;
+mod sum_replays;
+mod sum_verdicts;
 mod verdicts;
+mod window_gaps;
+mod window_verdicts;
 mod written_choices;
 mod written_values;
 
@@ -22,4 +31,12 @@ pub use verdicts::{Form, Reason, Verdict};
 pub type NoMemory = std::alloc::AllocError;
 
 #[cfg(test)]
+mod grade_tests;
+#[cfg(test)]
+mod phase_cases;
+#[cfg(test)]
+mod phase_tests;
+#[cfg(test)]
 mod tests;
+#[cfg(test)]
+mod window_tests;

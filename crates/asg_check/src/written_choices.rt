@@ -1,88 +1,72 @@
 //! The choice that written cells spell.
 
-ghost use Rattle.std.specs.Prelude.{◌≡◌, ◌↔◌, ℕ, List, Option, Some, IfOk, IfSome, option_and_then, slice_get};
+ghost use Rattle.std.specs.Prelude.{◌≡◌, ℕ, List, Option, None, IfOk, IfSome};
 ghost use Rattle.asg_model.specs.Instances.{IsInstance};
-ghost use Rattle.asg_model.specs.ValidChoice.{IsValid};
-ghost use Rattle.asg_doc.specs.ChosenCells.{cells_by_id};
-ghost use Rattle.asg_check.specs.Written.{IsWrittenAs, column_given};
+ghost use Rattle.asg_check.specs.Written.{IsWrittenAs, cells_left, column_given, read_cells};
 
 use crate::NoMemory;
 use asg_model::{Choice, Instance, Row, is_valid};
 use std::alloc::Global;
 
-// The place of the column that the cell gives the row; none where it names another row, or no
-// column.
-fn column_given(inst: &Instance, row: Row, cell: (u32, u32)) -> Option<u32>
-    ensures { result ≡ column_given inst.now row cell }
-{
-    if cell.0 == row.id {
-        inst.column_place(cell.1)
-    } else {
-        None
-    }
-}
-
-// The place of the column that the cell at an index gives the row; none past the last cell.
-fn next_column(inst: &Instance, row: Row, cells: &[(u32, u32)], index: usize) -> Option<u32>
-    ensures { result ≡ option_and_then (column_given inst.now row) (slice_get cells.now index) }
-{
-    match cells.get(index) {
-        Some(cell) => column_given(inst, row, *cell),
-        None => None,
-    }
-}
-
-// A choice that has these cells, in the order of the rows: the valid one where there is one. The
-// error is want of memory.
-fn choice_of(
+// The valid choice that has these cells, in the order of the rows, where there is one. The error is
+// want of memory.
+pub(crate) fn written_choice(
     alloc: Global,
     inst: &Instance,
     cells: &[(u32, u32)],
 ) -> Result<Option<Choice>, NoMemory>
-    ensures found { IfOk result (λ found. IfSome found (λ f. cells.now ≡ cells_by_id inst.now f)) }
-    ensures sole { IfOk result (λ found. (f : List (Option ℕ)) →
-        IsWrittenAs inst.now cells.now f → found ≡ Some f) }
+    ensures some { IfOk result (λ found. IfSome found (IsWrittenAs inst.now cells.now)) }
+    ensures none { IfOk result (λ found. found ≡ None →
+        (f : List (Option ℕ)) → ¬ IsWrittenAs inst.now cells.now f) }
     ensures instance { IsInstance inst.now }
 {
-    let rows = inst.rows();
-    let mut choice = Choice::make(alloc, rows.len() as u32)?;
-    let mut used = 0;
-    for place in 0..choice.len() {
-        let chosen = next_column(inst, rows[place as usize], cells, used);
-        choice.set(place, chosen);
-        used += usize::from(chosen.is_some());
+    let _ = inst.rows();
+    let (choice, left) = read_cells(alloc, inst, cells)?;
+    if !left.is_empty() {
+        return Ok(None);
     }
-    if used == cells.len() {
+    if is_valid(inst, &choice) {
         Ok(Some(choice))
     } else {
         Ok(None)
     }
 }
 
-// The valid choice that has these cells, in the order of the rows, where there is one. The error is
+// What the rows choose by the cells, read in order, and the cells that no row reads. The error is
 // want of memory.
-pub(crate) fn valid_choice(
+fn read_cells<'a>(
     alloc: Global,
     inst: &Instance,
-    cells: &[(u32, u32)],
-) -> Result<Option<Choice>, NoMemory>
-    ensures exact { IfOk result (λ found. (f : List (Option ℕ)) →
-        (found ≡ Some f) ↔ IsWrittenAs inst.now cells.now f) }
-    ensures instance { IsInstance inst.now }
+    cells: &'a [(u32, u32)],
+) -> Result<(Choice, &'a [(u32, u32)]), NoMemory>
+    ensures { IfOk result (λ read.
+        (read.0, read.1.now) ≡ read_cells inst.now inst.now.rows cells.now) }
 {
-    match choice_of(alloc, inst, cells)? {
-        Some(choice) => Ok(if_valid(inst, choice)),
-        None => Ok(None),
+    let rows = inst.rows();
+    let mut choice = Choice::make(alloc, rows.len() as u32)?;
+    let mut left = cells;
+    for place in 0..choice.len() {
+        let (chosen, rest) = next_column(inst, rows[place as usize], left);
+        choice.set(place, chosen);
+        left = rest;
     }
+    Ok((choice, left))
 }
 
-// The choice where it is valid.
-fn if_valid(inst: &Instance, choice: Choice) -> Option<Choice>
-    ensures { (f : List (Option ℕ)) → (result ≡ Some f) ↔ ((choice ≡ f) × IsValid inst.now f) }
+// The place of the column that the first of the cells gives the row, and the cells that are left.
+fn next_column<'a>(
+    inst: &Instance,
+    row: Row,
+    cells: &'a [(u32, u32)],
+) -> (Option<u32>, &'a [(u32, u32)])
+    ensures column { result.0 ≡ column_given inst.now row cells.now }
+    ensures rest { result.1.now ≡ cells_left result.0 cells.now }
 {
-    if is_valid(inst, &choice) {
-        Some(choice)
-    } else {
-        None
+    match cells {
+        [cell, rest @ ..] if cell.0 == row.id => {
+            let column = inst.column_place(cell.1);
+            (column, if column.is_some() { rest } else { cells })
+        }
+        _ => (None, cells),
     }
 }

@@ -11,14 +11,7 @@ pub(crate) fn is_same_value(x: &Value, y: &Value) -> bool
     match (x, y) {
         (Value::One(x), Value::One(y)) => x == y,
         (Value::Two(x, s), Value::Two(y, t)) => x == y && s == t,
-        (Value::Many(xs), Value::Many(ys)) => is_same_list(xs.as_slice(), ys.as_slice()),
+        (Value::Many(xs), Value::Many(ys)) => xs.as_slice() == ys.as_slice(),
         _ => false,
     }
-}
-
-// Whether two lists are the same.
-fn is_same_list(xs: &[i64], ys: &[i64]) -> bool
-    ensures { IsTrue result ↔ (xs.now ≡ ys.now) }
-{
-    xs == ys
 }

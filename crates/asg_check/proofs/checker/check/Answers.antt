@@ -1,25 +1,20 @@
-use Rattle.asg_check.proofs.Judged.{told, told_alone}
+use Rattle.std.proofs.Common.{subst}
+use Rattle.asg_check.specs.declared.verdicts.Verdict.TheVariants.{No}
+use Rattle.asg_check.specs.Reasons.{Stands, Tells, reasons_in_order}
+use Rattle.asg_check.proofs.Certified.{yes_exactly}
+use Rattle.asg_check.proofs.ToldReasons.{one_verdict}
 use Rattle.asg_check.proofs.checker.check.Goals as goal
 
-pub returns-in-Some-clause-exact : goal.returns-in-Some-clause-exact
-returns-in-Some-clause-exact c =
-    let first = rw c.in-Some.is at c.in_ok-reason.ensures.first in
-    let tells = told c.args.objective c.args.inst.now c.args.form c.args.doc.now c.in-Some.reason c.number.result c.number.ensures first in (
-      λ same. absurd (cc),
-      λ w. absurd (c.one_reason.ensures.none c.args.objective c.args.inst.now c.args.form c.args.doc.now _ _ c.rows.ensures.instance w tells),
+pub returns-clause-exact : goal.returns-clause-exact
+returns-clause-exact c = yes_exactly c.decision_law.ensures c.args.objective c.args.inst.now c.rows.ensures.instance c.args.form c.args.doc.now c.in_ok-verdict.verdict c.in_ok-verdict.ensures
+
+pub returns-clause-reason : goal.returns-clause-reason
+returns-clause-reason c = λ number place.
+    let Against = Stands c.args.objective c.args.inst.now c.args.form c.args.doc.now in (
+      λ same. record { told = subst (Tells Against reasons_in_order) same c.in_ok-verdict.ensures },
+      λ first. one_verdict Against reasons_in_order c.in_ok-verdict.verdict (No number place) c.in_ok-verdict.ensures first.told,
     )
 
-pub returns-in-Some-clause-reason : goal.returns-in-Some-clause-reason
-returns-in-Some-clause-reason c = λ number place.
-    let first = rw c.in-Some.is at c.in_ok-reason.ensures.first in
-    told_alone c.args.objective c.args.inst.now c.args.form c.args.doc.now _ number _ place
-    (told c.args.objective c.args.inst.now c.args.form c.args.doc.now c.in-Some.reason c.number.result c.number.ensures first)
-
-pub returns-in-None-clause-reason : goal.returns-in-None-clause-reason
-returns-in-None-clause-reason c = λ number place. (
-  λ same. absurd (cc),
-  λ first. absurd (c.one_reason.ensures.none c.args.objective c.args.inst.now c.args.form c.args.doc.now number place c.rows.ensures.instance (c.in_ok-reason.ensures.none c.in-None.is) first),
-)
-
-pub returns-in-None-clause-sound : goal.returns-in-None-clause-sound
-returns-in-None-clause-sound c = λ yes. c.soundness_law.ensures c.args.objective c.args.inst.now c.args.form c.args.doc.now (c.in_ok-reason.ensures.none c.in-None.is)
+pub returns-clause-sound : goal.returns-clause-sound
+returns-clause-sound c = λ same. c.soundness_law.ensures c.args.objective c.args.inst.now c.args.form c.args.doc.now c.rows.ensures.instance c.requires.passes
+    ((yes_exactly c.decision_law.ensures c.args.objective c.args.inst.now c.rows.ensures.instance c.args.form c.args.doc.now c.in_ok-verdict.verdict c.in_ok-verdict.ensures).0 same)

@@ -1,0 +1,35 @@
+use Rattle.std.proofs.Common.{sym, subst}
+use Rattle.std.specs.Prelude.{IfOk, IsTrue}
+use Rattle.std.proofs.lemmas.Result.{IfOk-weaker}
+use Rattle.asg_doc.specs.declared.documents.Claim.TheVariants.{Best}
+use Rattle.asg_proof.specs.declared.outcomes.Proof.TheVariants.{Phases, Windows}
+use Rattle.asg_proof.specs.Proves.{takes}
+use Rattle.asg_check.specs.Reasons.{StandsAgainst, Tells, phase_reasons, proof_reasons, window_reasons}
+use Rattle.asg_check.specs.WindowReasons.{StandsOn}
+use Rattle.asg_check.specs.Replays.{StandsFor}
+use Rattle.asg_check.proofs.Certified.{to_phases, to_windows}
+use Rattle.asg_check.proofs.WindowTold.{spread_range}
+use Rattle.asg_check.proofs.claims.proof_verdict.Goals as goal
+
+pub returns-in-Phases : goal.returns-in-Phases
+returns-in-Phases c =
+    let objective = c.args.objective in
+    let X = c.args.inst.now in
+    let f = c.args.choice.now in
+    let told = subst (λ words. IfOk c.phases_verdict.result (Tells (StandsFor objective X f words) phase_reasons)) c.as_slice.ensures.items c.phases_verdict.ensures in
+    subst (λ proof. IfOk c.phases_verdict.result (Tells (StandsAgainst objective X (Best c.args.answer.now proof)) proof_reasons)) (sym c.in-Phases.is)
+    (IfOk-weaker c.phases_verdict.result (Tells (StandsFor objective X f c.in-Phases.phases) phase_reasons) (Tells (StandsAgainst objective X (Best c.args.answer.now (Phases c.in-Phases.phases))) proof_reasons)
+    (λ verdict one. to_phases objective X c.requires.instance c.args.answer.now c.in-Phases.phases f verdict c.requires.written one) told)
+
+pub returns-in-Windows : goal.returns-in-Windows
+returns-in-Windows c =
+    let objective = c.args.objective in
+    let X = c.args.inst.now in
+    let told = subst (λ windows. IfOk c.windows_verdict.result (Tells (StandsOn X c.args.answer.now.value windows) window_reasons)) c.as_slice-in-Windows.ensures.items c.windows_verdict.ensures in
+    subst (λ proof. IfOk c.windows_verdict.result (Tells (StandsAgainst objective X (Best c.args.answer.now proof)) proof_reasons)) (sym c.in-Windows.is)
+    (IfOk-weaker c.windows_verdict.result (Tells (StandsOn X c.args.answer.now.value c.in-Windows.windows) window_reasons) (Tells (StandsAgainst objective X (Best c.args.answer.now (Windows c.in-Windows.windows))) proof_reasons)
+    (λ verdict one. to_windows objective X c.requires.instance c.args.answer.now c.in-Windows.windows verdict one) told)
+
+pub windows_verdict-requires-clause-range : goal.windows_verdict-requires-clause-range
+windows_verdict-requires-clause-range c =
+    spread_range c.args.objective c.args.answer.now.value (subst (λ proof. IsTrue (takes c.args.objective proof)) c.in-Windows.is c.requires.takes) c.requires.in_range

@@ -1,0 +1,8 @@
+use Rattle.std.proofs.Common.{take}
+use Rattle.asg_monoids.specs.BoundedSums.{bounded_sums, bounded_difference, plain_word}
+use Rattle.asg_check.specs.Replays.{AreReplayed}
+use Rattle.asg_check.proofs.sum_replays.first_stop.Given as goal
+
+-- the phases so far lead to the square as it is
+abbrev pub invariant-loop-place : goal.invariant-loop-place
+invariant-loop-place l = AreReplayed (bounded_sums l.m.top) bounded_difference plain_word (take l.place l.phases) l.initial.dual l.dual

@@ -1,0 +1,23 @@
+-- Spots: where a reason stands against a document.
+use Rattle.std.specs.Prelude.{ℤ, pos, ◌≤ℤ◌}
+
+-- where a reason stands: at a place, or for the whole
+pub data Spot : Type 0 where
+  At : (place : ℤ) → Spot
+  Overall : Spot
+
+-- the place that a verdict names: 0 for the whole
+abbrev pub place_of : Spot → ℤ
+place_of (At place) = place
+place_of Overall = pos 0
+
+-- a spot comes no later than another: lesser places first, the whole last
+abbrev pub IsNoLater : Spot → Spot → Type 0
+IsNoLater spot Overall = Unit {0}
+IsNoLater (At place) (At other) = place ≤ℤ other
+IsNoLater Overall (At other) = ⊥
+
+-- what stands for the whole, at no place
+abbrev pub ForWhole : Type 0 → Spot → Type 0
+ForWhole P Overall = P
+ForWhole P (At place) = ⊥

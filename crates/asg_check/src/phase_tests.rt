@@ -1,0 +1,119 @@
+//! Phases over the costs `4 1 3 / 2 0 5 / 3 2 2`, judged.
+
+ghost use Rattle.std.specs.Prelude.{◌≡◌, true, IfOk};
+ghost use Rattle.asg_proof.specs.Phases.{IsPhase};
+
+use crate::phase_cases::{Judged, Listed, PEAKS, SUMS};
+use crate::tests::judged;
+use crate::{NoMemory, Verdict};
+use asg_doc::{Answer, Cells, Claim};
+use asg_model::Objective::SumPair;
+use asg_model::{Column, Instance, Objective, Place, Row, Value};
+use asg_order::Word;
+use asg_proof::{Phase, Phases, Proof};
+use std::alloc::Global;
+use std::test::Fail;
+
+// A row.
+fn row(id: u32) -> Row
+    ensures { result ≡ record { id = id; active = true } }
+{
+    Row { id, active: true }
+}
+
+// A column of capacity 1.
+fn column(id: u32) -> Column
+    ensures { result ≡ record { id = id; cap = 1; usable = true } }
+{
+    Column {
+        id,
+        cap: 1,
+        usable: true,
+    }
+}
+
+// The instance.
+pub(crate) fn instance(alloc: Global) -> Result<Instance, NoMemory> {
+    let rows = vec![in alloc; row(1), row(2), row(3)]?;
+    let columns = vec![in alloc; column(1), column(2), column(3)]?;
+    let costs = vec![in alloc; 4, 1, 3, 2, 0, 5, 3, 2, 2]?;
+    let seconds = Vec::new(alloc);
+    Ok(Instance::of_table(rows, columns, costs, seconds, Place::All))
+}
+
+// A phase of words.
+fn phase(alloc: Global, listed: Listed) -> Result<Phase<Word>, NoMemory>
+    ensures { IfOk result (λ phase. IsPhase phase) }
+{
+    let mut steps = Vec::new(alloc);
+    for step in listed.0 {
+        let (grade, amount) = *step;
+        steps.push(Word { grade, amount })?;
+    }
+    let enters = Vec::from_slice(alloc, listed.1)?;
+    let leaves = Vec::from_slice(alloc, listed.2)?;
+    Ok(Phase::of(steps, enters, leaves))
+}
+
+// The claim of an answer with phases.
+pub(crate) fn claim(
+    alloc: Global,
+    value: Value,
+    cells: Cells,
+    listed: &'static [Listed],
+) -> Result<Claim, NoMemory> {
+    let mut phases = Vec::new(alloc);
+    for one in listed {
+        phases.push(phase(alloc, *one)?)?;
+    }
+    let answer = Answer { value, cells };
+    let proof = Proof::Phases(Phases::from_vec(phases));
+    Ok(Claim::Best { answer, proof })
+}
+
+// A value of these parts, of which `pair` alone has both here.
+fn value(objective: Objective, parts: (i128, i128)) -> Value {
+    if objective == SumPair {
+        Value::Two(parts.0, parts.1)
+    } else {
+        Value::One(parts.0)
+    }
+}
+
+// The verdict for a reason and its place, or that the document certifies.
+pub(crate) fn verdict(reason: u8, place: i64) -> Verdict {
+    if reason == 0 {
+        Verdict::Yes
+    } else {
+        Verdict::No { reason, place }
+    }
+}
+
+// Judges a document of a table.
+fn found(alloc: Global, inst: &Instance, case: Judged) -> Result<Option<Verdict>, NoMemory> {
+    let (objective, parts, columns, listed, _, _) = case;
+    let cells = vec![in alloc; (1, columns.0), (2, columns.1), (3, columns.2)]?;
+    let value = value(objective, parts);
+    let claim = claim(alloc, value, Cells::from_vec(cells), listed)?;
+    judged(alloc, inst, objective, objective, claim)
+}
+
+#[test]
+fn judges_sums(rt: HostRuntime) -> Result<(), Fail> {
+    let alloc = rt.alloc();
+    let inst = instance(alloc)?;
+    for case in SUMS {
+        assert_eq!(rt; found(alloc, &inst, case)?, Some(verdict(case.4, case.5)));
+    }
+    Ok(())
+}
+
+#[test]
+fn judges_peaks(rt: HostRuntime) -> Result<(), Fail> {
+    let alloc = rt.alloc();
+    let inst = instance(alloc)?;
+    for case in PEAKS {
+        assert_eq!(rt; found(alloc, &inst, case)?, Some(verdict(case.4, case.5)));
+    }
+    Ok(())
+}

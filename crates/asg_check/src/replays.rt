@@ -1,0 +1,93 @@
+//! Phases, replayed on the square of an instance.
+
+ghost use Rattle.std.specs.Prelude.{◌≡◌, ◌≢◌, ◌<◌, ◌≤◌, false, None, List, length, map, take, All, IsTrue, IfOk, IfSome};
+ghost use Rattle.asg_admit.specs.Reduced.{IsReduced};
+ghost use Rattle.asg_order.specs.Monoid.{IsValue};
+ghost use Rattle.asg_square.specs.Grid.{cell_at};
+ghost use Rattle.asg_check.specs.Replays.{IsAdmittedFrom, IsBadFrom, IsReplayed, LeadOn};
+
+use crate::NoMemory;
+use asg_admit::{Reduced, replay};
+use asg_order::{Word, Written};
+use asg_proof::Phase;
+use std::alloc::Global;
+
+// Reads the values that have the words, in order, into the list in place of what it had, and tells
+// whether each word has one. The error is want of memory.
+pub(crate) fn read_steps<M: Written>(
+    m: &M,
+    words: &[Word],
+    values: &mut Vec<M::Value>,
+) -> Result<bool, NoMemory>
+    ensures words { IfOk result (λ is. IsTrue is
+        → map (M.word_of m.now) values.new.items ≡ words.now) }
+    ensures values { IfOk result (λ is. IsTrue is
+        → All (IsValue (M.monoid_of m.now)) values.new.items) }
+    ensures none { IfOk result (λ is. is ≡ false → (others : List M.Value) →
+        All (IsValue (M.monoid_of m.now)) others → map (M.word_of m.now) others ≢ words.now) }
+{
+    values.clear();
+    for word in words {
+        let Some(value) = m.from_word(*word) else {
+            return Ok(false);
+        };
+        values.push(value)?;
+    }
+    Ok(true)
+}
+
+// Applies a phase where it is admitted, and tells whether it is. Its steps are read into the list,
+// which keeps its room from phase to phase. The error is want of memory.
+fn replay_words<M: Written>(
+    m: &M,
+    reduced: &mut Reduced<M::Value>,
+    values: &mut Vec<M::Value>,
+    phase: &Phase<Word>,
+) -> Result<bool, NoMemory>
+    requires { IsReduced (M.monoid_of m.now) reduced.old }
+    ensures applied { IfOk result (λ is. IsTrue is → IsReplayed (M.monoid_of m.now)
+        (M.difference m.now) (M.word_of m.now) phase.now reduced.old reduced.new) }
+    ensures refused { IfOk result (λ is. is ≡ false → ¬ IsAdmittedFrom (M.monoid_of m.now)
+        (M.difference m.now) (M.word_of m.now) reduced.old.now.side (cell_at reduced.old.now)
+        phase.now) }
+{
+    if !read_steps(m, phase.steps(), values)? {
+        return Ok(false);
+    }
+    Ok(replay(
+        m,
+        reduced,
+        values.as_slice(),
+        phase.enters(),
+        phase.leaves(),
+    ))
+}
+
+// Applies the phases from a place on in turn, up to the first that isn't admitted after those before
+// it, and gives its place. Where all are admitted there is none. The error is want of memory.
+pub(crate) fn first_bad<M: Written>(
+    alloc: Global,
+    m: &M,
+    reduced: &mut Reduced<M::Value>,
+    phases: &[Phase<Word>],
+    from: usize,
+) -> Result<Option<usize>, NoMemory>
+    requires reduced { IsReduced (M.monoid_of m.now) reduced.old }
+    requires from { from ≤ length phases.now }
+    ensures place { IfOk result (λ found. IfSome found (λ place. place < length phases.now)) }
+    ensures bad { IfOk result (λ found. IfSome found (IsBadFrom (M.monoid_of m.now)
+        (M.difference m.now) (M.word_of m.now) phases.now from reduced.old)) }
+    ensures none { IfOk result (λ found. found ≡ None → LeadOn (M.monoid_of m.now)
+        (M.difference m.now) (M.word_of m.now) (take from phases.now) phases.now
+        reduced.old reduced.new) }
+    ensures reduced { IfOk result (λ found. found ≡ None
+        → IsReduced (M.monoid_of m.now) reduced.new) }
+{
+    let mut values = Vec::new(alloc);
+    for place in from..phases.len() {
+        if !replay_words(m, reduced, &mut values, &phases[place])? {
+            return Ok(Some(place));
+        }
+    }
+    Ok(None)
+}

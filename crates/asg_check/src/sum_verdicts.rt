@@ -1,0 +1,44 @@
+//! What stands against phases that are replayed from a square of sums, kept by dual variables.
+
+ghost use Rattle.std.specs.Prelude.{◌≡◌, IfOk};
+ghost use Rattle.asg_admit.specs.Reduced.{IsReduced};
+ghost use Rattle.asg_monoids.specs.BoundedSums.{bounded_sums, bounded_difference, plain_word};
+ghost use Rattle.asg_order.specs.Monoid.{IsValue};
+ghost use Rattle.asg_square.specs.Grid.{cell_at};
+ghost use Rattle.asg_check.specs.Reasons.{Tells, phase_reasons};
+ghost use Rattle.asg_check.specs.Replays.{StandsFrom};
+
+use crate::NoMemory;
+use crate::square_verdicts::{index_verdict, square_verdict};
+use crate::sum_replays::{Stop, first_stop};
+use crate::verdicts::{Reason, Verdict};
+use asg_admit::{DualSquare, Reduced};
+use asg_monoids::Bounded;
+use asg_order::Word;
+use asg_proof::Phase;
+use std::alloc::Global;
+
+// The verdict on phases that are to be admitted in turn from the square, of which no step was taken
+// yet, and to have the value as their index. Dual variables serve while no sum comes near the top; from
+// there on the cells are rewritten. The error is want of memory.
+pub(crate) fn sum_verdict(
+    alloc: Global,
+    m: &Bounded,
+    start: Reduced<u128>,
+    phases: &[Phase<Word>],
+    value: u128,
+) -> Result<Verdict, NoMemory>
+    requires reduced { IsReduced (bounded_sums m.now.top) start }
+    requires unit { start.index ≡ 0 }
+    requires value { IsValue (bounded_sums m.now.top) value }
+    ensures { IfOk result (Tells (StandsFrom (bounded_sums m.now.top) bounded_difference plain_word
+        start.now.side (cell_at start.now) value phases.now) phase_reasons) }
+{
+    let mut dual = DualSquare::make(alloc, m, start)?;
+    let stop = first_stop(alloc, m, &mut dual, phases)?;
+    match stop {
+        Stop::End => Ok(index_verdict(m, dual.index(), value)),
+        Stop::Bad(place) => Ok(Reason::BadPhase.verdict_at(place as i64 + 1)),
+        Stop::Full(place) => square_verdict(alloc, m, dual.reduce(), phases, place, value),
+    }
+}

@@ -1,6 +1,6 @@
 -- The cells of a choice are by ids.
-use Rattle.std.proofs.Common.{◌≡◌, ℕ, zero, suc, ◌<◌, List, [], ◌∷◌, length, get_or, Option, Some, None, All, refl, arith}
-use Rattle.std.specs.Prelude.{◌^◌, slice_get, filter_map, option_and_then, IfSome}
+use Rattle.std.proofs.Common.{ℕ, zero, suc, ◌<◌, List, [], ◌∷◌, Option, Some, None, All, arith}
+use Rattle.std.specs.Prelude.{◌^◌, slice_get, filter_map, IfSome}
 use Rattle.std.specs.Option.{option_map}
 use Rattle.std.specs.List.{zip, cons_option}
 use Rattle.std.proofs.lemmas.List.Elements.{All-nil, All-cons}
@@ -9,7 +9,7 @@ use Rattle.asg_model.specs.declared.parts.Column.{Column}
 use Rattle.asg_model.specs.Instances.{IsInstance}
 use Rattle.asg_model.specs.Problem.{Problem}
 use Rattle.asg_doc.specs.CellIds.{AreCellIds, IsCellOfIds}
-use Rattle.asg_doc.specs.ChosenCells.{cell_by_id, cells_by_id, column_id}
+use Rattle.asg_doc.specs.ChosenCells.{cell_by_id, cells_by_id}
 
 -- the column at a place is one of those that have an id
 at_place : (columns : List Column) (c : ℕ) → All (λ column. column.id < 2 ^ 32) columns → IfSome (slice_get columns c) (λ column. column.id < 2 ^ 32)

@@ -1,12 +1,12 @@
 -- What makes a document of an outcome.
-use Rattle.std.proofs.Common.{◌≡◌, ℕ, ◌+◌, ◌<◌, ◌≤◌, true, List, length, Option, count_by, is_some, sym, refl, subst, arith}
-use Rattle.std.specs.Prelude.{ℤ, FitsSigned, unsigned_abs}
+use Rattle.std.proofs.Common.{◌≡◌, ℕ, ◌+◌, ◌*◌, ◌<◌, ◌≤◌, true, List, length, get_or, Option, count_by, is_some, sym, refl, subst, arith}
+use Rattle.std.specs.Prelude.{◌^◌, ℤ, pos, ◌≤ℤ◌, FitsSigned, unsigned_abs}
 use Rattle.std.specs.Int.{w128}
-use Rattle.std.proofs.lemmas.Int.{fits_signed_from_abs}
+use Rattle.std.proofs.lemmas.Int.{fits_signed_from_abs, ints}
 use Rattle.asg_model.specs.declared.bands.Band.{Band}
-use Rattle.asg_model.specs.declared.bands.Band.TheVariants.{Whole, Under, Over}
+use Rattle.asg_model.specs.declared.bands.Band.TheVariants.{Between, Whole, Under, Over}
 use Rattle.asg_model.specs.declared.objectives.Objective.{Objective}
-use Rattle.asg_model.specs.declared.objectives.Objective.TheVariants.{Bottleneck, BottleneckMax}
+use Rattle.asg_model.specs.declared.objectives.Objective.TheVariants.{Sum, SumMax, SumPair, Capped, Bottleneck, BottleneckMax, TimeCost, Balanced, Lex}
 use Rattle.asg_model.specs.declared.objectives.Value.{Value}
 use Rattle.asg_model.specs.declared.objectives.Value.TheVariants.{One, Two, Many}
 use Rattle.asg_model.specs.declared.parts.Place.{Place}
@@ -14,33 +14,42 @@ use Rattle.asg_model.specs.declared.parts.Place.TheVariants.{All as PlaceAll, Ex
 use Rattle.asg_model.specs.Counts.{placed_by, active_count, slack}
 use Rattle.asg_model.specs.HallSet.{IsHall, reached_capacity}
 use Rattle.asg_model.specs.Instances.{IsInstance, IsPlaceInRange}
-use Rattle.asg_model.specs.Limits.{most_cost}
+use Rattle.asg_model.specs.Limits.{most_cost, most_rows, most_side}
 use Rattle.asg_model.specs.Problem.{Problem}
+use Rattle.asg_model.specs.Refused.{PassesNegative}
+use Rattle.asg_model.specs.Shapes.{square_side}
 use Rattle.asg_model.specs.ValidChoice.{IsValid}
 use Rattle.asg_model.specs.ValueRange.{IsValueInRange}
 use Rattle.asg_model.specs.Values.{choice_value}
 use Rattle.asg_proof.specs.RowIds.{AreIds}
+use Rattle.asg_order.specs.declared.words.Word.{Word}
+use Rattle.asg_objectives.specs.FoldOutcomes.{AreFewPhases}
+use Rattle.asg_proof.specs.FoldProofs.{ProvesPhases}
 use Rattle.asg_proof.specs.Outcomes.{IsProvedBest}
-use Rattle.asg_proof.specs.Proves.{takes}
+use Rattle.asg_proof.specs.Phases.{PhaseOf}
+use Rattle.asg_proof.specs.Proves.{Proves, takes}
 use Rattle.asg_proof.specs.Threshold.{ProvesBelow}
+use Rattle.asg_proof.specs.Windows.{AreWindows, ProvesWindows}
+use Rattle.asg_proof.specs.declared.windows.Window.{Window}
 use Rattle.asg_proof.specs.declared.outcomes.Proof.{Proof}
-use Rattle.asg_proof.specs.declared.outcomes.Proof.TheVariants.{Below}
+use Rattle.asg_proof.specs.declared.outcomes.Proof.TheVariants.{Below, Phases, Windows}
 use Rattle.asg_doc.specs.declared.documents.Answer.{Answer}
 use Rattle.asg_doc.specs.declared.documents.Claim.{Claim}
 use Rattle.asg_doc.specs.declared.documents.Claim.TheVariants.{Best, Nothing}
 use Rattle.asg_doc.specs.declared.documents.Command.TheVariants as commands
 use Rattle.asg_doc.specs.declared.documents.Document.{Document}
 use Rattle.asg_doc.specs.ChosenCells.{cells_by_id}
-use Rattle.asg_doc.specs.HasText.{AreCells, AreRows, HasText, HasValueText}
-use Rattle.asg_doc.specs.Words.{HasWord}
+use Rattle.asg_doc.specs.HasText.{AreCells, AreRows, HasProofText, HasValueText, HaveWindowText}
+use Rattle.asg_doc.specs.Words.{HasWord, has_grades}
 use Rattle.asg_check.specs.Certifies.{Certifies}
 use Rattle.asg_check.specs.TrueClaim.{ClaimsTruly}
 use Rattle.asg_check.specs.declared.verdicts.Form.{Form}
 use Rattle.asg_check.specs.declared.verdicts.Form.TheVariants.{Solve}
-use Rattle.asg_app.specs.Requests.{is_built_objective}
+use Rattle.asg_app.specs.DocumentParts.{KeepsRanges}
 use Rattle.asg_app.specs.WrittenDocument.{IsBestDocument, IsNoneDocument, IsPromisedProof}
 use Rattle.asg_app.proofs.CellCounts.{length-cells_by_id-le, length-cells_by_id-some}
 use Rattle.asg_app.proofs.CellIds.{cell_ids}
+use Rattle.asg_app.proofs.PhaseTexts.{HavePhaseText-few, HaveStepTexts-proved}
 
 -- a valid choice of an instance places a row
 places_some : (X : Problem) (f : List (Option ℕ)) → IsInstance X → IsValid X f → 0 < count_by is_some f
@@ -63,7 +72,7 @@ abbrev pub IsHallShort : Type 0
 IsHallShort = (X : Problem) (band : Band) (ids : List ℕ) → IsHall X band ids → reached_capacity X band ids + slack X < length ids
 
 abbrev pub IsSound : Type 0
-IsSound = (objective : Objective) (X : Problem) (form : Form) (document : Document) → Certifies objective X form document → ClaimsTruly objective X document
+IsSound = (objective : Objective) (X : Problem) (form : Form) (document : Document) → IsInstance X → PassesNegative objective X → Certifies objective X form document → ClaimsTruly objective X document
 
 -- rows of a Hall set can be written
 AreRows-hall : IsHallShort → (X : Problem) (band : Band) (rows : List ℕ) → IsHall X band rows → AreIds rows → AreRows rows
@@ -74,76 +83,148 @@ AreRows-below short Bottleneck X (One value) rows proves ids = AreRows-hall shor
 AreRows-below short BottleneckMax X (One value) rows proves ids = AreRows-hall short X (Over value) rows proves ids
 AreRows-below short _ X _ rows proves ids = absurd proves
 
--- a value of an objective that is built has a text
-fits_wide : (x : ℤ) → unsigned_abs x ≤ most_cost → FitsSigned w128 x
-fits_wide x within = fits_signed_from_abs w128 x (omega arith)
+-- a value of an objective that has a word has a text
+fits_wide : (x : ℤ) → unsigned_abs x ≤ most_cost * most_rows → FitsSigned w128 x
+fits_wide x within = fits_signed_from_abs w128 x (omega (arith, within))
 
-pub HasValueText-built : (objective : Objective) (value : Value) → is_built_objective objective ≡ true → IsValueInRange objective value → HasValueText objective value
-HasValueText-built Bottleneck (One x) built within = fits_wide x within
-HasValueText-built BottleneckMax (One x) built within = fits_wide x within
-HasValueText-built Bottleneck (Two x y) built within = absurd within
-HasValueText-built Bottleneck (Many xs) built within = absurd within
-HasValueText-built BottleneckMax (Two x y) built within = absurd within
-HasValueText-built BottleneckMax (Many xs) built within = absurd within
-HasValueText-built _ value built within = cc
+spread_abs : (x : ℤ) → pos 0 ≤ℤ x → x ≤ℤ pos (2 * most_cost) → unsigned_abs x ≤ 2 * most_cost
+spread_abs x above below = grind (arith, ints)
 
--- an objective that is built has a word, and takes threshold proofs, which are promised for it
-has_word : (objective : Objective) → is_built_objective objective ≡ true → HasWord objective
-has_word Bottleneck built = tt
-has_word BottleneckMax built = tt
-has_word _ built = cc
+fits_spread : (x : ℤ) → pos 0 ≤ℤ x → x ≤ℤ pos (2 * most_cost) → FitsSigned w128 x
+fits_spread x above below = fits_signed_from_abs w128 x (omega (arith, spread_abs x above below))
 
-takes_below : (objective : Objective) (rows : List ℕ) → is_built_objective objective ≡ true → takes objective (Below rows) ≡ true
-takes_below Bottleneck rows built = refl
-takes_below BottleneckMax rows built = refl
-takes_below _ rows built = cc
+pub HasValueText-ranged : (objective : Objective) (value : Value) → HasWord objective → IsValueInRange objective value → HasValueText objective value
+HasValueText-ranged Sum (One x) word within = fits_wide x within
+HasValueText-ranged SumMax (One x) word within = fits_wide x within
+HasValueText-ranged SumPair (Two x y) word within = (fits_wide x within.0, fits_wide y within.1)
+HasValueText-ranged (Capped cap) (One x) word within = fits_wide x within.0
+HasValueText-ranged Bottleneck (One x) word within = fits_wide x (omega (arith, within))
+HasValueText-ranged BottleneckMax (One x) word within = fits_wide x (omega (arith, within))
+HasValueText-ranged TimeCost (Two x y) word within = (fits_wide x (omega (arith, within.0)), fits_wide y within.1)
+HasValueText-ranged Balanced (One x) word within = fits_spread x within.0 within.1
+HasValueText-ranged Balanced (Two x y) word within = absurd within
+HasValueText-ranged Balanced (Many xs) word within = absurd within
+HasValueText-ranged Lex value word within = absurd word
+HasValueText-ranged Sum (Two x y) word within = absurd within
+HasValueText-ranged Sum (Many xs) word within = absurd within
+HasValueText-ranged SumMax (Two x y) word within = absurd within
+HasValueText-ranged SumMax (Many xs) word within = absurd within
+HasValueText-ranged SumPair (One x) word within = absurd within
+HasValueText-ranged SumPair (Many xs) word within = absurd within
+HasValueText-ranged (Capped cap) (Two x y) word within = absurd within
+HasValueText-ranged (Capped cap) (Many xs) word within = absurd within
+HasValueText-ranged Bottleneck (Two x y) word within = absurd within
+HasValueText-ranged Bottleneck (Many xs) word within = absurd within
+HasValueText-ranged BottleneckMax (Two x y) word within = absurd within
+HasValueText-ranged BottleneckMax (Many xs) word within = absurd within
+HasValueText-ranged TimeCost (One x) word within = absurd within
+HasValueText-ranged TimeCost (Many xs) word within = absurd within
 
-promised_below : (objective : Objective) (rows : List ℕ) → is_built_objective objective ≡ true → IsPromisedProof objective (Below rows)
-promised_below Bottleneck rows built = tt
-promised_below BottleneckMax rows built = tt
-promised_below _ rows built = cc
+-- phases prove a choice for an algebraic objective alone, and thresholds for a bottleneck one
+takes_phases : (objective : Objective) (X : Problem) (choice : List (Option ℕ)) (words : List (PhaseOf Word)) → ProvesPhases objective X choice words → takes objective (Phases words) ≡ true
+takes_phases Balanced X choice words proves = absurd proves
+takes_phases Lex X choice words proves = absurd proves
+takes_phases Sum X choice words proves = refl
+takes_phases SumMax X choice words proves = refl
+takes_phases SumPair X choice words proves = refl
+takes_phases (Capped cap) X choice words proves = refl
+takes_phases Bottleneck X choice words proves = refl
+takes_phases BottleneckMax X choice words proves = refl
+takes_phases TimeCost X choice words proves = refl
+
+takes_below : (objective : Objective) (X : Problem) (value : Value) (rows : List ℕ) → ProvesBelow objective X value rows → takes objective (Below rows) ≡ true
+takes_below Bottleneck X value rows proves = refl
+takes_below BottleneckMax X value rows proves = refl
+takes_below _ X value rows proves = absurd proves
+
+takes_windows : (objective : Objective) (X : Problem) (value : Value) (windows : List Window) → ProvesWindows objective X value windows → takes objective (Windows windows) ≡ true
+takes_windows Balanced X value windows proves = refl
+takes_windows _ X value windows proves = absurd proves
+
+takes_proved : (objective : Objective) (X : Problem) (choice : List (Option ℕ)) (proof : Proof) → Proves objective X choice proof → takes objective proof ≡ true
+takes_proved objective X choice (Phases words) proves = takes_phases objective X choice words proves
+takes_proved objective X choice (Below rows) proves = takes_below objective X (choice_value objective X choice) rows proves
+takes_proved objective X choice (Windows windows) proves = takes_windows objective X (choice_value objective X choice) windows proves
+
+-- phases that are promised are few
+few_phases : (objective : Objective) (X : Problem) (words : List (PhaseOf Word)) → IsPromisedProof objective X (Phases words) → AreFewPhases (square_side X) words
+few_phases Sum X words promised = promised
+few_phases SumMax X words promised = promised
+few_phases SumPair X words promised = promised
+few_phases (Capped cap) X words promised = promised
+few_phases TimeCost X words promised = promised
+few_phases Bottleneck X words promised = absurd promised
+few_phases BottleneckMax X words promised = absurd promised
+few_phases Balanced X words promised = absurd promised
+few_phases Lex X words promised = absurd promised
+
+-- windows that prove a spread can be written, where they can be counted
+HaveWindowText-proved : IsHallShort → (objective : Objective) (X : Problem) (value : Value) (windows : List Window) → ProvesWindows objective X value windows → AreWindows windows → length windows < 2 ^ 32 → HaveWindowText windows
+HaveWindowText-proved short Balanced X (One d) windows proves kept few = record {
+  few = few;
+  each = λ k w below.
+      let window = get_or windows k w in
+      let keeps = kept k w below in
+      record {
+        lo_fits = keeps.lo_fits;
+        hi_fits = keeps.hi_fits;
+        rows = AreRows-hall short X (Between window.lo window.hi) window.rows (proves.halls k w below) keeps.rows_are_ids;
+      };
+}
+HaveWindowText-proved short _ X _ windows proves kept few = absurd proves
+
+-- a proof that is promised can be written
+HasProofText-promised : IsHallShort → (objective : Objective) (X : Problem) (choice : List (Option ℕ)) (proof : Proof) → HasWord objective → square_side X ≤ most_side → Proves objective X choice proof
+    → IsPromisedProof objective X proof → KeepsRanges proof → HasProofText objective proof
+HasProofText-promised short objective X choice (Phases words) word within proves promised kept =
+    HavePhaseText-few (has_grades objective) (square_side X) words within (few_phases objective X words promised) kept (HaveStepTexts-proved objective X choice words word proves)
+HasProofText-promised short objective X choice (Below rows) word within proves promised kept =
+    AreRows-below short objective X (choice_value objective X choice) rows proves kept
+HasProofText-promised short objective X choice (Windows windows) word within proves promised kept =
+    HaveWindowText-proved short objective X (choice_value objective X choice) windows proves kept.0 kept.1
 
 -- the document of a claim
 abbrev made : Objective → Claim → Document
 made objective claim = record { command = commands.Solve; objective = objective; claim = claim }
 
 -- the document of a proved choice
-pub IsBestDocument-made : IsHallShort → IsSound → (objective : Objective) (X : Problem) (choice : List (Option ℕ)) (answer : Answer) (rows : List ℕ) → is_built_objective objective ≡ true
-    → IsProvedBest objective X choice (Below rows) → answer.value ≡ choice_value objective X choice → HasValueText objective answer.value → answer.cells ≡ cells_by_id X choice → AreCells answer.cells → AreIds rows
-    → IsBestDocument objective X Solve (record { command = commands.Solve; objective = objective; claim = Best answer (Below rows) })
-IsBestDocument-made short sound objective X choice answer rows built proved is_value value_text are_cells cells_text ids =
-    let certifies : Certifies objective X Solve (made objective (Best answer (Below rows))) = record {
+pub IsBestDocument-made : IsHallShort → IsSound → (objective : Objective) (X : Problem) (choice : List (Option ℕ)) (answer : Answer) (proof : Proof) → IsInstance X → PassesNegative objective X → HasWord objective
+    → square_side X ≤ most_side → IsProvedBest objective X choice proof → IsPromisedProof objective X proof → KeepsRanges proof
+    → answer.value ≡ choice_value objective X choice → HasValueText objective answer.value → answer.cells ≡ cells_by_id X choice → AreCells answer.cells
+    → IsBestDocument objective X Solve (record { command = commands.Solve; objective = objective; claim = Best answer proof })
+IsBestDocument-made short sound objective X choice answer proof instance passes word within proved promised kept is_value value_text are_cells cells_text =
+    let certifies : Certifies objective X Solve (made objective (Best answer proof)) = record {
       of_objective = refl;
-      of_form = rw (takes_below objective rows built) refl;
+      of_form = takes_proved objective X choice proof proved.proved;
       claim = record { choice = choice; written = record { valid = proved.valid; written = are_cells }; value = is_value; proved = proved.proved };
     } in
     record {
       answer = answer;
-      proof = Below rows;
+      proof = proof;
       claims = refl;
       written = record {
         has_text = record {
-          objective = has_word objective built;
-          claim = (record { value = value_text; cells = cells_text }, AreRows-below short objective X (choice_value objective X choice) rows proved.proved ids);
+          objective = word;
+          claim = (record { value = value_text; cells = cells_text }, HasProofText-promised short objective X choice proof word within proved.proved promised kept);
         };
         certifies = certifies;
-        truly = sound objective X Solve (made objective (Best answer (Below rows))) certifies;
-        promised = promised_below objective rows built;
+        truly = sound objective X Solve (made objective (Best answer proof)) instance passes certifies;
+        promised = promised;
       };
     }
 
 -- the document of a Hall set
-pub IsNoneDocument-made : IsHallShort → IsSound → (objective : Objective) (X : Problem) (rows : List ℕ) → is_built_objective objective ≡ true → IsHall X Whole rows → AreIds rows
+pub IsNoneDocument-made : IsHallShort → IsSound → (objective : Objective) (X : Problem) (rows : List ℕ) → IsInstance X → PassesNegative objective X → HasWord objective → IsHall X Whole rows → AreIds rows
     → IsNoneDocument objective X Solve (record { command = commands.Solve; objective = objective; claim = Nothing rows })
-IsNoneDocument-made short sound objective X rows built hall ids =
+IsNoneDocument-made short sound objective X rows instance passes word hall ids =
     let certifies : Certifies objective X Solve (made objective (Nothing rows)) = record { of_objective = refl; of_form = refl; claim = hall } in
     record {
       rows = rows;
       claims = refl;
       written = record {
-        has_text = record { objective = has_word objective built; claim = AreRows-hall short X Whole rows hall ids };
+        has_text = record { objective = word; claim = AreRows-hall short X Whole rows hall ids };
         certifies = certifies;
-        truly = sound objective X Solve (made objective (Nothing rows)) certifies;
+        truly = sound objective X Solve (made objective (Nothing rows)) instance passes certifies;
         promised = tt;
       };
     }

@@ -1,5 +1,6 @@
--- How long the text of a document is that a request to solve writes: far below the longest file that is read.
-use Rattle.std.proofs.Common.{◌≡◌, ℕ, suc, ◌+◌, ◌*◌, ◌<◌, ◌≤◌, true, false, List, [], ◌∷◌, ◌++◌, length, map, Option, Some, None, get_or, All, refl, ◌∙◌, ap, subst, arith, length-append}
+-- How long the text of a document is that says that no choice is valid, or that has a threshold proof: far below the
+-- longest file that is read.
+use Rattle.std.proofs.Common.{◌≡◌, ℕ, suc, ◌+◌, ◌*◌, ◌<◌, ◌≤◌, Bool, true, false, List, [], ◌∷◌, ◌++◌, length, map, Option, Some, None, get_or, All, refl, ◌∙◌, ap, subst, arith, length-append}
 use Rattle.std.specs.Prelude.{ℤ, pos, negsuc, codes, ◌^◌, ◌==◌, ◌≢◌, AllPairs, Contains, IsTrue, FitsSigned}
 use Rattle.std.specs.Int.{w128}
 use Rattle.std.specs.Fmt.{decimal, signed_decimal}
@@ -16,9 +17,9 @@ use Rattle.std.proofs.lemmas.List.Sums.{sum_by-le}
 use Rattle.asg_model.specs.declared.bands.Band.{Band}
 use Rattle.asg_model.specs.declared.bands.Band.TheVariants.{Whole, Under, Over}
 use Rattle.asg_model.specs.declared.objectives.Objective.{Objective}
-use Rattle.asg_model.specs.declared.objectives.Objective.TheVariants.{Bottleneck, BottleneckMax}
+use Rattle.asg_model.specs.declared.objectives.Objective.TheVariants.{Sum, SumMax, SumPair, Capped, Bottleneck, BottleneckMax, TimeCost, Balanced, Lex}
 use Rattle.asg_model.specs.declared.objectives.Value.{Value}
-use Rattle.asg_model.specs.declared.objectives.Value.TheVariants.{One}
+use Rattle.asg_model.specs.declared.objectives.Value.TheVariants.{One, Two, Many}
 use Rattle.asg_model.specs.Counts.{is_counted}
 use Rattle.asg_model.specs.HallSet.{IsHall, is_counted_id, row_place_of}
 use Rattle.asg_model.specs.Limits.{longest_file}
@@ -29,19 +30,20 @@ use Rattle.asg_doc.specs.declared.documents.Claim.TheVariants.{Best, Nothing}
 use Rattle.asg_doc.specs.declared.documents.Command.{Command}
 use Rattle.asg_doc.specs.declared.documents.Command.TheVariants.{Solve as SolveCommand}
 use Rattle.asg_doc.specs.declared.documents.Document.{Document}
-use Rattle.asg_doc.specs.HasText.{HasAnswerText, HasClaimText, HasValueText, AreRows}
+use Rattle.asg_doc.specs.HasText.{HasAnswerText, HasClaimText, IsWrittenValue, AreRows}
 use Rattle.asg_doc.specs.Text.{spaced, cell_line, ended, text_of, value_line}
-use Rattle.asg_doc.specs.Words.{command_word, objective_word}
+use Rattle.asg_doc.specs.Words.{HasWord, command_word, has_pairs, objective_word}
 use Rattle.asg_proof.specs.declared.outcomes.Proof.{Proof}
-use Rattle.asg_proof.specs.declared.outcomes.Proof.TheVariants.{Below}
+use Rattle.asg_proof.specs.declared.outcomes.Proof.TheVariants.{Below, Phases, Windows}
 use Rattle.asg_proof.specs.Threshold.{ProvesBelow}
 use Rattle.asg_check.specs.declared.verdicts.Form.{Form}
 use Rattle.asg_check.specs.declared.verdicts.Form.TheVariants.{Solve}
 use Rattle.asg_check.specs.Certifies.{CertifiesClaim}
 use Rattle.asg_check.specs.TrueClaim.{IsTrueClaim}
+use Rattle.asg_thresh.specs.Objectives.{IsBottleneck}
 use Rattle.asg_words.specs.declared.requests.Job.{Job}
 use Rattle.asg_app.specs.Promised.{IsSolved, IsUnsolvable}
-use Rattle.asg_app.specs.WrittenDocument.{IsBestDocument, IsNoneDocument}
+use Rattle.asg_app.specs.WrittenDocument.{IsBestDocument, IsNoneDocument, IsPromisedClaim, IsPromisedProof}
 use Rattle.asg_app.proofs.CellCounts.{length-cells_by_id-le}
 use Rattle.asg_app.proofs.Counting.{length-le-within}
 
@@ -119,27 +121,43 @@ length-behind_cells cells lines =
 length-command : (command : Command) → length (command_word command) ≤ 5
 length-command SolveCommand = omega arith
 
-length-objective : (objective : Objective) → length (objective_word objective) ≤ 14
-length-objective Bottleneck = omega arith
-length-objective BottleneckMax = omega arith
-length-objective _ = omega arith
+length-objective : (objective : Objective) → HasWord objective → length (objective_word objective) ≤ 20
+length-objective Sum word = omega arith
+length-objective SumMax word = omega arith
+length-objective SumPair word = omega arith
+length-objective (Capped cap) word = omega (arith, length-append (codes "capped=") (decimal cap), length-decimal-le_wide 13 cap (omega arith) (omega (arith, word.1)) (omega (arith, word.1)))
+length-objective Bottleneck word = omega arith
+length-objective BottleneckMax word = omega arith
+length-objective TimeCost word = omega arith
+length-objective Balanced word = omega arith
+length-objective Lex word = absurd word
 
 -- the line of a value that has a text
-length-value : (objective : Objective) (value : Value) → HasValueText objective value → length (value_line objective value) ≤ 46
-length-value Bottleneck (One value) fits = omega (arith, digits_of_value value fits, length-append (codes "value ") (signed_decimal value))
-length-value BottleneckMax (One value) fits = omega (arith, digits_of_value value fits, length-append (codes "value ") (signed_decimal value))
-length-value _ _ fits = absurd fits
+length-value : (pairs : Bool) (value : Value) → IsWrittenValue pairs value → length (value_line value) ≤ 87
+length-value false (One value) fits = omega (arith, digits_of_value value fits, length-append (codes "value ") (signed_decimal value))
+length-value true (Two first second) fits =
+    omega (
+      arith,
+      digits_of_value first fits.0,
+      digits_of_value second fits.1,
+      length-append (codes "value ") (signed_decimal first ++ 58 ∷ signed_decimal second),
+      length-append (signed_decimal first) (58 ∷ signed_decimal second),
+    )
+length-value false (Two first second) fits = absurd fits
+length-value false (Many values) fits = absurd fits
+length-value true (One value) fits = absurd fits
+length-value true (Many values) fits = absurd fits
 
 -- the text of a document with an answer and a threshold proof
-length-answered : (command : Command) (objective : Objective) (answer : Answer) (rows : List ℕ) → HasAnswerText objective answer → AreRows rows
+length-answered : (command : Command) (objective : Objective) (answer : Answer) (rows : List ℕ) → HasWord objective → HasAnswerText objective answer → AreRows rows
     → length (text_of (record { command = command; objective = objective; claim = Best answer (Below rows) })) ≤ 300 + (length answer.cells * 22 + length rows * 11)
 unfolding text_of
-length-answered command objective answer rows has_text are_rows =
+length-answered command objective answer rows word has_text are_rows =
     let last : List (List ℕ) = codes "end" ∷ [] in
     let proved : List ℕ = codes "proof below" ++ spaced rows in
     let tail : List (List ℕ) = map cell_line answer.cells ++ proved ∷ last in
     let count : List ℕ = codes "cells " ++ decimal (length answer.cells) in
-    let told : List ℕ = value_line objective answer.value in
+    let told : List ℕ = value_line answer.value in
     let named : List ℕ = codes "command " ++ command_word command in
     let asked : List ℕ = codes "objective " ++ objective_word objective in
     omega (
@@ -156,18 +174,18 @@ length-answered command objective answer rows has_text are_rows =
       length-cell_lines answer.cells has_text.cells.ids,
       length-spaced rows are_rows.ids,
       digits_of_id (length answer.cells) has_text.cells.few,
-      length-value objective answer.value has_text.value,
+      length-value (has_pairs objective) answer.value has_text.value,
       length-command command,
-      length-objective objective,
+      length-objective objective word,
       length-append (codes "command ") (command_word command),
       length-append (codes "objective ") (objective_word objective),
     )
 
 -- the text of a document with a Hall set
-length-refuted : (command : Command) (objective : Objective) (rows : List ℕ) → AreRows rows
+length-refuted : (command : Command) (objective : Objective) (rows : List ℕ) → HasWord objective → AreRows rows
     → length (text_of (record { command = command; objective = objective; claim = Nothing rows })) ≤ 300 + length rows * 11
 unfolding text_of
-length-refuted command objective rows are_rows =
+length-refuted command objective rows word are_rows =
     let last : List (List ℕ) = codes "end" ∷ [] in
     let shown : List ℕ = codes "hall" ++ spaced rows in
     let named : List ℕ = codes "command " ++ command_word command in
@@ -182,16 +200,30 @@ length-refuted command objective rows are_rows =
       length-line (codes "end") [],
       length-spaced rows are_rows.ids,
       length-command command,
-      length-objective objective,
+      length-objective objective word,
       length-append (codes "command ") (command_word command),
       length-append (codes "objective ") (objective_word objective),
     )
 
--- the text of a best document
-length-best : HallLaws → (objective : Objective) (X : Problem) (form : Form) (document : Document) → length X.rows ≤ 1000 → IsBestDocument objective X form document → length (text_of document) ≤ longest_file
-length-best laws objective X form document few best = by_proof best.answer best.proof best.claims
+-- the text of a best document for a bottleneck objective
+length-best : HallLaws → (objective : Objective) (X : Problem) (form : Form) (document : Document) → IsBottleneck objective → length X.rows ≤ 1000 → IsBestDocument objective X form document → length (text_of document) ≤ longest_file
+length-best laws objective X form document bottleneck few best = by_proof best.answer best.proof best.claims
   where
     by_proof : (answer : Answer) (proof : Proof) → document.claim ≡ Best answer proof → length (text_of document) ≤ longest_file
+    by_proof answer (Phases words) claims =
+        by_objective objective bottleneck (subst (IsPromisedClaim objective X) claims best.written.promised)
+      where
+        by_objective : (o : Objective) → IsBottleneck o → IsPromisedProof o X (Phases words) → length (text_of document) ≤ longest_file
+        by_objective Bottleneck is promised = absurd promised
+        by_objective BottleneckMax is promised = absurd promised
+        by_objective _ is promised = absurd is
+    by_proof answer (Windows windows) claims =
+        by_objective objective bottleneck (subst (IsPromisedClaim objective X) claims best.written.promised)
+      where
+        by_objective : (o : Objective) → IsBottleneck o → IsPromisedProof o X (Windows windows) → length (text_of document) ≤ longest_file
+        by_objective Bottleneck is promised = absurd promised
+        by_objective BottleneckMax is promised = absurd promised
+        by_objective _ is promised = absurd is
     by_proof answer (Below rows) claims =
         let has_text = subst (HasClaimText document.objective) claims best.written.has_text.claim in
         let truly = subst (IsTrueClaim objective X) claims best.written.truly in
@@ -202,7 +234,7 @@ length-best laws objective X form document few best = by_proof best.answer best.
           arith,
           few,
           ap length same,
-          length-answered document.command document.objective answer rows has_text.0 has_text.1,
+          length-answered document.command document.objective answer rows best.written.has_text.objective has_text.0 has_text.1,
           ap length truly.written,
           length-cells_by_id-le X truly.choice,
           below_within laws objective X (choice_value objective X certifies.choice) rows certifies.proved,
@@ -216,12 +248,12 @@ length-none laws objective X form document few none =
     let hall = subst (CertifiesClaim objective X) none.claims none.written.certifies.claim in
     let same : text_of document ≡ text_of (record { command = document.command; objective = document.objective; claim = Nothing rows }) =
     λ i. text_of (record { command = document.command; objective = document.objective; claim = none.claims i }) in
-    omega (arith, few, ap length same, length-refuted document.command document.objective rows has_text, hall_within laws X Whole rows hall)
+    omega (arith, few, ap length same, length-refuted document.command document.objective rows none.written.has_text.objective has_text, hall_within laws X Whole rows hall)
 
--- what is due for a request to solve is no longer than the longest file that is read
-pub length-solved : HallLaws → (job : Job) (bytes text : List ℕ) → IsSolved job bytes text → length text ≤ longest_file
-length-solved laws job bytes text solved =
-    omega (arith, ap length solved.written, length-best laws job.objective solved.problem Solve solved.document solved.instance.well_formed.few_rows solved.best)
+-- what is due for a request to solve is so no longer than the longest file that is read
+pub length-solved : HallLaws → (job : Job) (bytes text : List ℕ) → IsBottleneck job.objective → IsSolved job bytes text → length text ≤ longest_file
+length-solved laws job bytes text bottleneck solved =
+    omega (arith, ap length solved.written, length-best laws job.objective solved.problem Solve solved.document bottleneck solved.instance.well_formed.few_rows solved.best)
 
 pub length-unsolvable : HallLaws → (job : Job) (bytes text : List ℕ) → IsUnsolvable job bytes text → length text ≤ longest_file
 length-unsolvable laws job bytes text solved =

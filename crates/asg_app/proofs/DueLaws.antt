@@ -16,12 +16,12 @@ use Rattle.asg_words.specs.declared.requests.Job.{Job}
 use Rattle.asg_words.specs.declared.requests.Task.{Task}
 use Rattle.asg_words.specs.declared.requests.Task.TheVariants.{Solve, Rank, Edit, Check}
 use Rattle.asg_app.specs.declared.status.Status.{Status}
-use Rattle.asg_app.specs.declared.status.Status.TheVariants.{Done, Usage, Instance, Document as Unread, TooLong}
+use Rattle.asg_app.specs.declared.status.Status.TheVariants.{Done, Usage, Document as Unread, TooLong}
 use Rattle.asg_app.specs.AnswerStage.{UnlessUnread, NotRead, Miscounted, Read}
 use Rattle.asg_app.specs.Due.{DueForAsked, DueForJob, DueForTask, Long, Refused, Held}
 use Rattle.asg_app.specs.DueToCheck.{DueToCheck, Certified, Denied}
-use Rattle.asg_app.specs.DueToSolve.{DueToSolve, Solved, Unsolvable}
-use Rattle.asg_app.specs.InstanceFile.{InstanceFile, Holds, Refuses, instance_in}
+use Rattle.asg_app.specs.DueToSolve.{DueToSolve, Solved, TooManyCosts, Unsolvable}
+use Rattle.asg_app.specs.InstanceFile.{InstanceFile, Holds, Refuses}
 use Rattle.asg_app.specs.WrittenDocument.{IsBestDocument, IsNoneDocument}
 use Rattle.asg_check.specs.TrueClaim.{IsTrueClaim}
 use Rattle.asg_model.specs.Limits.{longest_file}
@@ -30,6 +30,7 @@ use Rattle.asg_app.specs.Requests.{files_of}
 use Rattle.asg_app.specs.Sources.{AreShort, content_at}
 use Rattle.asg_app.specs.Statuses.{HasOneText}
 use Rattle.asg_app.specs.Texts.{refused_document_text, refused_instance_text, no_text}
+use Rattle.asg_app.proofs.CostCounts.{refused_once, taken_apart}
 use Rattle.asg_app.proofs.ToldFiles.{held_once}
 
 -- no two lists of documents have one text
@@ -76,12 +77,18 @@ apart job X document other best none =
 
 -- a request to solve
 solve_once : (job : Job) (X : Problem) (status other : Status) (text more : List ℕ) → DueToSolve job X status text → DueToSolve job X other more → AreOne status text other more
-solve_once job X status other text more (Solved document best is told) (Solved document' best' also told') =
+solve_once job X status other text more (Solved takes document best is told) (Solved takes' document' best' also told') =
     (is ∙ sym also, λ one. absurd (subst HasOneText is one))
-solve_once job X status other text more (Unsolvable document none is told) (Unsolvable document' none' also told') =
+solve_once job X status other text more (Unsolvable takes document none is told) (Unsolvable takes' document' none' also told') =
     (is ∙ sym also, λ one. absurd (subst HasOneText is one))
-solve_once job X status other text more (Solved document best is told) (Unsolvable document' none also told') = apart job X document document' best none
-solve_once job X status other text more (Unsolvable document none is told) (Solved document' best also told') = apart job X document' document best none
+solve_once job X status other text more (Solved takes document best is told) (Unsolvable takes' document' none also told') = apart job X document document' best none
+solve_once job X status other text more (Unsolvable takes document none is told) (Solved takes' document' best also told') = apart job X document' document best none
+solve_once job X status other text more (TooManyCosts count refuses is told) (TooManyCosts count' refuses' also told') =
+    (is ∙ sym also, λ one. told ∙ ap (λ n. refused_instance_text (16 ∷ n ∷ [])) (refused_once job.objective X count count' refuses refuses') ∙ sym told')
+solve_once job X status other text more (Solved takes document best is told) (TooManyCosts count refuses also told') = taken_apart job.objective X count takes refuses
+solve_once job X status other text more (Unsolvable takes document none is told) (TooManyCosts count refuses also told') = taken_apart job.objective X count takes refuses
+solve_once job X status other text more (TooManyCosts count refuses is told) (Solved takes document best also told') = taken_apart job.objective X count takes refuses
+solve_once job X status other text more (TooManyCosts count refuses is told) (Unsolvable takes document none also told') = taken_apart job.objective X count takes refuses
 
 -- a request to check
 check_once : DeniesOnce → (job : Job) (X : Problem) (document : Document) (status other : Status) (text more : List ℕ)
@@ -143,16 +150,16 @@ job_once : Known → (job : Job) (contents : List (List ℕ)) (status other : St
     → DueForJob job contents status text → DueForJob job contents other more → AreOne status text other more
 job_once known job contents status other text more (Long place within long is told) (Long place' within' long' also told') = fixed TooLong status other text more [] is also told told'
 job_once known job contents status other text more (Long place within long is told) (Refused short numbers refused also told') = not_long contents place short within long
-job_once known job contents status other text more (Long place within long is told) (Held short X holds inst due) = not_long contents place short within long
+job_once known job contents status other text more (Long place within long is told) (Held short X holds due) = not_long contents place short within long
 job_once known job contents status other text more (Refused short numbers refused is told) (Long place within long also told') = not_long contents place short within long
 job_once known job contents status other text more (Refused short numbers refused is told) (Refused short' numbers' refused' also told') =
     let both = sym refused ∙ refused' in
     let same : numbers ≡ numbers' = cc in
     (is ∙ sym also, λ one. told ∙ ap refused_instance_text same ∙ sym told')
-job_once known job contents status other text more (Refused short numbers refused is told) (Held short' X holds inst due) = refused_apart refused holds
-job_once known job contents status other text more (Held short X holds inst due) (Long place within long also told') = not_long contents place short within long
-job_once known job contents status other text more (Held short X holds inst due) (Refused short' numbers refused also told') = refused_apart refused holds
-job_once known job contents status other text more (Held short X holds inst due) (Held short' X' holds' inst' due') =
+job_once known job contents status other text more (Refused short numbers refused is told) (Held short' X holds due) = refused_apart refused holds
+job_once known job contents status other text more (Held short X holds due) (Long place within long also told') = not_long contents place short within long
+job_once known job contents status other text more (Held short X holds due) (Refused short' numbers refused also told') = refused_apart refused holds
+job_once known job contents status other text more (Held short X holds due) (Held short' X' holds' due') =
     let both = sym holds ∙ holds' in
     let same : X ≡ X' = cc in
     task_once known job.task job contents X status other text more due (subst (λ Y. DueForTask job.task job contents Y other more) (sym same) due')

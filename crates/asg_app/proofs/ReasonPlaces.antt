@@ -1,21 +1,109 @@
--- The place of a reason: each of today's stands for the whole document.
-use Rattle.std.proofs.Common.{◌≡◌, ℕ}
-use Rattle.std.specs.Prelude.{ℤ, pos}
+-- The place of a reason against a document that has a text fits its type: it is 0, the number of a phase or
+-- a window, or a cost of an instance.
+use Rattle.std.proofs.Common.{◌≡◌, ◌==◌, ◌&&◌, cond, ℕ, suc, ◌<◌, ◌^◌, Bool, true, false, List, [], ◌∷◌, length, Option, Some, None, inl, inr, sym, subst, rules, arith}
+use Rattle.std.specs.Prelude.{All, FitsSigned, IfSome, ℤ, pos}
+use Rattle.std.specs.Int.{w64}
+use Rattle.std.proofs.lemmas.Int.{fits_signed_from_abs}
+use Rattle.std.proofs.lemmas.List.Elements.{All-head, All-tail}
+use Rattle.std.proofs.lemmas.Option.{slice_get_within}
 use Rattle.asg_model.specs.declared.objectives.Objective.{Objective}
+use Rattle.asg_model.specs.declared.objectives.Value.{Value}
+use Rattle.asg_model.specs.declared.objectives.Value.TheVariants.{One, Two, Many}
+use Rattle.asg_model.specs.declared.parts.Cost.{Cost}
+use Rattle.asg_model.specs.Instances.{IsInstance, IsCostInRange}
+use Rattle.asg_model.specs.Live.{cost_at, is_active, is_open, live_at}
 use Rattle.asg_model.specs.Problem.{Problem}
+use Rattle.asg_proof.specs.declared.outcomes.Proof.TheVariants.{Below, Phases, Windows}
+use Rattle.asg_proof.specs.declared.windows.Window.{Window}
+use Rattle.asg_doc.specs.declared.documents.Claim.{Claim}
+use Rattle.asg_doc.specs.declared.documents.Claim.TheVariants.{Best, Nothing}
 use Rattle.asg_doc.specs.declared.documents.Document.{Document}
+use Rattle.asg_doc.specs.HasText.{HasClaimText, HasText}
 use Rattle.asg_check.specs.declared.verdicts.Form.{Form}
 use Rattle.asg_check.specs.declared.verdicts.Reason.{Reason}
-use Rattle.asg_check.specs.declared.verdicts.Reason.TheVariants.{OtherObjective, WrongForm, NotValid, WrongValue, NotHall}
-use Rattle.asg_check.specs.Reasons.{At, IsFirstReason, Overall, Spot, Stands, place_of}
+use Rattle.asg_check.specs.declared.verdicts.Reason.TheVariants.{OtherObjective, WrongForm, NotValid, WrongValue, NotHall, WindowGap, BadPhase, IndexDiffers}
+use Rattle.asg_check.specs.declared.verdicts.Verdict.TheVariants.{No}
+use Rattle.asg_check.specs.Reasons.{HasBadPhase, IsFirstReason, LacksHallSet, LeavesGap, Stands, Tells, reasons_in_order}
+use Rattle.asg_check.specs.Spots.{At, Overall, Spot, place_of}
+use Rattle.asg_check.specs.WindowReasons.{AreNoHallSetsAt, LeaveGapAt}
 
-pub whole_place : (objective : Objective) (X : Problem) (form : Form) (document : Document) (number : ℕ) (place : ℤ) → IsFirstReason objective X form document number place → place ≡ pos 0
-whole_place objective X form document number place first = by_spot first.reason first.spot first.first.stands first.placed
+-- zero, and the number of one of the phases
+zero_fits : FitsSigned w64 (pos 0)
+zero_fits = search rules
+
+number_fits : (n count : ℕ) → n < count → count < 2 ^ 32 → FitsSigned w64 (pos (suc n))
+number_fits n count below few = fits_signed_from_abs w64 (pos (suc n)) (omega (arith, below, few))
+
+-- the first part of a live cost
+part_fits : (cells : List ((ℕ × ℕ) × Cost)) (r c : ℕ) → All (λ cell. IsCostInRange cell.1) cells → IfSome (cost_at cells r c) (λ cost. FitsSigned w64 cost.a)
+part_fits [] r c all = tt
+part_fits (cell ∷ cells) r c all =
+    by_test ((cell.0.0 == r) && (cell.0.1 == c)) (cost_at cells r c) (part_fits cells r c (All-tail (λ cell. IsCostInRange cell.1) cell cells all))
   where
-    by_spot : (reason : Reason) (spot : Spot) → Stands objective X form document reason spot → place ≡ place_of spot → place ≡ pos 0
-    by_spot reason Overall stands placed = placed
-    by_spot OtherObjective (At p) stands placed = absurd stands
-    by_spot WrongForm (At p) stands placed = absurd stands
-    by_spot NotValid (At p) stands placed = absurd stands
-    by_spot WrongValue (At p) stands placed = absurd stands
-    by_spot NotHall (At p) stands placed = absurd stands
+    by_test : (test : Bool) (rest : Option Cost) → IfSome rest (λ cost. FitsSigned w64 cost.a) → IfSome (cond test (Some cell.1) rest) (λ cost. FitsSigned w64 cost.a)
+    by_test true rest others =
+        let range = All-head (λ cell. IsCostInRange cell.1) cell cells all in
+        fits_signed_from_abs w64 cell.1.a (omega (arith, range.a_in_range))
+    by_test false rest others = others
+
+live_fits : (X : Problem) → IsInstance X → (r c : ℕ) (cost : Cost) → live_at X r c ≡ Some cost → FitsSigned w64 cost.a
+live_fits X instance r c cost live =
+    subst (λ o. IfSome o (λ cost. FitsSigned w64 cost.a)) live
+    (by_test (is_active X r && is_open X c) (cost_at X.cells r c) (part_fits X.cells r c instance.well_formed.costs))
+  where
+    by_test : (test : Bool) (o : Option Cost) → IfSome o (λ cost. FitsSigned w64 cost.a) → IfSome (cond test o None) (λ cost. FitsSigned w64 cost.a)
+    by_test true o fits = fits
+    by_test false o fits = tt
+
+-- the place of a bad phase
+bad_fits : (objective own : Objective) (X : Problem) (claim : Claim) (place : ℤ) → HasClaimText own claim → HasBadPhase objective X claim (At place) → FitsSigned w64 place
+bad_fits objective own X (Best answer (Phases words)) place text bad = subst (FitsSigned w64) (sym bad.2) (number_fits bad.0 (length words) bad.1 text.1.few)
+bad_fits objective own X (Best answer (Below rows)) place text bad = absurd bad
+bad_fits objective own X (Best answer (Windows windows)) place text bad = absurd bad
+bad_fits objective own X (Nothing rows) place text bad = absurd bad
+
+-- the place of a window that is no Hall set
+no_hall_fits : (X : Problem) (windows : List Window) (place : ℤ) → length windows < 2 ^ 32 → AreNoHallSetsAt X windows (At place) → FitsSigned w64 place
+no_hall_fits X windows place few at =
+    let below : at.0 < length windows = slice_get_within windows at.0 at.2.window at.2.there in
+    subst (FitsSigned w64) (sym at.1) (number_fits at.0 (length windows) below few)
+
+lacks_fits : (objective own : Objective) (X : Problem) (claim : Claim) (place : ℤ) → HasClaimText own claim → LacksHallSet objective X claim (At place) → FitsSigned w64 place
+lacks_fits objective own X (Best answer (Windows windows)) place text lacks = no_hall_fits X windows place text.1.few lacks
+lacks_fits objective own X (Best answer (Phases words)) place text lacks = absurd lacks
+lacks_fits objective own X (Best answer (Below rows)) place text lacks = absurd lacks
+lacks_fits objective own X (Nothing rows) place text lacks = absurd lacks
+
+-- the cost of a live cell
+gap_fits : (X : Problem) (value : Value) (windows : List Window) (place : ℤ) → IsInstance X → LeaveGapAt X value windows (At place) → FitsSigned w64 place
+gap_fits X (One d) windows place instance gap = subst (FitsSigned w64) gap.live.is (live_fits X instance gap.live.row gap.live.column gap.live.cost gap.live.live)
+gap_fits X (Two x y) windows place instance gap = absurd gap
+gap_fits X (Many xs) windows place instance gap = absurd gap
+
+leaves_fits : (X : Problem) (claim : Claim) (place : ℤ) → IsInstance X → LeavesGap X claim (At place) → FitsSigned w64 place
+leaves_fits X (Best answer (Windows windows)) place instance leaves = gap_fits X answer.value windows place instance leaves
+leaves_fits X (Best answer (Phases words)) place instance leaves = absurd leaves
+leaves_fits X (Best answer (Below rows)) place instance leaves = absurd leaves
+leaves_fits X (Nothing rows) place instance leaves = absurd leaves
+
+pub place_fits : (objective : Objective) (X : Problem) (form : Form) (document : Document) (number : ℕ) (place : ℤ) → IsInstance X → HasText document → IsFirstReason objective X form document number place → FitsSigned w64 place
+place_fits objective X form document number place instance text first = by_reasons reasons_in_order first.told
+  where
+    by_spot : (reason : Reason) (spot : Spot) → Stands objective X form document reason spot → FitsSigned w64 (place_of spot)
+    by_spot reason Overall stands = zero_fits
+    by_spot OtherObjective (At p) stands = absurd stands
+    by_spot WrongForm (At p) stands = absurd stands
+    by_spot NotValid (At p) stands = absurd stands
+    by_spot WrongValue (At p) stands = absurd stands
+    by_spot NotHall (At p) stands = lacks_fits objective document.objective X document.claim p text.claim stands
+    by_spot WindowGap (At p) stands = leaves_fits X document.claim p instance stands
+    by_spot BadPhase (At p) stands = bad_fits objective document.objective X document.claim p text.claim stands
+    by_spot IndexDiffers (At p) stands = absurd stands
+
+    by_reasons : (reasons : List Reason) → Tells (Stands objective X form document) reasons (No number place) → FitsSigned w64 place
+    by_reasons [] told = absurd (cc)
+    by_reasons (reason ∷ rest) (inl here) =
+        let named = here.told in
+        let same : place_of here.spot ≡ place = cc in
+        subst (FitsSigned w64) same (by_spot reason here.spot here.stands)
+    by_reasons (reason ∷ rest) (inr later) = by_reasons rest later.1

@@ -1,8 +1,6 @@
 -- What each due status says of the words and the files, before the command of a request decides it.
-use Rattle.std.proofs.Common.{◌≡◌, ℕ, zero, suc, ◌<◌, ◌≤◌, List, [], ◌∷◌, length, get_or, Option, Some, None, All, refl, sym, ap, ◌∙◌, subst, arith}
+use Rattle.std.proofs.Common.{◌≡◌, ℕ, zero, suc, ◌<◌, ◌≤◌, List, [], ◌∷◌, length, get_or, Option, Some, None, All, refl, sym, ap, ◌∙◌, subst, inl, inr, arith}
 use Rattle.std.specs.List.{Contains}
-use Rattle.std.specs.Prelude.{◌≢◌}
-use Rattle.asg_model.specs.Instances.{IsInstance}
 use Rattle.std.proofs.lemmas.List.{get_or_default}
 use Rattle.asg_model.specs.Problem.{Problem}
 use Rattle.asg_doc.specs.declared.documents.Document.{Document}
@@ -13,12 +11,14 @@ use Rattle.asg_app.specs.declared.status.Status.{Status}
 use Rattle.asg_app.specs.declared.status.Status.TheVariants.{Usage, Instance, TooLong}
 use Rattle.asg_app.specs.declared.status.Status.TheVariants as statuses
 use Rattle.asg_app.specs.AnswerStage.{UnlessUnread, NotRead, Miscounted, Read}
+use Rattle.asg_app.specs.CostCounts.{RefusesCosts}
 use Rattle.asg_app.specs.Due.{DueForAsked, DueForJob, DueForTask, IsShort, Long, Refused, Held}
 use Rattle.asg_app.specs.DueToCheck.{DueToCheck, Certified, Denied}
-use Rattle.asg_app.specs.DueToSolve.{DueToSolve, Solved, Unsolvable}
+use Rattle.asg_app.specs.DueToSolve.{DueToSolve, Solved, TooManyCosts, Unsolvable}
 use Rattle.asg_app.specs.InstanceFile.{Holds, Refuses, instance_in}
 use Rattle.asg_model.specs.Limits.{longest_file}
 use Rattle.asg_app.specs.Fetches.{MayHold, MayHoldAll}
+use Rattle.asg_app.specs.Promised.{IsRefusedInstance}
 use Rattle.asg_app.specs.Requests.{files_of}
 use Rattle.asg_app.specs.Sources.{AreShort, content_at}
 use Rattle.asg_app.specs.Statuses.{IsAnswer}
@@ -30,6 +30,7 @@ use Rattle.asg_app.proofs.ToldFiles.{held, held_at, held_count}
 abbrev pub IsDecided : Status → Type 0
 IsDecided statuses.Done = Unit {0}
 IsDecided statuses.Nothing = Unit {0}
+IsDecided statuses.Instance = Unit {0}
 IsDecided statuses.Script = Unit {0}
 IsDecided statuses.Document = Unit {0}
 IsDecided statuses.No = Unit {0}
@@ -49,8 +50,9 @@ unread_decides bytes Owed status text decides (Miscounted documents have_text re
 unread_decides bytes Owed status text decides (Read document has_text read owed) = decides document owed
 
 solve_decides : (job : Job) (X : Problem) (status : Status) (text : List ℕ) → DueToSolve job X status text → IsDecided status
-solve_decides job X status text (Solved document best is told) = decided statuses.Done status is tt
-solve_decides job X status text (Unsolvable document none is told) = decided statuses.Nothing status is tt
+solve_decides job X status text (Solved takes document best is told) = decided statuses.Done status is tt
+solve_decides job X status text (Unsolvable takes document none is told) = decided statuses.Nothing status is tt
+solve_decides job X status text (TooManyCosts count refuses is told) = decided statuses.Instance status is tt
 
 -- what a command answers is a status of its own
 pub task_decides : (task : Task) (job : Job) (contents : List (List ℕ)) (X : Problem) (status : Status) (text : List ℕ) → DueForTask task job contents X status text → IsDecided status
@@ -61,6 +63,36 @@ task_decides (Check answer None (Some count)) job contents X status text due = a
 task_decides (Check answer (Some script) count) job contents X status text due = absurd due
 task_decides (Rank count) job contents X status text due = absurd due
 task_decides (Edit script) job contents X status text due = absurd due
+
+-- a command refuses the instance only where it is to solve, and the objective's solver refuses the costs
+record IsCountRefused (task : Task) (job : Job) (X : Problem) (text : List ℕ) : Type 0 where
+  solves : task ≡ Solve
+  count : ℕ
+  refused : RefusesCosts job.objective X count
+  told : text ≡ refused_instance_text (16 ∷ count ∷ [])
+
+solve_refuses : (job : Job) (X : Problem) (text : List ℕ) → DueToSolve job X Instance text → IsCountRefused Solve job X text
+solve_refuses job X text (Solved takes document best is told) = cc
+solve_refuses job X text (Unsolvable takes document none is told) = cc
+solve_refuses job X text (TooManyCosts count refuses is told) = record { solves = refl; count = count; refused = refuses; told = told }
+
+check_passes : (job : Job) (X : Problem) (document : Document) (text : List ℕ) → DueToCheck job X document Instance text → ⊥
+check_passes job X document text (Certified certifies is told) = cc
+check_passes job X document text (Denied number place fails first is told) = cc
+
+unread_passes : (bytes : List ℕ) (Owed : Document → Status → List ℕ → Type 0) (text : List ℕ) → ((document : Document) → Owed document Instance text → ⊥) → UnlessUnread bytes Owed Instance text → ⊥
+unread_passes bytes Owed text passes (NotRead line none at is told) = cc
+unread_passes bytes Owed text passes (Miscounted documents have_text read count is told) = cc
+unread_passes bytes Owed text passes (Read document has_text read owed) = passes document owed
+
+task_refuses : (task : Task) (job : Job) (contents : List (List ℕ)) (X : Problem) (text : List ℕ) → DueForTask task job contents X Instance text → IsCountRefused task job X text
+task_refuses Solve job contents X text due = solve_refuses job X text due
+task_refuses (Check answer None None) job contents X text due =
+    absurd (unread_passes (content_at contents 1) (DueToCheck job X) text (λ document. check_passes job X document text) due)
+task_refuses (Check answer None (Some count)) job contents X text due = absurd due
+task_refuses (Check answer (Some script) count) job contents X text due = absurd due
+task_refuses (Rank count) job contents X text due = absurd due
+task_refuses (Edit script) job contents X text due = absurd due
 
 -- so what is due is an answer
 decided_answer : (status : Status) → IsDecided status → IsAnswer status
@@ -80,21 +112,21 @@ pub asked_answer : (asked : Option Job) (contents : List (List ℕ)) (status : S
 asked_answer None contents status text due = subst IsAnswer (sym due.0) tt
 asked_answer (Some job) contents status text (Long place within long is told) = subst IsAnswer (sym is) tt
 asked_answer (Some job) contents status text (Refused short numbers none is told) = subst IsAnswer (sym is) tt
-asked_answer (Some job) contents status text (Held short X holds inst due) = decided_answer status (task_decides job.task job contents X status text due)
+asked_answer (Some job) contents status text (Held short X holds due) = decided_answer status (task_decides job.task job contents X status text due)
 
 -- where no file is too long, that status isn't due
 pub short_answer : (asked : Option Job) (contents : List (List ℕ)) (text : List ℕ) → AreShort contents → DueForAsked asked contents TooLong text → ⊥
 short_answer None contents text short due = let e = due.0 in cc
 short_answer (Some job) contents text short (Long place within long is told) = not_long contents place short within long
 short_answer (Some job) contents text short (Refused few numbers none is told) = cc
-short_answer (Some job) contents text short (Held few X holds inst due) = task_decides job.task job contents X TooLong text due
+short_answer (Some job) contents text short (Held few X holds due) = task_decides job.task job contents X TooLong text due
 
 -- the usage line is due only for words that are no request
 pub usage_only : (asked : Option Job) (contents : List (List ℕ)) (text : List ℕ) → DueForAsked asked contents Usage text → (asked ≡ None) × (text ≡ usage_text)
 usage_only None contents text due = (refl, due.1)
 usage_only (Some job) contents text (Long place within long is told) = cc
 usage_only (Some job) contents text (Refused short numbers none is told) = cc
-usage_only (Some job) contents text (Held short X holds inst due) = absurd (task_decides job.task job contents X Usage text due)
+usage_only (Some job) contents text (Held short X holds due) = absurd (task_decides job.task job contents X Usage text due)
 
 -- a file is called too long only where it is longer than the longest that is read
 pub too_long_only : (asked : Option Job) (told : List ℕ → Option (List ℕ)) (contents : List (List ℕ)) (text : List ℕ) → MayHoldAll told (files_of asked) contents
@@ -105,21 +137,30 @@ too_long_only (Some job) told contents text may (Long place within long is told_
     let there : place < length names = omega (arith, held_count told names contents may) in
     (get_or names place [], content_at contents place, (place, there, get_or_default names place (get_or names place []) [] there), held_at told names contents place [] may there, long, told_text)
 too_long_only (Some job) told contents text may (Refused short numbers none is told_text) = cc
-too_long_only (Some job) told contents text may (Held short X holds inst due) = absurd (task_decides job.task job contents X TooLong text due)
+too_long_only (Some job) told contents text may (Held short X holds due) = absurd (task_decides job.task job contents X TooLong text due)
 
 -- the contents of the instance's file
 pub first_held : (told : List ℕ → Option (List ℕ)) (job : Job) (contents : List (List ℕ)) → MayHoldAll told (files_of (Some job)) contents → MayHold told job.instance (content_at contents 0)
 first_held told job [] may = absurd may
 first_held told job (bytes ∷ contents) may = may.0
 
--- the refusal of an instance is due only for a file that spells none
+-- the refusal of an instance is due only for a file that holds none, or for one to solve with too many different costs
 pub refused_only : (asked : Option Job) (told : List ℕ → Option (List ℕ)) (contents : List (List ℕ)) (text : List ℕ) → MayHoldAll told (files_of asked) contents
     → DueForAsked asked contents Instance text
-    → (job : Job) × (bytes numbers : List ℕ) × (asked ≡ Some job) × MayHold told job.instance bytes × (instance_in job bytes ≡ Refuses numbers) × (text ≡ refused_instance_text numbers)
+    → (job : Job) × (bytes numbers : List ℕ) × (asked ≡ Some job) × MayHold told job.instance bytes × IsRefusedInstance job bytes numbers × (text ≡ refused_instance_text numbers)
 refused_only None told contents text may due = let e = due.0 in cc
 refused_only (Some job) told contents text may (Long place within long is told_text) = cc
-refused_only (Some job) told contents text may (Refused short numbers none is told_text) = (job, content_at contents 0, numbers, refl, first_held told job contents may, none, told_text)
-refused_only (Some job) told contents text may (Held short X holds inst due) = absurd (task_decides job.task job contents X Instance text due)
+refused_only (Some job) told contents text may (Refused short numbers none is told_text) = (job, content_at contents 0, numbers, refl, first_held told job contents may, inl none, told_text)
+refused_only (Some job) told contents text may (Held short X holds due) =
+    let own = task_refuses job.task job contents X text due in (
+      job,
+      content_at contents 0,
+      16 ∷ own.count ∷ [],
+      refl,
+      first_held told job contents may,
+      inr (record { solves = own.solves; problem = X; held = holds; count = own.count; refused = own.refused; told = refl }),
+      own.told,
+    )
 
 -- each file of a request is told, and isn't too long
 abbrev pub AllShort : (List ℕ → Option (List ℕ)) → Option Job → Type 0
@@ -158,7 +199,7 @@ exact_too_long (Some job) told contents status text name bytes (place, within, i
     by_case : DueForJob job contents status text → status ≡ TooLong
     by_case (Long place' within' long' e told') = e
     by_case (Refused short numbers none e told') = absurd (too_long short)
-    by_case (Held short X holds inst owed) = absurd (too_long short)
+    by_case (Held short X holds owed) = absurd (too_long short)
 
 -- an instance file that is refused
 pub exact_refused : (job : Job) (told : List ℕ → Option (List ℕ)) (contents : List (List ℕ)) (status : Status) (text bytes numbers : List ℕ) → AllShort told (Some job)
@@ -168,7 +209,7 @@ exact_refused job told contents status text bytes numbers shorts found none may 
     by_case : DueForJob job contents status text → status ≡ Instance
     by_case (Long place within long e told') = not_long contents place (short_held told (Some job) contents shorts may) within long
     by_case (Refused short numbers' none' e told') = e
-    by_case (Held short X holds inst owed) =
+    by_case (Held short X holds owed) =
         let same = held (told job.instance) (content_at contents 0) bytes found (first_held told job contents may) in
         refused_apart (ap (instance_in job) same ∙ none) holds
 
@@ -184,23 +225,7 @@ reached job told contents status text bytes X shorts found holds may due = by_ca
     by_case : DueForJob job contents status text → DueForTask job.task job contents X status text
     by_case (Long place within long e told') = not_long contents place (short_held told (Some job) contents shorts may) within long
     by_case (Refused short numbers none e told') = refused_apart none (ap (instance_in job) same ∙ holds)
-    by_case (Held short Y holds' inst owed) =
+    by_case (Held short Y holds' owed) =
         let both = sym holds' ∙ ap (instance_in job) same ∙ holds in
         let one : Y ≡ X = cc in
         subst (λ Z. DueForTask job.task job contents Z status text) one owed
-
--- where something is due after the stage of the files, what the first one holds is an instance
-pub holds_instance : (job : Job) (told : List ℕ → Option (List ℕ)) (contents : List (List ℕ)) (status : Status) (text bytes : List ℕ) (X : Problem)
-    → told job.instance ≡ Some bytes → instance_in job bytes ≡ Holds X → MayHoldAll told (files_of (Some job)) contents → DueForJob job contents status text → status ≢ TooLong → IsInstance X
-holds_instance job told contents status text bytes X found holds may due short_enough = by_case due
-  where
-    same : content_at contents 0 ≡ bytes
-    same = held (told job.instance) (content_at contents 0) bytes found (first_held told job contents may)
-
-    by_case : DueForJob job contents status text → IsInstance X
-    by_case (Long place within long e told') = absurd (short_enough e)
-    by_case (Refused short numbers none e told') = refused_apart none (ap (instance_in job) same ∙ holds)
-    by_case (Held short Y holds' inst owed) =
-        let both = sym holds' ∙ ap (instance_in job) same ∙ holds in
-        let one : Y ≡ X = cc in
-        subst IsInstance one inst

@@ -1,20 +1,23 @@
 -- What is due by the command of a job that is built.
-use Rattle.std.proofs.Common.{◌≡◌, ℕ, true, false, Bool, List, [], Option, Some, None, sym, subst, ◌&&◌}
-use Rattle.std.specs.Prelude.{IsTrue, not}
+use Rattle.std.proofs.Common.{◌≡◌, ℕ, true, false, Bool, cond, refl, List, Option, Some, None, sym, subst, ◌&&◌, arith}
+use Rattle.std.specs.Prelude.{IfSome, not}
 use Rattle.std.proofs.lemmas.Bool.{and_parts}
 use Rattle.asg_model.specs.Problem.{Problem}
 use Rattle.asg_model.specs.declared.objectives.Objective.{Objective}
-use Rattle.asg_model.specs.declared.objectives.Objective.TheVariants.{Bottleneck, BottleneckMax}
-use Rattle.asg_thresh.specs.Objectives.{IsBottleneck}
+use Rattle.asg_model.specs.declared.objectives.Objective.TheVariants.{Sum, SumMax, SumPair, Capped, Bottleneck, BottleneckMax, TimeCost, Balanced, Lex}
+use Rattle.asg_doc.specs.Words.{HasWord}
+use Rattle.asg_words.specs.Bounds.{IsJob, IsWithin, cap_of}
+use Rattle.asg_words.specs.Limits.{most_cap}
 use Rattle.asg_words.specs.declared.requests.Job.{Job}
+use Rattle.asg_words.specs.declared.requests.Request.{Request}
+use Rattle.asg_words.specs.declared.requests.Request.TheVariants.{Work, Make}
 use Rattle.asg_words.specs.declared.requests.Task.{Task}
-use Rattle.asg_words.specs.declared.requests.Task.TheVariants.{Solve, Check}
+use Rattle.asg_words.specs.declared.requests.Task.TheVariants.{Check}
 use Rattle.asg_app.specs.declared.status.Status.{Status}
 use Rattle.asg_app.specs.AnswerStage.{UnlessUnread}
 use Rattle.asg_app.specs.Due.{DueForTask}
 use Rattle.asg_app.specs.DueToCheck.{DueToCheck}
-use Rattle.asg_app.specs.DueToSolve.{DueToSolve}
-use Rattle.asg_app.specs.Requests.{is_built, is_built_objective, is_built_task}
+use Rattle.asg_app.specs.Requests.{built_job, is_built, is_built_objective, is_built_task}
 use Rattle.asg_app.specs.Sources.{content_at}
 
 -- the parts of a job that is built
@@ -25,11 +28,30 @@ pub built_objective : (job : Job) → is_built job ≡ true → is_built_objecti
 built_objective job built =
     (and_parts (is_built_objective job.objective) (not job.brief) (and_parts (is_built_task job.task) (is_built_objective job.objective && not job.brief) built).1).0
 
--- an objective that is built is a bottleneck one
-pub built_bottleneck : (objective : Objective) → is_built_objective objective ≡ true → IsBottleneck objective
-built_bottleneck Bottleneck built = tt
-built_bottleneck BottleneckMax built = tt
-built_bottleneck _ built = cc
+-- an objective that is built has a word, where its cap is within its bounds
+pub built_word : (job : Job) → is_built job ≡ true → IsJob job → HasWord job.objective
+built_word job built within = by_objective job.objective (built_objective job built) within.capped
+  where
+    by_objective : (objective : Objective) → is_built_objective objective ≡ true → IfSome (cap_of objective) (IsWithin 1 most_cap) → HasWord objective
+    by_objective Sum built capped = tt
+    by_objective SumMax built capped = tt
+    by_objective SumPair built capped = tt
+    by_objective (Capped cap) built capped = (omega (arith, capped.0), omega (arith, capped.1))
+    by_objective Bottleneck built capped = tt
+    by_objective BottleneckMax built capped = tt
+    by_objective TimeCost built capped = tt
+    by_objective Balanced built capped = tt
+    by_objective Lex built capped = cc
+
+-- what the words ask for is built
+pub asked_built : (request : Option Request) (job : Job) → built_job request ≡ Some job → is_built job ≡ true
+asked_built None job is = absurd (cc)
+asked_built (Some (Make seed side)) job is = absurd (cc)
+asked_built (Some (Work work)) job is = by_test (is_built work) refl is
+  where
+    by_test : (test : Bool) → is_built work ≡ test → cond test (Some work) None ≡ Some job → is_built job ≡ true
+    by_test true built is = let same : work ≡ job = cc in subst (λ j. is_built j ≡ true) same built
+    by_test false built is = absurd (cc)
 
 -- what a request to check owes is what it is due
 pub checks : (task : Task) (answer : List ℕ) (script : Option (List ℕ)) (count : Option ℕ) (job : Job) (contents : List (List ℕ)) (X : Problem) (status : Status) (text : List ℕ)

@@ -1,7 +1,6 @@
 -- The program's specification: what is due for the words of a command line and the contents of
 -- files.
 use Rattle.std.specs.Prelude.{◌≡◌, ◌<◌, ◌≤◌, ℕ, List, [], Option, Some, None, length, All, IsSome}
-use Rattle.asg_model.specs.Instances.{IsInstance}
 use Rattle.asg_model.specs.Limits.{longest_file}
 use Rattle.asg_model.specs.Problem.{Problem}
 use Rattle.asg_words.specs.declared.requests.Job.{Job}
@@ -36,7 +35,7 @@ pub data DueForJob (job : Job) (contents : List (List ℕ)) (status : Status)
       → status ≡ Instance → text ≡ refused_instance_text numbers
       → DueForJob job contents status text
   Held : AreShort contents
-      → (X : Problem) → instance_in job (content_at contents 0) ≡ Holds X → IsInstance X
+      → (X : Problem) → instance_in job (content_at contents 0) ≡ Holds X
       → DueForTask job.task job contents X status text → DueForJob job contents status text
 
 -- what is due for what the words ask, and the contents of the files that they name

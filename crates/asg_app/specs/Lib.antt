@@ -1,4 +1,5 @@
 pub mod AnswerStage
+pub mod CostCounts
 pub mod DocumentParts
 pub mod Due
 pub mod DueToCheck
@@ -9,6 +10,7 @@ pub mod InstanceFile
 pub mod InstanceStage
 pub mod Promised
 pub mod Readiness
+pub mod RefusedCosts
 pub mod Replies
 pub mod Requests
 pub mod Sources

@@ -1,5 +1,5 @@
 -- What the program's answers promise of the files.
-use Rattle.std.specs.Prelude.{◌≡◌, ◌≢◌, ◌⊎◌, ℕ, ℤ, List, length}
+use Rattle.std.specs.Prelude.{◌≡◌, ◌≢◌, ◌⊎◌, ℕ, ℤ, List, [], ◌∷◌, length}
 use Rattle.asg_model.specs.Instances.{IsInstance}
 use Rattle.asg_model.specs.Problem.{Problem}
 use Rattle.asg_doc.specs.declared.documents.Document.{Document}
@@ -10,10 +10,13 @@ use Rattle.asg_check.specs.declared.verdicts.Form.TheVariants.{Solve}
 use Rattle.asg_check.specs.Certifies.{Certifies}
 use Rattle.asg_check.specs.Reasons.{IsFirstReason}
 use Rattle.asg_check.specs.TrueClaim.{ClaimsTruly}
+use Rattle.asg_thresh.specs.Objectives.{IsBottleneck}
 use Rattle.asg_words.specs.declared.requests.Job.{Job}
+use Rattle.asg_words.specs.declared.requests.Task.TheVariants.{Solve as Solving}
 use Rattle.asg_app.specs.declared.status.Status.{Status}
-use Rattle.asg_app.specs.declared.status.Status.TheVariants.{Done, No}
-use Rattle.asg_app.specs.InstanceFile.{Holds, instance_in}
+use Rattle.asg_app.specs.declared.status.Status.TheVariants.{Done, No, Nothing}
+use Rattle.asg_app.specs.CostCounts.{RefusesCosts}
+use Rattle.asg_app.specs.InstanceFile.{Holds, Refuses, instance_in}
 use Rattle.asg_app.specs.Texts.{refused_document_text, no_text}
 use Rattle.asg_app.specs.WrittenDocument.{IsBestDocument, IsNoneDocument}
 
@@ -42,6 +45,27 @@ pub record IsUnsolvable (job : Job) (bytes text : List ℕ) : Type 0 where
   pub instance : IsInstance problem
   pub none : IsNoneDocument job.objective problem Solve document
   pub written : text ≡ text_of document
+
+-- what is written with a status of a job is never longer than the longest file that is read: that
+-- no choice is valid, or a document for a bottleneck objective
+abbrev pub IsNeverLong : Job → Status → Type 0
+IsNeverLong job status = (status ≡ Nothing) ⊎ IsBottleneck job.objective
+
+-- the job is to solve, and the bytes hold an instance of which its objective's solver refuses the
+-- costs; the numbers are 16 and that of the different costs
+pub record HasTooManyCosts (job : Job) (bytes numbers : List ℕ) : Type 0 where
+  pub solves : job.task ≡ Solving
+  pub problem : Problem
+  pub held : instance_in job bytes ≡ Holds problem
+  pub count : ℕ
+  pub refused : RefusesCosts job.objective problem count
+  pub told : numbers ≡ 16 ∷ count ∷ []
+
+-- the bytes are refused with these numbers: they hold no instance that the job takes, or one with
+-- too many different costs for a job to solve
+abbrev pub IsRefusedInstance : Job → List ℕ → List ℕ → Type 0
+IsRefusedInstance job bytes numbers =
+    (instance_in job bytes ≡ Refuses numbers) ⊎ HasTooManyCosts job bytes numbers
 
 -- the bytes hold an instance, and the answer is the text of one document, which certifies for it
 -- and claims what is true of it

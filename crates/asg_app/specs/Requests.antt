@@ -2,7 +2,7 @@
 use Rattle.std.specs.Prelude.{ℕ, Bool, true, false, ◌&&◌, not, if◌then◌else◌, List, []}
 use Rattle.std.specs.Prelude.{Option, Some, None}
 use Rattle.asg_model.specs.declared.objectives.Objective.{Objective}
-use Rattle.asg_model.specs.declared.objectives.Objective.TheVariants.{Bottleneck, BottleneckMax}
+use Rattle.asg_model.specs.declared.objectives.Objective.TheVariants.{Lex}
 use Rattle.asg_words.specs.declared.requests.Job.{Job}
 use Rattle.asg_words.specs.declared.requests.Request.{Request}
 use Rattle.asg_words.specs.declared.requests.Request.TheVariants.{Work, Make}
@@ -16,11 +16,10 @@ is_built_task Solve = true
 is_built_task (Check answer None None) = true
 is_built_task _ = false
 
--- the objectives that are built: the two bottleneck ones
+-- the objectives that are built: all but `lex`
 abbrev pub is_built_objective : Objective → Bool
-is_built_objective Bottleneck = true
-is_built_objective BottleneckMax = true
-is_built_objective _ = false
+is_built_objective Lex = false
+is_built_objective _ = true
 
 -- the jobs that are built: a task and an objective that are, and whole documents
 abbrev pub is_built : Job → Bool

@@ -1,10 +1,15 @@
 -- What a document must be that a command writes.
 use Rattle.std.specs.Prelude.{◌≡◌, ℕ, List}
 use Rattle.asg_model.specs.declared.objectives.Objective.{Objective}
-use Rattle.asg_model.specs.declared.objectives.Objective.TheVariants.{Bottleneck, BottleneckMax}
+use Rattle.asg_model.specs.declared.objectives.Objective.TheVariants.{Bottleneck, BottleneckMax, Balanced, Lex}
 use Rattle.asg_model.specs.Problem.{Problem}
+use Rattle.asg_model.specs.Shapes.{square_side}
+use Rattle.asg_proof.specs.declared.outcomes.Outcome.{Outcome}
+use Rattle.asg_proof.specs.declared.outcomes.Outcome.TheVariants as outcomes
 use Rattle.asg_proof.specs.declared.outcomes.Proof.{Proof}
-use Rattle.asg_proof.specs.declared.outcomes.Proof.TheVariants.{Below}
+use Rattle.asg_proof.specs.declared.outcomes.Proof.TheVariants.{Windows}
+use Rattle.asg_objectives.specs.FoldOutcomes.{HasFewPhases}
+use Rattle.asg_thresh.specs.Objectives.{IsThresholdProof}
 use Rattle.asg_doc.specs.declared.documents.Answer.{Answer}
 use Rattle.asg_doc.specs.declared.documents.Claim.{Claim}
 use Rattle.asg_doc.specs.declared.documents.Claim.TheVariants.{Best, Nothing}
@@ -14,26 +19,39 @@ use Rattle.asg_check.specs.declared.verdicts.Form.{Form}
 use Rattle.asg_check.specs.Certifies.{Certifies}
 use Rattle.asg_check.specs.TrueClaim.{ClaimsTruly}
 
--- the kind of proof that is promised for an objective: a threshold proof for the two bottleneck
--- objectives
-abbrev pub IsPromisedProof : Objective → Proof → Type 0
-IsPromisedProof Bottleneck (Below rows) = Unit {0}
-IsPromisedProof BottleneckMax (Below rows) = Unit {0}
-IsPromisedProof _ _ = ⊥
+-- the proof is a list of windows
+abbrev pub IsWindowsProof : Proof → Type 0
+IsWindowsProof (Windows windows) = Unit {0}
+IsWindowsProof _ = ⊥
 
--- a claim whose proof is of that kind; one that nothing is valid has none
-abbrev pub IsPromisedClaim : Objective → Claim → Type 0
-IsPromisedClaim objective (Best answer proof) = IsPromisedProof objective proof
-IsPromisedClaim objective (Nothing rows) = Unit {0}
+-- the proof that is promised for an objective and an instance: a threshold proof for the two
+-- bottleneck objectives, windows for `balanced`, and for the other algebraic ones at most as many
+-- phases as the side of the instance's square, each of at most as many steps
+abbrev pub IsPromisedProof : Objective → Problem → Proof → Type 0
+IsPromisedProof Bottleneck X proof = IsThresholdProof proof
+IsPromisedProof BottleneckMax X proof = IsThresholdProof proof
+IsPromisedProof Balanced X proof = IsWindowsProof proof
+IsPromisedProof Lex X proof = ⊥
+IsPromisedProof _ X proof = HasFewPhases (square_side X) proof
+
+-- an outcome whose proof is promised; the one that no choice is valid has none
+abbrev pub IsPromisedOutcome : Objective → Problem → Outcome → Type 0
+IsPromisedOutcome objective X (outcomes.Best choice proof) = IsPromisedProof objective X proof
+IsPromisedOutcome objective X (outcomes.Nothing rows) = Unit {0}
+
+-- a claim whose proof is promised; the one that nothing is valid has none
+abbrev pub IsPromisedClaim : Objective → Problem → Claim → Type 0
+IsPromisedClaim objective X (Best answer proof) = IsPromisedProof objective X proof
+IsPromisedClaim objective X (Nothing rows) = Unit {0}
 
 -- a document that a command may write for an objective, an instance and a form: it has a text and
--- certifies, what it claims is true, and its proof is of the kind that is promised
+-- certifies, what it claims is true, and its proof is one that is promised
 pub record IsWritten (objective : Objective) (X : Problem) (form : Form)
     (document : Document) : Type 0 where
   pub has_text : HasText document
   pub certifies : Certifies objective X form document
   pub truly : ClaimsTruly objective X document
-  pub promised : IsPromisedClaim objective document.claim
+  pub promised : IsPromisedClaim objective X document.claim
 
 -- a document that may be written, and claims a best answer
 pub record IsBestDocument (objective : Objective) (X : Problem) (form : Form)

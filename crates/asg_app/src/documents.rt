@@ -1,23 +1,28 @@
 // The documents of a job's outcome.
-ghost use Rattle.std.specs.Prelude.{◌≡◌, ◌<◌, true, IfOk, length};
+ghost use Rattle.std.specs.Prelude.{◌≡◌, ◌<◌, ◌≤◌, IfOk, length};
 ghost use Rattle.asg_check.specs.declared.verdicts.Form.TheVariants.{Solve};
 ghost use Rattle.asg_doc.specs.ChosenCells.{cells_by_id, column_id};
 ghost use Rattle.asg_doc.specs.HasText.{AreCells, HasValueText};
+ghost use Rattle.asg_doc.specs.Words.{HasWord};
+ghost use Rattle.asg_model.specs.Limits.{most_side};
+ghost use Rattle.asg_model.specs.Refused.{PassesNegative};
+ghost use Rattle.asg_model.specs.Shapes.{square_side};
 ghost use Rattle.asg_model.specs.ValidChoice.{IsValid};
 ghost use Rattle.asg_model.specs.Values.{choice_value};
 ghost use Rattle.asg_proof.specs.Outcomes.{IsOutcome, IsProvedBest};
 ghost use Rattle.asg_proof.specs.declared.outcomes.Outcome.TheVariants.{Nothing};
-ghost use Rattle.asg_proof.specs.declared.outcomes.Proof.TheVariants.{Below};
-ghost use Rattle.asg_app.specs.DocumentParts.{cell_at};
-ghost use Rattle.asg_app.specs.Requests.{is_built_objective};
-ghost use Rattle.asg_app.specs.WrittenDocument.{IsBestDocument, IsNoneDocument};
+ghost use Rattle.asg_app.specs.DocumentParts.{KeepsRanges, cell_at};
+ghost use Rattle.asg_app.specs.WrittenDocument.{IsBestDocument, IsNoneDocument, IsPromisedProof};
 
 use asg_check::laws::soundness_law;
 use asg_doc::{Answer, Cells, Claim, Command, Document};
 use asg_model::laws::hall_rows_law;
 use asg_model::{Choice, Instance, NoMemory, Objective, value};
 use asg_proof::{Ids, Proof};
-use std::alloc::Global;
+use std::alloc::{AllocError, Global};
+
+// The greatest number of windows that a document counts.
+const MOST_WINDOWS: usize = 4_294_967_295;
 
 // The id of the column at a place, where there is one.
 fn column_id(inst: &Instance, place: u32) -> Option<u32>
@@ -64,7 +69,7 @@ fn answer(
     inst: &Instance,
     choice: &Choice,
 ) -> Result<Answer, NoMemory>
-    requires built { is_built_objective objective ≡ true }
+    requires word { HasWord objective }
     requires valid { IsValid inst.now choice.now }
     ensures value { IfOk result (λ answer.
         answer.value ≡ choice_value objective inst.now choice.now) }
@@ -77,42 +82,69 @@ fn answer(
     Ok(Answer { value, cells })
 }
 
-// The document that claims a choice as best, which these rows prove. The error is want of memory.
+// What the parts of a proof keep. The error is want of memory: a document counts windows in 32 bits,
+// and more of them are taken as more than there is memory for.
+fn keeps_ranges(proof: &Proof) -> Result<(), NoMemory>
+    ensures { IfOk result (λ _. KeepsRanges proof.now) }
+{
+    match proof {
+        Proof::Phases(phases) => {
+            let _count = phases.len();
+            Ok(())
+        }
+        Proof::Below(rows) => {
+            let _count = rows.len();
+            Ok(())
+        }
+        Proof::Windows(windows) => {
+            if windows.len() > MOST_WINDOWS {
+                return Err(AllocError);
+            }
+            Ok(())
+        }
+    }
+}
+
+// The document that claims a choice as best, with its proof, which is one that is promised. The error
+// is want of memory.
 pub(crate) fn best_document(
     alloc: Global,
     objective: Objective,
     inst: &Instance,
     choice: &Choice,
-    rows: Ids,
+    proof: Proof,
 ) -> Result<Document, NoMemory>
-    requires built { is_built_objective objective ≡ true }
-    requires proved { IsProvedBest objective inst.now choice.now (Below rows) }
+    requires word { HasWord objective }
+    requires side { square_side inst.now ≤ most_side }
+    requires passes { PassesNegative objective inst.now }
+    requires proved { IsProvedBest objective inst.now choice.now proof }
+    requires promised { IsPromisedProof objective inst.now proof }
     ensures { IfOk result (IsBestDocument objective inst.now Solve) }
 {
     soundness_law();
     hall_rows_law();
-    let _count = rows.len();
+    keeps_ranges(&proof)?;
+    let _rows = inst.rows();
     let answer = answer(alloc, objective, inst, choice)?;
     Ok(Document {
         command: Command::Solve,
         objective,
-        claim: Claim::Best {
-            answer,
-            proof: Proof::Below(rows),
-        },
+        claim: Claim::Best { answer, proof },
     })
 }
 
 // The document that claims that no choice is valid, with these rows as a Hall set. It takes no
 // memory.
 pub(crate) fn none_document(objective: Objective, inst: &Instance, rows: Ids) -> Document
-    requires built { is_built_objective objective ≡ true }
+    requires word { HasWord objective }
+    requires passes { PassesNegative objective inst.now }
     requires hall { IsOutcome objective inst.now (Nothing rows) }
     ensures { IsNoneDocument objective inst.now Solve result }
 {
     soundness_law();
     hall_rows_law();
     let _count = rows.len();
+    let _rows = inst.rows();
     Document {
         command: Command::Solve,
         objective,

@@ -1,23 +1,30 @@
 //! Laws over the program's specification: each is the contract of a function that at most calls
 //! laws.
 
-ghost use Rattle.std.specs.Prelude.{◌≡◌, ◌≢◌, ◌<◌, ℕ, List, [], Option, Some, None, length};
+ghost use Rattle.std.specs.Prelude.{◌≡◌, ◌↔◌, ◌<◌, ◌≤◌, ℕ, List, [], Option, Some, None, length};
 ghost use Rattle.std.specs.List.{Contains};
+ghost use Rattle.asg_model.specs.declared.objectives.Objective.{Objective};
 ghost use Rattle.asg_model.specs.Instances.{IsInstance};
-ghost use Rattle.asg_model.specs.Limits.{longest_file};
+ghost use Rattle.asg_model.specs.Limits.{longest_file, most_side};
 ghost use Rattle.asg_model.specs.Problem.{Problem};
+ghost use Rattle.asg_model.specs.Refused.{IsFirstRefused, PassesNegative};
+ghost use Rattle.asg_model.specs.Shapes.{square_side};
 ghost use Rattle.asg_words.specs.declared.requests.Job.{Job};
 ghost use Rattle.asg_app.specs.declared.status.Status.{Status as Ended};
 ghost use Rattle.asg_app.specs.declared.status.Status.TheVariants.{Usage, Instance, TooLong};
 ghost use Rattle.asg_app.specs.Due.{Due, Tells, TellsShort};
 ghost use Rattle.asg_app.specs.Fetches.{MayHold};
 ghost use Rattle.asg_app.specs.InstanceFile.{Holds, Refuses, instance_in};
+ghost use Rattle.asg_app.specs.Promised.{IsRefusedInstance};
+ghost use Rattle.asg_app.specs.RefusedCosts.{first_refused};
 ghost use Rattle.asg_app.specs.Requests.{files_of, job_of};
 ghost use Rattle.asg_app.specs.Statuses.{HasOneText};
 ghost use Rattle.asg_app.specs.Texts.{usage_text, refused_instance_text};
 
 use asg_check::laws::one_reason;
 use asg_doc::{refused_line, unique_reading};
+use asg_model::laws::shape_law;
+use asg_words::laws::request_law;
 
 pub mod check_laws;
 pub mod solve_laws;
@@ -39,13 +46,29 @@ pub fn due_law()
     unique_reading();
 }
 
-/// Where something is due and no file is too long, what the job's file holds is an instance: it keeps
-/// what each instance keeps.
+/// Whatever bytes the instance's file of a request has, what they hold is an instance: it keeps what
+/// each instance keeps, the request's objective refuses none of its live costs, and its square isn't
+/// too large.
 pub fn instance_law()
-    ensures { (words : List (List ℕ)) (told : List ℕ → Option (List ℕ))
-        (status : Ended) (text bytes : List ℕ) (job : Job) (X : Problem) →
-        job_of words ≡ Some job → told job.instance ≡ Some bytes → instance_in job bytes ≡ Holds X →
-        Due words told status text → status ≢ TooLong → IsInstance X }
+    ensures instance { (words : List (List ℕ)) (bytes : List ℕ) (job : Job) (X : Problem) →
+        job_of words ≡ Some job → instance_in job bytes ≡ Holds X → IsInstance X }
+    ensures passes { (bytes : List ℕ) (job : Job) (X : Problem) →
+        instance_in job bytes ≡ Holds X → PassesNegative job.objective X }
+    ensures side { (bytes : List ℕ) (job : Job) (X : Problem) →
+        instance_in job bytes ≡ Holds X → square_side X ≤ most_side }
+{
+    request_law();
+    shape_law();
+    asg_text::laws::instance_law();
+}
+
+/// The cell that the refusal of a cost names is the first live cell, row by row, whose cost the
+/// objective refuses. There is none exactly where the objective refuses no live cost.
+pub fn refused_cost_law()
+    ensures none { (objective : Objective) (X : Problem) →
+        (first_refused objective X ≡ None) ↔ PassesNegative objective X }
+    ensures first { (objective : Objective) (X : Problem) (ids : ℕ × ℕ) →
+        IsFirstRefused objective X ids → first_refused objective X ≡ Some ids }
 {}
 
 /// The usage line is due only for words that are no request, or one that isn't built.
@@ -64,12 +87,14 @@ pub fn too_long_law()
 {}
 
 /// The refusal of an instance is due only where the words are a request whose instance's file is
-/// refused, by its text or by the request's options, with the numbers of the refusal.
+/// refused, by its text, by the request's options or by a cost that its objective doesn't take, or
+/// for a request to solve `balanced` holds an instance with too many different costs, with the numbers
+/// of the refusal.
 pub fn refused_law()
     ensures { (words : List (List ℕ)) (told : List ℕ → Option (List ℕ)) (text : List ℕ) →
         Due words told Instance text →
         (job : Job) × (bytes numbers : List ℕ) × (job_of words ≡ Some job)
-        × MayHold told job.instance bytes × (instance_in job bytes ≡ Refuses numbers)
+        × MayHold told job.instance bytes × IsRefusedInstance job bytes numbers
         × (text ≡ refused_instance_text numbers) }
 {}
 

@@ -18,11 +18,11 @@ fn is_built_task(task: &Task) -> bool
     }
 }
 
-// Whether an objective is built: one of the two bottleneck ones.
+// Whether an objective is built: any but `lex`.
 fn is_built_objective(objective: Objective) -> bool
     ensures { result ≡ is_built_objective objective }
 {
-    matches!(objective, Objective::Bottleneck | Objective::BottleneckMax)
+    !matches!(objective, Objective::Lex)
 }
 
 // Whether each part of a job is built.

@@ -1,7 +1,9 @@
 //! Requests to solve, and words that are no request, as runs over memory.
 
 use crate::Status;
-use crate::memory_runs::{CASES, Files, THREE, held, run_over};
+use crate::algebraic_runs::ALGEBRAIC;
+use crate::memory_runs::{CASES, Case, Files, THREE, held, run_over};
+use std::alloc::{AllocError, Global};
 use std::test::Fail;
 
 const USAGE: &str =
@@ -9,29 +11,35 @@ const USAGE: &str =
 
 const SOLVE: &[&str] = &["solve", "bottleneck", "f"];
 
-// Each request has its status and its document, and the document is accepted.
+// Whether a request has its status and its document, and the document is accepted.
+pub(crate) fn is_answered(alloc: Global, case: Case) -> Result<bool, AllocError> {
+    let (objective, options, file, code, lines) = case;
+    let words = ["solve", objective, "f"];
+    let solved = run_over(alloc, &words, options, held(file.as_bytes(), b""))?;
+    let text = format!(in alloc; "assignment 1\ncommand solve\nobjective {objective}\n{lines}")?;
+    let words = ["check", objective, "f", "g"];
+    let again = held(file.as_bytes(), &solved.written);
+    let checked = run_over(alloc, &words, options, again)?;
+    Ok(
+        solved.code == code
+            && solved.written.starts_with(text.as_bytes())
+            && checked.code == 0
+            && checked.written.as_slice() == b"yes 1\n".as_slice(),
+    )
+}
+
 #[test]
-fn documents_of_instances(rt: HostRuntime) -> Result<(), Fail> {
-    for (objective, options, file, code, lines) in CASES {
-        let solved = run_over(
-            rt.alloc(),
-            &["solve", objective, "f"],
-            options,
-            held(file.as_bytes(), b""),
-        )?;
-        let text = format!(in rt.alloc();
-            "assignment 1\ncommand solve\nobjective {objective}\n{lines}"
-        )?;
-        assert_eq!(rt; solved.code, code, "{file}");
-        assert!(rt; solved.written.starts_with(text.as_bytes()), "{file}");
-        let checked = run_over(
-            rt.alloc(),
-            &["check", objective, "f", "g"],
-            options,
-            held(file.as_bytes(), &solved.written),
-        )?;
-        assert_eq!(rt; checked.code, 0, "{file}");
-        assert_eq!(rt; checked.written.as_slice(), b"yes 1\n".as_slice(), "{file}");
+fn bottleneck_documents(rt: HostRuntime) -> Result<(), Fail> {
+    for case in CASES {
+        assert!(rt; is_answered(rt.alloc(), case)?, "{case:?}");
+    }
+    Ok(())
+}
+
+#[test]
+fn algebraic_documents(rt: HostRuntime) -> Result<(), Fail> {
+    for case in ALGEBRAIC {
+        assert!(rt; is_answered(rt.alloc(), case)?, "{case:?}");
     }
     Ok(())
 }
@@ -40,11 +48,14 @@ fn documents_of_instances(rt: HostRuntime) -> Result<(), Fail> {
 #[test]
 fn a_hall_set_of_two_rows(rt: HostRuntime) -> Result<(), Fail> {
     let file = b"p asn 4 2\nn 1\nn 2\na 1 3 5\na 2 3 6\n";
-    let ran = run_over(rt.alloc(), SOLVE, &["--format", "asn"], held(file, b""))?;
-    assert_eq!(rt; ran.code, 1);
-    let both = ran.written.ends_with(b"\nhall 1 2\nend\n")
-        || ran.written.ends_with(b"\nhall 2 1\nend\n");
-    assert!(rt; both);
+    for objective in ["bottleneck", "sum"] {
+        let words = ["solve", objective, "f"];
+        let ran = run_over(rt.alloc(), &words, &["--format", "asn"], held(file, b""))?;
+        assert_eq!(rt; ran.code, 1);
+        let both = ran.written.ends_with(b"\nhall 1 2\nend\n")
+            || ran.written.ends_with(b"\nhall 2 1\nend\n");
+        assert!(rt; both);
+    }
     Ok(())
 }
 
@@ -106,6 +117,100 @@ fn files_that_are_refused(rt: HostRuntime) -> Result<(), Fail> {
     Ok(())
 }
 
+// Objectives, options and files, and how the files are refused by the objective: no objective but
+// `capped` and `time-cost` refuses a negative cost, and the refusal comes behind that of the options'
+// place and before that of the side.
+const REFUSED_COSTS: [(&str, &[&str], &str, &str); 12] = [
+    ("capped=5", &[], "1\n-1\n", "refused instance 14 1 1\n"),
+    (
+        "capped=5",
+        &[],
+        "3\n4 1 3\n2 0:-1 5\n-3 -2 2\n",
+        "refused instance 14 3 1\n",
+    ),
+    (
+        "time-cost",
+        &[],
+        "2\n-1 2\n-3 4:-1\n",
+        "refused instance 14 2 2\n",
+    ),
+    (
+        "capped=5",
+        &["--format", "asn"],
+        "p asn 9 3\nn 7\nn 5\na 7 9 1\na 5 9 0\na 5 8 -2\n",
+        "refused instance 14 5 8\n",
+    ),
+    (
+        "capped=5",
+        &[],
+        "1\n-1000000001\n",
+        "refused instance 6 2\n",
+    ),
+    (
+        "capped=5",
+        &["--place", "2"],
+        "1\n-1\n",
+        "refused instance 13 2\n",
+    ),
+    (
+        "capped=5",
+        &["--each", "1000"],
+        "3\n4 1 3\n2 -1 5\n3 2 2\n",
+        "refused instance 14 2 2\n",
+    ),
+    (
+        "capped=5",
+        &["--each", "1000"],
+        "3\n4 1 3\n2 0 5\n3 2 2\n",
+        "refused instance 15 3000\n",
+    ),
+    (
+        "sum",
+        &["--each", "1000"],
+        "3\n4 -1 3\n2 0:-1 5\n3 2 2\n",
+        "refused instance 15 3000\n",
+    ),
+    (
+        "sum",
+        &["--place", "4"],
+        "3\n4 1 3\n2 0 5\n3 2 2\n",
+        "refused instance 13 4\n",
+    ),
+    (
+        "sum",
+        &["--format", "asn"],
+        "p asn 4 3\nn 1\nn 2\na 1 3 5\na 2 4 6\n",
+        "refused instance 8 3 2\n",
+    ),
+    (
+        "sum",
+        &["--format", "asn"],
+        "p asn 4 2\nn 1\nn 2\na 1 3 5\na 1 3 6\n",
+        "refused instance 7 5\n",
+    ),
+];
+
+// A request to check refuses an instance as one to solve does.
+#[test]
+fn costs_that_are_refused(rt: HostRuntime) -> Result<(), Fail> {
+    for (objective, options, file, text) in REFUSED_COSTS {
+        let files = held(file.as_bytes(), b"");
+        for words in [
+            ["solve", objective, "f"].as_slice(),
+            ["check", objective, "f", "g"].as_slice(),
+        ] {
+            let ran = run_over(rt.alloc(), words, options, files)?;
+            assert_eq!(rt; ran.code, 3, "{objective} {file}");
+            assert_eq!(rt;
+                ran.written.as_slice(),
+                text.as_bytes(),
+                "{objective} {file}"
+            );
+        }
+    }
+    Ok(())
+}
+
 // Words that are no request, and requests that aren't built.
 const NO_REQUESTS: [&[&str]; 18] = [
     &[],
@@ -119,8 +224,8 @@ const NO_REQUESTS: [&[&str]; 18] = [
     &["edit", "lex", "f", "g"],
     &["rank", "sum", "f"],
     &["solve", "sum"],
-    &["solve", "sum", "f"],
-    &["check", "sum", "f", "g"],
+    &["check", "lex", "f", "g"],
+    &["solve", "capped=0", "f"],
     &["solve", "bottleneck", "f", "--brief"],
     &["check", "bottleneck", "f", "g", "--count", "1"],
     &["check", "bottleneck", "f", "g", "--script", "f"],
@@ -145,16 +250,19 @@ fn faults_of_shelf_and_sink(rt: HostRuntime) -> Result<(), Fail> {
         put_fails: &[(1, 10)],
         ..whole
     };
-    let ran = run_over(rt.alloc(), SOLVE, &[], cut)?;
-    assert_eq!(rt; ran.code, 8);
-    assert_eq!(rt; ran.written.as_slice(), b"assignment".as_slice());
     let unread = Files {
         fetch_fails: &[1],
         ..whole
     };
-    let ran = run_over(rt.alloc(), SOLVE, &[], unread)?;
-    assert_eq!(rt; ran.code, 7);
-    assert_eq!(rt; ran.written.as_slice(), b"".as_slice());
+    for objective in ["bottleneck", "sum"] {
+        let words = ["solve", objective, "f"];
+        let ran = run_over(rt.alloc(), &words, &[], cut)?;
+        assert_eq!(rt; ran.code, 8);
+        assert_eq!(rt; ran.written.as_slice(), b"assignment".as_slice());
+        let ran = run_over(rt.alloc(), &words, &[], unread)?;
+        assert_eq!(rt; ran.code, 7);
+        assert_eq!(rt; ran.written.as_slice(), b"".as_slice());
+    }
     let ran = run_over(rt.alloc(), &["solve", "bottleneck", "h"], &[], whole)?;
     assert_eq!(rt; ran.code, 7);
     let unsaid = Files {

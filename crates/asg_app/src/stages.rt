@@ -1,9 +1,11 @@
 // The stages of a request that all commands share, up to its command.
 ghost use Rattle.std.specs.Prelude.{◌≡◌, ◌≤◌, IfOk, IfSome, IsErr, MatchOption};
+ghost use Rattle.asg_model.specs.Limits.{most_side};
+ghost use Rattle.asg_model.specs.Refused.{PassesNegative};
 ghost use Rattle.asg_model.specs.Shapes.{square_side};
 ghost use Rattle.asg_text.specs.Faults.{fault_of, refusal_numbers};
 ghost use Rattle.asg_app.specs.Due.{DueForAsked, DueForJob, DueForTask};
-ghost use Rattle.asg_app.specs.InstanceFile.{fitted, most_side, rows_asked};
+ghost use Rattle.asg_app.specs.InstanceFile.{fitted, passed, rows_asked, sided};
 ghost use Rattle.asg_app.specs.InstanceStage.{DueForFile};
 ghost use Rattle.asg_app.specs.Readiness.{IsReady};
 ghost use Rattle.asg_app.specs.Replies.{Answers, IsReply};
@@ -11,10 +13,12 @@ ghost use Rattle.asg_app.specs.Texts.{refused_instance_text};
 
 use crate::commands::{check, solve};
 use crate::files::Asked;
-use crate::replies::{Reply, Text};
+use crate::refusals::refusal;
+use crate::replies::Reply;
 use crate::sources::Sources;
 use crate::status::Status;
-use asg_model::{Instance, NoMemory, Place, PlaceRange};
+use asg_model::limits::MOST_SIDE;
+use asg_model::{Instance, NoMemory, Place, PlaceRange, negative};
 use asg_text::{TextRefusal, read};
 use asg_words::{Job, Task};
 use std::alloc::{AllocError, Global};
@@ -22,26 +26,6 @@ use std::alloc::{AllocError, Global};
 /// The line for words that are no request.
 const USAGE: &str =
     "usage: asg solve OBJECTIVE INSTANCE | rank OBJECTIVE INSTANCE --count K | edit OBJECTIVE INSTANCE SCRIPT | check OBJECTIVE INSTANCE ANSWER | make SEED SIDE\n";
-
-/// The greatest side of a square.
-const MOST_SIDE: u32 = 2_000;
-
-// The refusal of an instance with these numbers. The error is want of memory.
-fn refusal(alloc: Global, numbers: &[u64]) -> Result<Reply, NoMemory>
-    ensures { IfOk result (λ reply.
-        IsReply reply Status.Instance (refused_instance_text numbers.now)) }
-{
-    let mut line = String::from_str(alloc, "refused instance")?;
-    for number in numbers {
-        let part = format!(in alloc; " {number}")?;
-        line.push_str(part.as_str())?;
-    }
-    line.push_str("\n")?;
-    Ok(Reply {
-        status: Status::Instance,
-        text: Text::Line(line),
-    })
-}
 
 // The refusal of an instance by its text. The error is want of memory, also where that is what
 // refused it.
@@ -85,12 +69,50 @@ fn task_reply(
 ) -> Result<Reply, NoMemory>
     requires ready { IsReady job.now }
     requires side { square_side inst.now ≤ most_side }
+    requires passes { PassesNegative job.now.objective inst.now }
     ensures { IfOk result (Answers (DueForTask job.now.task job.now sources.now inst.now)) }
 {
     match job.task {
         Task::Solve => solve::reply(alloc, job, inst),
         Task::Check { .. } => check::reply(alloc, job, inst, sources.at(1)),
         Task::Rank(_) | Task::Edit(_) => unreachable!(),
+    }
+}
+
+// The reply to a job for an instance with the job's options, of which the objective refuses no live
+// cost: its square is to be no larger than the solvers take. The error is want of memory.
+fn sided_reply(
+    alloc: Global,
+    job: &Job,
+    inst: &Instance,
+    sources: &Sources,
+) -> Result<Reply, NoMemory>
+    requires ready { IsReady job.now }
+    requires passes { PassesNegative job.now.objective inst.now }
+    ensures { IfOk result (Answers (DueForFile (sided inst.now) job.now sources.now)) }
+{
+    let side = inst.side();
+    if side > MOST_SIDE {
+        return refusal(alloc, &[15, u64::from(side)]);
+    }
+    task_reply(alloc, job, inst, sources)
+}
+
+// The reply to a job for an instance with the job's options: the objective is to refuse no live cost
+// of it. The error is want of memory.
+fn passed_reply(
+    alloc: Global,
+    job: &Job,
+    inst: &Instance,
+    sources: &Sources,
+) -> Result<Reply, NoMemory>
+    requires { IsReady job.now }
+    ensures { IfOk result (Answers
+        (DueForFile (passed job.now.objective inst.now) job.now sources.now)) }
+{
+    match negative(job.objective, inst) {
+        Some((row, column)) => refusal(alloc, &[14, u64::from(row), u64::from(column)]),
+        None => sided_reply(alloc, job, inst, sources),
     }
 }
 
@@ -104,18 +126,13 @@ fn fitted_reply(
 ) -> Result<Reply, NoMemory>
     requires { IsReady job.now }
     ensures { IfOk result (Answers
-        (DueForFile (fitted job.now.place job.now.each inst) job.now sources.now)) }
+        (DueForFile (fitted job.now.objective job.now.place job.now.each inst)
+        job.now sources.now)) }
 {
     let Ok(()) = inst.shape(job.place, job.each) else {
         return refusal(alloc, &[13, rows_asked(job.place)]);
     };
-    // What an instance keeps is told by a reader of it.
-    let _rows = inst.rows();
-    let side = inst.side();
-    if side > MOST_SIDE {
-        return refusal(alloc, &[15, u64::from(side)]);
-    }
-    task_reply(alloc, job, &inst, sources)
+    passed_reply(alloc, job, &inst, sources)
 }
 
 // The reply to a job, whose instance stands in the first file. The error is want of memory.

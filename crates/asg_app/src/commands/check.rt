@@ -1,10 +1,13 @@
 // Requests to check.
 ghost use Rattle.std.specs.Prelude.{◌≤◌, IfOk, length};
+ghost use Rattle.asg_doc.specs.HasText.{HasText};
 ghost use Rattle.asg_doc.specs.RefusedLine.{AllHaveText};
 ghost use Rattle.asg_doc.specs.Text.{texts_of};
 ghost use Rattle.asg_app.specs.AnswerStage.{UnlessUnread};
 ghost use Rattle.asg_app.specs.DueToCheck.{DueToCheck};
-ghost use Rattle.asg_model.specs.Limits.{longest_file};
+ghost use Rattle.asg_model.specs.Limits.{longest_file, most_side};
+ghost use Rattle.asg_model.specs.Refused.{PassesNegative};
+ghost use Rattle.asg_model.specs.Shapes.{square_side};
 ghost use Rattle.asg_app.specs.Replies.{Answers, IsReply};
 ghost use Rattle.asg_app.specs.Texts.{no_text, refused_document_text};
 
@@ -45,8 +48,12 @@ fn verdict(
     inst: &Instance,
     document: &Document,
 ) -> Result<Reply, NoMemory>
+    requires side { square_side inst.now ≤ most_side }
+    requires passes { PassesNegative job.now.objective inst.now }
+    requires text { HasText document.now }
     ensures { IfOk result (Answers (DueToCheck job.now inst.now document.now)) }
 {
+    let _rows = inst.rows();
     match check(alloc, job.objective, inst, Form::Solve, document)? {
         Verdict::Yes => Reply::line(alloc, Status::Done, "yes 1\n"),
         Verdict::No { reason, place } => denial(alloc, reason, place),
@@ -60,7 +67,9 @@ fn documents_reply(
     inst: &Instance,
     documents: &[Document],
 ) -> Result<Reply, NoMemory>
-    requires { AllHaveText documents.now }
+    requires side { square_side inst.now ≤ most_side }
+    requires passes { PassesNegative job.now.objective inst.now }
+    requires text { AllHaveText documents.now }
     ensures { IfOk result (Answers
         (UnlessUnread (texts_of documents.now) (DueToCheck job.now inst.now))) }
 {
@@ -78,7 +87,9 @@ pub(crate) fn reply(
     inst: &Instance,
     answer: &[u8],
 ) -> Result<Reply, NoMemory>
-    requires { length answer.now ≤ longest_file }
+    requires side { square_side inst.now ≤ most_side }
+    requires passes { PassesNegative job.now.objective inst.now }
+    requires short { length answer.now ≤ longest_file }
     ensures { IfOk result (Answers (UnlessUnread answer.now (DueToCheck job.now inst.now))) }
 {
     match read(alloc, answer) {

@@ -1,32 +1,55 @@
 // Requests to solve.
-ghost use Rattle.std.specs.Prelude.{◌≡◌, ◌≤◌, IfOk};
+ghost use Rattle.std.specs.Prelude.{◌≡◌, ◌≤◌, true, IfErr, IfOk};
+ghost use Rattle.asg_model.specs.Limits.{most_side};
+ghost use Rattle.asg_model.specs.Refused.{PassesNegative};
 ghost use Rattle.asg_model.specs.Shapes.{square_side};
 ghost use Rattle.asg_doc.specs.HasText.{HasText};
 ghost use Rattle.asg_doc.specs.Text.{text_of};
 ghost use Rattle.asg_proof.specs.Outcomes.{IsOutcome, IsProvedBest};
-ghost use Rattle.asg_proof.specs.declared.outcomes.Proof.TheVariants.{Below};
+ghost use Rattle.asg_app.specs.CostCounts.{IsCostRefusal, TakesCosts};
 ghost use Rattle.asg_app.specs.DueToSolve.{DueToSolve};
-ghost use Rattle.asg_app.specs.InstanceFile.{most_side};
 ghost use Rattle.asg_app.specs.Readiness.{IsReady};
 ghost use Rattle.asg_app.specs.Replies.{Answers, IsReply};
+ghost use Rattle.asg_app.specs.Requests.{is_built_objective};
+ghost use Rattle.asg_app.specs.WrittenDocument.{IsPromisedOutcome, IsPromisedProof};
 
 use crate::documents::{best_document, none_document};
+use crate::refusals::refusal;
 use crate::replies::{Reply, Text};
 use crate::sheets::Sheet;
 use crate::status::Status;
 use asg_doc::Document;
-use asg_model::{Choice, Instance, NoMemory};
+use asg_model::{Choice, Instance, NoMemory, Objective};
+use asg_objectives::algebraic_assignment;
 use asg_proof::{Ids, Outcome, Proof};
 use asg_thresh::bottleneck;
+use asg_window::{BalancedRefusal, balanced};
 use asg_words::Job;
-use std::alloc::Global;
+use std::alloc::{AllocError, Global};
 
-// The rows of a threshold proof.
-fn rows_of(proof: Proof) -> Ids
-    ensures { Below result ≡ proof }
+// The outcome of an objective that is built: thresholds solve the two bottleneck ones, windows of
+// costs `balanced`, and phases of steps the other algebraic ones. The errors: the live cells have too
+// many different costs for `balanced`, or want of memory.
+fn outcome(alloc: Global, objective: Objective, inst: &Instance) -> Result<Outcome, BalancedRefusal>
+    requires built { is_built_objective objective ≡ true }
+    requires side { square_side inst.now ≤ most_side }
+    requires passes { PassesNegative objective inst.now }
+    ensures outcome { IfOk result (IsOutcome objective inst.now) }
+    ensures promised { IfOk result (IsPromisedOutcome objective inst.now) }
+    ensures takes { IfOk result (λ _. TakesCosts objective inst.now) }
+    ensures refusal { IfErr result (IsCostRefusal objective inst.now) }
 {
-    match proof {
-        Proof::Below(rows) => rows,
+    match objective {
+        Objective::Bottleneck | Objective::BottleneckMax => {
+            Ok(bottleneck(alloc, objective, inst)?)
+        }
+        Objective::Sum
+        | Objective::SumMax
+        | Objective::SumPair
+        | Objective::Capped(_)
+        | Objective::TimeCost => Ok(algebraic_assignment(alloc, objective, inst)?),
+        Objective::Balanced => balanced(alloc, inst),
+        Objective::Lex => unreachable!(),
     }
 }
 
@@ -51,17 +74,23 @@ fn best_reply(
     proof: Proof,
 ) -> Result<Reply, NoMemory>
     requires ready { IsReady job.now }
+    requires side { square_side inst.now ≤ most_side }
+    requires passes { PassesNegative job.now.objective inst.now }
     requires proved { IsProvedBest job.now.objective inst.now choice.now proof }
+    requires promised { IsPromisedProof job.now.objective inst.now proof }
+    requires takes { TakesCosts job.now.objective inst.now }
     ensures { IfOk result (Answers (DueToSolve job.now inst.now)) }
 {
-    let document = best_document(alloc, job.objective, inst, choice, rows_of(proof))?;
+    let document = best_document(alloc, job.objective, inst, choice, proof)?;
     sheet_reply(alloc, Status::Done, document)
 }
 
 // The reply with a Hall set. The error is want of memory.
 fn none_reply(alloc: Global, job: &Job, inst: &Instance, rows: Ids) -> Result<Reply, NoMemory>
     requires ready { IsReady job.now }
+    requires passes { PassesNegative job.now.objective inst.now }
     requires hall { IsOutcome job.now.objective inst.now (Outcome.Nothing rows) }
+    requires takes { TakesCosts job.now.objective inst.now }
     ensures { IfOk result (Answers (DueToSolve job.now inst.now)) }
 {
     sheet_reply(
@@ -71,14 +100,37 @@ fn none_reply(alloc: Global, job: &Job, inst: &Instance, rows: Ids) -> Result<Re
     )
 }
 
+// The reply with an outcome. The error is want of memory.
+fn outcome_reply(
+    alloc: Global,
+    job: &Job,
+    inst: &Instance,
+    outcome: Outcome,
+) -> Result<Reply, NoMemory>
+    requires ready { IsReady job.now }
+    requires side { square_side inst.now ≤ most_side }
+    requires passes { PassesNegative job.now.objective inst.now }
+    requires outcome { IsOutcome job.now.objective inst.now outcome }
+    requires promised { IsPromisedOutcome job.now.objective inst.now outcome }
+    requires takes { TakesCosts job.now.objective inst.now }
+    ensures { IfOk result (Answers (DueToSolve job.now inst.now)) }
+{
+    match outcome {
+        Outcome::Best { choice, proof } => best_reply(alloc, job, inst, &choice, proof),
+        Outcome::Nothing { rows } => none_reply(alloc, job, inst, rows),
+    }
+}
+
 // The reply to a request to solve an instance. The error is want of memory.
 pub(crate) fn reply(alloc: Global, job: &Job, inst: &Instance) -> Result<Reply, NoMemory>
     requires ready { IsReady job.now }
     requires side { square_side inst.now ≤ most_side }
+    requires passes { PassesNegative job.now.objective inst.now }
     ensures { IfOk result (Answers (DueToSolve job.now inst.now)) }
 {
-    match bottleneck(alloc, job.objective, inst)? {
-        Outcome::Best { choice, proof } => best_reply(alloc, job, inst, &choice, proof),
-        Outcome::Nothing { rows } => none_reply(alloc, job, inst, rows),
+    match outcome(alloc, job.objective, inst) {
+        Ok(outcome) => outcome_reply(alloc, job, inst, outcome),
+        Err(BalancedRefusal::TooManyCosts(count)) => refusal(alloc, &[16, u64::from(count)]),
+        Err(BalancedRefusal::NoMemory) => Err(AllocError),
     }
 }

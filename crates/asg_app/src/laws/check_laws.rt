@@ -1,6 +1,7 @@
 //! Laws of requests to check.
 
-ghost use Rattle.std.specs.Prelude.{◌≡◌, ◌⊎◌, ℕ, List, Option, Some, None};
+ghost use Rattle.std.specs.Prelude.{◌≡◌, ◌≤◌, ◌⊎◌, ℕ, List, Option, Some, None, length};
+ghost use Rattle.asg_model.specs.Limits.{longest_file};
 ghost use Rattle.asg_model.specs.Problem.{Problem};
 ghost use Rattle.asg_doc.specs.declared.documents.Document.{Document as Answered};
 ghost use Rattle.asg_doc.specs.HasText.{HasText};
@@ -13,10 +14,12 @@ ghost use Rattle.asg_app.specs.Due.{Due, TellsShort};
 ghost use Rattle.asg_app.specs.Fetches.{MayHold};
 ghost use Rattle.asg_app.specs.InstanceFile.{Holds, instance_in};
 ghost use Rattle.asg_app.specs.Promised.{AskAlike, IsSolved, IsUnsolvable, IsCertified};
+ghost use Rattle.asg_app.specs.Promised.{IsNeverLong};
 ghost use Rattle.asg_app.specs.Promised.{IsDenied, IsNotOne, IsUnread, IsVerdict};
 ghost use Rattle.asg_app.specs.Requests.{job_of};
 ghost use Rattle.asg_app.specs.Texts.{yes_text};
 
+use super::instance_law;
 use super::solve_laws::solved_law;
 use asg_check::laws::soundness_law;
 use asg_doc::unique_reading;
@@ -59,6 +62,7 @@ pub fn checked_law()
         × IsCertified job bytes spoken × (text ≡ yes_text 1) }
 {
     soundness_law();
+    instance_law();
 }
 
 /// For a request to check, status 6 is due only where the answer's file is the text of one document
@@ -86,7 +90,9 @@ pub fn unread_law()
 
 /// What a request to solve writes certifies, with status 0 as with status 1, for each job that asks
 /// alike. Where a request to check that asks alike names the same instance's file, and as the
-/// answer a file with what was written, status 0 is due, and the text `yes 1`.
+/// answer a file with what was written, status 0 is due, and the text `yes 1`: for phases and windows
+/// provided that what was written is no longer than the longest file that is read; a text with status
+/// 1, or for a bottleneck objective, never is.
 pub fn accepted_law()
     ensures solved { (job other : Job) (bytes text : List ℕ) →
         AskAlike job other → IsSolved job bytes text → IsCertified other bytes text }
@@ -97,8 +103,10 @@ pub fn accepted_law()
         job_of solving ≡ Some solve → solve.task ≡ Solve →
         (status ≡ statuses.Done) ⊎ (status ≡ statuses.Nothing) → Due solving told status text →
         job_of checking ≡ Some check → check.task ≡ Check answer None None → AskAlike solve check →
+        (length text ≤ longest_file) ⊎ IsNeverLong solve status →
         later check.instance ≡ told solve.instance → later answer ≡ Some text →
         Due checking later statuses.Done (yes_text 1) }
 {
     solved_law();
+    instance_law();
 }

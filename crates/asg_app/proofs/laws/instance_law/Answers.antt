@@ -1,10 +1,18 @@
-use Rattle.std.proofs.Common.{subst}
-use Rattle.asg_app.specs.Due.{DueForAsked}
-use Rattle.asg_app.specs.Fetches.{MayHoldAll}
-use Rattle.asg_app.specs.Requests.{files_of}
-use Rattle.asg_app.proofs.StageLaws.{holds_instance}
+use Rattle.asg_app.proofs.HeldInstances.{InstanceLaws, IsTaken-held, holds_instances}
 use Rattle.asg_app.proofs.laws.instance_law.Goals as goal
 
-pub returns : goal.returns
-returns c = λ words told status text bytes job X is found holds due short_enough.
-    holds_instance job told due.0 status text bytes X found holds (subst (λ a. MayHoldAll told (files_of a) due.0) is due.1) (subst (λ a. DueForAsked a due.0 status text) is due.2) short_enough
+pub returns-clause-instance : goal.returns-clause-instance
+returns-clause-instance c = λ words bytes job X is holds.
+    let laws : InstanceLaws = record {
+      requests = c.request_law.ensures;
+      spelled = c.instance_law.ensures;
+      stays = c.shape_law.ensures.shaped;
+      in_range = c.shape_law.ensures.in_range;
+    } in
+    holds_instances laws words job is bytes X holds
+
+pub returns-clause-passes : goal.returns-clause-passes
+returns-clause-passes c = λ bytes job X holds. (IsTaken-held job bytes X holds).passes
+
+pub returns-clause-side : goal.returns-clause-side
+returns-clause-side c = λ bytes job X holds. (IsTaken-held job bytes X holds).within

@@ -14,7 +14,7 @@ returns-in-Ok c =
     let job = c.args.job.now in
     let contents = c.args.sources.now in
     let spelled = ap (reading_of job.format) (sym c.at.ensures.bytes) ∙ c.in-Ok.ensures.instance in
-    let file = fitted job.place job.each c.in-Ok.inst in
+    let file = fitted job.objective job.place job.each c.in-Ok.inst in
     owed_as (DueForFile file job contents) (DueForJob job contents) c.fitted_reply.result
     (due_for_job job contents file c.at.ensures.short (spelled_file job _ c.in-Ok.inst spelled))
     c.fitted_reply.ensures

@@ -8,4 +8,4 @@ use Rattle.asg_app.proofs.commands.solve.none_reply.Goals as goal
 pub returns : goal.returns
 returns c =
     let document = c.none_document.result in
-    replied (DueToSolve c.args.job.now c.args.inst.now) Nothing (text_of document) c.sheet_reply.result (Unsolvable document c.none_document.ensures refl refl) c.sheet_reply.ensures
+    replied (DueToSolve c.args.job.now c.args.inst.now) Nothing (text_of document) c.sheet_reply.result (Unsolvable c.requires.takes document c.none_document.ensures refl refl) c.sheet_reply.ensures

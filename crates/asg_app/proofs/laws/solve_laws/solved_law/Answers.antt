@@ -10,15 +10,15 @@ use Rattle.asg_app.proofs.laws.solve_laws.solved_law.Goals as goal
 
 pub returns-clause-solved : goal.returns-clause-solved
 returns-clause-solved c = λ words told text job is solves due.
-    let found = solved_only job told due.0 text solves (subst (λ a. MayHoldAll told (files_of a) due.0) is due.1) (subst (λ a. DueForAsked a due.0 Done text) is due.2) in
+    let found = solved_only job (λ bytes X holds. c.instance_law.ensures.instance words bytes job X is holds) told due.0 text solves (subst (λ a. MayHoldAll told (files_of a) due.0) is due.1) (subst (λ a. DueForAsked a due.0 Done text) is due.2) in
     (content_at due.0 0, found.0, found.1)
 
 pub returns-clause-unsolvable : goal.returns-clause-unsolvable
 returns-clause-unsolvable c = λ words told text job is solves due.
-    let found = unsolvable_only job told due.0 text solves (subst (λ a. MayHoldAll told (files_of a) due.0) is due.1) (subst (λ a. DueForAsked a due.0 Nothing text) is due.2) in
+    let found = unsolvable_only job (λ bytes X holds. c.instance_law.ensures.instance words bytes job X is holds) told due.0 text solves (subst (λ a. MayHoldAll told (files_of a) due.0) is due.1) (subst (λ a. DueForAsked a due.0 Nothing text) is due.2) in
     (content_at due.0 0, found.0, found.1)
 
 pub returns-clause-within : goal.returns-clause-within
 returns-clause-within c = λ job bytes text written.
     let laws : HallLaws = record { differ = c.hall_rows_law.ensures.different; are_counted = c.hall_rows_law.ensures.counted } in
-    ⊎_elim (λ solved. length-solved laws job bytes text solved) (λ solved. length-unsolvable laws job bytes text solved) written
+    ⊎_elim (λ solved. length-solved laws job bytes text solved.0 solved.1) (λ solved. length-unsolvable laws job bytes text solved) written

@@ -1,8 +1,8 @@
 -- The two lists of a matching, after a change to both.
-use Rattle.std.proofs.Common.{◌≡◌, ℕ, ◌<◌, List, Option, None, set, ⊎_elim, sym, ◌∙◌, subst, ap}
+use Rattle.std.proofs.Common.{ℕ, ◌<◌, List, Option, None, set, ⊎_elim, sym, ◌∙◌, subst, ap}
 use Rattle.std.proofs.lemmas.List.{length-set}
 use Rattle.std.proofs.lemmas.Option.{none-some, same_Some}
-use Rattle.asg_match.specs.Matching.{column_at, Matches, IsFree, IsMatching}
+use Rattle.asg_match.specs.Matching.{column_at, Matches, IsMatching}
 use Rattle.asg_match.specs.Paired.{IsPaired}
 use Rattle.asg_match.specs.laws.Matchings.{Matches-below, Matches-set_cases, Matches-set_other}
 

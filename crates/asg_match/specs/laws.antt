@@ -1,8 +1,12 @@
 -- Laws that upper crates cite: of words of bits, of sets of columns, of lists of different numbers, of
--- matchings, of alternating trees, of deficient rows.
+-- the cells of squares, of matchings, of alternating trees, of deficient rows, of columns without
+-- cells, of the costs of choices.
 pub mod Bits
 pub mod Columns
 pub mod Distinct
+pub mod Cells
 pub mod Matchings
 pub mod Trees
 pub mod Deficiency
+pub mod EmptyColumns
+pub mod Choices

@@ -1,5 +1,5 @@
-ghost use Rattle.std.specs.Prelude.{◌≡◌, ℕ, ◌<◌, ◌↔◌, length, Some, None, List, Option, IfOk, IfSome, IfNone, replicate, slice_set};
-ghost use Rattle.asg_match.specs.Matching.{column_at, Matches, IsMatching, IsFree};
+ghost use Rattle.std.specs.Prelude.{◌≡◌, ℕ, ◌<◌, ◌↔◌, length, Some, None, List, Option, IfOk, IfSome, IfNone, replicate, slice_set, slice_index};
+ghost use Rattle.asg_match.specs.Matching.{column_at, Matches, IsMatched, IsMatching, IsFree};
 
 use crate::NoMemory;
 use std::alloc::Global;
@@ -67,6 +67,17 @@ impl Matching {
         ensures matching { IsMatching self.now }
     {
         self.rows[c as usize]
+    }
+
+    /// Makes the list that of the columns of the rows, each of which has one.
+    pub fn copy_columns(&self, columns: &mut [u32])
+        requires count { length columns.old ≡ length self.now }
+        requires all { (r : ℕ) → r < length self.now → IsMatched self.now r }
+        ensures { (r : ℕ) → r < length self.now → Matches self.now r (slice_index columns.new r) }
+    {
+        for row in 0..self.side() {
+            columns[row as usize] = self.column_of(row).unwrap();
+        }
     }
 
     /// Takes its column from row `r`, if it has one. Every other row keeps what it has.

@@ -44,6 +44,9 @@ fn perfect_assignments_and_short_rows(rt: HostRuntime) -> Result<(), Fail> {
                     matching.column_of(2),
                 ];
                 assert_eq!(rt; columns.map(|c| c.map(Some)), Some(found));
+                let mut copied = [0; 3];
+                matching.copy_columns(&mut copied);
+                assert_eq!(rt; columns, Some(copied));
             }
             Pairing::Short(short) => {
                 assert_eq!(rt; columns, None);

@@ -1,5 +1,5 @@
--- One bit of a word, set and taken out.
-use Rattle.std.proofs.Common.{◌≡◌, ◌≢◌, refl, ℕ, ◌+◌, ◌-◌, ◌*◌, ◌^◌, ◌%◌, ◌<◌, ◌≤◌, ◌⊎◌, inl, inr, ⊎_elim, sym, ◌∙◌, ap, arith, w64}
+-- One bit of a word, set and taken out; a bit of two words.
+use Rattle.std.proofs.Common.{◌≡◌, ◌≢◌, ℕ, ◌*◌, ◌^◌, ◌%◌, ◌<◌, ◌⊎◌, inl, inr, ⊎_elim, sym, ◌∙◌, ap, arith, w64, ◌↔◌}
 use Rattle.std.specs.Prelude.{bit_and, bit_or}
 use Rattle.std.specs.Int.{bit_at, bit_not, trailing_zeros}
 use Rattle.std.proofs.lemmas.Bool.{cases_eq, cases_lt}
@@ -56,3 +56,22 @@ HasBit-with_same n k h = bit_at_set_same w64 n k h
 pub HasBit-with_kept : (n k i : ℕ) → k < 64 → HasBit n i → HasBit (with_bit n k) i
 HasBit-with_kept n k i h has =
     ⊎_elim (λ e. ap (bit_at (with_bit n k)) e ∙ HasBit-with_same n k h) (λ other. bit_at_set_other w64 n k h i other ∙ has) (cases_eq i k)
+
+-- a bit of two words at once, and of one of them
+pub HasBit-and : (a b k : ℕ) → HasBit (bit_and a b) k ↔ (HasBit a k × HasBit b k)
+HasBit-and a b k =
+    let both = bit_at_and a b k in
+    let one = bit_at-lt a k in
+    let two = bit_at-lt b k in (
+      λ has. (omega (arith, both, one, two, has), omega (arith, both, one, two, has)),
+      λ h. omega (arith, both, h.0, h.1),
+    )
+
+pub HasBit-or : (a b k : ℕ) → HasBit (bit_or a b) k ↔ (HasBit a k ⊎ HasBit b k)
+HasBit-or a b k =
+    let both = bit_at_or a b k in
+    let one = bit_at-lt a k in
+    let two = bit_at-lt b k in (
+      λ has. ⊎_elim (λ h. inl h) (λ other. inr (omega (arith, both, one, two, has, other))) (cases_eq (bit_at a k) 1),
+      λ h. ⊎_elim (λ x. omega (arith, both, x, two)) (λ y. omega (arith, both, y, one)) h,
+    )

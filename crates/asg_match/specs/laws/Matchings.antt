@@ -1,6 +1,6 @@
 -- Facts on the columns of rows.
-use Rattle.std.proofs.Common.{refl, true, false, is_some, ◌≡◌, ◌≢◌, ℕ, ◌<◌, List, length, Option, Some, None, get_or, set, replicate, ◌≤◌, ◌⊎◌, inl, inr, ⊎_elim, sym, ◌∙◌, subst}
-use Rattle.std.proofs.lemmas.List.{get_or_past, get_or_read, get_or-set_other, length-set, get_or-replicate, length-replicate}
+use Rattle.std.proofs.Common.{refl, true, false, is_some, ◌≡◌, ◌≢◌, ℕ, ◌<◌, List, length, Option, Some, None, get_or, set, replicate, ◌≤◌, ◌⊎◌, inl, inr, ⊎_elim, sym, ◌∙◌, subst, arith, AllPairs}
+use Rattle.std.proofs.lemmas.List.{get_or_default, get_or_past, get_or_read, get_or-set_other, length-set, get_or-replicate, length-replicate}
 use Rattle.std.proofs.lemmas.Grind.{get_or-set_at}
 use Rattle.std.proofs.lemmas.Bool.{cases_lt, cases_eq, true≢false, false≢true}
 use Rattle.std.proofs.lemmas.Option.{none-some, same_Some}
@@ -85,3 +85,11 @@ IsMatching-set m i c matching below free =
           (Matches-set_cases m i (Some c) s d f))
           (Matches-set_cases m i (Some c) r d e);
     }
+
+-- the columns of rows that each have one are different
+pub AllPairs-listed : (m : List (Option ℕ)) (columns : List ℕ) → IsMatching m → ((r : ℕ) → r < length columns → Matches m r (get_or columns r 0)) → AllPairs ◌≢◌ columns
+AllPairs-listed m columns matching same i j d h k e =
+    let first : i < length columns = omega arith in
+    let equal : get_or columns i 0 ≡ get_or columns j 0 = get_or_default columns i 0 d first ∙ e ∙ get_or_default columns j d 0 k in
+    let rows = matching.apart i j (get_or columns j 0) (subst (Matches m i) equal (same i first)) (same j k) in
+    omega (arith, h, rows)

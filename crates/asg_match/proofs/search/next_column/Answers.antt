@@ -1,4 +1,4 @@
-use Rattle.std.proofs.Common.{arith, subst, sym, ◌+◌, ◌*◌, w64}
+use Rattle.std.proofs.Common.{arith, subst, w64}
 use Rattle.std.specs.Int.{trailing_zeros}
 use Rattle.std.proofs.lemmas.List.{get_or_read}
 use Rattle.asg_match.specs.ColumnSet.{HasBit}

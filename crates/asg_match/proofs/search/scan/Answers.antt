@@ -1,6 +1,5 @@
-use Rattle.std.proofs.Common.{◌/◌, ◌<◌, length, get_or, below_more, ⊎_elim, subst, sym, ap, arith}
+use Rattle.std.proofs.Common.{◌/◌, ⊎_elim, subst, sym, arith}
 use Rattle.std.proofs.lemmas.Bool.{cases_lt}
-use Rattle.asg_match.specs.Searched.{parents_in}
 use Rattle.asg_match.proofs.SearchLemmas.{Extends-join, IsReached-later}
 use Rattle.asg_match.proofs.search.scan.Goals as goal
 

@@ -1,10 +1,5 @@
-use Rattle.std.proofs.Common.{ℕ, ◌<◌, length, List, get_or, ⊎_elim, sym, ◌∙◌, subst, ap, arith}
+use Rattle.std.proofs.Common.{◌<◌, length, sym, ◌∙◌, subst, arith}
 use Rattle.std.proofs.lemmas.List.{get_or_read}
-use Rattle.asg_match.specs.Alternating.{HasParent, AllParentsAllowed}
-use Rattle.asg_match.specs.Searched.{parents_in, IsGrown, IsSearch, Extends}
-use Rattle.asg_match.specs.declared.alternating_tree.Branches.{Branches}
-use Rattle.asg_match.specs.Matching.{Matches}
-use Rattle.asg_match.specs.laws.Columns.{unseen_or_reached}
 use Rattle.asg_match.specs.laws.Distinct.{length-le_from_below}
 use Rattle.asg_match.proofs.SearchLemmas.{Extends-join, IsSearch-more}
 use Rattle.asg_match.proofs.search.scan_word.Goals as goal

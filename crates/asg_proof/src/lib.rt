@@ -21,7 +21,7 @@ mod windows;
 
 pub use outcomes::{Outcome, Proof};
 pub use phase_lists::Phases;
-pub use phases::{Phase, words};
+pub use phases::{Phase, into_words, words};
 pub use row_ids::Ids;
 pub use windows::{Window, Windows};
 

@@ -1,0 +1,13 @@
+use Rattle.std.proofs.Common.{◌≡◌, ℕ, ◌<◌, length}
+use Rattle.std.specs.Prelude.{slice_get}
+use Rattle.std.specs.Option.{option_map}
+use Rattle.asg_samples.specs.Parts.{row_at}
+use Rattle.asg_samples.proofs.parts.rows_of.Given as goal
+
+-- the rows so far
+abbrev pub invariant-loop-place : goal.invariant-loop-place
+invariant-loop-place l =
+    record {
+      count : length l.rows.items ≡ l.place;
+      each : (k : ℕ) → k < l.place → slice_get l.rows.items k ≡ option_map (row_at k) (slice_get l.active k);
+    }

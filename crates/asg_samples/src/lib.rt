@@ -1,0 +1,20 @@
+//! Instances of small tables, for the tests of other crates.
+//!
+//! A test lists which rows are active, the columns and the costs; an instance is made of them where they
+//! are well-formed. No program stands on this crate.
+#![tactic(auto)]
+
+mod faults;
+mod fours;
+mod parts;
+mod ranges;
+mod samples;
+#[cfg(test)]
+mod tests;
+
+pub use faults::Fault;
+pub use fours::{Fours, ONE_COLUMN, PRODUCTS, SIGNED, THREE, TWO_COLUMNS, four_by_four};
+pub use samples::Sample;
+
+/// Want of memory.
+type NoMemory = std::alloc::AllocError;

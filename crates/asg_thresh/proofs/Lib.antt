@@ -1,6 +1,5 @@
 pub mod GradeLemmas
 pub mod WordLemmas
 pub mod CellLemmas
-pub mod ChoiceLemmas
 pub mod SquareGrades
 pub mod OutcomeLemmas

@@ -1,6 +1,6 @@
 -- What a least threshold shows of an instance.
 use Rattle.std.proofs.Common.{◌≡◌, refl, ℕ, ◌<◌, ◌≤◌, List, length, Option, Some, None, sym, ◌∙◌, subst, ap, arith}
-use Rattle.std.specs.Prelude.{ℤ, pos, ◌-ℤ◌, ◌≤ℤ◌, ◌<ℤ◌, All, IfSome, IsSome, slice_index, unsigned_abs}
+use Rattle.std.specs.Prelude.{ℤ, pos, ◌-ℤ◌, ◌≤ℤ◌, ◌<ℤ◌, All, IsSome, slice_index, unsigned_abs}
 use Rattle.std.specs.Option.{option_map_or, unwrap_or}
 use Rattle.std.proofs.lemmas.Int.{ints, by_lt_z}
 use Rattle.std.proofs.lemmas.List.{length-map}
@@ -11,7 +11,7 @@ use Rattle.asg_model.specs.declared.objectives.Objective.TheVariants.{Sum, SumMa
 use Rattle.asg_model.specs.declared.parts.Cost.{Cost}
 use Rattle.asg_model.specs.Extremes.{greatest, least}
 use Rattle.asg_model.specs.HallSet.{IsHall}
-use Rattle.asg_model.specs.Instances.{IsInstance, IsCostInRange}
+use Rattle.asg_model.specs.Instances.{IsInstance}
 use Rattle.asg_model.specs.Limits.{most_cost}
 use Rattle.asg_model.specs.Live.{live_at}
 use Rattle.asg_model.specs.Problem.{Problem}
@@ -25,7 +25,8 @@ use Rattle.asg_square.specs.Grid.{Grid, cell_at, IsSquareOf, IsPerm}
 use Rattle.asg_thresh.specs.Grades.{grade_of, free_grade, no_grade, IsUnder, AreGradesOf}
 use Rattle.asg_thresh.specs.Objectives.{IsBottleneck}
 use Rattle.asg_thresh.specs.Thresholds.{IsAssignmentUpTo}
-use Rattle.asg_thresh.proofs.ChoiceLemmas.{costs_each, costs_some, chosen_live, live_in_range, greatest-le, least-ge, some_cost, if_some, from_if_some}
+use Rattle.asg_match.specs.laws.Choices.{costs_each, costs_some, chosen_live, greatest-le, least-ge, some_cost, if_some, from_if_some}
+use Rattle.asg_proof.specs.laws.LiveCosts.{first_part_in_range}
 use Rattle.asg_thresh.proofs.SquareGrades.{IsBandOf, AllowsCells-under}
 
 -- the costs of the cells under a limit
@@ -49,14 +50,6 @@ grade_above _ cost h = grind (arith, ints)
 pub IsBandOf-whole : (objective : Objective) → IsBandOf objective Whole no_grade
 IsBandOf-whole objective cost h = (λ _. refl, λ _. grade_below objective cost h)
 
--- the parts of costs in range
-part_in_range : (o : Option Cost) → IfSome o IsCostInRange → IfSome o (λ cost. unsigned_abs cost.a ≤ most_cost)
-part_in_range None h = tt
-part_in_range (Some cost) h = h.a_in_range
-
-pub ranges_of : (X : Problem) → IsInstance X → (r c : ℕ) → IfSome (live_at X r c) (λ cost. unsigned_abs cost.a ≤ most_cost)
-ranges_of X i r c = part_in_range (live_at X r c) (live_in_range X i.well_formed.costs r c)
-
 some_from_grade : (o : Option ℕ) (limit : ℕ) → limit < no_grade → unwrap_or o no_grade ≤ limit → IsSome o
 some_from_grade (Some n) limit h upto = refl
 some_from_grade None limit h upto = absurd (omega arith)
@@ -65,7 +58,7 @@ module _ (X : Problem) (objective : Objective) (Q : Grid ℕ) (grades : List ℕ
   -- where even all cells have deficient rows, a Hall set of the instance
   pub IsHall-whole : (ids : List ℕ) → GivesHallSets X (IsUnder grades Q.side no_grade) ids → IsHall X Whole ids
   IsHall-whole ids gives =
-      gives X Whole refl refl refl (AllowsCells-under objective Whole no_grade (IsBandOf-whole objective) (omega arith) (omega arith) X (ranges_of X i) Q grades square made)
+      gives X Whole refl refl refl (AllowsCells-under objective Whole no_grade (IsBandOf-whole objective) (omega arith) (omega arith) X (first_part_in_range X i) Q grades square made)
 
   module _ (perm : List ℕ) (limit : ℕ) (within : limit < no_grade) (a : IsAssignmentUpTo grades Q.side limit perm) where
     pub IsPerm-upto : IsPerm Q perm
@@ -92,7 +85,7 @@ module _ (X : Problem) (objective : Objective) (Q : Grid ℕ) (grades : List ℕ
       cost_at_row : (r : ℕ) (cost : Cost) → chosen_cost X f r ≡ Some cost → unsigned_abs cost.a ≤ most_cost
       cost_at_row r cost chosen =
           let live = chosen_live X f r cost chosen in
-          from_if_some (λ c. unsigned_abs c.a ≤ most_cost) (live_at X r live.0) cost live.1 (ranges_of X i r live.0)
+          from_if_some (λ c. unsigned_abs c.a ≤ most_cost) (live_at X r live.0) cost live.1 (first_part_in_range X i r live.0)
 
       -- so the limit isn't that of a free cell
       pub limit_some : 0 < limit
@@ -113,7 +106,7 @@ proves_least X Q grades perm limit f ids i square made within a valid rows value
     let b = pos limit -ℤ pos 1000000001 in
     let most = greatest (first_parts (costs_of X f)) in
     let some = limit_some X Bottleneck Q grades i square made perm limit within a f valid rows values in
-    let hall = gives X (Under b) refl refl refl (AllowsCells-under Bottleneck (Under b) limit (IsBandOf-under limit) some (omega arith) X (ranges_of X i) Q grades square made) in
+    let hall = gives X (Under b) refl refl refl (AllowsCells-under Bottleneck (Under b) limit (IsBandOf-under limit) some (omega arith) X (first_part_in_range X i) Q grades square made) in
     let upto : most ≤ℤ b =
     greatest-le (first_parts (costs_of X f)) b (subst (λ n. 0 < n) (sym (length-map (costs_of X f) (λ cost. cost.a))) (costs_some X f i valid))
     (All-map (λ x. x ≤ℤ b) (λ cost. cost.a) (costs_of X f)
@@ -126,7 +119,7 @@ proves_greatest X Q grades perm limit f ids i square made within a valid rows va
     let b = pos 1000000001 -ℤ pos limit in
     let fewest = least (first_parts (costs_of X f)) in
     let some = limit_some X BottleneckMax Q grades i square made perm limit within a f valid rows values in
-    let hall = gives X (Over b) refl refl refl (AllowsCells-under BottleneckMax (Over b) limit (IsBandOf-over limit) some (omega arith) X (ranges_of X i) Q grades square made) in
+    let hall = gives X (Over b) refl refl refl (AllowsCells-under BottleneckMax (Over b) limit (IsBandOf-over limit) some (omega arith) X (first_part_in_range X i) Q grades square made) in
     let from : b ≤ℤ fewest =
     least-ge (first_parts (costs_of X f)) b (subst (λ n. 0 < n) (sym (length-map (costs_of X f) (λ cost. cost.a))) (costs_some X f i valid))
     (All-map (λ x. b ≤ℤ x) (λ cost. cost.a) (costs_of X f)

@@ -1,8 +1,8 @@
 -- Grades of the cells of an instance's square, against bands of costs.
-use Rattle.std.proofs.Common.{◌≡◌, ◌↔◌, refl, ℕ, ◌<◌, ◌≤◌, Option, Some, None, cond, ◌&&◌, Bool, true, false, sym, ◌∙◌, subst, ap, arith, ⊎_elim}
+use Rattle.std.proofs.Common.{◌≡◌, ◌↔◌, refl, ℕ, ◌<◌, ◌≤◌, Option, Some, None, cond, ◌&&◌, Bool, true, false, sym, ◌∙◌, subst, ap, arith}
 use Rattle.std.specs.Prelude.{IfSome, IsTrue, nat_lt, unsigned_abs, List}
 use Rattle.std.specs.Option.{option_map, option_map_or, unwrap_or}
-use Rattle.std.proofs.lemmas.Bool.{cases_lt, lt-ltb, le-ltb, false≢true}
+use Rattle.std.proofs.lemmas.Bool.{false≢true}
 use Rattle.asg_model.specs.declared.bands.Band.{Band}
 use Rattle.asg_model.specs.declared.objectives.Objective.{Objective}
 use Rattle.asg_model.specs.declared.parts.Cost.{Cost}
@@ -13,6 +13,7 @@ use Rattle.asg_model.specs.Limits.{most_cost}
 use Rattle.asg_model.specs.Live.{live_at}
 use Rattle.asg_model.specs.Problem.{Problem}
 use Rattle.asg_match.specs.HallSets.{AllowsCells}
+use Rattle.asg_match.specs.laws.Cells.{has_cell-within}
 use Rattle.asg_square.specs.Cells.{extra_column_cell, corner_cell, labelled_cell, square_cell}
 use Rattle.asg_square.specs.Grid.{Grid, IsSquareOf}
 use Rattle.asg_model.specs.Shapes.{square_side}
@@ -73,20 +74,9 @@ module _ (objective : Objective) (band : Band) (limit : ℕ) (is : IsBandOf obje
               let cell : grade_at grades Q.side r c ≡ unwrap_or (square_cell X free_grade (grade_of objective) r c) no_grade = made.cells r c under.row under.column ∙ ap (λ o. unwrap_or o no_grade) (square.cells r c) in
               at.0 (subst (λ n. n < limit) cell under.grade),
           λ has.
-              let bounds = inside r c has in
+              let bounds = has_cell-within X band r c has in
               let row = subst (λ n. r < n) (sym square.labels.side) bounds.0 in
               let column = subst (λ n. c < n) (sym square.labels.side) bounds.1 in
               let cell : grade_at grades Q.side r c ≡ unwrap_or (square_cell X free_grade (grade_of objective) r c) no_grade = made.cells r c row column ∙ ap (λ o. unwrap_or o no_grade) (square.cells r c) in
               record { row = row; column = column; grade = subst (λ n. n < limit) (sym cell) (at.1 has) },
         )
-      where
-        inside : (r c : ℕ) → IsTrue (has_cell X band r c) → (r < square_side X) × (c < square_side X)
-        inside r c has =
-            ⊎_elim
-            (λ (row : r < square_side X).
-            ⊎_elim
-            (λ (column : c < square_side X). (row, column))
-            (λ (past : square_side X ≤ c). absurd (false≢true (sym (ap (λ b. b && is_labelled_within X band (row_label X r) (column_label X c)) (ap (λ b. nat_lt r (square_side X) && b) (le-ltb c (square_side X) past) ∙ ap (λ b. b && false) (lt-ltb r (square_side X) row))) ∙ has)))
-            (cases_lt c (square_side X)))
-            (λ (past : square_side X ≤ r). absurd (false≢true (sym (ap (λ b. b && nat_lt c (square_side X) && is_labelled_within X band (row_label X r) (column_label X c)) (le-ltb r (square_side X) past)) ∙ has)))
-            (cases_lt r (square_side X))

@@ -1,13 +1,13 @@
 -- Words of the bits of a square, up to a limit.
 use Rattle.std.proofs.Common.{◌≡◌, ◌↔◌, ℕ, ◌+◌, ◌-◌, ◌*◌, ◌/◌, ◌%◌, ◌^◌, ◌<◌, ◌≤◌, ⊎_elim, sym, ◌∙◌, subst, ap, arith, w64, List, get_or, min, Bool, true, false, leb, zero-mul}
-use Rattle.std.specs.Prelude.{bit_or, bit_and}
+use Rattle.std.specs.Prelude.{bit_or}
 use Rattle.std.specs.Int.{bit_at}
 use Rattle.std.proofs.Math.Nat.{mul_comm}
 use mir.Val.{bool_byte}
 use Rattle.std.specs.Int.Bits.{or_zero_r}
-use Rattle.std.proofs.lemmas.Bool.{cases_eq, cases_lt, leb-true, leb-false}
+use Rattle.std.proofs.lemmas.Bool.{cases_eq, leb-true, leb-false}
 use Rattle.std.proofs.lemmas.Nat.{div-mul-add, mod-mul-add, mul-add-lt}
-use Rattle.std.proofs.lemmas.Nat.Bits.{bit_at-lt, bit_at_above, bit_at_and, bit_at_set_same, bit_at_set_other}
+use Rattle.std.proofs.lemmas.Nat.Bits.{bit_at_set_same, bit_at_set_other}
 use Rattle.asg_match.specs.ColumnSet.{HasBit, word_count}
 use Rattle.asg_thresh.specs.Grades.{grade_at}
 use Rattle.asg_thresh.specs.Words.{IsMarked, AreBitsUpTo, MarksUpTo}
@@ -83,16 +83,6 @@ MarksUpTo-words grades side limit words done r c =
           },
     )
 
--- a bit of two words at once
-pub HasBit-and : (a b k : ℕ) → HasBit (bit_and a b) k ↔ (HasBit a k × HasBit b k)
-HasBit-and a b k =
-    let both = bit_at_and a b k in
-    let one = bit_at-lt a k in
-    let two = bit_at-lt b k in (
-      λ has. (omega (arith, both, one, two, has), omega (arith, both, one, two, has)),
-      λ h. omega (arith, both, h.0, h.1),
-    )
-
 -- a bit of a word of a row
 pub IsMarked-bit : (words : List ℕ) (side r n k x : ℕ) → k < 64 → x ≡ get_or words (r * word_count side + n) 0 → r < side → 64 * n + k < side → HasBit x k ↔ IsMarked words side r (64 * n + k)
 IsMarked-bit words side r n k x h read row column =
@@ -105,8 +95,3 @@ IsMarked-bit words side r n k x h read row column =
       },
       λ marked. ap (λ y. bit_at y k) read ∙ (sym (ap (bit_at (get_or words (r * word_count side + n) 0)) bit) ∙ (sym (ap (λ j. bit_at (get_or words (r * word_count side + j) 0) ((64 * n + k) % 64)) word) ∙ marked.bit)),
     )
-
--- no word of 64 bits has a bit past the last
-pub bit_below : (n k : ℕ) → n < 2 ^ 64 → HasBit n k → k < 64
-bit_below n k h has =
-    ⊎_elim (λ b. b) (λ b. let none = bit_at_above n 64 k h b in absurd (omega (arith, none, has))) (cases_lt k 64)

@@ -21,6 +21,4 @@ pub use outcomes::bottleneck;
 pub type NoMemory = std::alloc::AllocError;
 
 #[cfg(test)]
-mod samples;
-#[cfg(test)]
 mod tests;

@@ -1,16 +1,13 @@
 use Rattle.std.proofs.Common.{arith, ap, sym, subst, ◌∙◌, ◌*◌, ℕ}
 use Rattle.std.proofs.lemmas.List.Sums.{count_by-le-length}
-use Rattle.asg_model.specs.Live.{live_at}
 use Rattle.asg_square.specs.laws.Rows.{rows_within}
 use Rattle.asg_square.specs.Grid.{Grid, IsSquareOf}
 use Rattle.asg_thresh.specs.Grades.{grade_of, free_grade, Grades}
-use Rattle.asg_thresh.proofs.ChoiceLemmas.{if_some-weaker}
-use Rattle.asg_thresh.proofs.OutcomeLemmas.{ranges_of}
+use Rattle.asg_proof.specs.laws.LiveCosts.{first_part_in_range}
 use Rattle.asg_thresh.proofs.outcomes.bottleneck.Goals as goal
 
 pub of-requires-clause-enters : goal.of-requires-clause-enters
-of-requires-clause-enters c r d =
-    if_some-weaker (live_at c.args.inst.now r d) (λ cost h. h) (ranges_of c.args.inst.now c.rows-rows.ensures.instance r d)
+of-requires-clause-enters c r d = first_part_in_range c.args.inst.now c.rows-rows.ensures.instance r d
 
 pub least_threshold-requires-clause-some : goal.least_threshold-requires-clause-some
 least_threshold-requires-clause-some c =

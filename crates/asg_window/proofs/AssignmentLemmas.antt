@@ -1,8 +1,8 @@
 -- Perfect assignments by marks and within bands.
 use Rattle.std.proofs.Common.{◌≡◌, ℕ, ◌<◌, sym, ◌∙◌, subst, ap, arith, List, length, get_or, Option}
 use Rattle.std.specs.Prelude.{is_some}
-use Rattle.std.proofs.lemmas.List.{get_or_default}
 use Rattle.asg_match.specs.Matching.{Matches, IsPerfect}
+use Rattle.asg_match.specs.laws.Matchings.{AllPairs-listed}
 use Rattle.asg_square.specs.BitTable.{BitTable}
 use Rattle.asg_square.specs.Grid.{Grid, IsPerm}
 use Rattle.asg_window.specs.Assignments.{IsAssignmentWithin, IsMarkedAssignment}
@@ -13,13 +13,7 @@ use Rattle.asg_window.specs.Marks.{IsMarked}
 pub IsMarkedAssignment-perfect : (B : BitTable) (side : ℕ) (matching : List (Option ℕ)) (perm : List ℕ) → IsPerfect (IsMarked B side) side matching → length perm ≡ side → ((r : ℕ) → r < side → Matches matching r (get_or perm r 0)) → IsMarkedAssignment B side perm
 IsMarkedAssignment-perfect B side matching perm p count same = record {
   over = count;
-  apart = λ i j d h k e.
-      let first : i < length perm = omega arith in
-      let one = same i (omega (arith, count)) in
-      let two = same j (omega (arith, count)) in
-      let equal : get_or perm i 0 ≡ get_or perm j 0 = get_or_default perm i 0 d first ∙ e ∙ get_or_default perm j d 0 k in
-      let rows = p.columns.apart i j (get_or perm j 0) (subst (Matches matching i) equal one) two in
-      omega (arith, h, rows);
+  apart = AllPairs-listed matching perm p.columns (λ r h. same r (omega (arith, count)));
   cells = λ r h. let cell = p.cells r (get_or perm r 0) (same r h) in cell.bit;
 }
 

@@ -15,11 +15,11 @@ use Rattle.asg_window.specs.Assignments.{IsSpread}
 use Rattle.asg_window.specs.Costs.{HasCosts}
 use Rattle.asg_window.specs.Grades.{grade_of, free_grade, cost_of}
 use Rattle.asg_window.specs.LiveCells.{entry_of, entry_at, AreEntries, AreGradesOf}
-use Rattle.asg_window.proofs.ChoiceLemmas.{from_if_some}
+use Rattle.asg_match.specs.laws.Choices.{from_if_some}
 use Rattle.asg_window.proofs.EntryLemmas.{place_of_cell}
 use Rattle.asg_window.proofs.SquareBands.{grade_upto}
 use Rattle.asg_window.proofs.SquareCells.{live_from_cell, cell_from_live}
-use Rattle.asg_window.proofs.ValueLemmas.{ranges_of}
+use Rattle.asg_proof.specs.laws.LiveCosts.{first_part_in_range}
 
 -- the cost of a cost's grade is the cost
 cost_back : (cost : Cost) → unsigned_abs cost.a ≤ most_cost → cost_of (grade_of cost) ≡ cost.a
@@ -32,7 +32,7 @@ module _ (X : Problem) (Q : Grid ℕ) (i : IsInstance X) (square : IsSquareOf X 
   -- each live cost's grade is in the list
   pub grade_listed : (r c : ℕ) (cost : Cost) → live_at X r c ≡ Some cost → Contains grades (grade_of cost) × (cost_of (grade_of cost) ≡ cost.a) × (0 < grade_of cost)
   grade_listed r c cost live =
-      let range = from_if_some (λ (x : Cost). unsigned_abs x.a ≤ most_cost) (live_at X r c) cost live (ranges_of X i r c) in
+      let range = from_if_some (λ (x : Cost). unsigned_abs x.a ≤ most_cost) (live_at X r c) cost live (first_part_in_range X i r c) in
       let at = cell_from_live X Q i square r c cost live in
       let some : 0 < grade_of cost = grind (arith, ints) in
       let place = place_of_cell Q entries e at.0 at.1 (grade_of cost) at.2 at.3 some at.4 in
@@ -45,7 +45,7 @@ module _ (X : Problem) (Q : Grid ℕ) (i : IsInstance X) (square : IsSquareOf X 
       let at = g.each k 0 h in
       let entry = e.each at.0 (entry_of 0 0 0) at.1 in
       let live = live_from_cell X Q square (entry_at entries at.0).row (entry_at entries at.0).column (entry_at entries at.0).grade entry.live entry.cell in
-      (live.0, live.1, live.2, live.3, live.4 ∙ at.2, from_if_some (λ (x : Cost). unsigned_abs x.a ≤ most_cost) (live_at X live.0 live.1) live.2 live.3 (ranges_of X i live.0 live.1))
+      (live.0, live.1, live.2, live.3, live.4 ∙ at.2, from_if_some (λ (x : Cost). unsigned_abs x.a ≤ most_cost) (live_at X live.0 live.1) live.2 live.3 (first_part_in_range X i live.0 live.1))
 
   -- the grades lie between those of the least and the greatest cost
   pub grades_fit : All (λ v. (1 ≤ v) × (v ≤ 2000000001)) grades
@@ -106,7 +106,7 @@ module _ (X : Problem) (Q : Grid ℕ) (i : IsInstance X) (square : IsSquareOf X 
               cell = w.cell;
               inside = λ live.
                   let at = live_from_cell X Q square r (slice_index perm r) w.grade live w.cell in
-                  let range = from_if_some (λ (x : Cost). unsigned_abs x.a ≤ most_cost) (live_at X at.0 at.1) at.2 at.3 (ranges_of X i at.0 at.1) in
+                  let range = from_if_some (λ (x : Cost). unsigned_abs x.a ≤ most_cost) (live_at X at.0 at.1) at.2 at.3 (first_part_in_range X i at.0 at.1) in
                   let upto = grade_upto at.2 range in
                   let same = at.4 in
                   (omega (arith, live), omega (arith, upto, same));

@@ -6,7 +6,6 @@ pub mod ReachLemmas
 pub mod AssignmentLemmas
 pub mod SpreadLemmas
 pub mod GapLemmas
-pub mod ChoiceLemmas
 pub mod SquareBands
 pub mod SquareCells
 pub mod ValueLemmas

@@ -16,7 +16,7 @@ use Rattle.asg_window.specs.Grades.{grade_of, free_grade, cost_of}
 use Rattle.asg_window.specs.LiveCells.{AreEntries, AreGradesOf}
 use Rattle.asg_window.proofs.CostLemmas.{grade_listed, grades_fit, spread_fits}
 use Rattle.asg_window.proofs.SquareBands.{IsBandOf, IsBandOf-between, AllowsCells-within}
-use Rattle.asg_window.proofs.ValueLemmas.{ranges_of}
+use Rattle.asg_proof.specs.laws.LiveCosts.{first_part_in_range}
 
 module _ (X : Problem) (Q : Grid ℕ) (i : IsInstance X) (square : IsSquareOf X free_grade grade_of Q) where
   -- the rows of a window of a band are a Hall set of its costs
@@ -26,7 +26,7 @@ module _ (X : Problem) (Q : Grid ℕ) (i : IsInstance X) (square : IsSquareOf X 
       let band : IsBandOf (Between w.lo w.hi) b.low b.high =
       subst (λ z. IsBandOf (Between z w.hi) b.low b.high) (sym by.lo)
       (subst (λ z. IsBandOf (Between (cost_of b.low) z) b.low b.high) (sym by.hi) (IsBandOf-between b.low b.high)) in
-      by.rows X (Between w.lo w.hi) refl refl refl (AllowsCells-within b.low b.high (Between w.lo w.hi) band X (ranges_of X i) Q square)
+      by.rows X (Between w.lo w.hi) refl refl refl (AllowsCells-within b.low b.high (Between w.lo w.hi) band X (first_part_in_range X i) Q square)
 
   module _ (entries : List Entry) (e : AreEntries Q entries) (grades : List ℕ) (g : AreGradesOf entries grades) where
     pub ProvesSpread-windows : (windows : List Window) (spread : ℕ) → All (IsBandWindow X Q) windows → All (λ v. IsTrue (is_held windows (pos spread) (cost_of v))) grades → ProvesSpread X (pos spread) windows

@@ -1,11 +1,8 @@
 -- Deficient rows of a band, and the next grade that helps them.
-use Rattle.std.proofs.Common.{◌≡◌, ◌≢◌, refl, ℕ, ◌+◌, ◌-◌, ◌<◌, ◌≤◌, ⊎_elim, sym, ◌∙◌, subst, ap, arith, List, [], ◌∷◌, length, map, cond, ltb, All, Contains}
-use Rattle.std.specs.List.{range_with_len}
+use Rattle.std.proofs.Common.{◌≡◌, ℕ, ◌<◌, ◌≤◌, ⊎_elim, sym, subst, ap, arith, List, All}
 use Rattle.std.specs.Prelude.{IsTrue}
-use Rattle.std.proofs.lemmas.Bool.{cases_eq, cases_lt, lt-ltb, le-ltb}
-use Rattle.std.proofs.lemmas.List.{get_or_default}
-use Rattle.std.proofs.lemmas.List.FromFn.{length-map-range_with_len, get_or-map-range_with_len}
-use Rattle.std.proofs.lemmas.List.Elements.{All-contains, All-cons, All-nil}
+use Rattle.std.proofs.lemmas.Bool.{cases_eq, cases_lt}
+use Rattle.std.proofs.lemmas.List.Elements.{All-contains}
 use Rattle.asg_match.specs.ColumnSet.{HasColumn}
 use Rattle.asg_match.specs.Deficient.{IsColumnOf, IsDeficient}
 use Rattle.asg_square.specs.BitTable.{BitTable, has_bit}
@@ -13,7 +10,6 @@ use Rattle.asg_square.specs.Grid.{Grid}
 use Rattle.asg_window.specs.declared.live_cells.Entry.{Entry}
 use Rattle.asg_window.specs.declared.next_grades.Reached.{Reached}
 use Rattle.asg_window.specs.Bands.{IsWithin, MarksWithin}
-use Rattle.asg_window.specs.EmptyLines.{AreAllBelow}
 use Rattle.asg_window.specs.Marks.{IsMarked}
 use Rattle.asg_window.specs.LiveCells.{entry_at, AreEntries, IsPlaceOf}
 use Rattle.asg_window.specs.Reaching.{IsRowMarked, Reaches, AreReachedBelow, GetNoColumn}
@@ -61,49 +57,4 @@ IsDeficient-marks Q low high side B rows same marks s = record {
   below = subst (λ n. All (λ r. r < n) rows) same s.below;
   apart = s.apart;
   few = record { columns = s.few.columns; fewer = s.few.fewer; all = λ c of. let w = of.2 in s.few.all c (of.0, of.1, record { row = subst (λ n. of.0 < n) (sym same) w.row; column = subst (λ n. c < n) (sym same) w.column; bit = (marks of.0 c).1 w }) };
-}
-
--- the only row of a list
-only_row : (row r : ℕ) → Contains (row ∷ []) r → row ≡ r
-only_row row r of = All-contains (λ x. row ≡ x) (row ∷ []) r (All-cons (λ x. row ≡ x) row [] refl (All-nil (λ x. row ≡ x))) of
-
--- one row that has no allowed cell is deficient
-pub IsDeficient-row : (allows : ℕ → ℕ → Type 0) (side row : ℕ) → row < side → ((c : ℕ) → allows row c → ⊥) → IsDeficient allows side (row ∷ [])
-IsDeficient-row allows side row h none = record {
-  below = All-cons (λ r. r < side) row [] h (All-nil (λ r. r < side));
-  apart = λ i j d p q. absurd (omega (arith, q));
-  few = record { columns = []; fewer = omega arith; all = λ c of. absurd (none c (subst (λ r. allows r c) (sym (only_row row of.0 of.1)) of.2)) };
-}
-
--- the numbers in order, but for one
-skipping : ℕ → ℕ → ℕ
-skipping skip k = cond (ltb k skip) k (k + 1)
-
--- each number but that one stands at its place
-Contains-skipping : (count skip c : ℕ) → skip < count → c < count → c ≢ skip → Contains (map (skipping skip) (range_with_len 0 (count - 1))) c
-unfolding skipping
-Contains-skipping count skip c within h other =
-    ⊎_elim
-    (λ (before : c < skip).
-    (c, omega (arith, length-map-range_with_len (skipping skip) 0 (count - 1)), get_or-map-range_with_len (skipping skip) 0 (count - 1) c c c (omega arith) (omega arith) ∙ ap (λ b. cond b c (c + 1)) (lt-ltb c skip before)))
-    (λ (after : skip ≤ c).
-    let later : skip < c = omega (arith, other) in
-    let there : (c - 1) + 1 ≡ c = omega arith in
-    (c - 1, omega (arith, length-map-range_with_len (skipping skip) 0 (count - 1)), get_or-map-range_with_len (skipping skip) 0 (count - 1) (c - 1) (c - 1) c (omega arith) (omega arith) ∙ ap (λ b. cond b (c - 1) ((c - 1) + 1)) (le-ltb (c - 1) skip (omega arith)) ∙ there))
-    (cases_lt c skip)
-
--- all rows are deficient where they can't have one column
-pub IsDeficient-column : (allows : ℕ → ℕ → Type 0) (side column : ℕ) (rows : List ℕ) → ((r c : ℕ) → allows r c → c < side) → column < side → ((r : ℕ) → allows r column → ⊥) → AreAllBelow side rows → IsDeficient allows side rows
-IsDeficient-column allows side column rows within h none all = record {
-  below = λ k d p. let at = get_or_default rows k d 0 p ∙ all.each k (omega (arith, all.length_is)) in omega (arith, at, all.length_is);
-  apart = λ i j d p k e.
-      let first : i < length rows = omega arith in
-      let one = get_or_default rows i d 0 first ∙ all.each i (omega (arith, all.length_is)) in
-      let two = get_or_default rows j d 0 k ∙ all.each j (omega (arith, all.length_is)) in
-      omega (arith, p, one, two, e);
-  few = record {
-    columns = map (skipping column) (range_with_len 0 (side - 1));
-    fewer = omega (arith, length-map-range_with_len (skipping column) 0 (side - 1), all.length_is, h);
-    all = λ c of. Contains-skipping side column c h (within of.0 c of.2) (λ same. none of.0 (subst (allows of.0) same of.2));
-  };
 }

@@ -1,8 +1,8 @@
 -- The cells of an instance's square within a band of grades, against bands of costs.
-use Rattle.std.proofs.Common.{◌≡◌, ◌↔◌, refl, ℕ, ◌<◌, ◌≤◌, Option, Some, None, cond, ◌&&◌, Bool, true, false, sym, ◌∙◌, subst, ap, arith, ⊎_elim}
+use Rattle.std.proofs.Common.{◌≡◌, ◌↔◌, refl, ℕ, ◌<◌, ◌≤◌, Option, Some, None, cond, ◌&&◌, Bool, true, false, sym, ◌∙◌, subst, arith}
 use Rattle.std.specs.Prelude.{pos, ◌-ℤ◌, IfSome, IsTrue, nat_lt, int_le, unsigned_abs}
 use Rattle.std.specs.Option.{option_map, option_map_or}
-use Rattle.std.proofs.lemmas.Bool.{cases_lt, lt-ltb, le-ltb, false≢true}
+use Rattle.std.proofs.lemmas.Bool.{false≢true}
 use Rattle.std.proofs.lemmas.Int.{ints}
 use Rattle.std.proofs.lemmas.Option.{same_Some, none-some}
 use Rattle.asg_model.specs.declared.bands.Band.{Band}
@@ -16,6 +16,7 @@ use Rattle.asg_model.specs.Live.{live_at}
 use Rattle.asg_model.specs.Problem.{Problem}
 use Rattle.asg_model.specs.Shapes.{square_side}
 use Rattle.asg_match.specs.HallSets.{AllowsCells}
+use Rattle.asg_match.specs.laws.Cells.{has_cell-within}
 use Rattle.asg_square.specs.Cells.{extra_column_cell, corner_cell, labelled_cell, square_cell}
 use Rattle.asg_square.specs.Grid.{Grid, IsSquareOf}
 use Rattle.asg_square.specs.Labels.{row_label, column_label}
@@ -113,7 +114,7 @@ module _ (low high : ℕ) (band : Band) (is : IsBandOf band low high) where
         let at = cell_where r c in (
           λ w. at.0 (w.grade, sym (square.cells r c) ∙ w.cell, w.inside),
           λ has.
-              let bounds = inside r c has in
+              let bounds = has_cell-within X band r c has in
               let w = at.1 has in
               record {
                 row = subst (λ n. r < n) (sym square.labels.side) bounds.0;
@@ -123,14 +124,3 @@ module _ (low high : ℕ) (band : Band) (is : IsBandOf band low high) where
                 inside = w.2;
               },
         )
-      where
-        inside : (r c : ℕ) → IsTrue (has_cell X band r c) → (r < square_side X) × (c < square_side X)
-        inside r c has =
-            ⊎_elim
-            (λ (row : r < square_side X).
-            ⊎_elim
-            (λ (column : c < square_side X). (row, column))
-            (λ (past : square_side X ≤ c). absurd (false≢true (sym (ap (λ b. b && is_labelled_within X band (row_label X r) (column_label X c)) (ap (λ b. nat_lt r (square_side X) && b) (le-ltb c (square_side X) past) ∙ ap (λ b. b && false) (lt-ltb r (square_side X) row))) ∙ has)))
-            (cases_lt c (square_side X)))
-            (λ (past : square_side X ≤ r). absurd (false≢true (sym (ap (λ b. b && nat_lt c (square_side X) && is_labelled_within X band (row_label X r) (column_label X c)) (le-ltb r (square_side X) past)) ∙ has)))
-            (cases_lt r (square_side X))

@@ -1,6 +1,6 @@
 -- The spread of a choice from that of its assignment.
 use Rattle.std.proofs.Common.{◌≡◌, refl, ℕ, ◌+◌, ◌<◌, ◌≤◌, ⊎_elim, sym, ◌∙◌, subst, ap, arith, List, [], ◌∷◌, length, Option, Some, None, All}
-use Rattle.std.specs.Prelude.{ℤ, pos, negsuc, ◌+ℤ◌, ◌-ℤ◌, ◌≤ℤ◌, IfSome, unsigned_abs, slice_index, option_and_then, fold}
+use Rattle.std.specs.Prelude.{ℤ, pos, negsuc, ◌+ℤ◌, ◌-ℤ◌, ◌≤ℤ◌, unsigned_abs, slice_index, option_and_then, fold}
 use Rattle.std.specs.Int.{int_max, int_min}
 use Rattle.std.specs.Option.{option_map_or}
 use Rattle.std.proofs.lemmas.Bool.{cases_lt}
@@ -12,7 +12,7 @@ use Rattle.asg_model.specs.declared.objectives.Objective.TheVariants.{Balanced}
 use Rattle.asg_model.specs.declared.objectives.Value.TheVariants.{One}
 use Rattle.asg_model.specs.declared.parts.Cost.{Cost}
 use Rattle.asg_model.specs.Extremes.{greatest, least}
-use Rattle.asg_model.specs.Instances.{IsInstance, IsCostInRange}
+use Rattle.asg_model.specs.Instances.{IsInstance}
 use Rattle.asg_model.specs.Limits.{most_cost}
 use Rattle.asg_model.specs.Live.{live_at}
 use Rattle.asg_model.specs.Problem.{Problem}
@@ -23,16 +23,9 @@ use Rattle.asg_square.specs.Cells.{square_cell, entered_or_free}
 use Rattle.asg_square.specs.Grid.{Grid, cell_at, IsSquareOf}
 use Rattle.asg_window.specs.Assignments.{IsAssignmentWithin, IsSpread}
 use Rattle.asg_window.specs.Grades.{grade_of, free_grade, cost_of}
-use Rattle.asg_window.proofs.ChoiceLemmas.{costs_each, costs_some, costs_at_row, chosen_live, live_in_range, greatest-le, least-ge, if_some, from_if_some}
+use Rattle.asg_match.specs.laws.Choices.{costs_each, costs_some, costs_at_row, chosen_live, greatest-le, least-ge, if_some, from_if_some}
+use Rattle.asg_proof.specs.laws.LiveCosts.{first_part_in_range}
 use Rattle.asg_window.proofs.SquareBands.{grade_above}
-
-part_in_range : (o : Option Cost) → IfSome o IsCostInRange → IfSome o (λ cost. unsigned_abs cost.a ≤ most_cost)
-part_in_range None h = tt
-part_in_range (Some cost) h = h.a_in_range
-
--- the costs of live cells are in range
-pub ranges_of : (X : Problem) → IsInstance X → (r c : ℕ) → IfSome (live_at X r c) (λ cost. unsigned_abs cost.a ≤ most_cost)
-ranges_of X i r c = part_in_range (live_at X r c) (live_in_range X i.well_formed.costs r c)
 
 -- no number of a list is past its extremes
 greatest-upper : (xs : List ℤ) → All (λ x. x ≤ℤ greatest xs) xs
@@ -63,7 +56,7 @@ module _ (X : Problem) (Q : Grid ℕ) (i : IsInstance X) (square : IsSquareOf X 
   cost_range : (r : ℕ) (cost : Cost) → chosen_cost X f r ≡ Some cost → unsigned_abs cost.a ≤ most_cost
   cost_range r cost chosen =
       let live = chosen_live X f r cost chosen in
-      from_if_some (λ c. unsigned_abs c.a ≤ most_cost) (live_at X r live.0) cost live.1 (ranges_of X i r live.0)
+      from_if_some (λ c. unsigned_abs c.a ≤ most_cost) (live_at X r live.0) cost live.1 (first_part_in_range X i r live.0)
 
   -- the cell of a row, by what the row chooses
   cell_is : (r : ℕ) → r < Q.side → cell_at Q r (slice_index perm r) ≡ Some (option_map_or grade_of (chosen_cost X f r) free_grade)

@@ -1,32 +1,13 @@
 -- Words of bits, and the rows of bits that they are.
 use Rattle.std.proofs.Common.{◌≡◌, ◌↔◌, ℕ, ◌+◌, ◌*◌, ◌/◌, ◌%◌, ◌<◌, ◌⊎◌, inl, inr, ⊎_elim, ◌≤◌, sym, ◌∙◌, ap, arith, List, length, get_or, set}
-use Rattle.std.specs.Prelude.{IsTrue, bit_and, bit_or}
+use Rattle.std.specs.Prelude.{IsTrue, bit_or}
 use Rattle.std.specs.Int.{bit_at}
-use Rattle.std.proofs.lemmas.Bool.{cases_eq, cases_lt}
+use Rattle.std.proofs.lemmas.Bool.{cases_lt}
 use Rattle.std.proofs.lemmas.Bool.Decides.{Decides-eqb}
 use Rattle.std.proofs.lemmas.List.{get_or-set_same, get_or-set_other}
-use Rattle.std.proofs.lemmas.Nat.Bits.{bit_at-lt, bit_at_and, bit_at_or}
 use Rattle.asg_match.specs.ColumnSet.{HasBit}
+use Rattle.asg_match.specs.laws.Bits.{HasBit-or}
 use Rattle.asg_square.specs.BitTable.{BitTable, has_bit, is_bit_set, AreWordsOf}
-
--- a bit of two words at once, and of one of them
-pub HasBit-and : (a b k : ℕ) → HasBit (bit_and a b) k ↔ (HasBit a k × HasBit b k)
-HasBit-and a b k =
-    let both = bit_at_and a b k in
-    let one = bit_at-lt a k in
-    let two = bit_at-lt b k in (
-      λ has. (omega (arith, both, one, two, has), omega (arith, both, one, two, has)),
-      λ h. omega (arith, both, h.0, h.1),
-    )
-
-pub HasBit-or : (a b k : ℕ) → HasBit (bit_or a b) k ↔ (HasBit a k ⊎ HasBit b k)
-HasBit-or a b k =
-    let both = bit_at_or a b k in
-    let one = bit_at-lt a k in
-    let two = bit_at-lt b k in (
-      λ has. ⊎_elim (λ h. inl h) (λ other. inr (omega (arith, both, one, two, has, other))) (cases_eq (bit_at a k) 1),
-      λ h. ⊎_elim (λ x. omega (arith, both, x, two)) (λ y. omega (arith, both, y, one)) h,
-    )
 
 -- a bit of a word of a row
 pub word_bit : (B : BitTable) (r columns n k : ℕ) (words : List ℕ) → AreWordsOf (has_bit B r) columns words → n < length words → k < 64 → HasBit (get_or words n 0) k ↔ IsTrue (has_bit B r (64 * n + k))

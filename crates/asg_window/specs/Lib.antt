@@ -10,3 +10,4 @@ pub mod Seekers
 pub mod Gaps
 pub mod CostWindows
 pub mod Costs
+pub mod WindowProofs

@@ -28,6 +28,4 @@ pub use outcomes::{BalancedRefusal, MOST_COSTS, balanced};
 pub type NoMemory = std::alloc::AllocError;
 
 #[cfg(test)]
-mod samples;
-#[cfg(test)]
 mod tests;

@@ -1,6 +1,6 @@
 //! The outcome of the balanced objective: a best choice with its proof, or a Hall set.
 
-ghost use Rattle.std.specs.Prelude.{◌≡◌, ◌<◌, ◌≤◌, pos, IfOk, IfErr, unsigned_abs};
+ghost use Rattle.std.specs.Prelude.{◌≡◌, ◌<◌, ◌≤◌, pos, IfOk, IfErr, length, unsigned_abs};
 ghost use Rattle.asg_match.specs.Deficient.{IsDeficient};
 ghost use Rattle.asg_model.specs.declared.objectives.Objective.TheVariants.{Balanced};
 ghost use Rattle.asg_model.specs.Limits.{most_cost, most_side};
@@ -8,11 +8,12 @@ ghost use Rattle.asg_model.specs.Shapes.{square_side};
 ghost use Rattle.asg_proof.specs.Outcomes.{IsOutcome};
 ghost use Rattle.asg_proof.specs.Windows.{AreWindows, ProvesSpread};
 ghost use Rattle.asg_square.specs.Grid.{IsSquareOf};
-ghost use Rattle.asg_window.specs.Costs.{HasFewCosts, IsRefusal};
+ghost use Rattle.asg_window.specs.Costs.{HasFewCosts, IsRefusal, most_costs};
 ghost use Rattle.asg_window.specs.Bands.{IsWithin};
 ghost use Rattle.asg_window.specs.Gaps.{IsLeast};
 ghost use Rattle.asg_window.specs.Grades.{free_grade, grade_of, no_bound};
 ghost use Rattle.asg_window.specs.LiveCells.{AreEntries, AreGradesOf};
+ghost use Rattle.asg_window.specs.WindowProofs.{HasFewWindows};
 
 use crate::NoMemory;
 use crate::cells_within::CellsWithin;
@@ -64,6 +65,7 @@ fn needed_windows(
     requires least { IsLeast cells.now.square.now least.now }
     ensures kept { IfOk result (λ v. AreWindows v.items) }
     ensures proof { IfOk result (λ v. ProvesSpread inst.now (pos least.now.spread) v.items) }
+    ensures few { IfOk result (λ v. length v.items ≤ length grades.now) }
 {
     let _rows = inst.rows();
     if least.spread == 0 {
@@ -86,7 +88,8 @@ fn best(
     requires entries { AreEntries cells.now.square.now cells.now.entries.now }
     requires grades { AreGradesOf cells.now.entries.now grades.now }
     requires least { IsLeast cells.now.square.now least.now }
-    ensures { IfOk result (IsOutcome Balanced inst.now) }
+    ensures outcome { IfOk result (IsOutcome Balanced inst.now) }
+    ensures windows { IfOk result (HasFewWindows (length grades.now)) }
 {
     square_law::<u32>();
     grid_law::<u32>();
@@ -108,7 +111,8 @@ fn nothing(
 ) -> Result<Outcome, NoMemory>
     requires square { IsSquareOf inst.now free_grade grade_of square.now }
     requires short { IsDeficient (IsWithin square.now 1 no_bound) square.now.side rows.now }
-    ensures { IfOk result (IsOutcome Balanced inst.now) }
+    ensures outcome { IfOk result (IsOutcome Balanced inst.now) }
+    ensures windows { IfOk result (HasFewWindows 0) }
 {
     let _rows = inst.rows();
     let cells = CellsWithin {
@@ -130,7 +134,8 @@ fn outcome(
     requires square { IsSquareOf inst.now free_grade grade_of cells.now.square.now }
     requires entries { AreEntries cells.now.square.now cells.now.entries.now }
     requires grades { AreGradesOf cells.now.entries.now grades.now }
-    ensures { IfOk result (IsOutcome Balanced inst.now) }
+    ensures outcome { IfOk result (IsOutcome Balanced inst.now) }
+    ensures windows { IfOk result (HasFewWindows (length grades.now)) }
 {
     match sweep(alloc, cells)? {
         Swept::Short(rows) => nothing(alloc, inst, cells.square, rows.as_slice()),
@@ -139,15 +144,16 @@ fn outcome(
 }
 
 /// A best choice for the balanced objective, the least difference between the greatest and the least
-/// chosen cost, with windows that prove it: where the value d is above 0, each cost v of a live cell has
-/// a window that holds the costs from v to v + d - 1 and whose rows are a Hall set of the cells of its
-/// costs. Where no choice is valid, a Hall set of the whole instance. The side of the instance's square is
-/// at most 2,000. The errors: the live cells have more than 20,000 different costs, or want of memory. A
-/// band of costs moves over the cells in their order, and keeps its matching (the method of two moving
-/// ends, [Martello et al. 1984]).
+/// chosen cost, with at most 20,000 windows that prove it: where the value d is above 0, each cost v of a
+/// live cell has a window that holds the costs from v to v + d - 1 and whose rows are a Hall set of the
+/// cells of its costs. Where no choice is valid, a Hall set of the whole instance. The side of the
+/// instance's square is at most 2,000. The errors: the live cells have more than 20,000 different costs,
+/// or want of memory. A band of costs moves over the cells in their order, and keeps its matching (the
+/// method of two moving ends, [Martello et al. 1984]).
 pub fn balanced(alloc: Global, inst: &Instance) -> Result<Outcome, BalancedRefusal>
     requires { square_side inst.now ≤ most_side }
     ensures outcome { IfOk result (IsOutcome Balanced inst.now) }
+    ensures windows { IfOk result (HasFewWindows most_costs) }
     ensures few { IfOk result (λ _. HasFewCosts inst.now) }
     ensures refusal { IfErr result (IsRefusal inst.now) }
 {

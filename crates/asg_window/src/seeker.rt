@@ -30,17 +30,6 @@ pub(crate) struct Seeker {
     pub(crate) rows: Vec<u32>,
 }
 
-// Makes the list that of the columns of the rows, each of which has one.
-fn copy_columns(matching: &Matching, perm: &mut [u32])
-    requires count { length perm.old ≡ length matching.now }
-    requires all { (r : ℕ) → r < length matching.now → IsMatched matching.now r }
-    ensures { (r : ℕ) → r < length matching.now → Matches matching.now r (slice_index perm.new r) }
-{
-    for row in 0..matching.side() {
-        perm[row as usize] = matching.column_of(row).unwrap();
-    }
-}
-
 impl Seeker {
     /// With an empty matching and an empty band. The error is want of memory.
     pub(crate) fn make(alloc: Global, cells: &LiveCells<'_>) -> Result<Seeker, NoMemory>
@@ -97,7 +86,7 @@ impl Seeker {
     {
         prune(&self.band, &mut self.matching);
         if complete(&self.band, &mut self.matching, &mut self.tree) {
-            copy_columns(&self.matching, &mut self.perm);
+            self.matching.copy_columns(&mut self.perm);
             return Ok(true);
         }
         self.rows.clear();

@@ -5,62 +5,39 @@ ghost use Rattle.asg_model.specs.Limits.{most_side};
 ghost use Rattle.asg_model.specs.Shapes.{square_side};
 
 use super::balanced;
-use super::samples::{NONE, sample};
+use asg_model::Place::{All, Exactly};
 use asg_model::limits::MOST_SIDE;
-use asg_model::{Band, Instance, Objective, Value, is_hall, is_valid, value};
+use asg_model::{ABSENT, Band, Instance, Objective, Place, Value, is_hall, is_valid, value};
 use asg_proof::{Outcome, Proof, Window};
+use asg_samples::{Fours, ONE_COLUMN, PRODUCTS, SIGNED, THREE, TWO_COLUMNS, four_by_four};
 use std::alloc::Global;
 use std::test::Fail;
 
-// The products of the numbers of rows and columns.
-const PRODUCTS: [i64; 16] = [1, 2, 3, 4, 2, 4, 6, 8, 3, 6, 9, 12, 4, 8, 12, 16];
-
-// Three rows and three columns, and a row and a column without cells.
-const THREE: [i64; 16] = [
-    4, 1, 3, NONE, 2, 0, 5, NONE, 3, 2, 2, NONE, NONE, NONE, NONE, NONE,
-];
-
 // The second column has one cost, the others different ones.
-const ONE_COST: [i64; 16] = [
-    1, 5, 9, NONE, 2, 5, 8, NONE, 3, 5, 7, NONE, NONE, NONE, NONE, NONE,
+const ONE_COST: Fours = [
+    1, 5, 9, ABSENT, 2, 5, 8, ABSENT, 3, 5, 7, ABSENT, ABSENT, ABSENT, ABSENT, ABSENT,
 ];
 
-// Two rows that have the first column alone.
-const ONE_COLUMN: [i64; 16] = [
-    1, NONE, NONE, NONE, 2, NONE, NONE, NONE, 3, 3, 3, 3, 4, 4, 4, 4,
-];
-
-// Cells in two columns alone.
-const TWO_COLUMNS: [i64; 16] = [
-    1, 5, NONE, NONE, 2, 6, NONE, NONE, 3, 7, NONE, NONE, 4, 8, NONE, NONE,
-];
-
-// How many rows are placed (0: all), whether the second column holds three, whether the last row is
-// active and the last column open, the costs, and the value, if a choice is valid.
-const CASES: [(u32, bool, bool, [i64; 16], Option<i64>); 17] = [
-    (0, false, true, [5; 16], Some(0)),
-    (
-        0,
-        false,
-        true,
-        [-3, -1, 0, 2, -3, -3, 4, 4, 5, -2, -2, -2, 7, 7, -5, 7],
-        Some(3),
-    ),
-    (0, false, true, PRODUCTS, Some(2)),
-    (0, false, false, THREE, Some(1)),
-    (0, true, false, THREE, Some(1)),
-    (2, false, false, THREE, Some(0)),
-    (1, false, false, THREE, Some(0)),
-    (0, false, false, ONE_COST, Some(5)),
-    (0, true, false, ONE_COST, Some(0)),
-    (1, false, true, PRODUCTS, Some(0)),
-    (3, false, true, PRODUCTS, Some(0)),
-    (4, false, true, PRODUCTS, Some(2)),
-    (4, false, false, PRODUCTS, None),
-    (0, false, true, ONE_COLUMN, None),
-    (0, true, true, TWO_COLUMNS, Some(3)),
-    (0, false, true, TWO_COLUMNS, None),
-    (0, false, true, [NONE; 16], None),
+// The place rule, whether the second column holds three, whether the last row is active and the last
+// column open, the costs, and the value, if a choice is valid.
+const CASES: [(Place, bool, bool, Fours, Option<i64>); 17] = [
+    (All, false, true, [5; 16], Some(0)),
+    (All, false, true, SIGNED, Some(3)),
+    (All, false, true, PRODUCTS, Some(2)),
+    (All, false, false, THREE, Some(1)),
+    (All, true, false, THREE, Some(1)),
+    (Exactly(2), false, false, THREE, Some(0)),
+    (Exactly(1), false, false, THREE, Some(0)),
+    (All, false, false, ONE_COST, Some(5)),
+    (All, true, false, ONE_COST, Some(0)),
+    (Exactly(1), false, true, PRODUCTS, Some(0)),
+    (Exactly(3), false, true, PRODUCTS, Some(0)),
+    (Exactly(4), false, true, PRODUCTS, Some(2)),
+    (Exactly(4), false, false, PRODUCTS, None),
+    (All, false, true, ONE_COLUMN, None),
+    (All, true, true, TWO_COLUMNS, Some(3)),
+    (All, false, true, TWO_COLUMNS, None),
+    (All, false, true, [ABSENT; 16], None),
 ];
 
 // Whether the rows of each window are a Hall set of its band.
@@ -118,10 +95,10 @@ fn is_right(alloc: Global, inst: &Instance, want: Option<i64>) -> Result<bool, F
 
 #[test]
 fn finds_best_choices_and_hall_sets(rt: HostRuntime) -> Result<(), Fail> {
-    for (count, wide, last, table, want) in CASES {
-        let inst = sample(rt.alloc(), count, wide, last, &table)?;
+    for (place, wide, last, costs, want) in CASES {
+        let inst = four_by_four(rt.alloc(), place, wide, last, &costs)?;
         assert!(rt; inst.side() <= MOST_SIDE);
-        assert!(rt; is_right(rt.alloc(), &inst, want)?, "{count} {want:?}");
+        assert!(rt; is_right(rt.alloc(), &inst, want)?, "{place:?} {want:?}");
     }
     Ok(())
 }

@@ -124,6 +124,7 @@ pub(crate) fn windows_of(
     ensures halls { IfOk result (λ v. All (IsBandWindow inst.now square.now) v.items) }
     ensures held { IfOk result (λ v. All (λ grade.
         IsTrue (is_held v.items (pos spread) (cost_of grade))) grades.now) }
+    ensures few { IfOk result (λ v. length v.items ≤ length grades.now) }
 {
     let mut windows = Vec::new(alloc);
     let mut place = 0;

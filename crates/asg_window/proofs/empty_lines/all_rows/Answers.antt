@@ -1,6 +1,6 @@
 use Rattle.std.proofs.Common.{◌≡◌, arith}
 use Rattle.asg_window.specs.Marks.{IsMarked}
-use Rattle.asg_window.proofs.ReachLemmas.{IsDeficient-column}
+use Rattle.asg_match.specs.laws.EmptyColumns.{IsDeficient-column}
 use Rattle.asg_window.proofs.empty_lines.all_rows.Goals as goal
 
 pub returns : goal.returns
@@ -13,4 +13,5 @@ returns c =
     (λ r d h. let cell = h in cell.column)
     empty.column
     (λ r h. let cell = h in empty.none r cell.row cell.bit)
-    (record { length_is = omega (arith, inv.count, all); each = λ k h. inv.each k (omega (arith, h, all)) })
+    (omega (arith, inv.count, all))
+    (λ k h. inv.each k (omega (arith, h, all)))

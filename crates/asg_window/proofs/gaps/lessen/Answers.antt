@@ -6,7 +6,7 @@ use Rattle.asg_window.specs.declared.gaps.Gap.{Gap}
 use Rattle.asg_window.specs.Assignments.{IsAssignmentWithin, IsSpread}
 use Rattle.asg_window.specs.Bands.{IsWithin}
 use Rattle.asg_window.specs.Gaps.{IsGap, ShowLeast}
-use Rattle.asg_window.proofs.ChoiceLemmas.{from_if_some}
+use Rattle.asg_match.specs.laws.Choices.{from_if_some}
 use Rattle.asg_window.proofs.GapLemmas.{chained_less, chained_push}
 use Rattle.asg_window.proofs.gaps.lessen.Goals as goal
 

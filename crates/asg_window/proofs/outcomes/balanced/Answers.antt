@@ -1,17 +1,14 @@
 use Rattle.std.proofs.Common.{◌≡◌, subst, arith, length, List}
-use Rattle.asg_model.specs.Live.{live_at}
 use Rattle.asg_window.specs.declared.live_cells.Entry.{Entry}
 use Rattle.asg_window.specs.Costs.{HasCosts}
 use Rattle.asg_window.specs.Grades.{grade_of}
 use Rattle.asg_window.specs.LiveCells.{AreGradesOf}
-use Rattle.asg_window.proofs.ChoiceLemmas.{if_some-weaker}
 use Rattle.asg_window.proofs.CostLemmas.{HasCosts-grades, count_fits}
-use Rattle.asg_window.proofs.ValueLemmas.{ranges_of}
+use Rattle.asg_proof.specs.laws.LiveCosts.{first_part_in_range}
 use Rattle.asg_window.proofs.outcomes.balanced.Goals as goal
 
 pub of-requires-clause-enters : goal.of-requires-clause-enters
-of-requires-clause-enters c r d =
-    if_some-weaker (live_at c.args.inst.now r d) (λ cost h. h) (ranges_of c.args.inst.now c.rows-rows.ensures.instance r d)
+of-requires-clause-enters c r d = first_part_in_range c.args.inst.now c.rows-rows.ensures.instance r d
 
 pub overflow_cast-result : goal.overflow_cast-result
 overflow_cast-result c =

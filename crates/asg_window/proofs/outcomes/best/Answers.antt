@@ -11,8 +11,8 @@ use Rattle.asg_window.proofs.AssignmentLemmas.{IsPerm-within}
 use Rattle.asg_window.proofs.ValueLemmas.{value_is}
 use Rattle.asg_window.proofs.outcomes.best.Goals as goal
 
-pub returns : goal.returns
-returns c =
+pub returns-clause-outcome : goal.returns-clause-outcome
+returns-clause-outcome c =
     let X = c.args.inst.now in
     let Q = c.args.cells.now.square.now in
     let square = c.requires.square in

@@ -2,11 +2,11 @@ use Rattle.std.proofs.Common.{refl}
 use Rattle.asg_model.specs.declared.bands.Band.TheVariants.{Whole}
 use Rattle.asg_window.specs.Grades.{no_bound}
 use Rattle.asg_window.proofs.SquareBands.{AllowsCells-within, IsBandOf-whole}
-use Rattle.asg_window.proofs.ValueLemmas.{ranges_of}
+use Rattle.asg_proof.specs.laws.LiveCosts.{first_part_in_range}
 use Rattle.asg_window.proofs.outcomes.nothing.Goals as goal
 
-pub returns : goal.returns
-returns c =
+pub returns-clause-outcome : goal.returns-clause-outcome
+returns-clause-outcome c =
     let X = c.args.inst.now in
     c.in_ok-rows.ensures X Whole refl refl refl
-    (AllowsCells-within 1 no_bound Whole IsBandOf-whole X (ranges_of X c.rows-rows.ensures.instance) c.args.square.now c.requires.square)
+    (AllowsCells-within 1 no_bound Whole IsBandOf-whole X (first_part_in_range X c.rows-rows.ensures.instance) c.args.square.now c.requires.square)

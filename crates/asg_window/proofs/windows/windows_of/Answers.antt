@@ -1,6 +1,7 @@
-use Rattle.std.proofs.Common.{◌+◌, ◌<◌, ◌≤◌, refl, arith, ap, sym, subst, length}
+use Rattle.std.proofs.Common.{◌+◌, ◌<◌, ◌≤◌, refl, arith, ap, sym, subst, List, [], ◌∷◌, length}
 use Rattle.std.specs.Prelude.{pos, IsTrue}
-use Rattle.std.proofs.lemmas.List.{get_or_default}
+use Rattle.std.proofs.lemmas.List.{get_or_default, length-append}
+use Rattle.asg_proof.specs.declared.windows.Window.{Window}
 use Rattle.asg_proof.specs.Windows.{is_held}
 use Rattle.asg_window.specs.Grades.{cost_of}
 use Rattle.asg_window.proofs.WindowSteps.{AreHeld, held_none, held_skip, held_add}
@@ -14,6 +15,7 @@ loop-number-init c =
       end = refl;
       held = subst (λ ws. AreHeld c.args.inst.now c.args.square.now c.args.gaps.now c.args.grades.now c.args.spread ws 0 0 0) (sym c.new-windows.ensures.items)
           (held_none c.args.inst.now c.args.square.now c.args.gaps.now c.args.grades.now c.args.spread g.0 g.1 g.2 c.requires.ascending);
+      few = subst (λ (ws : List Window). length ws ≤ 0) (sym c.new-windows.ensures.items) (omega arith);
     }
 
 pub loop-number-preserved : goal.loop-number-preserved
@@ -33,6 +35,9 @@ loop-number-preserved c =
             held = subst (λ ws. AreHeld X Q gaps grades spread ws (c.loop-number.number + 1) c.if-reach-grade.place c.if-reach-grade.reach) (sym (ap (λ v. v.items) w.windows-is))
                 (subst (λ p. AreHeld X Q gaps grades spread w.add_window.new.windows.items (c.loop-number.number + 1) p c.if-reach-grade.reach) (sym w.place-is)
                 (held_add X Q gaps grades spread g.0 g.1 g.2 c.requires.ascending c.loop-number.windows.items c.loop-number.number c.loop-number.place c.loop-number.reach here inv.held w.add_window.new.windows.items w.in_ok-place.place w.index-gaps-place.result w.in_ok-place.ensures c.if-reach-grade.reach w.reach-is));
+            few =
+                let adds = w.in_ok-place.ensures in
+                omega (arith, inv.few, ap (λ v. length v.items) w.windows-is, ap length adds.pushed, length-append c.loop-number.windows.items (adds.window ∷ []));
           }
       | else-reach-grade w ↦
           record {
@@ -41,6 +46,7 @@ loop-number-preserved c =
                 (subst (λ p. AreHeld X Q gaps grades spread c.loop-number.windows.items (c.loop-number.number + 1) p c.if-reach-grade.reach) (sym w.place-is)
                 (subst (λ r. AreHeld X Q gaps grades spread c.loop-number.windows.items (c.loop-number.number + 1) c.loop-number.place r) (sym w.reach-is)
                 (held_skip X Q gaps grades spread g.0 g.1 g.2 c.requires.ascending c.loop-number.windows.items c.loop-number.number c.loop-number.place c.loop-number.reach here inv.held w.if-reach-grade.false)));
+            few = omega (arith, inv.few, ap (λ v. length v.items) w.windows-is);
           }
     ]
 

@@ -1,6 +1,6 @@
 -- What cell tokens spell, and their faults.
-use Rattle.std.proofs.Common.{◌≡◌, ℕ, ◌≤◌, Bool, true, false, cond, ◌&&◌, ◌==◌, ◌+◌, List, [], ◌∷◌, length, take, drop, Option, Some, None, refl, sym, ap, ◌∙◌, ⊎_elim, arith, w64, to_z, of_z, subst}
-use Rattle.std.specs.Prelude.{ℤ, pos, nat_le, not, unsigned_abs, option_and_then, IfSome, FitsSigned}
+use Rattle.std.proofs.Common.{◌≡◌, ℕ, ◌<◌, ◌≤◌, Bool, true, false, cond, ◌&&◌, ◌==◌, ◌+◌, List, [], ◌∷◌, ◌++◌, length, take, drop, Option, Some, None, refl, sym, ap, ◌∙◌, ⊎_elim, arith, w64, to_z, of_z, subst}
+use Rattle.std.specs.Prelude.{ℤ, pos, nat_le, not, unsigned_abs, option_and_then, IfSome}
 use Rattle.std.specs.Option.{option_map, option_or}
 use Rattle.std.specs.List.{position_or_len}
 use Rattle.std.proofs.lemmas.Bool.{cases_Bool, le-leb}
@@ -127,6 +127,15 @@ no_pair token colon is all =
     ∙ ap (λ second. option_map cost_in_range (pair_of (integer_of (take colon token)) second)) (nothing_behind token colon all)
     ∙ ap (option_map cost_in_range) (no_second (integer_of (take colon token))))
 
+-- an integer has bytes
+nothing_spells : integer_of [] ≡ None
+unfolding integer_of number_of
+nothing_spells = refl
+
+pub some_bytes : (word : List ℕ) (a : ℤ) → integer_of word ≡ Some a → 0 < length word
+some_bytes [] a spells = absurd (none-some a (sym nothing_spells ∙ spells))
+some_bytes (byte ∷ word) a spells = omega arith
+
 -- an integer is no absent cell
 minus_is_no_integer : integer_of (45 ∷ []) ≡ None
 unfolding integer_of number_of
@@ -144,19 +153,24 @@ plain_in_range : (token : List ℕ) (a : ℤ) → integer_of token ≡ Some a �
 plain_in_range token a spells in_range =
     sym (ap (λ a. option_map cost_in_range (option_or (option_map (λ a. record { a = a; b = pos 0 }) a) (pair_cost_of token))) spells ∙ ap (λ v. Some (cond (v && true) (Some (record { a = a; b = pos 0 })) None)) (le-leb _ _ in_range))
 
-integer_cell : (place : ℕ) (text : List ℕ) (value : ℤ) (rest : List ℕ) → IsShortInteger text value rest → IsCell place text (Some (record { a = value; b = pos 0 })) rest
-integer_cell place text value rest short = record {
-  token = short.token;
-  first = short.first;
-  right = right_faults place short.token _ (integer_is_present short.token value short.spells) (plain_in_range short.token value short.spells short.in_range);
-  is_cost = right_cell place short.token _ (integer_is_present short.token value short.spells) (plain_in_range short.token value short.spells short.in_range);
+integer_cell : (place : ℕ) (text behind rest : List ℕ) (value : ℤ) → IsShortInteger text value behind → IsBehindSpace behind rest → IsCell place text (Some (record { a = value; b = pos 0 })) rest
+integer_cell place text behind rest value short space = record {
+  token = short.word;
+  first = ap tokens (short.cut ∙ ap (λ behind. short.word ++ behind) space.cut) ∙ word_first is_space short.word space.separator rest (some_bytes short.word value short.spells) short.no_space space.separates;
+  right = right_faults place short.word _ (integer_is_present short.word value short.spells) (plain_in_range short.word value short.spells short.in_range);
+  is_cost = right_cell place short.word _ (integer_is_present short.word value short.spells) (plain_in_range short.word value short.spells short.in_range);
 }
 
--- a short integer is a cell
-pub short_cell : (place : ℕ) (text : List ℕ) (value : ℤ) (rest : List ℕ) → IsShortInteger text value rest → IsCell place text (Some (record { a = to_z w64 (of_z w64 value); b = pos 0 })) rest
-short_cell place text value rest short =
-    let fits : FitsSigned w64 value = let high = short.in_range in omega (arith, ints) in
-    subst (λ a. IsCell place text (Some (record { a = a; b = pos 0 })) rest) (sym (to_z-of_z w64 value fits)) (integer_cell place text value rest short)
+-- the parts of a short integer fit
+pub short_fits : {text rest : List ℕ} {value : ℤ} → IsShortInteger text value rest → to_z w64 (of_z w64 value) ≡ value
+short_fits {text} {rest} {value} short =
+    let high = short.in_range in
+    to_z-of_z w64 value (omega (arith, ints))
+
+-- a short integer, with a separator behind it, is a cell
+pub short_cell : (place : ℕ) (text behind rest : List ℕ) (value : ℤ) → IsShortInteger text value behind → IsBehindSpace behind rest → IsCell place text (Some (record { a = to_z w64 (of_z w64 value); b = pos 0 })) rest
+short_cell place text behind rest value short space =
+    subst (λ a. IsCell place text (Some (record { a = a; b = pos 0 })) rest) (sym (short_fits short)) (integer_cell place text behind rest value short space)
 
 -- the token of an absent cell, with a separator behind it, is a cell
 pub short_absent_cell : (place : ℕ) (text behind rest : List ℕ) → IsBehindSpace behind rest → text ≡ 45 ∷ behind → IsCell place text None rest

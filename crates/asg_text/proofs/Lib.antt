@@ -17,3 +17,7 @@ pub mod SpelledTables
 pub mod SpelledNetworks
 pub mod LineRanges
 pub mod InstanceLaw
+pub mod FilledTables
+pub mod LayoutLemmas
+pub mod PlaceLemmas
+pub mod PairLemmas

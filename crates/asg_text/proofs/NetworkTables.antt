@@ -6,7 +6,7 @@ use Rattle.std.proofs.lemmas.Bool.{le-leb, and_from}
 use Rattle.std.proofs.lemmas.Bool.Decides.{Decides-eqb}
 use Rattle.std.proofs.lemmas.Cmp.{nat_eq_equiv}
 use Rattle.std.proofs.lemmas.List.{length-map, get_or-map, map-append}
-use Rattle.std.proofs.lemmas.List.Elements.{All-nil, All-cons, All-append}
+use Rattle.std.proofs.lemmas.List.Elements.{All-nil, All-cons, All-append, All-weaker, All-filter}
 use Rattle.std.proofs.lemmas.List.Filters.{length-filter_both}
 use Rattle.std.proofs.lemmas.List.FromFn.{length-range_with_len, get_or-range_with_len}
 use Rattle.std.proofs.lemmas.List.Kept.{AllPairs-filter}
@@ -18,6 +18,7 @@ use Rattle.asg_model.specs.Table.{IsTable, table_cells}
 use Rattle.asg_model.specs.ValueRange.{IsPartInRange}
 use Rattle.asg_text.specs.Readings.{row_of, column_of, table_of}
 use Rattle.asg_text.specs.AsnArcs.{is_among, targets, plain_cost, costs_between}
+use Rattle.asg_text.specs.Layouts.{AreNodeIds}
 use Rattle.asg_text.specs.Networks.{first_of, firsts_between}
 use Rattle.asg_text.specs.Slots.{first_part, IsSlot}
 use Rattle.asg_text.proofs.ReadCells.{slot_of_none, slot_in_range}
@@ -52,6 +53,22 @@ module _ (sources : List ℕ) (nodes : ℕ) (distinct : IsDistinct nat_eq source
   unfolding targets
   targets_differ =
       AllPairs-filter (λ x y. x ≢ y) (λ id. not (is_among sources id)) (range_with_len 1 nodes) (range_is_distinct nodes)
+
+  -- both are ids of nodes
+  pub sources_are_ids : AreNodeIds nodes sources
+  sources_are_ids = record {
+    differ = sources_differ;
+    within = All-weaker (λ id. (1 ≤ id) × (id ≤ nodes)) (λ id. id ≤ nodes) (λ id h. h.1) sources in_range;
+  }
+
+  pub targets_are_ids : AreNodeIds nodes (targets sources nodes)
+  unfolding targets
+  targets_are_ids = record {
+    differ = targets_differ;
+    within =
+        All-filter (λ id. not (is_among sources id)) (λ id. id ≤ nodes) (range_with_len 1 nodes)
+        (λ k d within. omega (arith, length-range_with_len 1 nodes, get_or-range_with_len 1 nodes k d));
+  }
 
 -- costs in range
 module _ (cost : ℕ → ℕ → Option ℤ) (in_range : (s t : ℕ) → IfSome (cost s t) IsPartInRange) where

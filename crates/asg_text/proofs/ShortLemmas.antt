@@ -1,5 +1,5 @@
 -- Short integers: digits and a separator behind them.
-use Rattle.std.proofs.Common.{◌≡◌, ℕ, ◌+◌, ◌-◌, ◌*◌, ◌^◌, ◌<◌, ◌≤◌, true, false, cond, Option, List, [], ◌∷◌, ◌++◌, length, get_or, take, drop, Some, refl, sym, ap, ◌∙◌, arith, rules, lit<, Bool, subst, w64, to_z, of_z}
+use Rattle.std.proofs.Common.{◌≡◌, ◌==◌, ℕ, ◌+◌, ◌-◌, ◌*◌, ◌^◌, ◌<◌, ◌≤◌, true, false, cond, Option, List, [], ◌∷◌, ◌++◌, length, get_or, take, drop, Some, refl, sym, ap, ◌∙◌, arith, rules, lit<, Bool, subst, w64, to_z, of_z}
 use Rattle.std.specs.Prelude.{ℤ, pos, neg_ℤ, ◌-ℤ◌, nat_lt, filter, All, unsigned_abs, FitsSigned}
 use Rattle.std.specs.Option.{option_map}
 use Rattle.std.specs.List.{list_all}
@@ -14,7 +14,7 @@ use Rattle.std.proofs.lemmas.List.Elements.{All-nil, All-cons}
 use Rattle.std.proofs.lemmas.Int.{ints, to_z-of_z}
 use Rattle.std.proofs.lemmas.Int.Digits.{digits_value-lt, digits_value_more}
 use Rattle.asg_text.specs.Numbers.{number_of, integer_of}
-use Rattle.asg_text.specs.Pieces.{pieces, tokens, is_space}
+use Rattle.asg_text.specs.Pieces.{pieces, is_space}
 use Rattle.asg_text.specs.NextCells.{IsShortInteger, IsShortAmount}
 use Rattle.asg_text.proofs.NumberLemmas.{number_of_digits, digit_value_is}
 
@@ -30,11 +30,23 @@ digit_is_no_space b is_digit =
     let range = digit_range b is_digit in
     rw (ne_eqb b 32 (λ e. omega (arith, range)), ne_eqb b 9 (λ e. omega (arith, range)), ne_eqb b 13 (λ e. omega (arith, range)), ne_eqb b 10 (λ e. omega (arith, range))) refl
 
+-- nor is it a colon
+digit_is_no_colon : (b : ℕ) → is_ascii_digit b ≡ true → (b == 58) ≡ false
+digit_is_no_colon b is_digit =
+    let range = digit_range b is_digit in
+    ne_eqb b 58 (λ e. omega (arith, range))
+
 no_spaces : (digits : List ℕ) → list_all is_ascii_digit digits ≡ true → All (λ b. is_space b ≡ false) digits
 no_spaces [] are = All-nil (λ b. is_space b ≡ false)
 no_spaces (b ∷ digits) are =
     let parts = and_parts _ _ are in
     All-cons (λ b. is_space b ≡ false) b digits (digit_is_no_space b parts.0) (no_spaces digits parts.1)
+
+no_colons : (digits : List ℕ) → list_all is_ascii_digit digits ≡ true → All (λ b. (b == 58) ≡ false) digits
+no_colons [] are = All-nil (λ b. (b == 58) ≡ false)
+no_colons (b ∷ digits) are =
+    let parts = and_parts _ _ are in
+    All-cons (λ b. (b == 58) ≡ false) b digits (digit_is_no_colon b parts.0) (no_colons digits parts.1)
 
 all_digits : (digits : List ℕ) → list_all is_ascii_digit digits ≡ true → AllDigits 10 digits
 all_digits [] are = search rules
@@ -101,8 +113,10 @@ module _ {text : List ℕ} {amount : ℤ} {rest : List ℕ} (short : IsShortAmou
   pub plain_integer : IsShortInteger text amount rest
   unfolding integer_of
   plain_integer = record {
-    token = short.digits;
-    first = ap tokens short.cut ∙ word_first is_space short.digits short.separator rest short.some (no_spaces short.digits short.are_digits) short.separates;
+    word = short.digits;
+    cut = short.cut;
+    no_space = no_spaces short.digits short.are_digits;
+    no_colon = no_colons short.digits short.are_digits;
     spells = ap {B = Option ℤ} (λ v. cond v (option_map (λ n. neg_ℤ (pos n)) (number_of (drop 1 short.digits))) (option_map pos (number_of short.digits))) (no_minus short.digits short.some short.are_digits) ∙ ap (option_map pos) (number_of_digits short.digits short.some short.are_digits) ∙ ap Some (sym short.is_amount);
     in_range = let high = short.in_range in omega (arith, ap unsigned_abs short.is_amount);
   }
@@ -115,8 +129,10 @@ module _ {text : List ℕ} {amount : ℤ} {rest : List ℕ} (short : IsShortAmou
   negative_integer : IsShortInteger (45 ∷ text) (pos 0 -ℤ amount) rest
   unfolding integer_of
   negative_integer = record {
-    token = 45 ∷ short.digits;
-    first = ap (λ text. tokens (45 ∷ text)) short.cut ∙ word_first is_space (45 ∷ short.digits) short.separator rest (omega arith) (All-cons (λ b. is_space b ≡ false) 45 short.digits refl (no_spaces short.digits short.are_digits)) short.separates;
+    word = 45 ∷ short.digits;
+    cut = ap (λ text. 45 ∷ text) short.cut;
+    no_space = All-cons (λ b. is_space b ≡ false) 45 short.digits refl (no_spaces short.digits short.are_digits);
+    no_colon = All-cons (λ b. (b == 58) ≡ false) 45 short.digits refl (no_colons short.digits short.are_digits);
     spells = ap (option_map (λ n. neg_ℤ (pos n))) (number_of_digits short.digits short.some short.are_digits) ∙ ap (λ a. Some (neg_ℤ a)) (sym short.is_amount) ∙ ap Some (from_zero amount);
     in_range = let high = short.in_range in let same : unsigned_abs (pos 0 -ℤ amount) ≡ digits_value 10 short.digits = rw short.is_amount (amount_below_zero (digits_value 10 short.digits)) in omega arith;
   }

@@ -11,3 +11,4 @@ pub mod Slots
 pub mod Networks
 pub mod SameCells
 pub mod Texts
+pub mod Layouts

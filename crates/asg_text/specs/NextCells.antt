@@ -1,6 +1,6 @@
 -- What is read of a text up to its next cell: words of the reader of cells, on which `reading_of`
 -- doesn't stand.
-use Rattle.std.specs.Prelude.{◌≡◌, ℕ, ℤ, pos, ◌<◌, ◌≤◌, true, List, [], ◌∷◌, ◌++◌, length, Option, Some, IfSome, unsigned_abs, option_and_then}
+use Rattle.std.specs.Prelude.{◌≡◌, ℕ, ℤ, pos, ◌<◌, ◌≤◌, ◌==◌, true, false, List, [], ◌∷◌, ◌++◌, length, Option, Some, All, IfSome, unsigned_abs, option_and_then}
 use Rattle.std.specs.Option.{option_map}
 use Rattle.std.specs.List.{list_all}
 use Rattle.std.specs.Char.{is_ascii_digit}
@@ -13,20 +13,20 @@ use Rattle.asg_text.specs.Pieces.{tokens, is_space}
 use Rattle.asg_text.specs.Faults.{Fault, fault_of}
 use Rattle.asg_text.specs.Tables.{cell_of, token_faults}
 
--- the first token of a text spells this integer, which is in range, and this is the text behind it
+-- a text begins with this integer, which is in range, and this is the text behind it
 pub record IsShortInteger (text : List ℕ) (value : ℤ) (rest : List ℕ) : Type 0 where
-  pub token : List ℕ
-  pub first : tokens text ≡ token ∷ tokens rest
-  pub spells : integer_of token ≡ Some value
+  pub word : List ℕ
+  pub cut : text ≡ word ++ rest
+  pub no_space : All (λ byte. is_space byte ≡ false) word
+  pub no_colon : All (λ byte. (byte == 58) ≡ false) word
+  pub spells : integer_of word ≡ Some value
   pub in_range : unsigned_abs value ≤ most_cost
 
--- a text begins with decimal digits and a separator; the digits spell this amount, which is in range,
--- and this is the text behind the separator
+-- a text begins with decimal digits, which spell this amount, which is in range, and this is the text
+-- behind them
 pub record IsShortAmount (text : List ℕ) (amount : ℤ) (rest : List ℕ) : Type 0 where
   pub digits : List ℕ
-  pub separator : ℕ
-  pub cut : text ≡ digits ++ separator ∷ rest
-  pub separates : is_space separator ≡ true
+  pub cut : text ≡ digits ++ rest
   pub some : 0 < length digits
   pub are_digits : list_all is_ascii_digit digits ≡ true
   pub is_amount : amount ≡ pos (digits_value 10 digits)

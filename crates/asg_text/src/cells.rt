@@ -1,12 +1,12 @@
 //! The cells of square and rect files.
 
-ghost use Rattle.std.specs.Prelude.{◌≡◌, ℕ, ◌==◌, ◌∷◌, [], IfOk, IfErr, IfSome, IfNone};
+ghost use Rattle.std.specs.Prelude.{◌≡◌, ℕ, ◌==◌, List, ◌∷◌, [], IfOk, IfErr, IfSome, IfNone};
 ghost use Rattle.std.specs.Option.{option_map};
 ghost use Rattle.std.specs.List.{position_or_len};
 ghost use Rattle.asg_text.specs.Pieces.{tokens};
 ghost use Rattle.asg_text.specs.Tables.{is_absent, cost_of, pair_cost_of, cost_in_range, cell_of, token_faults};
 ghost use Rattle.asg_text.specs.Faults.{fault_of};
-ghost use Rattle.asg_text.specs.NextCells.{IsCell, IsFaultyCell, cost_of_parts};
+ghost use Rattle.asg_text.specs.NextCells.{IsShortInteger, IsCell, IsFaultyCell, cost_of_parts};
 
 use crate::numbers;
 use crate::pieces::{Separators, first_piece};
@@ -35,22 +35,60 @@ pub(crate) fn next_cell<'a>(text: &'a [u8], place: u64) -> Result<Option<Cell<'a
     }
 }
 
-// The cell that a text begins with, in the common case of a short integer or an absent cell; `None`
+// The cell that a text begins with, in the common case of short integers or an absent cell; `None`
 // tells nothing of the text.
 #[inline(always)]
 fn short_cell<'a>(text: &'a [u8]) -> Option<Cell<'a>>
     ensures { IfSome result (λ cell. (place : ℕ) → IsCell place text.now cell.cost cell.rest.now) }
 {
     match short_integer(text) {
-        Some(short) => Some(Cell {
-            cost: Some(Cost {
-                a: short.value,
-                b: 0,
-            }),
-            rest: short.rest,
-        }),
+        Some(first) => cell_from(first.value, first.rest),
         None => short_absent_cell(text),
     }
+}
+
+// The cell that begins with this integer, of which this is the text behind it: the integer alone, where
+// a separator stands there, which is taken with it, or a pair; `None` tells nothing of the text.
+#[inline(always)]
+fn cell_from<'a>(first: i64, behind: &'a [u8]) -> Option<Cell<'a>>
+    ensures { IfSome result (λ cell. (text : List ℕ) (place : ℕ)
+        → IsShortInteger text first behind.now → IsCell place text cell.cost cell.rest.now) }
+{
+    match behind_space(behind) {
+        Some(rest) => Some(Cell {
+            cost: Some(Cost { a: first, b: 0 }),
+            rest,
+        }),
+        None => pair_from(first, behind),
+    }
+}
+
+// The same, for a pair of this integer and another short one.
+#[inline]
+fn pair_from<'a>(first: i64, behind: &'a [u8]) -> Option<Cell<'a>>
+    ensures { IfSome result (λ cell. (text : List ℕ) (place : ℕ)
+        → IsShortInteger text first behind.now → IsCell place text cell.cost cell.rest.now) }
+{
+    let second = short_integer(behind_colon(behind)?)?;
+    let rest = behind_space(second.rest)?;
+    Some(Cell {
+        cost: Some(Cost {
+            a: first,
+            b: second.value,
+        }),
+        rest,
+    })
+}
+
+// The text behind the colon that a text begins with; `None` where it begins with none.
+#[inline(always)]
+fn behind_colon<'a>(text: &'a [u8]) -> Option<&'a [u8]>
+    ensures { IfSome result (λ rest. text.now ≡ 58 ∷ rest.now) }
+{
+    if text.is_empty() || text[0] != b':' {
+        return None;
+    }
+    Some(&text[1..])
 }
 
 // The absent cell that a text begins with, where a separator stands behind it, which is taken with it;

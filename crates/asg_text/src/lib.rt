@@ -11,6 +11,7 @@ mod cells;
 mod files;
 mod formats;
 pub mod laws;
+mod layouts;
 mod lines;
 mod network;
 mod network_tables;

@@ -1,17 +1,19 @@
 //! The instance of a network.
 
-ghost use Rattle.std.specs.Prelude.{◌≡◌, ◌++◌, ◌+◌, ◌-◌, ◌<◌, ◌≤◌, [], Some, length, map, IfOk, IfErr, OnOk};
+ghost use Rattle.std.specs.Prelude.{◌≡◌, ◌+◌, ◌-◌, ◌<◌, ◌≤◌, [], Some, length, map, IfOk, IfErr, OnOk};
 ghost use Rattle.asg_model.specs.Limits.{most_rows, most_columns};
 ghost use Rattle.asg_text.specs.AsnArcs.{count_faults, targets};
-ghost use Rattle.asg_text.specs.Networks.{IsSound, reading_of_network, known_cost, first_of, firsts_between};
+ghost use Rattle.asg_text.specs.Layouts.{AreNodeIds};
+ghost use Rattle.asg_text.specs.Networks.{IsSound, reading_of_network, known_cost, firsts_between};
 ghost use Rattle.asg_text.specs.Readings.{Spells, TellsOf, row_of, column_of};
 ghost use Rattle.asg_text.specs.Slots.{IsEarliest};
 
 use crate::asn_lines::Sizes;
+use crate::layouts::Layout;
 use crate::network::Network;
 use crate::refusals::TextRefusal;
 use asg_model::limits::{MOST_COLUMNS, MOST_ROWS};
-use asg_model::{ABSENT, Column, Instance, Place, Row};
+use asg_model::{Column, Instance, Place, Row};
 use std::alloc::{AllocError, Global};
 
 impl Network {
@@ -26,8 +28,9 @@ impl Network {
         };
         self.check_counts(sizes)?;
         let ids = self.column_ids(alloc, sizes.nodes)?;
-        let firsts = self.firsts(alloc, ids.as_slice())?;
-        let rows = rows_of(alloc, self.sources.as_slice())?;
+        let sources = self.sources.as_slice();
+        let firsts = self.firsts(alloc, ids.as_slice(), sizes.nodes)?;
+        let rows = rows_of(alloc, sources)?;
         let columns = columns_of(alloc, ids.as_slice())?;
         Ok(Instance::of_table(rows, columns, firsts, Vec::new(alloc), Place::All))
     }
@@ -72,43 +75,20 @@ impl Network {
     }
 
     // The first parts of a table of the costs from each source to each of these nodes.
-    #[tactic(auto, unfolding(crate::specs::Networks::firsts_between))]
-    fn firsts(&self, alloc: Global, targets: &[u32]) -> Result<Vec<i64>, AllocError>
+    fn firsts(&self, alloc: Global, targets: &[u32], nodes: u32) -> Result<Vec<i64>, AllocError>
+        requires sources { AreNodeIds nodes self.now.sources.keys }
+        requires targets { AreNodeIds nodes targets.now }
+        requires few_rows { length self.now.sources.keys ≤ most_rows }
+        requires few_columns { length targets.now ≤ most_columns }
         ensures { IfOk result (λ firsts. firsts.items
             ≡ firsts_between (known_cost self.now) self.now.sources.keys targets.now) }
     {
-        let mut firsts = Vec::new(alloc);
-        for source in self.sources.as_slice() {
-            self.push_row(&mut firsts, *source, targets)?;
+        let layout = Layout::new(alloc, self.sources.as_slice(), targets, nodes)?;
+        let mut firsts = layout.absent_firsts(alloc)?;
+        for (ends, cost) in self.costs.iter() {
+            layout.put(&mut firsts, ends, cost);
         }
         Ok(firsts)
-    }
-
-    // Appends the first parts of the row of a source.
-    fn push_row(
-        &self,
-        firsts: &mut Vec<i64>,
-        source: u32,
-        targets: &[u32],
-    ) -> Result<(), AllocError>
-        ensures { OnOk result (firsts.new.items ≡ firsts.old.items
-            ++ map (λ target. first_of (known_cost self.now source target)) targets.now) }
-    {
-        for target in targets {
-            let first = self.first_between(source, *target);
-            firsts.push(first)?;
-        }
-        Ok(())
-    }
-
-    // The first part from a source to another node.
-    fn first_between(&self, source: u32, target: u32) -> i64
-        ensures { result ≡ first_of (known_cost self.now source target) }
-    {
-        match self.costs.get(&(source, target)) {
-            Some(cost) => *cost,
-            None => ABSENT,
-        }
     }
 }
 

@@ -1,4 +1,4 @@
-//! The common case of a cell: a short integer.
+//! The common case of a part of a cell: a short integer.
 
 ghost use Rattle.std.specs.Prelude.{◌≡◌, ◌≤◌, true, IfSome, length, take};
 ghost use Rattle.std.specs.List.{list_all};
@@ -19,9 +19,9 @@ pub(crate) struct ShortInteger<'a> {
 // How many digits are read at most.
 const MOST_DIGITS: usize = 10;
 
-/// The integer that a text begins with, where it has at most ten digits, lies between -10^9 and 10^9, and
-/// a separator stands behind it, which is taken with it. `None` tells nothing of the text; it comes too
-/// where the text has less than eleven bytes behind the sign.
+/// The integer that a text begins with, where it has at most ten digits and lies between -10^9 and 10^9.
+/// `None` tells nothing of the text; it comes too where the text has less than eleven bytes behind the
+/// sign.
 #[inline(always)]
 pub(crate) fn short_integer<'a>(text: &'a [u8]) -> Option<ShortInteger<'a>>
     ensures { IfSome result (λ short. IsShortInteger text.now short.value short.rest.now) }
@@ -46,12 +46,12 @@ fn short_amount<'a>(text: &'a [u8]) -> Option<ShortInteger<'a>>
         return None;
     }
     let (number, len) = short_number(text);
-    if len == 0 || number > MOST_AMOUNT || !is_space(text[len]) {
+    if len == 0 || number > MOST_AMOUNT {
         return None;
     }
     Some(ShortInteger {
         value: number as i64,
-        rest: &text[len + 1..],
+        rest: &text[len..],
     })
 }
 

@@ -1,7 +1,6 @@
-use Rattle.std.proofs.Common.{◌≡◌, take}
-use Rattle.asg_text.specs.Networks.{known_cost, firsts_between}
+use Rattle.asg_text.proofs.FilledTables.{IsFilled}
 use Rattle.asg_text.proofs.network.Network.firsts.Given as goal
 
-abbrev pub invariant-loop-source : goal.invariant-loop-source
-invariant-loop-source l =
-    l.firsts.items ≡ firsts_between (known_cost l.self) (take l.source-index l.self.sources.keys) l.targets
+abbrev pub invariant-loop-ends : goal.invariant-loop-ends
+invariant-loop-ends l =
+    IsFilled l.layout.sources.now l.layout.targets.now l.self.costs.entries l.ends-iterator l.firsts.items

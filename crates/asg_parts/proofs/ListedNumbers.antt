@@ -27,6 +27,25 @@ first_cut text tail word rest number others space whole lacks cut lists =
     let same : word ++ rest ≡ decimal number ++ others = let e : 32 ∷ tail ≡ 32 ∷ (decimal number ++ others) = sym space ∙ lists.whole in let tails : tail ≡ decimal number ++ others = cc (e) in sym whole ∙ tails in
     (cut_unique 32 word (decimal number) rest others lacks (Lacks-decimal 32 number (omega arith) (wide number lists.fits)) cut lists.cut same).0
 
+-- one number more
+pub spaced-more : (numbers rest after : List ℕ) (number : ℕ) → rest ≡ 32 ∷ (decimal number ++ after) → spaced numbers ++ rest ≡ spaced (numbers ++ number ∷ []) ++ after
+spaced-more numbers rest after number first =
+    ap (λ bs. spaced numbers ++ bs) (first ∙ ap (λ bs. bs ++ after) (sym (append-nil (32 ∷ decimal number))))
+    ∙ sym (append_assoc (spaced numbers) ((32 ∷ decimal number) ++ []) after)
+    ∙ ap (λ bs. bs ++ after) (sym (flat_map-append (λ n. 32 ∷ decimal n) numbers (number ∷ [])))
+
+-- a front and the text of numbers come first
+pub record BeginsWith (front bytes numbers rest : List ℕ) : Type 0 where
+  pub whole : bytes ≡ front ++ (spaced numbers ++ rest)
+  pub fits : AreNumbers numbers
+
+pub BeginsWith-more : (front bytes numbers rest after : List ℕ) (number : ℕ) → BeginsWith front bytes numbers rest → number < 2 ^ 32 → rest ≡ 32 ∷ (decimal number ++ after)
+    → BeginsWith front bytes (numbers ++ number ∷ []) after
+BeginsWith-more front bytes numbers rest after number begins fits first = record {
+  whole = begins.whole ∙ ap (λ bs. front ++ bs) (spaced-more numbers rest after number first);
+  fits = All-push (λ n. n < 2 ^ 32) numbers number begins.fits fits;
+}
+
 -- numbers were read from the front of a text, and what is left begins with a space or is nothing
 pub record AreRead (text numbers rest : List ℕ) : Type 0 where
   pub whole : text ≡ spaced numbers ++ rest
@@ -35,9 +54,7 @@ pub record AreRead (text numbers rest : List ℕ) : Type 0 where
 
 pub AreRead-more : (text numbers rest after : List ℕ) (number : ℕ) → AreRead text numbers rest → ListsFirst rest number after → AreRead text (numbers ++ number ∷ []) after
 AreRead-more text numbers rest after number read first = record {
-  whole = read.whole ∙ ap (λ bs. spaced numbers ++ bs) (first.whole ∙ ap (λ bs. bs ++ after) (sym (append-nil (32 ∷ decimal number))))
-      ∙ sym (append_assoc (spaced numbers) ((32 ∷ decimal number) ++ []) after)
-      ∙ ap (λ bs. bs ++ after) (sym (flat_map-append (λ n. 32 ∷ decimal n) numbers (number ∷ [])));
+  whole = read.whole ∙ spaced-more numbers rest after number first.whole;
   fits = All-push (λ n. n < 2 ^ 32) numbers number read.fits first.fits;
   cut = λ some. first.cut;
 }

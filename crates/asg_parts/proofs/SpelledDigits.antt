@@ -1,5 +1,5 @@
 -- Reading a number digit by digit.
-use Rattle.std.proofs.Common.{◌≡◌, ℕ, ◌+◌, ◌*◌, ◌-◌, ◌/◌, ◌%◌, ◌^◌, ◌<◌, ◌≤◌, true, false, ltb, List, [], ◌∷◌, ◌++◌, length, get_or, take, refl, sym, ap, ◌∙◌, subst, append_assoc, arith, inl, inr}
+use Rattle.std.proofs.Common.{◌≡◌, ℕ, ◌+◌, ◌*◌, ◌-◌, ◌/◌, ◌%◌, ◌^◌, ◌<◌, ◌≤◌, true, false, ltb, List, [], ◌∷◌, ◌++◌, length, get_or, take, drop, refl, sym, ap, ◌∙◌, subst, append_assoc, arith, inl, inr}
 use Rattle.std.specs.Prelude.{◌≢◌}
 use Rattle.std.specs.Char.{digit_value}
 use Rattle.std.specs.Fmt.{decimal}
@@ -173,3 +173,13 @@ one_digit_more text rest left value c next whole is some few low high worth =
     let ones : 48 + next % 10 ≡ c = omega arith in
     whole ∙ ap (λ bs. decimal value ++ bs) is ∙ sym (append_assoc (decimal value) (c ∷ []) left)
     ∙ ap (λ ds. ds ++ left) (ap (λ d. decimal value ++ d ∷ []) (sym ones) ∙ ap (λ n. decimal n ++ (48 + next % 10) ∷ []) (sym tens) ∙ sym (decimal_step_wide next (omega arith) (omega arith)))
+
+-- a digit after a space
+pub spaced_digit : (text : List ℕ) (value : ℕ) → 2 ≤ length text → get_or text 0 0 ≡ 32 → 48 ≤ get_or text 1 0 → get_or text 1 0 ≤ 57 → value ≡ get_or text 1 0 - 48
+    → text ≡ 32 ∷ (decimal value ++ take (length text - 2) (drop 2 text))
+spaced_digit [] value some space low high worth = absurd (omega arith)
+spaced_digit (s ∷ []) value some space low high worth = absurd (omega arith)
+spaced_digit (s ∷ (c ∷ rest)) value some space low high worth =
+    let digit : c ∷ rest ≡ decimal value ++ rest = first_digit (c ∷ rest) rest c value refl low high worth in
+    let all : take (length (s ∷ (c ∷ rest)) - 2) rest ≡ rest = take_all (length (s ∷ (c ∷ rest)) - 2) rest (omega arith) in
+    ap (λ b. b ∷ (c ∷ rest)) space ∙ ap (λ bs. 32 ∷ bs) (digit ∙ ap (λ bs. decimal value ++ bs) (sym all))

@@ -12,6 +12,7 @@ mod byte_cuts;
 mod faults;
 mod fields;
 mod line_cursor;
+mod list_lines;
 mod number_lists;
 mod numerals;
 

@@ -9,6 +9,7 @@ ghost use Rattle.asg_parts.specs.Spellings.{behind, positive_spelling, signed_sp
 use crate::byte_cuts::{after, cut};
 use crate::faults::{Fault, Refusal};
 use crate::fields::{leading_pair, numbers, pair, positive, signed_pair};
+use crate::list_lines::leading_list;
 use crate::number_lists::Numbers;
 use crate::numerals::signed_number;
 use std::alloc::Global;
@@ -145,12 +146,17 @@ impl<'a> Lines<'a> {
         self.read(b"", pair)
     }
 
-    /// The numbers that the next line lists behind its front, and goes past it. They alone take
-    /// memory.
+    /// The numbers that the next line lists behind its front, in which no LF stands, and goes past
+    /// it. They alone take memory.
     pub fn numbers(&mut self, alloc: Global, front: &[u8]) -> Result<Numbers, Fault>
+        requires { line_ends front.now ≡ 0 }
         ensures { ReadsOrFails (one_line (behind front.now list_spelling))
             self.old self.new result }
     {
+        if let Some((listed, rest)) = leading_list(alloc, front, self.rest)? {
+            *self = Lines { rest };
+            return Ok(listed);
+        }
         let (text, left) = self.next_behind(front)?;
         let numbers = numbers(alloc, text)?;
         *self = left;

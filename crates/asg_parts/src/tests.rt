@@ -41,9 +41,10 @@ fn lists_of_numbers(rt: HostRuntime) -> Result<(), Fail> {
 
 #[test]
 fn lines_in_turn(rt: HostRuntime) -> Result<(), Fail> {
-    let file = b"head\ncells 2\n1 2\n1234567890 4\nvalue -5\nlist 7 8\nrest";
+    let file =
+        b"head\ncells 2\n1 2\n1234567890 4\nvalue -5\nlist 7 8\nlist 0 65 9\nlist 1 2,\nrest";
     let mut lines = Lines::of(file);
-    assert_eq!(rt; count_ends(file), 6);
+    assert_eq!(rt; count_ends(file), 8);
     assert_eq!(rt; lines.pass(b"tail"), Err(Refusal));
     assert_eq!(rt; lines.pass(b"head"), Ok(()));
     assert_eq!(rt; lines.positive(b"cells "), Ok(2));
@@ -51,12 +52,19 @@ fn lines_in_turn(rt: HostRuntime) -> Result<(), Fail> {
     assert_eq!(rt; lines.pair(), Ok((1234567890, 4)));
     assert_eq!(rt; lines.pair(), Err(Refusal));
     assert_eq!(rt; lines.signed(b"value "), Ok(-5));
-    assert_eq!(rt; lines.len(), 1);
+    assert_eq!(rt; lines.len(), 3);
     let found = lines
         .numbers(rt.alloc(), b"list")
         .ok()
         .ok_or("the line is a list")?;
     assert_eq!(rt; found.into_vec().as_slice(), [7, 8].as_slice());
+    let found = lines
+        .numbers(rt.alloc(), b"list")
+        .ok()
+        .ok_or("the line is a list")?;
+    assert_eq!(rt; found.into_vec().as_slice(), [0, 65, 9].as_slice());
+    assert!(rt; lines.numbers(rt.alloc(), b"list").is_err());
+    assert_eq!(rt; lines.pass(b"list 1 2,"), Ok(()));
     assert!(rt; lines.is_empty());
     assert!(rt; lines.read(b"", |_line| Some(())).is_err());
     Ok(())

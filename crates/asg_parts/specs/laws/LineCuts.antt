@@ -132,6 +132,15 @@ length-whole_lines (byte ∷ bytes) =
 pub line_ends-append : (first second : List ℕ) → line_ends (first ++ second) ≡ line_ends first + line_ends second
 line_ends-append first second = sum_by-append (λ b. cond (eqb b 10) 1 0) first second
 
+-- bytes without LF
+pub Lacks-none : (bytes : List ℕ) → line_ends bytes ≡ 0 → Lacks 10 bytes
+Lacks-none [] none = All-nil (λ b. b ≢ 10)
+Lacks-none (byte ∷ bytes) none =
+    elim (eqb_tells byte 10) [
+      | inl is ↦ absurd (omega (arith, line_ends-at byte bytes is.0))
+      | inr not ↦ All-cons (λ b. b ≢ 10) byte bytes not.1 (Lacks-none bytes (omega (arith, line_ends-other byte bytes not.0)))
+    ]
+
 -- ---- the lines of a prefix
 
 abbrev Front : List (List ℕ) → List (List ℕ) → Type 0

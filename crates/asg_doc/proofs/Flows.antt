@@ -8,7 +8,7 @@ use Rattle.asg_io.specs.Laws.{Puts-nil, Puts-append, PutsPrefix-append, PutsPref
 use Rattle.asg_parts.specs.Lines.{ended}
 use Rattle.asg_parts.specs.laws.LineCuts.{ended-append}
 use Rattle.asg_doc.specs.Flow.{Flows, Wrote, Emptied}
-use Rattle.asg_doc.specs.PageState.{PageState, page_size, blank}
+use Rattle.asg_doc.specs.PageState.{PageState, page_size, blank, holding}
 
 -- a count that rose after a part of a run rose over the run
 pub Rose-later : (first before last : ℕ) → first ≤ before → Rose before last → Rose first last
@@ -51,6 +51,16 @@ PutsPrefix-longer before after old first second prefix =
 pub Wrote-nothing : {S : Type 0} (written : S → Option (List ℕ)) (faults : S → ℕ) (sink : S) (page : PageState) → Wrote written faults sink sink page page []
 Wrote-nothing written faults sink page = record {
   flows = λ _ _. record { put = []; puts = Puts-nil (written sink); whole = sym (append-nil page.held); pages = 0; full = refl };
+  prefix = λ was now. absurd (both_ways page.broken was now);
+  cause = λ was now. absurd (both_ways page.broken was now);
+  never_falls = omega arith;
+  refused = λ broken. (broken, refl, refl);
+}
+
+-- a text was appended to a page that had room for it
+pub Wrote-held : {S : Type 0} (written : S → Option (List ℕ)) (faults : S → ℕ) (sink : S) (page : PageState) (text : List ℕ) → Wrote written faults sink sink page (holding page text) text
+Wrote-held written faults sink page text = record {
+  flows = λ _ _. record { put = []; puts = Puts-nil (written sink); whole = refl; pages = 0; full = refl };
   prefix = λ was now. absurd (both_ways page.broken was now);
   cause = λ was now. absurd (both_ways page.broken was now);
   never_falls = omega arith;
@@ -125,6 +135,12 @@ Wrote-as {written = written} {faults = faults} {before = before} {after = after}
 pub Wrote-last : {S : Type 0} {written : S → Option (List ℕ)} {faults : S → ℕ} {before after : S} {old new : PageState} {text : List ℕ}
     → Wrote written faults before after old new text → Wrote written faults before after old new (text ++ [])
 Wrote-last {text = text} wrote = Wrote-as (sym (append-nil text)) wrote
+
+-- an equal text was appended to a page that had room for it
+pub Wrote-pushed : {S : Type 0} {written : S → Option (List ℕ)} {faults : S → ℕ} {sink : S} {old new : PageState} {text same : List ℕ}
+    → new ≡ holding old text → text ≡ same → Wrote written faults sink sink old new same
+Wrote-pushed {written = written} {faults = faults} {sink = sink} {old = old} {text = text} held e =
+    Wrote-as e (subst (λ page. Wrote written faults sink sink old page text) (sym held) (Wrote-held written faults sink old text))
 
 -- lines were appended, and then others
 pub Wrote-lines : {S : Type 0} {written : S → Option (List ℕ)} {faults : S → ℕ} {before between after : S} {old middle new : PageState} (first second : List (List ℕ))

@@ -83,13 +83,26 @@ fn emit_number<K: Sink>(number: u32, page: &mut Page, out: &mut K)
     emit(buffer.format(number).as_bytes(), page, out);
 }
 
+// Appends a number after a space. One of two digits at most goes right into a page with room for it.
+fn emit_next<K: Sink>(number: u32, page: &mut Page, out: &mut K)
+    ensures { Wrote K.written K.faults out.old out.new page.old page.new (32 ∷ decimal number) }
+{
+    if number >= 100 || !page.has_room(3) {
+        emit(b" ", page, out);
+        emit_number(number, page, out);
+    } else if number < 10 {
+        page.push_digit(number as u8);
+    } else {
+        page.push_pair(number as u8);
+    }
+}
+
 // Appends numbers, each after a space.
 pub(crate) fn emit_spaced<K: Sink>(numbers: &[u32], page: &mut Page, out: &mut K)
     ensures { Wrote K.written K.faults out.old out.new page.old page.new (spaced numbers.now) }
 {
     'numbers: for number in numbers {
-        emit(b" ", page, out);
-        emit_number(*number, page, out);
+        emit_next(*number, page, out);
     }
 }
 

@@ -7,4 +7,4 @@ numbers-init g c = Wrote-nothing _ _ _ _
 
 pub numbers-preserved : goal.numbers-preserved
 numbers-preserved g c =
-    Wrote-as (spaced_more _ _ c.numbers-test.true) (Wrote-append c.numbers.invariant (Wrote-append c.emit.ensures c.emit_number.ensures))
+    Wrote-as (spaced_more _ _ c.numbers-test.true) (Wrote-append c.numbers.invariant c.emit_next.ensures)

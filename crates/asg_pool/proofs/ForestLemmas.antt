@@ -11,7 +11,7 @@ use Rattle.asg_pool.specs.declared.links.Link.{Link}
 use Rattle.asg_pool.specs.Forest.{Branch, Forest, trail_at, IsLive, parent_of, phases_of, phases_to, last_phase, IsPhaseOver, IsGrown, IsForest}
 use Rattle.asg_pool.specs.Links.{Table, link_at}
 use Rattle.asg_pool.specs.Paths.{path, parent_at, depth_at, branch_at, forest_of, AreRooted}
-use Rattle.asg_pool.proofs.PathLemmas.{some_of, some_there, if_some, depth_is, IsThere, closed, path_more, path_length}
+use Rattle.asg_pool.proofs.PathLemmas.{some_of, some_there, if_some, if_some_at, depth_is, IsThere, closed, parent_there, path_more, path_length}
 
 module _ {V : Type 0} (side : ℕ) (L : Table) (phase : ℕ → PhaseOf V) where
   abbrev shown : Forest V
@@ -63,14 +63,11 @@ module _ {V : Type 0} (side : ℕ) (L : Table) (phase : ℕ → PhaseOf V) where
   way_shown (Some k) there = phases_shown k there
 
   module _ (rooted : AreRooted L.slots) where
-    pub parent_there : (k : ℕ) → IsThere L.slots k → IfSome (parent_at L.slots k) (IsThere L.slots)
-    parent_there k there = if_some (IsThere L.slots) (parent_at L.slots k) (λ p h. closed L.slots rooted k p there h)
-
     -- a trail's list ends with its record's phase
     pub list_shown : (k : ℕ) → IsThere L.slots k → phases_of shown k ≡ phases_to shown (parent_at L.slots k) ++ phase k ∷ []
     list_shown k there =
         phases_shown k there ∙ path_more L.slots phase rooted k there
-        ∙ ap (λ xs. xs ++ phase k ∷ []) (sym (way_shown (parent_at L.slots k) (parent_there k there)))
+        ∙ ap (λ xs. xs ++ phase k ∷ []) (sym (way_shown (parent_at L.slots k) (parent_there L.slots rooted k there)))
 
     pub last_shown : (k : ℕ) → IsThere L.slots k → last_phase (phases_of shown k) ≡ phase k
     last_shown k there =
@@ -104,3 +101,13 @@ module _ {V : Type 0} (side : ℕ) (L : Table) (phase : ℕ → PhaseOf V) where
 pub there_in : {V : Type 0} (side : ℕ) (L : Table) (phase : ℕ → PhaseOf V) (F : Forest V) (trail k : ℕ) → forest_of side L phase ≡ F → IsLive F trail → k ≡ trail → IsThere L.slots k
 there_in side L phase F trail k shows live same =
     subst (IsThere L.slots) (sym same) (there_of_live side L phase trail (subst (λ G. IsLive G trail) (sym shows) live))
+
+-- the same of a trail, if there is one
+pub way_there : {V : Type 0} (side : ℕ) (L : Table) (phase : ℕ → PhaseOf V) (F : Forest V) (trail k : Option ℕ) → forest_of side L phase ≡ F → IfSome trail (IsLive F) → k ≡ trail → IfSome k (IsThere L.slots)
+way_there side L phase F trail k shows live same =
+    if_some (IsThere L.slots) k (λ n e. there_in side L phase F n n shows (if_some_at (IsLive F) trail n live (sym same ∙ e)) refl)
+
+-- how many phases lead to a trail, by what the table shows
+pub depth_shown : {V : Type 0} (side : ℕ) (L : Table) (phase : ℕ → PhaseOf V) → AreRooted L.slots → (trail : Option ℕ) → IfSome trail (IsThere L.slots)
+    → length (phases_to (forest_of side L phase) trail) ≡ depth_at L.slots trail
+depth_shown side L phase rooted trail there = ap length (way_shown side L phase trail there) ∙ path_length L.slots phase rooted (depth_at L.slots trail) trail there refl

@@ -6,3 +6,4 @@ pub mod ChangeLemmas
 pub mod ReleaseLemmas
 pub mod ReserveLemmas
 pub mod PushLemmas
+pub mod RecordLemmas

@@ -45,6 +45,9 @@ module _ (slots : List (Option Link)) (rooted : AreRooted slots) where
       let has = some_of (link_at slots k) there in
       if_some_at (IsThere slots) _ p (rooted_at k has.0 has.1).parent (sym (parent_is slots k has.0 has.1) ∙ e)
 
+  pub parent_there : (k : ℕ) → IsThere slots k → IfSome (parent_at slots k) (IsThere slots)
+  parent_there k there = if_some (IsThere slots) (parent_at slots k) (λ p h. closed k p there h)
+
   -- a record counts one phase more than its parent
   pub depth_more : (k : ℕ) → IsThere slots k → depth_at slots (Some k) ≡ depth_at slots (parent_at slots k) + 1
   depth_more k there =
@@ -58,7 +61,7 @@ module _ (slots : List (Option Link)) (rooted : AreRooted slots) where
       ([], refl, (λ i j d less within. absurd (omega arith)), All-nil (λ j. j < length slots), All-nil (λ j. depth_at slots (Some j) ≤ 0))
   chain (suc n) None there e = absurd (omega (arith, e))
   chain (suc n) (Some k) there e =
-      let rest = chain n (parent_at slots k) (if_some (IsThere slots) (parent_at slots k) (λ p h. closed k p there h)) (omega (arith, depth_more k there, e)) in
+      let rest = chain n (parent_at slots k) (parent_there k there) (omega (arith, depth_more k there, e)) in
       let ks = rest.0 in
       let fewer = rest.4 in
       let apart : All (λ j. k ≢ j) ks = λ i d h same. let deep = ap (λ j. depth_at slots (Some j)) same in absurd (omega (arith, deep, e, fewer i d h)) in (
@@ -75,6 +78,10 @@ module _ (slots : List (Option Link)) (rooted : AreRooted slots) where
       let all = chain (depth_at slots (Some k)) (Some k) there refl in
       omega (arith, all.1, length-le_from_below all.0 (length slots) all.2 all.3)
 
+  pub way_within : (trail : Option ℕ) → IfSome trail (IsThere slots) → depth_at slots trail ≤ length slots
+  way_within None there = omega arith
+  way_within (Some k) there = depth_within k there
+
 module _ {V : Type 0} (slots : List (Option Link)) (phase : ℕ → PhaseOf V) (rooted : AreRooted slots) where
   -- the way to a record ends with its phase
   pub path_more : (k : ℕ) → IsThere slots k → path slots phase (depth_at slots (Some k)) (Some k) ≡ path slots phase (depth_at slots (parent_at slots k)) (parent_at slots k) ++ phase k ∷ []
@@ -87,7 +94,7 @@ module _ {V : Type 0} (slots : List (Option Link)) (phase : ℕ → PhaseOf V) (
   path_length zero trail there e = refl
   path_length (suc n) None there e = absurd (omega (arith, e))
   path_length (suc n) (Some k) there e =
-      let before = path_length n (parent_at slots k) (if_some (IsThere slots) (parent_at slots k) (λ p h. closed slots rooted k p there h)) (omega (arith, depth_more slots rooted k there, e)) in
+      let before = path_length n (parent_at slots k) (parent_there slots rooted k there) (omega (arith, depth_more slots rooted k there, e)) in
       omega (arith, length-append (path slots phase n (parent_at slots k)) (phase k ∷ []), before)
 
 module _ {V : Type 0} (slots after : List (Option Link)) (phase phase_after : ℕ → PhaseOf V) (P : ℕ → Type 0)

@@ -9,7 +9,7 @@ use Rattle.asg_pool.specs.Links.{Table, link_at}
 use Rattle.asg_pool.specs.Strips.{Rows, row_at, with_row}
 use Rattle.asg_pool.specs.Paths.{path, parent_at, depth_at, phase_at, branch_at, forest_of, IsRooted, AreRooted, AreRowsFor, IsRegion}
 use Rattle.asg_pool.proofs.LinkLemmas.{with_row-same, with_row-other, length-with_row}
-use Rattle.asg_pool.proofs.PathLemmas.{if_some, if_some_at, IsThere, closed, path_length}
+use Rattle.asg_pool.proofs.PathLemmas.{if_some, if_some_at, IsThere, closed}
 use Rattle.asg_pool.proofs.ForestLemmas.{way_shown}
 use Rattle.asg_pool.proofs.ChangeLemmas.{Stays, way_stays, IsRooted-stays, AreRooted-changed, trails_changed}
 
@@ -99,11 +99,6 @@ same_lists : {V : Type 0} (steps steps_new : List V) (enters enters_new leaves l
     → phase_of steps enters leaves ≡ phase_of steps_new enters_new leaves_new
 same_lists steps steps_new enters enters_new leaves leaves_new a b c =
     ap (λ xs. phase_of xs enters leaves) a ∙ ap (λ xs. phase_of steps_new xs leaves) b ∙ ap (λ xs. phase_of steps_new enters_new xs) c
-
--- how many phases lead to a trail, by what the table shows
-pub depth_shown : {V : Type 0} (side : ℕ) (L : Table) (phase : ℕ → PhaseOf V) → AreRooted L.slots → (trail : Option ℕ) → IfSome trail (IsThere L.slots)
-    → length (phases_to (forest_of side L phase) trail) ≡ depth_at L.slots trail
-depth_shown side L phase rooted trail there = ap length (way_shown side L phase trail there) ∙ path_length L.slots phase rooted (depth_at L.slots trail) trail there refl
 
 module _ {V : Type 0} (side : ℕ) (L M : Table) (k : ℕ) (parent : Option ℕ) (depth : ℕ) (place : k ≤ length L.slots) (free : link_at L.slots k ≡ None)
     (written : M.slots ≡ with_row L.slots k (Some (record { parent = parent; depth = depth })))

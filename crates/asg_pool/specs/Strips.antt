@@ -1,5 +1,6 @@
--- Rows of values side by side in one list. No public clause cites this module.
-use Rattle.std.specs.Prelude.{◌≡◌, ℕ, suc, ◌*◌, ◌^◌, ◌<◌, ◌≤◌, List, [], ◌∷◌, ◌++◌, length, take, drop, All, slice_index_or}
+-- Rows of values, each in a list of its own. No public clause cites this module.
+use Rattle.std.specs.Prelude.{ℕ, suc, ◌≤◌, List, [], ◌∷◌, ◌++◌, length, map, take, drop, All, Vec, vec_capacity, slice_index_or}
+use Rattle.std.specs.declared.alloc.Global.{Global}
 
 -- the rows, each at most so wide, and for how many there is memory
 pub record Rows (T : Type 0) : Type 0 where
@@ -7,19 +8,22 @@ pub record Rows (T : Type 0) : Type 0 where
   pub room : ℕ
   pub rows : List (List T)
 
--- the rows of these lengths that begin so far apart in the items
-abbrev pub rows_of : {T : Type 0} → ℕ → List ℕ → List T → List (List T)
-rows_of width [] items = []
-rows_of width (count ∷ counts) items = take count items ∷ rows_of width counts (drop width items)
+-- what the lists hold
+abbrev pub items_of : {T : Type 0} → List (Vec T Global) → List (List T)
+items_of lists = map (λ list. list.items) lists
 
--- there is memory for so many rows, and each row stands within its place
-pub record IsStored {T : Type 0} (width room : ℕ) (counts : List ℕ) (items : List T) (counts_room items_room : ℕ) : Type 0 where
-  pub within : All (λ count. count ≤ width) counts
-  pub places : length items ≡ length counts * width
-  pub used : length counts ≤ room
-  pub few : room * width < 2 ^ 64
-  pub counts_fit : room ≤ counts_room
-  pub items_fit : room * width ≤ items_room
+-- the rows in the first so many lists
+abbrev pub rows_of : {T : Type 0} → ℕ → List (Vec T Global) → List (List T)
+rows_of used lists = items_of (take used lists)
+
+-- the list has memory for so many values
+abbrev pub HasRoom : {T : Type 0} → ℕ → Vec T Global → Type 0
+HasRoom width list = width ≤ vec_capacity list
+
+-- the lists in use are among those that there are, each with memory for a row
+pub record IsStored {T : Type 0} (width used : ℕ) (lists : List (Vec T Global)) : Type 0 where
+  pub there : used ≤ length lists
+  pub roomy : All (HasRoom width) lists
 
 -- the row at a place, none past the last
 abbrev pub row_at : {T : Type 0} → Rows T → ℕ → List T

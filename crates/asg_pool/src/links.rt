@@ -1,7 +1,8 @@
 //! The table of the records of a region: which trail each one grew on.
 
-ghost use Rattle.std.specs.Prelude.{◌≡◌, ◌<◌, ◌≤◌, ◌+◌, [], length, max, Some, None, IsSome, OnOk, OnErr, slice_set};
+ghost use Rattle.std.specs.Prelude.{◌≡◌, ◌<◌, ◌≤◌, ◌+◌, [], length, max, Some, None, IsSome, IfSome, OnOk, OnErr, slice_set};
 ghost use Rattle.asg_pool.specs.Links.{Table, link_at, spare_of, most_room};
+ghost use Rattle.asg_pool.specs.Paths.{depth_at};
 ghost use Rattle.asg_pool.specs.Strips.{with_row};
 
 use crate::NoMemory;
@@ -118,5 +119,16 @@ impl Links {
         ensures { link_at self.now.slots k ≡ Some result }
     {
         self.slots[k as usize].unwrap()
+    }
+
+    // How many phases lead to a record, if there is one.
+    pub(crate) fn depth_to(&self, last: Option<u32>) -> u32
+        requires { IfSome last (λ k. IsSome (link_at self.now.slots k)) }
+        ensures { result ≡ depth_at self.now.slots last }
+    {
+        match last {
+            Some(k) => self.link(k).depth,
+            None => 0,
+        }
     }
 }

@@ -7,16 +7,19 @@ ghost use Rattle.asg_pool.specs.Links.{most_room};
 
 use crate::NoMemory;
 use crate::links::Links;
+use crate::records::Records;
 use crate::strips::Strips;
 use crate::trails::Trail;
+use asg_proof::Phase;
 use std::alloc::{AllocError, Global};
 use std::marker::Model;
 
 /// A forest of trails over a side. Each trail is a list of phases: that of its parent, if it has one, and
 /// then one more. A phase is stored once, in a record of its own, and serves every trail that grows on it.
 ///
-/// Only `reserve` takes memory: for each record the size of a step and 8 bytes more, times the side, and
-/// about 32 bytes.
+/// Only `reserve` takes memory: for each record three lists with room for as many entries as the side (the
+/// size of a step and 8 bytes each), and about 100 bytes more. What no phase is written into isn't
+/// touched. `into_phases` gives the lists of a trail away again.
 #[derive(Drop)]
 pub struct Region<V: Copy> {
     side: u32,
@@ -157,6 +160,28 @@ impl<V: Copy> Region<V> {
         self.leaves.row(trail.number())
     }
 
+    /// The phases that lead to a trail, in order; none where there is no trail. The region is given away:
+    /// the lists of these phases are moved out of it, and all else is let go of. The error is want of
+    /// memory for the list of the phases alone.
+    pub fn into_phases(self, alloc: Global, last: Option<Trail>) -> Result<Vec<Phase<V>>, NoMemory>
+        requires { IfSome last (IsLive self) }
+        ensures { IfOk result (λ phases. phases.items ≡ phases_to self last) }
+    {
+        let Region {
+            side: _,
+            links,
+            steps,
+            enters,
+            leaves,
+        } = self;
+        let records = Records {
+            steps: steps.into_lists(),
+            enters: enters.into_lists(),
+            leaves: leaves.into_lists(),
+        };
+        records.phases_to(alloc, &links, number_of(last))
+    }
+
     /// How many records are spare.
     pub fn spare(&self) -> u32
         ensures spare { result ≡ self.now.spare }
@@ -171,10 +196,7 @@ impl<V: Copy> Region<V> {
         ensures value { result ≡ length (phases_to self.now number) }
         ensures most { result ≤ most_room }
     {
-        match number {
-            Some(number) => self.links.link(number).depth,
-            None => 0,
-        }
+        self.links.depth_to(number)
     }
 }
 

@@ -1,34 +1,36 @@
-//! Rows of values in the memory of one list, each in a place of the same width.
+//! Rows of values, each in a list of its own.
 
-ghost use Rattle.std.specs.Prelude.{◌≡◌, ◌<◌, ◌≤◌, ◌+◌, ◌*◌, ◌-◌, ◌++◌, ◌∷◌, [], max, length, take, drop, replicate, slice_set, slice_index_or, vec_len, vec_capacity, IfOk, OnOk, OnErr};
-ghost use Rattle.asg_pool.specs.Strips.{Rows, row_at, with_row};
+ghost use Rattle.std.specs.Prelude.{◌≡◌, ◌<◌, ◌≤◌, [], All, max, length, slice_set, slice_index_or, vec_capacity, IfOk, OnOk, OnErr};
+ghost use Rattle.asg_pool.specs.Strips.{Rows, row_at, with_row, HasRoom};
 
 use crate::NoMemory;
 use std::alloc::Global;
 use std::marker::Model;
+use std::mem;
 
-// Rows of at most so many values. Memory is taken by `reserve` alone.
+// Rows of at most so many values: the first `used` of the lists. Memory is taken by `reserve` alone, and
+// what no row was written into isn't touched.
 #[derive(Drop)]
 pub(crate) struct Strips<T: Copy> {
+    alloc: Global,
     width: u32,
-    room: u32,
-    counts: Vec<u32>,
-    items: Vec<T>,
+    used: usize,
+    lists: Vec<Vec<T>>,
 }
 
 impl<T: Copy> Model for Strips<T> {
-    ghost use Rattle.std.specs.Prelude.{vec_capacity};
+    ghost use Rattle.std.specs.Prelude.{length};
     ghost use Rattle.asg_pool.specs.Strips.{Rows, rows_of, IsStored};
 
     ghost Value = { Rows T };
 
     ghost view = { λ s. record {
       width = s.width;
-      room = s.room;
-      rows = rows_of s.width s.counts.items s.items.items;
+      room = length s.lists.items;
+      rows = rows_of s.used s.lists.items;
     } };
 
-    ghost invariant = { λ s. IsStored s.width s.room s.counts.items s.items.items (vec_capacity s.counts) (vec_capacity s.items) };
+    ghost invariant = { λ s. IsStored s.width s.used s.lists.items };
 }
 
 impl<T: Copy> Strips<T> {
@@ -37,10 +39,10 @@ impl<T: Copy> Strips<T> {
         ensures { result ≡ record { width = width; room = 0; rows = [] } }
     {
         Strips {
+            alloc,
             width,
-            room: 0,
-            counts: Vec::new(alloc),
-            items: Vec::new(alloc),
+            used: 0,
+            lists: Vec::new(alloc),
         }
     }
 
@@ -49,31 +51,20 @@ impl<T: Copy> Strips<T> {
         ensures ok { OnOk result (self.new ≡ record self.old { room = max self.old.room room }) }
         ensures err { OnErr result (self.new ≡ self.old) }
     {
-        if room <= self.room {
-            return Ok(());
-        }
-        self.counts.reserve(room as usize - self.counts.len())?;
-        let places = room as usize * self.width as usize;
-        self.items.reserve(places - self.items.len())?;
-        self.room = room;
-        Ok(())
+        let more = (room as usize).saturating_sub(self.lists.len());
+        let mut lists = empty_lists(self.alloc, more, self.width as usize)?;
+        self.lists.append(&mut lists)
     }
 
-    // Writes a row that isn't empty at a place, or next after the last row.
+    // Writes a row at a place, or next after the last row.
     pub(crate) fn put(&mut self, k: u32, row: &[T])
         requires place { k ≤ length self.old.rows }
         requires room { k < self.old.room }
-        requires some { 0 < length row.now }
         requires width { length row.now ≤ self.old.width }
         ensures { self.new ≡ record self.old { rows = with_row self.old.rows k row.now } }
     {
-        if k as usize == self.counts.len() {
-            self.counts.push_reserved(row.len() as u32);
-            append(&mut self.items, row, self.width);
-        } else {
-            self.counts[k as usize] = row.len() as u32;
-            overwrite(&mut self.items, k as usize * self.width as usize, row);
-        }
+        refill(&mut self.lists[k as usize], row);
+        self.used = self.used.max(k as usize + 1);
     }
 
     // The row at a place.
@@ -81,29 +72,69 @@ impl<T: Copy> Strips<T> {
         requires { k < length self.now.rows }
         ensures { result.now ≡ row_at self.now k }
     {
-        let first = k as usize * self.width as usize;
-        &self.items[first..first + self.counts[k as usize] as usize]
+        self.lists[k as usize].as_slice()
+    }
+
+    // The rows, to be taken one by one. Lists that no row is in are let go of.
+    pub(crate) fn into_lists(self) -> Lists<T>
+        ensures { result ≡ self.rows }
+    {
+        let Strips {
+            alloc,
+            width: _,
+            used,
+            mut lists,
+        } = self;
+        lists.truncate(used);
+        Lists { alloc, lists }
     }
 }
 
-// Appends a row and fills its place up with its first value. There is memory for it.
-fn append<T: Copy>(items: &mut Vec<T>, row: &[T], width: u32)
-    requires some { 0 < length row.now }
-    requires width { length row.now ≤ width }
-    requires room { vec_len items.old + width ≤ vec_capacity items.old }
-    ensures items { (rest : _) × (items.new.items ≡ items.old.items ++ (row.now ++ rest)) × (length row.now + length rest ≡ width) }
-    ensures capacity { vec_capacity items.old ≤ vec_capacity items.new }
-{
-    let end = items.len() + width as usize;
-    let _ = items.extend_from_slice(row);
-    let _ = items.resize(end, row[0]);
+// Rows that are given away.
+#[derive(Drop)]
+pub(crate) struct Lists<T: Copy> {
+    alloc: Global,
+    lists: Vec<Vec<T>>,
 }
 
-// Writes a row over the items from a place on.
-fn overwrite<T: Copy>(items: &mut Vec<T>, first: usize, row: &[T])
-    requires { first + length row.now ≤ vec_len items.old }
-    ensures items { items.new.items ≡ take first items.old.items ++ (row.now ++ drop (first + length row.now) items.old.items) }
-    ensures capacity { vec_capacity items.new ≡ vec_capacity items.old }
+impl<T: Copy> Model for Lists<T> {
+    ghost use Rattle.std.specs.Prelude.{List};
+    ghost use Rattle.asg_pool.specs.Strips.{items_of};
+
+    ghost Value = { List (List T) };
+
+    ghost view = { λ s. items_of s.lists.items };
+}
+
+impl<T: Copy> Lists<T> {
+    // Takes a row, and leaves an empty one.
+    pub(crate) fn take(&mut self, k: u32) -> Vec<T>
+        requires { k < length self.old }
+        ensures row { result.items ≡ slice_index_or self.old k [] }
+        ensures rest { self.new ≡ slice_set self.old k [] }
+    {
+        mem::replace(&mut self.lists[k as usize], Vec::new(self.alloc))
+    }
+}
+
+// So many empty lists, each with memory for so many values.
+fn empty_lists<T: Copy>(alloc: Global, count: usize, width: usize) -> Result<Vec<Vec<T>>, NoMemory>
+    ensures count { IfOk result (λ lists. length lists.items ≡ count) }
+    ensures room { IfOk result (λ lists. All (HasRoom width) lists.items) }
 {
-    items[first..first + row.len()].copy_from_slice(row);
+    let mut lists = Vec::with_capacity(alloc, count)?;
+    for _ in 0..count {
+        lists.push(Vec::with_capacity(alloc, width)?)?;
+    }
+    Ok(lists)
+}
+
+// Writes a row into a list that has memory for it.
+fn refill<T: Copy>(list: &mut Vec<T>, row: &[T])
+    requires { length row.now ≤ vec_capacity list.old }
+    ensures items { list.new.items ≡ row.now }
+    ensures capacity { vec_capacity list.old ≤ vec_capacity list.new }
+{
+    list.clear();
+    let _ = list.extend_from_slice(row);
 }

@@ -4,6 +4,7 @@ ghost use Rattle.std.specs.Prelude.{◌≡◌, ◌≢◌, ◌≤◌, ◌+◌, �
 ghost use Rattle.asg_pool.specs.Forest.{IsLive, IsLeaf};
 
 use crate::{Region, Trail};
+use asg_proof::Phase;
 use std::test::Fail;
 
 // The steps of four phases, and for each the steps at which rows enter and columns leave.
@@ -160,5 +161,30 @@ fn a_freed_record_serves_another_trail(rt: HostRuntime) -> Result<(), Fail> {
         shown(&region, fork.second),
         (stem, 2, &R.0[..], &R.1[..], &R.2[..])
     );
+    Ok(())
+}
+
+// The lists of a phase.
+fn lists(phase: &Phase<u64>) -> (&[u64], &[u32], &[u32]) {
+    (phase.steps(), phase.enters(), phase.leaves())
+}
+
+#[test]
+fn the_phases_of_a_trail_are_moved_out(rt: HostRuntime) -> Result<(), Fail> {
+    let mut region = Region::make(rt.alloc(), 2)?;
+    region.reserve(4)?;
+    let fork = forked(&mut region);
+    let phases = region.into_phases(rt.alloc(), Some(fork.second))?;
+    assert_eq!(rt; phases.len(), 2);
+    assert_eq!(rt; lists(&phases[0]), (&P.0[..], &P.1[..], &P.2[..]));
+    assert_eq!(rt; lists(&phases[1]), (&R.0[..], &R.1[..], &R.2[..]));
+    Ok(())
+}
+
+#[test]
+fn no_trail_has_no_phase(rt: HostRuntime) -> Result<(), Fail> {
+    let mut region: Region<u64> = Region::make(rt.alloc(), 2)?;
+    region.reserve(1)?;
+    assert_eq!(rt; region.into_phases(rt.alloc(), None)?.len(), 0);
     Ok(())
 }

@@ -1,26 +1,29 @@
-use Rattle.std.proofs.Common.{length, refl, sym, ap, ◌∙◌, arith}
-use Rattle.asg_pool.specs.Forest.{IsLive, phases_of, phases_to}
-use Rattle.asg_pool.specs.Links.{link_at}
+use Rattle.std.proofs.Common.{length, IfSome, refl, sym, ap, ◌∙◌, arith}
+use Rattle.asg_pool.specs.Forest.{phases_to}
 use Rattle.asg_pool.specs.Paths.{phase_at}
-use Rattle.asg_pool.proofs.PathLemmas.{some_there, if_some_at, depth_is, depth_within}
-use Rattle.asg_pool.proofs.ForestLemmas.{there_in, length_shown}
+use Rattle.asg_pool.proofs.PathLemmas.{IsThere, way_within}
+use Rattle.asg_pool.proofs.ForestLemmas.{way_there, depth_shown}
+use Rattle.asg_pool.proofs.regions.Region.depth_to.Given as given
 use Rattle.asg_pool.proofs.regions.Region.depth_to.Goals as goal
 
-pub link-requires : goal.link-requires
-link-requires g c =
+pub depth_to-requires : goal.depth_to-requires
+depth_to-requires g c =
     let s = c.self.inside in
-    let live = if_some_at (IsLive c.args.self.now) c.args.number c.in-Some.number c.requires c.in-Some.is in
-    there_in s.side s.links (phase_at s.steps s.enters s.leaves) c.args.self.now c.in-Some.number c.in-Some.number c.self.view_is live refl
+    way_there s.side s.links (phase_at s.steps s.enters s.leaves) c.args.self.now c.args.number c.args.number c.self.view_is c.requires refl
 
-pub returns-in-Some-clause-value : goal.returns-in-Some-clause-value
-returns-in-Some-clause-value g c =
-    let s = c.self.inside in
-    length_shown s.side s.links (phase_at s.steps s.enters s.leaves) c.self.invariant.rooted c.in-Some.number c.link.result c.link.ensures
-    ∙ ap (λ F. length (phases_of F c.in-Some.number)) c.self.view_is
-    ∙ ap (λ o. length (phases_to c.args.self.now o)) (sym c.in-Some.is)
+module _ (g : given.Over) (c : goal.After-depth_to g) where
+  there : IfSome c.args.number (IsThere c.self.inside.links.slots)
+  there =
+      let s = c.self.inside in
+      way_there s.side s.links (phase_at s.steps s.enters s.leaves) c.args.self.now c.args.number c.args.number c.self.view_is c.requires refl
 
-pub returns-in-Some-clause-most : goal.returns-in-Some-clause-most
-returns-in-Some-clause-most g c =
+pub returns-clause-value : goal.returns-clause-value
+returns-clause-value g c =
     let s = c.self.inside in
-    let there = some_there (link_at s.links.slots c.in-Some.number) c.link.result c.link.ensures in
-    omega (arith, depth_within s.links.slots c.self.invariant.rooted c.in-Some.number there, depth_is s.links.slots c.in-Some.number c.link.result c.link.ensures, c.self.invariant.used)
+    c.depth_to.ensures
+    ∙ sym (depth_shown s.side s.links (phase_at s.steps s.enters s.leaves) c.self.invariant.rooted c.args.number (there g c))
+    ∙ ap (λ F. length (phases_to F c.args.number)) c.self.view_is
+
+pub returns-clause-most : goal.returns-clause-most
+returns-clause-most g c =
+    omega (arith, c.depth_to.ensures, way_within c.self.inside.links.slots c.self.invariant.rooted c.args.number (there g c), c.self.invariant.used, c.self.invariant.most)

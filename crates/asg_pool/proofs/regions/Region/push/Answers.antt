@@ -1,12 +1,12 @@
-use Rattle.std.proofs.Common.{◌≡◌, ◌+◌, length, Some, IfSome, refl, sym, ap, ◌∙◌, arith}
+use Rattle.std.proofs.Common.{◌≡◌, ◌+◌, length, Some, IfSome, sym, ap, ◌∙◌, arith}
 use Rattle.std.specs.Prelude.{option_map}
 use Rattle.asg_proof.specs.Phases.{PhaseOf, phase_of}
-use Rattle.asg_pool.specs.Forest.{trail_at, IsLive, phases_to, grown_on, IsPhaseOver}
+use Rattle.asg_pool.specs.Forest.{trail_at, phases_to, grown_on, IsPhaseOver}
 use Rattle.asg_pool.specs.Paths.{path, depth_at, phase_at}
-use Rattle.asg_pool.proofs.PathLemmas.{if_some, if_some_at, IsThere}
-use Rattle.asg_pool.proofs.ForestLemmas.{there_in, trail_shown}
+use Rattle.asg_pool.proofs.PathLemmas.{IsThere}
+use Rattle.asg_pool.proofs.ForestLemmas.{way_there, trail_shown, depth_shown}
 use Rattle.asg_pool.proofs.ChangeLemmas.{Changes-at}
-use Rattle.asg_pool.proofs.PushLemmas.{depth_shown, IsRegion-pushed, trails_after}
+use Rattle.asg_pool.proofs.PushLemmas.{IsRegion-pushed, trails_after}
 use Rattle.asg_pool.proofs.regions.Region.push.Given as given
 use Rattle.asg_pool.proofs.regions.Region.push.Goals as goal
 
@@ -14,10 +14,7 @@ module _ (g : given.Over) (c : goal.After-at g) where
   parent_there : IfSome c.number_of-parent.result (IsThere c.self.inside.links.slots)
   parent_there =
       let s = c.self.inside in
-      if_some (IsThere s.links.slots) c.number_of-parent.result
-      (λ p e.
-      there_in s.side s.links (phase_at s.steps s.enters s.leaves) c.args.self.now p p c.self.view_is
-      (if_some_at (IsLive c.args.self.now) c.args.parent p c.requires.parent (sym c.number_of-parent.ensures ∙ e)) refl)
+      way_there s.side s.links (phase_at s.steps s.enters s.leaves) c.args.self.now c.args.parent c.number_of-parent.result c.self.view_is c.requires.parent c.number_of-parent.ensures
 
   deep : c.depth_to-depth.result + 1 ≡ depth_at c.self.inside.links.slots c.number_of-parent.result + 1
   deep =

@@ -1,0 +1,10 @@
+use Rattle.asg_pool.specs.Paths.{depth_at, phase_of_record}
+use Rattle.asg_pool.proofs.RecordLemmas.{IsUnwound}
+use Rattle.asg_pool.proofs.records.Records.phases_to.Given as goal
+
+abbrev pub invariant-records : goal.invariant-records
+invariant-records g l = IsUnwound l.links.slots (phase_of_record l.fn.self) l.fn.last l.self l.next l.phases.items
+
+-- the next record has fewer phases
+abbrev pub decreases-records : goal.decreases-records
+decreases-records g l = depth_at l.links.slots l.next

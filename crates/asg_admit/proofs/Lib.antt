@@ -9,3 +9,8 @@ mod DualLemmas
 mod DualPhases
 mod CountLemmas
 mod LeftLemmas
+mod WordBits
+mod RowWords
+mod MarkLemmas
+mod MarkedLemmas
+mod GradeLemmas

@@ -3,15 +3,18 @@ use Rattle.std.proofs.Common.{◌≡◌, ℕ, ◌<◌, ◌≤◌, min, List, len
 use Rattle.std.specs.Prelude.{All, slice_index}
 use Rattle.std.specs.Option.{option_map}
 use Rattle.std.proofs.lemmas.Bool.{cases_lt}
-use Rattle.asg_order.specs.Monoid.{Monoid, IsValue, IsOrderedMonoid}
+use Rattle.asg_order.specs.Monoid.{Monoid, IsValue, IsOrderedMonoid, fold_of}
 use Rattle.asg_order.specs.Differences.{HasDifferences}
-use Rattle.asg_proof.specs.Phases.{PhaseOf, after_phase}
+use Rattle.asg_proof.specs.Phases.{PhaseOf, IsAdmittedPhase, after_phase}
+use Rattle.asg_proof.specs.laws.PhaseSteps.{HasValues-after}
 use Rattle.asg_square.specs.Grid.{Grid, IsGrid, cell_at}
+use Rattle.asg_admit.specs.declared.reduced.Reduced.{Reduced}
+use Rattle.asg_admit.specs.Reduced.{IsPhaseTo, IsReduced}
 use Rattle.asg_admit.specs.Settled.{step_of, settled}
 use Rattle.asg_admit.specs.Settling.{SettlesWaiting, SettlesEntered}
 use Rattle.asg_admit.specs.laws.SettledCells.{IsTwice, cell_after-cut, after_phase-cell}
 use Rattle.asg_admit.proofs.ProductLemmas.{settled_equal}
-use Rattle.asg_admit.proofs.SquareLemmas.{everywhere}
+use Rattle.asg_admit.proofs.SquareLemmas.{chained_labels, everywhere}
 
 pub map_same : {V : Type 0} (f : V → V) (o : Option V) → ((x : V) → o ≡ Some x → f x ≡ x) → option_map f o ≡ o
 map_same f None same = refl
@@ -43,6 +46,17 @@ module _ {V : Type 0} (M : Monoid V) (laws : IsOrderedMonoid M) (difference : V 
       equal_marks (length steps) (length steps) (omega arith) refl o values
       ∙ cut_marks enter leave (length steps) (length steps) (omega arith) (omega arith) o
 
+  -- so does a value
+  pub waiting_settled : (enter leave : ℕ) → length steps ≤ enter → length steps ≤ leave → (x : V) → IsValue M x → settled M difference steps enter leave x ≡ x
+  waiting_settled enter leave h k x vx =
+      let n = length steps in
+      let late : min enter n ≡ n = omega (arith, h) in
+      let stays : min leave n ≡ n = omega (arith, k) in
+      sym (cell_after-cut M laws difference has twice (step_of M steps) enter leave n x n (omega arith))
+      ∙ ap (λ i. settled M difference steps i (min leave n) x) late
+      ∙ ap (λ i. settled M difference steps n i x) stays
+      ∙ settled_equal M laws difference has twice steps vs n (omega arith) x vx
+
   -- a row that never enters is one that enters at the end
   pub late_marks : (enter leave : ℕ) → length steps ≤ enter → (o : Option V) → option_map (settled M difference steps (length steps) leave) o ≡ option_map (settled M difference steps enter leave) o
   late_marks enter leave h o =
@@ -67,3 +81,21 @@ all_rows {V} M difference phase before between after grid grid_after first secon
         (λ (waits : length phase.steps ≤ slice_index phase.enters i).
         second.waiting i j waits ∙ first.waiting i j row column waits)
         (cases_lt (slice_index phase.enters i) (length phase.steps))
+
+-- the rows that never enter and then those that enter were settled by an admitted phase, and the index
+-- was multiplied by all steps
+pub phase_to : {V : Type 0} (M : Monoid V) (laws : IsOrderedMonoid M) (difference : V → V → V) (has : HasDifferences M difference) (phase : PhaseOf V) (before after : Reduced V) (between : Grid V) → IsReduced M before → IsAdmittedPhase M difference before.now.side phase (cell_at before.now) → IsGrid before.now → IsGrid after.now → SettlesWaiting M difference phase before.now between → SettlesEntered M difference phase between after.now → after.index ≡ M.product before.index (fold_of M phase.steps) → IsValue M after.index → IsPhaseTo M difference phase before after
+phase_to M laws difference has phase before after between reduced admitted grid grid_after first second index is_value =
+    let cells = all_rows M difference phase before.now between after.now grid grid_after first second in
+    let labels = chained_labels before.now between after.now first.labels second.labels in
+    record {
+      cells = cells;
+      index = index;
+      labels = labels;
+      reduced = record {
+        cells = λ r k x hr hk is.
+            HasValues-after M laws difference has before.now.side phase (cell_at before.now) (length phase.steps) reduced.cells admitted.admitted
+            r k x (subst (λ n. r < n) labels.side hr) (subst (λ n. k < n) labels.side hk) (sym (cells r k) ∙ is);
+        index = is_value;
+      };
+    }

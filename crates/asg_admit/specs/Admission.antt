@@ -1,6 +1,6 @@
 -- What a phase asks of a square.
-use Rattle.std.specs.Prelude.{◌≡◌, ℕ, ◌<◌, ◌+◌, ◌/◌, ◌%◌, ◌==◌, if◌then◌else◌, Bool, List, length, Option, Some, None, slice_get, slice_index}
-use Rattle.asg_order.specs.Monoid.{Monoid}
+use Rattle.std.specs.Prelude.{◌≡◌, ℕ, ◌<◌, ◌+◌, ◌/◌, ◌%◌, ◌==◌, if◌then◌else◌, Bool, List, length, All, Option, Some, None, slice_get, slice_index}
+use Rattle.asg_order.specs.Monoid.{Monoid, IsValue}
 use Rattle.asg_proof.specs.Phases.{PhaseOf, entered_at, staying_at}
 use Rattle.asg_proof.specs.Steps.{count_below}
 use Rattle.asg_square.specs.BitTable.{is_bit_set}
@@ -12,6 +12,14 @@ abbrev pub AreCounted : List ℕ → List ℕ → ℕ → Type 0
 AreCounted enters leaves n =
     (t : ℕ) → t < n → count_below (entered_at enters t) (length enters)
     + count_below (staying_at leaves t) (length leaves) ≡ length enters + 1
+
+-- the lists of a phase are over the rows and the columns of this side, each step is a value, and at each
+-- step the rows that have entered and the columns that stay are one more than the side
+pub record IsPhaseOver {V : Type 0} (M : Monoid V) (side : ℕ) (phase : PhaseOf V) : Type 0 where
+  pub rows : length phase.enters ≡ side
+  pub columns : length phase.leaves ≡ side
+  pub values : All (IsValue M) phase.steps
+  pub counted : AreCounted phase.enters phase.leaves (length phase.steps)
 
 -- the mark at a place is this one
 abbrev pub has_mark : List ℕ → ℕ → ℕ → Bool

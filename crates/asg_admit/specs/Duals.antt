@@ -97,6 +97,10 @@ pub record WritesDuals (row : ℕ) (columns : List ℕ) (before after : Grid ℕ
       → cell_at after r k ≡ option_map (dual_value row (slice_index columns k)) (cell_at before r k)
   pub others : (i k : ℕ) → i ≢ r → cell_at after i k ≡ cell_at before i k
 
+-- the value at a place is, with so much more, at least the dual variable there
+abbrev pub FitsAt : List ℕ → List ℕ → ℕ → ℕ → Type 0
+FitsAt values columns raise k = slice_index columns k ≤ slice_index values k + raise
+
 -- each present cell of a row that enters at a step is, with the dual variable of the row and the steps before
 -- that, at least the dual variable of its column; of a row that never enters nothing is asked
 abbrev pub FitsRow : Grid ℕ → ℕ → List ℕ → List ℕ → ℕ → ℕ → Type 0

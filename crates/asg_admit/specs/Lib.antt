@@ -4,4 +4,6 @@ pub mod Settling
 pub mod LeftColumns
 pub mod Reduced
 pub mod Duals
+pub mod MarkedCells
+pub mod LowCells
 pub mod laws

@@ -57,6 +57,15 @@ pub record SettlesEntered {V : Type 0} (M : Monoid V) (difference : V → V → 
   pub waiting : (r k : ℕ) → length phase.steps ≤ slice_index phase.enters r
       → cell_at after r k ≡ cell_at before r k
 
+-- a row is that after the phase, if it enters, and all others stay
+pub record SettlesEnteredRow {V : Type 0} (M : Monoid V) (difference : V → V → V)
+    (phase : PhaseOf V) (before after : Grid V) (row : ℕ) : Type 0 where
+  pub labels : KeepsLabels before after
+  pub entered : (k : ℕ) → k < before.side → slice_index phase.enters row < length phase.steps
+      → cell_at after row k ≡ settled_at M difference phase (cell_at before) row k
+  pub stays : (r k : ℕ) → (r ≢ row) ⊎ (length phase.steps ≤ slice_index phase.enters r)
+      → cell_at after r k ≡ cell_at before r k
+
 -- the cells of a row are those after a step, and all others stay
 pub record StepsRow {V : Type 0} (M : Monoid V) (difference : V → V → V) (c : V) (entered : Bool)
     (staying : ℕ → Bool) (before after : Grid V) (row : ℕ) : Type 0 where

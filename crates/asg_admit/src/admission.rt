@@ -1,7 +1,7 @@
 //! Whether a phase is admitted.
 
-ghost use Rattle.std.specs.Prelude.{◌≡◌, ◌↔◌, ◌<◌, ◌/◌, Option, Some, length, All, IsTrue, slice_index};
-ghost use Rattle.asg_admit.specs.Admission.{AllowsAt, AllowsRow, AllowsRows, cell_in_row};
+ghost use Rattle.std.specs.Prelude.{◌≡◌, ◌↔◌, ◌<◌, ◌/◌, ℕ, Option, Some, length, All, IsTrue, slice_index};
+ghost use Rattle.asg_admit.specs.Admission.{AllowsAt, AllowsRow, AllowsRows, IsPhaseOver, cell_in_row};
 ghost use Rattle.asg_admit.specs.Reduced.{phase_of};
 ghost use Rattle.asg_admit.specs.Settling.{HasValueAt};
 ghost use Rattle.asg_order.specs.Monoid.{IsValue};
@@ -28,6 +28,23 @@ pub(crate) fn admits<M: DMonoid>(
         IsTrue result ↔ IsAdmittedPhase (M.monoid_of m.now) (M.difference m.now) square.now.side phase
         (cell_at square.now) }
 {
+    if !is_over(m, square, steps, enters, leaves) {
+        return false;
+    }
+    rows_allow(m, square, steps, enters, leaves)
+}
+
+// Whether the lists are those of a phase over the square, whatever its cells.
+pub(crate) fn is_over<M: DMonoid>(
+    m: &M,
+    square: &Square<M::Value>,
+    steps: &[M::Value],
+    enters: &[u32],
+    leaves: &[u32],
+) -> bool
+    ensures { let phase = phase_of steps.now enters.now leaves.now in
+        IsTrue result ↔ IsPhaseOver (M.monoid_of m.now) square.now.side phase }
+{
     let side = square.side() as usize;
     if enters.len() != side {
         return false;
@@ -38,10 +55,7 @@ pub(crate) fn admits<M: DMonoid>(
     if !are_values(m, steps) {
         return false;
     }
-    if !are_counted(enters, leaves, steps.len()) {
-        return false;
-    }
-    rows_allow(m, square, steps, enters, leaves)
+    are_counted(enters, leaves, steps.len())
 }
 
 // Whether each step is a value.
@@ -80,7 +94,7 @@ fn rows_allow<M: DMonoid>(
 }
 
 // Whether each cell of a row allows the steps; none is met where the row never enters.
-fn row_allows<M: DMonoid>(
+pub(crate) fn row_allows<M: DMonoid>(
     m: &M,
     square: &Square<M::Value>,
     steps: &[M::Value],
@@ -91,7 +105,8 @@ fn row_allows<M: DMonoid>(
     requires values { All (IsValue (M.monoid_of m.now)) steps.now }
     requires leaves { length leaves.now ≡ square.now.side }
     requires row { row < square.now.side }
-    requires cells { HasValues (M.monoid_of m.now) square.now.side (cell_at square.now) }
+    requires cells { (k : ℕ) → k < square.now.side
+        → HasValueAt (M.monoid_of m.now) square.now row k }
     ensures { IsTrue result ↔ AllowsRow (M.monoid_of m.now) (M.difference m.now) steps.now enter
         leaves.now square.now row }
 {
@@ -135,7 +150,7 @@ fn is_set(word: u64, bit: usize) -> bool
 
 // Whether a cell allows the steps at which its row has entered and its column stays.
 #[inline]
-fn cell_allows<M: DMonoid>(
+pub(crate) fn cell_allows<M: DMonoid>(
     m: &M,
     cell: Option<M::Value>,
     steps: &[M::Value],

@@ -1,7 +1,8 @@
 //! Whether cells allow a phase, by raised dual variables.
 
-ghost use Rattle.std.specs.Prelude.{◌≡◌, ◌↔◌, ◌<◌, ◌≤◌, ◌+◌, ◌^◌, ℕ, IsTrue, Some, length, slice_index};
-ghost use Rattle.asg_admit.specs.Duals.{AreSums, FitsRow, FitsRows, sum_before};
+ghost use Rattle.std.specs.Prelude.{◌≡◌, ◌↔◌, ◌<◌, ◌≤◌, ◌+◌, ◌*◌, ◌^◌, ℕ, IsTrue, Some, length, slice_index};
+ghost use Rattle.std.specs.Int.{bit_at};
+ghost use Rattle.asg_admit.specs.Duals.{AreSums, FitsAt, FitsRow, FitsRows, sum_before};
 ghost use Rattle.asg_square.specs.Grid.{cell_at};
 
 use asg_square::Square;
@@ -60,35 +61,72 @@ fn row_fits(
     }
     let raise = dual + sums[enter as usize];
     let values = square.row_values(row);
-    for column in 0..square.side() {
-        let k = column as usize;
-        if !cell_fits(square, row, column, values[k], raise, columns[k]) {
+    let words = square.row_words(row);
+    for number in 0..words.len() {
+        if !word_fits(values, columns, raise, number, words[number]) {
             return false;
         }
     }
     true
 }
 
-// Whether a cell is absent or, with so much more, at least the dual variable of its column. What stands for
-// its value is looked at first, since that is less for few cells.
+// Whether the cells of a row whose bits a word has do so.
 #[inline]
-fn cell_fits(
-    square: &Square<u128>,
-    row: u32,
-    column: u32,
-    value: u128,
-    raise: u128,
-    dual: u128,
-) -> bool
-    requires row { row < square.now.side }
-    requires column { column < square.now.side }
-    requires value { (x : ℕ) → cell_at square.now row column ≡ Some x → value ≡ x }
-    requires few { (x : ℕ) → cell_at square.now row column ≡ Some x → x + raise < 2 ^ 128 }
+fn word_fits(values: &[u128], columns: &[u128], raise: u128, number: usize, word: u64) -> bool
+    requires first { 64 * number ≤ length values.now }
+    requires values { (k : ℕ) → bit_at word k ≡ 1 → 64 * number + k < length values.now }
+    requires columns { length columns.now ≡ length values.now }
+    requires few { (k : ℕ) → bit_at word k ≡ 1
+        → slice_index values.now (64 * number + k) + raise < 2 ^ 128 }
     ensures { IsTrue result
-        ↔ ((x : ℕ) → cell_at square.now row column ≡ Some x → dual ≤ x + raise) }
+        ↔ ((k : ℕ) → k < 64 → bit_at word k ≡ 1
+        → FitsAt values.now columns.now raise (64 * number + k)) }
 {
-    if dual <= value.wrapping_add(raise) {
-        return true;
+    if word == u64::MAX {
+        all_fit(values, columns, raise, 64 * number)
+    } else {
+        some_fit(values, columns, raise, 64 * number, word)
     }
-    square.at(row, column).is_none()
+}
+
+// Whether 64 cells that stand side by side do so.
+#[inline]
+fn all_fit(values: &[u128], columns: &[u128], raise: u128, first: usize) -> bool
+    requires values { first + 64 ≤ length values.now }
+    requires columns { length columns.now ≡ length values.now }
+    requires few { (k : ℕ) → k < 64 → slice_index values.now (first + k) + raise < 2 ^ 128 }
+    ensures { IsTrue result
+        ↔ ((k : ℕ) → k < 64 → FitsAt values.now columns.now raise (first + k)) }
+{
+    for k in 0..64 {
+        let column = first + k;
+        if columns[column] > values[column] + raise {
+            return false;
+        }
+    }
+    true
+}
+
+// Whether the cells behind a place whose bits a word has do so.
+#[inline]
+fn some_fit(values: &[u128], columns: &[u128], raise: u128, first: usize, word: u64) -> bool
+    requires first { first ≤ length values.now }
+    requires values { (k : ℕ) → bit_at word k ≡ 1 → first + k < length values.now }
+    requires columns { length columns.now ≡ length values.now }
+    requires few { (k : ℕ) → bit_at word k ≡ 1
+        → slice_index values.now (first + k) + raise < 2 ^ 128 }
+    ensures { IsTrue result
+        ↔ ((k : ℕ) → k < 64 → bit_at word k ≡ 1
+        → FitsAt values.now columns.now raise (first + k)) }
+{
+    let mut rest = word;
+    'bits: while rest != 0 {
+        let k = rest.trailing_zeros();
+        let column = first + k as usize;
+        if columns[column] > values[column] + raise {
+            return false;
+        }
+        rest &= !(1 << k);
+    }
+    true
 }

@@ -9,18 +9,26 @@
 //!
 //! Where a square holds sums that stay below the top, a phase adds to each cell what its row takes
 //! and subtracts what its column gives: [`DualSquare`] keeps those as dual variables, so that a phase
-//! doesn't go over the cells. Making one takes memory; nothing else here does.
+//! doesn't go over the cells. Where it holds graded values, a phase leaves the cells of a greater grade
+//! than those of its steps as they are: [`GradedSquare`] knows the others, and visits those alone.
+//! Making one of the two takes memory; nothing else here does.
 #![tactic(auto)]
 
 mod admission;
+mod allowed_rows;
 mod counting;
 mod dual_cells;
 mod dual_fits;
 mod dual_rows;
 mod dual_squares;
 mod dual_sums;
+mod graded_squares;
 mod greatest_cells;
 mod left_columns;
+mod left_words;
+mod low_cells;
+mod marked_cells;
+mod marked_rows;
 mod products;
 mod reduced;
 mod replayed_cells;
@@ -34,9 +42,10 @@ mod tests;
 
 pub use dual_rows::DualRow;
 pub use dual_squares::{DualSquare, Replayed};
+pub use graded_squares::GradedSquare;
 pub use products::range;
 pub use reduced::Reduced;
 pub use replayed_cells::replay_cell;
-pub use replaying::replay;
+pub use replaying::{replay, replay_within};
 pub use settling::settle;
 pub use stepping::step;

@@ -9,11 +9,12 @@ ghost use Rattle.asg_proof.specs.Phases.{IsAdmittedPhase};
 ghost use Rattle.asg_proof.specs.Steps.{HasValues};
 ghost use Rattle.asg_square.specs.Grid.{cell_at};
 
-use crate::admission::admits;
+use crate::admission::{admits, is_over};
+use crate::allowed_rows::settle_allowed;
 use crate::products::product_of;
 use crate::reduced::Reduced;
 use crate::replayed_cells::{cut, settled_value};
-use crate::settling::settle_cell;
+use crate::settling::{settle_cell, settle_waiting};
 use asg_order::laws::differences;
 use asg_order::{DMonoid, fold};
 use asg_square::Square;
@@ -43,6 +44,41 @@ pub fn replay<M: DMonoid>(
         return false;
     }
     apply(m, reduced, steps, enters, leaves);
+    true
+}
+
+/// Applies a phase where it is admitted from the square, and tells whether it is, as [`replay`] does,
+/// but in one pass: each row that enters is tested and then settled. So where the phase isn't admitted
+/// the square may be changed in part, and means nothing more. `room` has more places than there are
+/// steps, and what is in it before and afterwards means nothing. It takes no memory.
+pub fn replay_within<M: DMonoid>(
+    m: &M,
+    reduced: &mut Reduced<M::Value>,
+    steps: &[M::Value],
+    enters: &[u32],
+    leaves: &[u32],
+    room: &mut [M::Value],
+) -> bool
+    requires reduced { IsReduced (M.monoid_of m.now) reduced.old }
+    requires room { length steps.now < length room.old }
+    ensures admitted { let phase = phase_of steps.now enters.now leaves.now in
+        IsTrue result ↔ IsAdmittedPhase (M.monoid_of m.now) (M.difference m.now)
+        reduced.old.now.side phase (cell_at reduced.old.now) }
+    ensures applied { let phase = phase_of steps.now enters.now leaves.now in
+        IsTrue result
+        → IsPhaseTo (M.monoid_of m.now) (M.difference m.now) phase reduced.old reduced.new }
+    ensures room { length room.new ≡ length room.old }
+{
+    if !is_over(m, &reduced.now, steps, enters, leaves) {
+        return false;
+    }
+    reduced.now.side();
+    settle_waiting(m, &mut reduced.now, steps, enters, leaves, room);
+    if !settle_allowed(m, &mut reduced.now, steps, enters, leaves, room) {
+        return false;
+    }
+    reduced.now.side();
+    reduced.index = m.op(reduced.index, fold(m, steps));
     true
 }
 

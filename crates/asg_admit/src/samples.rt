@@ -1,6 +1,6 @@
 //! A reduced square to test with: `4 1 3 / 2 0 5 / 3 2 2` with 10^9 added to each cost.
 
-ghost use Rattle.std.specs.Prelude.{◌≡◌, ◌<◌, ℕ, IfOk, IfSome, IsTrue};
+ghost use Rattle.std.specs.Prelude.{◌≡◌, ◌<◌, ℕ, IfOk, IfSome, IsTrue, length};
 ghost use Rattle.asg_admit.specs.Reduced.{IsReduced};
 ghost use Rattle.asg_admit.specs.Settling.{HasValueAt};
 ghost use Rattle.asg_monoids.specs.BoundedSums.{bounded_sums};
@@ -23,11 +23,15 @@ pub(crate) const SUMS: Bounded = Bounded {
 // What is added to each cost.
 pub(crate) const SHIFT: u128 = 1_000_000_000;
 
-// The costs.
-const COSTS: [[u32; 3]; 3] = [[4, 1, 3], [2, 0, 5], [3, 2, 2]];
+// The cells of the worked square.
+const CELLS: [[u128; 3]; 3] = [
+    [SHIFT + 4, SHIFT + 1, SHIFT + 3],
+    [SHIFT + 2, SHIFT, SHIFT + 5],
+    [SHIFT + 3, SHIFT + 2, SHIFT + 2],
+];
 
 // The instance of three rows and three columns without cells.
-fn blank(alloc: Global) -> Result<Instance, NoMemory> {
+pub(crate) fn blank(alloc: Global) -> Result<Instance, NoMemory> {
     let rows = vec![in alloc;
         Row {
             id: 1,
@@ -67,38 +71,38 @@ fn nothing(_cost: Cost) -> u128 {
     0
 }
 
-// Writes the cells of a row, each cost with what is added to it.
-fn fill_row(square: &mut Square<u128>, row: u32, costs: &[u32; 3])
+// Writes the cells of a row.
+pub(crate) fn fill_row<V: Copy>(square: &mut Square<V>, row: u32, values: &[V])
     requires side { square.old.side ≡ 3 }
     requires row { row < 3 }
+    requires values { length values.now ≡ 3 }
     ensures { square.new.side ≡ 3 }
 {
     for column in 0..3u32 {
-        let value = costs[column as usize] as u128 + SHIFT;
-        square.set(row, column, Some(value));
+        square.set(row, column, Some(values[column as usize]));
     }
 }
 
 // Whether the cell is absent or a value.
-fn is_value_at(square: &Square<u128>, row: u32, column: u32) -> bool
+fn is_value_at<M: Ordered>(m: &M, square: &Square<M::Value>, row: u32, column: u32) -> bool
     requires row { row < square.now.side }
     requires column { column < square.now.side }
-    ensures { IsTrue result → HasValueAt (bounded_sums 1000000000000) square.now row column }
+    ensures { IsTrue result → HasValueAt (M.monoid_of m.now) square.now row column }
 {
     match square.at(row, column) {
-        Some(x) => SUMS.is_value(x),
+        Some(x) => m.is_value(x),
         None => true,
     }
 }
 
 // Whether the present cells of a row are values.
-fn is_row_of_values(square: &Square<u128>, row: u32) -> bool
+fn is_row_of_values<M: Ordered>(m: &M, square: &Square<M::Value>, row: u32) -> bool
     requires { row < square.now.side }
     ensures { IsTrue result → (k : ℕ) → k < square.now.side
-        → HasValueAt (bounded_sums 1000000000000) square.now row k }
+        → HasValueAt (M.monoid_of m.now) square.now row k }
 {
     for column in 0..square.side() {
-        if !is_value_at(square, row, column) {
+        if !is_value_at(m, square, row, column) {
             return false;
         }
     }
@@ -106,26 +110,27 @@ fn is_row_of_values(square: &Square<u128>, row: u32) -> bool
 }
 
 // Whether all present cells are values.
-fn has_values(square: &Square<u128>) -> bool
+fn has_values<M: Ordered>(m: &M, square: &Square<M::Value>) -> bool
     ensures { IsTrue result
-        → HasValues (bounded_sums 1000000000000) square.now.side (cell_at square.now) }
+        → HasValues (M.monoid_of m.now) square.now.side (cell_at square.now) }
 {
     for row in 0..square.side() {
-        if !is_row_of_values(square, row) {
+        if !is_row_of_values(m, square, row) {
             return false;
         }
     }
     true
 }
 
-// The square with the index 0, where its cells are values.
-fn reduced_of(now: Square<u128>) -> Option<Reduced<u128>>
-    ensures { IfSome result (IsReduced (bounded_sums 1000000000000)) }
+// The square with the unit as its index, where its cells are values.
+pub(crate) fn reduced_of<M: Ordered>(m: &M, now: Square<M::Value>) -> Option<Reduced<M::Value>>
+    ensures { IfSome result (IsReduced (M.monoid_of m.now)) }
 {
-    if !has_values(&now) {
+    if !has_values(m, &now) {
         return None;
     }
-    Some(Reduced { now, index: 0 })
+    let index = m.unit();
+    Some(Reduced { now, index })
 }
 
 // The worked square, with the index 0.
@@ -137,8 +142,8 @@ pub(crate) fn worked(alloc: Global) -> Result<Option<Reduced<u128>>, NoMemory>
         return Ok(None);
     }
     let mut square = Square::of(alloc, &inst, 0, &nothing)?;
-    fill_row(&mut square, 0, &COSTS[0]);
-    fill_row(&mut square, 1, &COSTS[1]);
-    fill_row(&mut square, 2, &COSTS[2]);
-    Ok(reduced_of(square))
+    fill_row(&mut square, 0, &CELLS[0]);
+    fill_row(&mut square, 1, &CELLS[1]);
+    fill_row(&mut square, 2, &CELLS[2]);
+    Ok(reduced_of(&SUMS, square))
 }

@@ -59,7 +59,7 @@ pub fn settle<M: DMonoid>(
 }
 
 // Settles the rows that never enter: there only the cells of columns that leave change.
-fn settle_waiting<M: DMonoid>(
+pub(crate) fn settle_waiting<M: DMonoid>(
     m: &M,
     square: &mut Square<M::Value>,
     steps: &[M::Value],
@@ -151,7 +151,7 @@ fn settle_entered<M: DMonoid>(
 }
 
 // Settles a row that enters at this step.
-fn settle_row<M: DMonoid>(
+pub(crate) fn settle_row<M: DMonoid>(
     m: &M,
     square: &mut Square<M::Value>,
     steps: &[M::Value],

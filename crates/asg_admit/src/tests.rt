@@ -5,6 +5,8 @@ ghost use Rattle.asg_admit.specs.Reduced.{IsReduced};
 ghost use Rattle.asg_monoids.specs.BoundedSums.{bounded_sums};
 
 mod dual_squares;
+mod graded_squares;
+mod one_pass;
 
 use crate::admission::{admits, are_values};
 use crate::samples::{SHIFT, SUMS, worked};

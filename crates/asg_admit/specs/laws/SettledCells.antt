@@ -1,5 +1,5 @@
 -- A cell after a phase, by the product of a range of steps.
-use Rattle.std.proofs.Common.{◌≡◌, ℕ, zero, suc, ◌+◌, ◌<◌, ◌≤◌, Bool, true, false, cond, not, leb, ltb, min, refl, sym, ◌∙◌, ap, subst, arith, ⊎_elim, List, [], ◌∷◌, length, take}
+use Rattle.std.proofs.Common.{◌≡◌, ℕ, zero, suc, ◌<◌, ◌≤◌, Bool, true, false, cond, not, leb, ltb, min, refl, sym, ◌∙◌, ap, subst, arith, ⊎_elim, List, [], ◌∷◌, length, take}
 use Rattle.std.specs.Prelude.{Option, Some, None, All, slice_index}
 use Rattle.std.specs.Option.{option_map}
 use Rattle.std.proofs.lemmas.Bool.{true≢false, false≢true, cases_lt, le-leb, lt-leb, lt-ltb, le-ltb}

@@ -9,7 +9,7 @@ pub cell_allows-requires-clause-cell : goal.cell_allows-requires-clause-cell
 cell_allows-requires-clause-cell g c = λ x is.
     let k = c.loop-column.column in
     let below : k < c.args.square.now.side = omega (arith, c.loop-column-test.true, c.requires.leaves) in
-    c.requires.cells c.args.row k x c.requires.row below
+    c.requires.cells k below x
     (row_read (cell_at c.args.square.now c.args.row) c.args.square.now.side c.row_values-values.result.now c.row_words-words.result.now c.row_values-values.ensures c.row_words-words.ensures k below
     ∙ sym c.stored_cell-cell.ensures ∙ is)
 

@@ -3,4 +3,4 @@ use Rattle.asg_admit.proofs.samples.fill_row.Given as goal
 
 -- the side stays
 abbrev pub invariant-loop-column : goal.invariant-loop-column
-invariant-loop-column l = l.square.side ≡ 3
+invariant-loop-column g l = l.square.side ≡ 3

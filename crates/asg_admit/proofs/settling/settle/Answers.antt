@@ -1,9 +1,8 @@
-use Rattle.std.proofs.Common.{◌<◌, length, sym, ◌∙◌, ap, subst}
-use Rattle.asg_proof.specs.laws.PhaseSteps.{phase_has_values, HasValues-after}
+use Rattle.std.proofs.Common.{◌∙◌, ap}
+use Rattle.asg_proof.specs.laws.PhaseSteps.{phase_has_values}
 use Rattle.asg_square.specs.Grid.{cell_at}
 use Rattle.asg_admit.specs.Reduced.{phase_of}
-use Rattle.asg_admit.proofs.SettleLemmas.{all_rows}
-use Rattle.asg_admit.proofs.SquareLemmas.{chained_labels}
+use Rattle.asg_admit.proofs.SettleLemmas.{phase_to}
 use Rattle.asg_admit.proofs.settling.settle.Goals as goal
 
 pub settle_waiting-requires-clause-values : goal.settle_waiting-requires-clause-values
@@ -20,23 +19,7 @@ pub returns-clause-phase : goal.returns-clause-phase
 returns-clause-phase g c =
     let m = c.args.m.now in
     let M = g.M.Ordered.monoid_of m in
-    let d = g.M.DMonoid.difference m in
-    let steps = c.args.steps.now in
     let r = c.requires in
-    let phase = phase_of steps c.args.enters.now c.args.leaves.now in
-    let before = c.args.reduced.now.now in
-    let after = c.settle_entered.new.square in
-    let values = phase_has_values M d before.side phase (cell_at before) r.admitted in
-    let cells = all_rows M d phase before c.settle_waiting.new.square after c.side.ensures.grid c.side-2.ensures.grid c.settle_waiting.ensures.settled c.settle_entered.ensures.settled in
-    let labels = chained_labels before c.settle_waiting.new.square after c.settle_waiting.ensures.settled.labels c.settle_entered.ensures.settled.labels in
-    record {
-      cells = cells;
-      index = c.op-reduced.ensures.product ∙ ap (M.product c.args.reduced.now.index) c.fold.ensures.product;
-      labels = labels;
-      reduced = record {
-        cells = λ row k x hr hk is.
-            HasValues-after M (g.met.M.Ordered.laws m) d (g.met.M.DMonoid.difference_laws m) before.side phase (cell_at before) (length steps) r.reduced.cells r.admitted.admitted
-            row k x (subst (λ n. row < n) labels.side hr) (subst (λ n. k < n) labels.side hk) (sym (cells row k) ∙ is);
-        index = c.op-reduced.ensures.is_value;
-      };
-    }
+    phase_to M (g.met.M.Ordered.laws m) (g.M.DMonoid.difference m) (g.met.M.DMonoid.difference_laws m) (phase_of c.args.steps.now c.args.enters.now c.args.leaves.now)
+    c.args.reduced.now _ c.settle_waiting.new.square r.reduced r.admitted c.side.ensures.grid c.side-2.ensures.grid c.settle_waiting.ensures.settled c.settle_entered.ensures.settled
+    (c.op-reduced.ensures.product ∙ ap (M.product c.args.reduced.now.index) c.fold.ensures.product) c.op-reduced.ensures.is_value

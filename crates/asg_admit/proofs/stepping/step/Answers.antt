@@ -1,6 +1,6 @@
-use Rattle.std.proofs.Common.{◌≡◌, ℕ, ◌<◌, sym, ◌∙◌, ap, subst}
+use Rattle.std.proofs.Common.{◌≡◌, ◌<◌, sym, ◌∙◌, ap, subst}
 use Rattle.asg_proof.specs.Phases.{entered_at, staying_at}
-use Rattle.asg_proof.specs.Steps.{HasValues, moved, stepped, assignment_fold}
+use Rattle.asg_proof.specs.Steps.{moved, stepped, assignment_fold}
 use Rattle.asg_proof.specs.laws.Squares.{HasSide-cell_at}
 use Rattle.asg_square.specs.Grid.{cell_at}
 use Rattle.asg_admit.proofs.SquareLemmas.{everywhere}

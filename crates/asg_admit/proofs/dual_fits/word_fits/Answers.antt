@@ -1,0 +1,23 @@
+use Rattle.std.proofs.Common.{◌≡◌, ℕ, ◌<◌, ◌∙◌, ap, arith}
+use Rattle.std.proofs.lemmas.Nat.Bits.{bit_at_ones}
+use Rattle.std.specs.Int.{bit_at}
+use Rattle.asg_admit.proofs.WordBits.{HasBit}
+use Rattle.asg_admit.proofs.dual_fits.word_fits.Goals as goal
+
+-- a word of ones has each bit
+all_set : (word : ℕ) → word ≡ 18446744073709551615 → (k : ℕ) → k < 64 → HasBit word k
+all_set word ones k h = ap (λ w. bit_at w k) ones ∙ bit_at_ones 64 k h
+
+pub all_fit-requires-clause-values : goal.all_fit-requires-clause-values
+all_fit-requires-clause-values c =
+    omega (arith, c.requires.values 63 (all_set c.args.word c.if-word-eq18446744073709551615.true 63 (omega arith)))
+
+pub all_fit-requires-clause-few : goal.all_fit-requires-clause-few
+all_fit-requires-clause-few c k h =
+    c.requires.few k (all_set c.args.word c.if-word-eq18446744073709551615.true k h)
+
+pub returns-then-word-eq18446744073709551615 : goal.returns-then-word-eq18446744073709551615
+returns-then-word-eq18446744073709551615 c = (
+  λ is k h _. c.all_fit.ensures.0 is k h,
+  λ all. c.all_fit.ensures.1 (λ k h. all k h (all_set c.args.word c.if-word-eq18446744073709551615.true k h)),
+)

@@ -1,0 +1,13 @@
+use Rattle.std.proofs.Common.{◌∙◌, ap}
+use Rattle.asg_admit.specs.Reduced.{phase_of}
+use Rattle.asg_admit.proofs.SettleLemmas.{phase_to}
+use Rattle.asg_admit.proofs.marked_cells.settle_marked.Goals as goal
+
+pub returns-clause-phase : goal.returns-clause-phase
+returns-clause-phase g c =
+    let m = c.args.m.now in
+    let M = g.M.Ordered.monoid_of m in
+    let r = c.requires in
+    phase_to M (g.met.M.Ordered.laws m) (g.M.DMonoid.difference m) (g.met.M.DMonoid.difference_laws m) (phase_of c.args.steps.now c.args.enters.now c.args.leaves.now)
+    c.args.reduced.now _ c.settle_waiting.new.square r.reduced r.admitted c.side.ensures.grid c.side-2.ensures.grid c.settle_waiting.ensures.settled c.settle_entered.ensures.settled
+    (c.op-reduced.ensures.product ∙ ap (M.product c.args.reduced.now.index) c.fold.ensures.product) c.op-reduced.ensures.is_value

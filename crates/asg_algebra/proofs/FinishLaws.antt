@@ -5,6 +5,7 @@ use Rattle.std.proofs.lemmas.Bool.{cases_lt, le-ltb, false≢true}
 use Rattle.asg_model.specs.Limits.{most_side}
 use Rattle.asg_admit.specs.Reduced.{IsReduced, IsPhaseTo}
 use Rattle.asg_admit.specs.declared.reduced.Reduced.{Reduced}
+use Rattle.asg_match.specs.ColumnSet.{word_count}
 use Rattle.asg_match.specs.Deficient.{IsDeficient}
 use Rattle.asg_match.specs.Flipped.{Flips}
 use Rattle.asg_match.specs.Matching.{column_at, IsMatched, AllAllowed}
@@ -20,11 +21,13 @@ use Rattle.asg_algebra.specs.declared.growth.Growth.{Growth}
 use Rattle.asg_algebra.specs.Growing.{IsAbsorbed}
 use Rattle.asg_algebra.specs.Growths.{never, leads_in, IsSearch, IsReady, IsPlanted, HasNoLead}
 use Rattle.asg_algebra.specs.Leads.{lead_at, place_at}
+use Rattle.asg_algebra.specs.Nearest.{AreNearest}
 use Rattle.asg_algebra.specs.Rest.{IsRest, cut}
 use Rattle.asg_algebra.specs.Served.{made_of, IsServed}
 use Rattle.asg_algebra.specs.Solved.{ArePushed, unmatched}
 use Rattle.asg_algebra.specs.Underway.{IsUnderway}
 use Rattle.asg_algebra.proofs.GrowthLaws.{open_unseen, search_cell}
+use Rattle.asg_algebra.proofs.NearestLemmas.{AreNearest-none}
 use Rattle.asg_algebra.proofs.PhaseEnds.{phase_ends, planted}
 use Rattle.asg_algebra.proofs.SolvedLaws.{LeadTo-made}
 use Rattle.asg_algebra.proofs.UnderwayLaws.{IsDeficient-now}
@@ -37,10 +40,10 @@ present_below Q r k some =
     (λ past. absurd (false≢true (sym (ap (λ b. is_some (cond b (get_or Q.cells (r * Q.side + k) None) None)) (le-ltb k Q.side past)) ∙ some)))
     (cases_lt k Q.side)
 
-module _ {V : Type 0} (M : Monoid V) (laws : IsOrderedMonoid M) (difference : V → V → V) (has : HasDifferences M difference) where
+module _ {V : Type 0} {M : Monoid V} (laws : IsOrderedMonoid M) {difference : V → V → V} (has : HasDifferences M difference) where
   -- what a planted growth begins
-  pub planted_search : (Q : Grid V) (index : V) (m : List (Option ℕ)) (b : Growth V) (sum : V) (root : ℕ) → Q.side ≤ most_side → IsPlanted M Q.side b sum root → IsRest M Q.side (cell_at Q) index m → root < Q.side → column_at m root ≡ None → IsSearch M difference Q index m b sum 0
-  planted_search Q index m b sum root small e rest below free =
+  pub planted_search : {Q : Grid V} {index : V} {m : List (Option ℕ)} {b : Growth V} {sum : V} {root : ℕ} → Q.side ≤ most_side → IsPlanted M Q.side b sum root → IsRest M Q.side (cell_at Q) index m → root < Q.side → column_at m root ≡ None → IsSearch M difference Q index m b sum 0
+  planted_search {Q} {index} {m} {b} {sum} {root} small e rest below free =
       let base = planted M laws difference has never (omega arith) Q.side (cell_at Q) index m root rest below free (parents_in b.tree) e.none_reached (lead_at M (leads_in b)) (place_at (leads_in b)) (λ k _. e.no_lead k) in
       record {
         small = small;
@@ -49,14 +52,15 @@ module _ {V : Type 0} (M : Monoid V) (laws : IsOrderedMonoid M) (difference : V 
         unseen = e.unseen;
         underway = subst (λ A. A) (λ i. IsUnderway M difference never Q.side (cell_at Q) index m ((sym e.rows) i) (parents_in b.tree) ((sym e.sums) i) (lead_at M (leads_in b)) (place_at (leads_in b)) ((sym e.enters) i) ((sym e.leaves) i) ((sym e.steps) i) ((sym e.at_unit) i) 0) base;
         few_steps = omega (arith, b.steps.ok.0, ap length e.steps);
+        nearest = subst (AreNearest M (leads_in b) b.tree.unseen.items) (sym e.nearest) (AreNearest-none M (leads_in b) b.tree.unseen.items (word_count Q.side) (sym e.unseen.count) e.no_lead);
       }
 
-  module _ (Q : Grid V) (index : V) (m : List (Option ℕ)) (b : Growth V) (sum : V) (search : IsSearch M difference Q index m b sum (vec_len b.tree.rows)) where
+  module _ {Q : Grid V} {index : V} {m : List (Option ℕ)} {b : Growth V} {sum : V} (search : IsSearch M difference Q index m b sum (vec_len b.tree.rows)) where
     -- a search that found no key has rows with too few columns
     pub stuck_deficient : HasNoLead M b → IsDeficient (IsPresent (cell_at Q)) Q.side b.tree.rows.items
     stuck_deficient none =
         let now = IsDeficient-now M laws difference has never Q.side (cell_at Q) index m b.tree.rows.items (parents_in b.tree) b.sums.items (lead_at M (leads_in b)) (place_at (leads_in b)) b.enters.items b.leaves.items b.steps.items sum (vec_len b.tree.rows) search.underway b.tree.rows.ok.0
-        (λ k w. none k (open_unseen M laws difference has Q index m b sum (vec_len b.tree.rows) search k w.0 w.1)) in
+        (λ k w. none k (open_unseen laws has search k w.0 w.1)) in
         record {
           below = now.below;
           apart = now.apart;
@@ -69,18 +73,18 @@ module _ {V : Type 0} (M : Monoid V) (laws : IsOrderedMonoid M) (difference : V 
         }
 
     -- the cut marks, and the phase that they make
-    pub finished_phase : (column place : ℕ) (after : List (Option ℕ)) → IsReady M b sum column → place ≡ get_or b.tree.parents.items column 0 → Flips b.tree.rows.items (parents_in b.tree) place column m after → IsAdmittedPhase M difference Q.side (phase_of b.steps.items (cut (length b.steps.items) b.enters.items) (cut (length b.steps.items) b.leaves.items)) (cell_at Q) × IsRest M Q.side (square_after M difference (phase_of b.steps.items (cut (length b.steps.items) b.enters.items) (cut (length b.steps.items) b.leaves.items)) (cell_at Q) (length b.steps.items)) (M.product index (fold_of M b.steps.items)) after
-    finished_phase column place after ready at flipped =
-        let cell = search_cell M laws difference has Q index m b sum (vec_len b.tree.rows) search refl column ready.least ready.low in
+    pub finished_phase : {column place : ℕ} {after : List (Option ℕ)} → IsReady M b sum column → place ≡ get_or b.tree.parents.items column 0 → Flips b.tree.rows.items (parents_in b.tree) place column m after → IsAdmittedPhase M difference Q.side (phase_of b.steps.items (cut (length b.steps.items) b.enters.items) (cut (length b.steps.items) b.leaves.items)) (cell_at Q) × IsRest M Q.side (square_after M difference (phase_of b.steps.items (cut (length b.steps.items) b.enters.items) (cut (length b.steps.items) b.leaves.items)) (cell_at Q) (length b.steps.items)) (M.product index (fold_of M b.steps.items)) after
+    finished_phase {column} {place} {after} ready at flipped =
+        let cell = search_cell laws has search refl ready.least ready.low in
         let here = subst (λ p. IsAbsorbed M (M.product index (fold_of M b.steps.items)) (square_after M difference (phase_of b.steps.items b.enters.items b.leaves.items) (cell_at Q) (length b.steps.items)) (get_or b.tree.rows.items p 0) column) (sym at) cell in
         phase_ends M laws difference has never Q.side (cell_at Q) index m b.tree.rows.items (parents_in b.tree) b.sums.items (lead_at M (leads_in b)) (place_at (leads_in b)) b.enters.items b.leaves.items b.steps.items sum (vec_len b.tree.rows) search.underway place column after here flipped
 
   -- the row has a column by at most one phase
-  pub finished : (before new : Reduced V) (m : List (Option ℕ)) (b : Growth V) (sum : V) → IsSearch M difference before.now before.index m b sum (vec_len b.tree.rows) → IsReduced M before → length b.steps.items ≤ before.now.side → (column place : ℕ) (after : List (Option ℕ)) → IsReady M b sum column → place ≡ get_or b.tree.parents.items column 0 → Flips b.tree.rows.items (parents_in b.tree) place column m after → IsPhaseTo M difference (phase_of b.steps.items (cut (length b.steps.items) b.enters.items) (cut (length b.steps.items) b.leaves.items)) before new → (f g : Forest V) (trail last : Option ℕ) → ArePushed (made_of (phase_of b.steps.items (cut (length b.steps.items) b.enters.items) (cut (length b.steps.items) b.leaves.items)) b.steps.items) f g trail last → (root : ℕ) → root ≡ slice_index b.tree.rows.items 0 → IsServed M difference before new m after f g trail last root
-  finished before new m b sum search is few column place after ready at flipped to f g trail last pushed root root_is =
+  pub finished : (before new : Reduced V) {m : List (Option ℕ)} {b : Growth V} {sum : V} → IsSearch M difference before.now before.index m b sum (vec_len b.tree.rows) → IsReduced M before → length b.steps.items ≤ before.now.side → {column place : ℕ} {after : List (Option ℕ)} → IsReady M b sum column → place ≡ get_or b.tree.parents.items column 0 → Flips b.tree.rows.items (parents_in b.tree) place column m after → IsPhaseTo M difference (phase_of b.steps.items (cut (length b.steps.items) b.enters.items) (cut (length b.steps.items) b.leaves.items)) before new → {f g : Forest V} {trail last : Option ℕ} → ArePushed (made_of (phase_of b.steps.items (cut (length b.steps.items) b.enters.items) (cut (length b.steps.items) b.leaves.items)) b.steps.items) f g trail last → (root : ℕ) → root ≡ slice_index b.tree.rows.items 0 → IsServed M difference before new m after f g trail last root
+  finished before new {m} {b} {sum} search is few {column} {place} {after} ready at flipped to {f} {g} {trail} {last} pushed root root_is =
       let count = length b.steps.items in
       let phase = phase_of b.steps.items (cut count b.enters.items) (cut count b.leaves.items) in
-      let ends = finished_phase before.now before.index m b sum search column place after ready at flipped in
+      let ends = finished_phase search ready at flipped in
       let made = LeadTo-made M laws difference b.steps.items (cut count b.enters.items) (cut count b.leaves.items) before new f g trail last is few ends.0 to pushed in
       let same : cell_at new.now ≡ square_after M difference phase (cell_at before.now) count = λ i r k. to.cells r k i in
       let free : column_at m root ≡ None = ap (column_at m) root_is ∙ search.underway.searching.growing.tree.root_free in

@@ -1,14 +1,12 @@
 -- The moves of a search, on its growth.
-use Rattle.std.proofs.Common.{◌≡◌, ◌≢◌, ℕ, suc, ◌+◌, ◌/◌, ◌%◌, ◌<◌, ◌≤◌, ◌&&◌, List, length, Option, Some, None, get_or, set, refl, sym, ◌∙◌, ap, subst, arith, ⊎_elim, cond, eqb, ltb, is_some, true}
+use Rattle.std.proofs.Common.{◌≡◌, ℕ, suc, ◌+◌, ◌/◌, ◌%◌, ◌<◌, ◌≤◌, ◌&&◌, List, length, Option, Some, None, get_or, refl, sym, ◌∙◌, ap, subst, arith, ⊎_elim, cond, eqb, ltb, is_some}
 use Rattle.std.specs.Prelude.{vec_len, vec_capacity, IsSome}
 use Rattle.std.specs.Int.{bit_at}
-use Rattle.std.proofs.lemmas.Bool.{eqb-true, ne_eqb, false≢true, cases_Bool}
-use Rattle.std.proofs.lemmas.Bool.Decides.{eqb_tells}
-use Rattle.std.proofs.lemmas.List.{length_push}
+use Rattle.std.proofs.lemmas.Bool.{eqb-true, false≢true, cases_Bool}
+use Rattle.std.proofs.lemmas.List.{get_or_read, length_push}
 use Rattle.std.proofs.lemmas.Option.{none-some, same_Some, get_or_from_slice_get}
 use Rattle.asg_match.specs.Alternating.{parent_of}
 use Rattle.asg_match.specs.ColumnSet.{HasColumn, IsColumnSet}
-use Rattle.asg_match.specs.Matching.{Matches}
 use Rattle.asg_match.specs.Searched.{parents_in}
 use Rattle.asg_match.specs.laws.Columns.{parent-unseen, unseen_or_reached}
 use Rattle.asg_match.specs.laws.Distinct.{length-le_from_below}
@@ -21,22 +19,17 @@ use Rattle.asg_square.specs.CellTable.{AreValuesOf}
 use Rattle.asg_square.specs.Grid.{Grid, cell_at}
 use Rattle.asg_algebra.specs.declared.growth.Growth.{Growth}
 use Rattle.asg_algebra.specs.Growing.{IsAbsorbed}
-use Rattle.asg_algebra.specs.Growths.{never, leads_in, IsSearch, IsReady, Enters, Climbs}
+use Rattle.asg_algebra.specs.Growths.{never, leads_in, IsSearch, IsReady, Climbs}
 use Rattle.asg_algebra.specs.Keys.{IsLead}
 use Rattle.asg_algebra.specs.Leads.{leads_of, lead_at, place_at, IsLeast, Relaxes}
+use Rattle.asg_algebra.specs.Nearest.{AreNearest}
 use Rattle.asg_algebra.specs.Underway.{IsUnderway, Advances}
 use Rattle.asg_algebra.proofs.KeyStates.{IsLead-none, IsLead-kept, IsLead-new}
 use Rattle.asg_algebra.proofs.WordLemmas.{cases_column}
 use Rattle.asg_algebra.proofs.LeadLemmas.{lead_there, lead_has}
-use Rattle.asg_algebra.proofs.UnderwayLaws.{IsUnderway-relaxed, IsUnderway-advance, IsUnderway-enter, rows_room, leads_are_values, lead_place_within, lead_is_absorbed}
+use Rattle.asg_algebra.proofs.UnderwayLaws.{IsUnderway-relaxed, IsUnderway-advance, leads_are_values, lead_place_within, lead_is_absorbed}
 
 -- the present columns of a row, as its words tell them
-pub present_some : {V : Type 0} (row : ℕ → Option V) (side : ℕ) (words : List ℕ) → AreWordsOf (λ k. is_some (row k)) side words → (k : ℕ) → k < side → HasColumn words k → IsSome (row k)
-present_some row side words are k h has = sym (are.each k (omega (arith, are.count))) ∙ ap (λ b. eqb b 1) has
-
-pub some_present : {V : Type 0} (row : ℕ → Option V) (side : ℕ) (words : List ℕ) → AreWordsOf (λ k. is_some (row k)) side words → (k : ℕ) → k < side → IsSome (row k) → HasColumn words k
-some_present row side words are k h there = eqb-true (bit_at (get_or words (k / 64) 0) (k % 64)) 1 (are.each k (omega (arith, are.count)) ∙ there)
-
 pub some_value : {V : Type 0} (o : Option V) → IsSome o → (x : V) × (o ≡ Some x)
 some_value None e = absurd (false≢true e)
 some_value (Some x) e = (x, refl)
@@ -49,10 +42,7 @@ none_value (Some x) e = absurd (e refl)
 pub value_read : {V : Type 0} (row : ℕ → Option V) (side : ℕ) (values : List V) → AreValuesOf row side values → (k : ℕ) (x d : V) → row k ≡ Some x → get_or values k d ≡ x
 value_read row side values are k x d e = get_or_from_slice_get values k x d (are.each k (ap is_some e) ∙ e)
 
-pub same_column : (n : ℕ) → eqb n n ≡ true
-same_column n = ⊎_elim (λ t. t.0) (λ f. absurd (f.1 refl)) (eqb_tells n n)
-
-module _ {V : Type 0} (M : Monoid V) (laws : IsOrderedMonoid M) (difference : V → V → V) (has : HasDifferences M difference) (Q : Grid V) (index : V) (m : List (Option ℕ)) (b : Growth V) (sum : V) (seen : ℕ) (search : IsSearch M difference Q index m b sum seen) where
+module _ {V : Type 0} {M : Monoid V} (laws : IsOrderedMonoid M) {difference : V → V → V} (has : HasDifferences M difference) {Q : Grid V} {index : V} {m : List (Option ℕ)} {b : Growth V} {sum : V} {seen : ℕ} (search : IsSearch M difference Q index m b sum seen) where
   abbrev pub unseen : List ℕ
   unseen = b.tree.unseen.items
 
@@ -151,14 +141,14 @@ module _ {V : Type 0} (M : Monoid V) (laws : IsOrderedMonoid M) (difference : V 
         let base = IsUnderway-relaxed M laws difference has never Q.side (cell_at Q) index m b.tree.rows.items (parents_in b.tree) b.sums.items (lead_at M (leads_in b)) (place_at (leads_in b)) b.enters.items b.leaves.items b.steps.items sum seen search.underway (lead_at M after) (place_at after) (place + 1) leads in
         subst (λ p. IsUnderway M difference never Q.side (cell_at Q) index m b.tree.rows.items p b.sums.items (lead_at M after) (place_at after) b.enters.items b.leaves.items b.steps.items sum (place + 1)) (λ i k. same k i) base
 
-  module _ (all_seen : vec_len b.tree.rows ≡ seen) (column : ℕ) (w : IsLeast M lead (HasColumn unseen) column) where
-    all_rows : seen ≡ length b.tree.rows.items
+  module _ (all_seen : vec_len b.tree.rows ≡ seen) {column : ℕ} (w : IsLeast M lead (HasColumn unseen) column) where
+    pub all_rows : seen ≡ length b.tree.rows.items
     all_rows = sym all_seen ∙ b.tree.rows.ok.0
 
-    abbrev open_here : ℕ → Type 0
+    abbrev pub open_here : ℕ → Type 0
     open_here k = (k < Q.side) × (parents_in b.tree k ≡ None)
 
-    abbrev least : IsLeast M lead open_here column
+    abbrev pub least : IsLeast M lead open_here column
     least = record {
       among = unseen_open column w.among;
       key = w.key;
@@ -172,6 +162,10 @@ module _ {V : Type 0} (M : Monoid V) (laws : IsOrderedMonoid M) (difference : V 
 
     pub column_below : column < Q.side
     column_below = (unseen_open column w.among).0
+
+    -- the place that is read is that of the column's parent
+    pub place_read : (place : ℕ) → place ≡ get_or b.tree.parents.items column place → place ≡ get_or b.tree.parents.items column 0
+    place_read place e = get_or_read b.tree.parents.items column place (omega (arith, column_below, parents_len)) e 0
 
     pub search_place : get_or b.tree.parents.items column 0 < length b.tree.rows.items
     search_place = lead_place_within M laws difference has never Q.side (cell_at Q) index m b.tree.rows.items (parents_in b.tree) b.sums.items (lead_at M (leads_in b)) (place_at (leads_in b)) b.enters.items b.leaves.items b.steps.items sum seen search.underway all_rows column least
@@ -197,6 +191,7 @@ module _ {V : Type 0} (M : Monoid V) (laws : IsOrderedMonoid M) (difference : V 
               sums_room = subst (λ v. Q.side ≤ vec_capacity v) (sym climbs.sums) search.roomy.sums_room;
               keys_room = subst (λ v. Q.side ≤ vec_capacity v) (sym climbs.keys) search.roomy.keys_room;
               keyed_side = ap (λ v. vec_len v) climbs.keyed ∙ search.roomy.keyed_side;
+              nearest_side = ap (λ v. vec_len v) climbs.nearest ∙ search.roomy.nearest_side;
               enters_side = ap (λ v. vec_len v) climbs.enters ∙ search.roomy.enters_side;
               leaves_side = ap (λ v. vec_len v) climbs.leaves ∙ search.roomy.leaves_side;
               steps_room = subst (λ n. Q.side ≤ n) (sym climbs.steps_room) search.roomy.steps_room;
@@ -206,6 +201,7 @@ module _ {V : Type 0} (M : Monoid V) (laws : IsOrderedMonoid M) (difference : V 
             unseen = subst (λ t. IsColumnSet Q.side t.unseen.items) (sym climbs.tree) search.unseen;
             underway = subst (λ A. A) (λ i. IsUnderway M difference never Q.side (cell_at Q) index m ((sym climbs.tree) i).rows.items (parents_in ((sym climbs.tree) i)) ((sym climbs.sums) i).items ((sym leads) i) (place_at (leads_of ((sym climbs.keys) i).items ((sym climbs.keyed) i).items ((sym climbs.tree) i).parents.items)) ((sym climbs.enters) i).items ((sym climbs.leaves) i).items b'.steps.items sum' seen) now.0;
             few_steps = omega (arith, longer, b.steps.ok.0, b'.steps.ok.0, few);
+            nearest = subst (λ A. A) (λ i. AreNearest M (leads_of ((sym climbs.keys) i).items ((sym climbs.keyed) i).items ((sym climbs.tree) i).parents.items) ((sym climbs.tree) i).unseen.items ((sym climbs.nearest) i).items) search.nearest;
           },
           record {
             least = record {
@@ -217,40 +213,3 @@ module _ {V : Type 0} (M : Monoid V) (laws : IsOrderedMonoid M) (difference : V 
             low = now.1;
           },
         )
-
-    module _ (low : IsLe M w.key sum) (next : ℕ) (matched : Matches m next column) (b' : Growth V) (e : Enters b b' next column sum) where
-      -- a row entered
-      pub search_entered : IsSearch M difference Q index m b' sum seen
-      search_entered =
-          let now = IsUnderway-enter M laws difference has never Q.side (cell_at Q) index m b.tree.rows.items (parents_in b.tree) b.sums.items (lead_at M (leads_in b)) (place_at (leads_in b)) b.enters.items b.leaves.items b.steps.items sum seen search.underway all_rows column least low next matched (parents_in b'.tree) e.here e.others in
-          let entered : b'.enters.items ≡ set b.enters.items next (length b.steps.items) = e.enters ∙ ap (set b.enters.items next) b.steps.ok.0 in
-          let left : b'.leaves.items ≡ set b.leaves.items column (length b.steps.items) = e.leaves ∙ ap (set b.leaves.items column) b.steps.ok.0 in
-          let k = e.kept in
-          record {
-            small = search.small;
-            roomy = record {
-              rows_room = subst (λ n. Q.side ≤ n) (sym e.rows_room) search.roomy.rows_room;
-              parents_side = ap (λ v. vec_len v) k.parents ∙ search.roomy.parents_side;
-              unseen_side = e.unseen_len ∙ search.roomy.unseen_side;
-              sums_room = subst (λ n. Q.side ≤ n) (sym e.sums_room) search.roomy.sums_room;
-              keys_room = subst (λ v. Q.side ≤ vec_capacity v) (sym k.keys) search.roomy.keys_room;
-              keyed_side = ap (λ v. vec_len v) k.keyed ∙ search.roomy.keyed_side;
-              enters_side = e.enters_len ∙ search.roomy.enters_side;
-              leaves_side = e.leaves_len ∙ search.roomy.leaves_side;
-              steps_room = subst (λ v. Q.side ≤ vec_capacity v) (sym k.steps) search.roomy.steps_room;
-              room_room = subst (λ v. Q.side + 1 ≤ vec_capacity v) (sym k.room) search.roomy.room_room;
-            };
-            keys_side = ap (λ v. vec_len v) k.keys ∙ search.keys_side;
-            unseen = subst (λ n. IsColumnSet n b'.tree.unseen.items) search.roomy.parents_side e.unseen;
-            underway = subst (λ A. A) (λ i. IsUnderway M difference never Q.side (cell_at Q) index m ((sym e.rows) i) (parents_in b'.tree) ((sym e.sums) i) (lead_at M (leads_of ((sym k.keys) i).items ((sym k.keyed) i).items ((sym k.parents) i).items)) (place_at (leads_of ((sym k.keys) i).items ((sym k.keyed) i).items ((sym k.parents) i).items)) ((sym entered) i) ((sym left) i) ((sym k.steps) i).items sum seen) now;
-            few_steps = subst (λ v. vec_len v ≤ seen) (sym k.steps) search.few_steps;
-          }
-
-    -- there was room for one more row
-    pub search_room : IsLe M w.key sum → (next : ℕ) → Matches m next column → vec_len b.tree.rows < Q.side
-    search_room low next matched =
-        let place = get_or b.tree.parents.items column 0 in
-        let after = λ (d : ℕ). cond (eqb d column) (Some place) (parents_in b.tree d) in
-        let here : after column ≡ Some place = ap (λ x. cond x (Some place) (parents_in b.tree column)) (same_column column) in
-        let others : (d : ℕ) → d ≢ column → after d ≡ parents_in b.tree d = λ d n. ap (λ x. cond x (Some place) (parents_in b.tree d)) (ne_eqb d column n) in
-        omega (arith, b.tree.rows.ok.0, rows_room M laws difference has never Q.side (cell_at Q) index m b.tree.rows.items (parents_in b.tree) b.sums.items (lead_at M (leads_in b)) (place_at (leads_in b)) b.enters.items b.leaves.items b.steps.items sum seen search.underway all_rows column least low next matched after here others)

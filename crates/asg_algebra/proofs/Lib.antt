@@ -6,9 +6,11 @@ pub mod KeyStates
 pub mod WordLemmas
 pub mod LeadLemmas
 pub mod ScanLemmas
+pub mod NearestLemmas
 pub mod UnderwayLaws
 pub mod PhaseEnds
 pub mod GrowthLaws
+pub mod EnteringLaws
 pub mod SolvedLaws
 pub mod FinishLaws
 pub mod SolvingLaws

@@ -106,64 +106,64 @@ module _ {V : Type 0} (M : Monoid V) (laws : IsOrderedMonoid M) (difference : V 
     served = has;
   }
 
-  module _ (now : Reduced V) (m' : List (Option ℕ)) (f' : Forest V) (last : Option ℕ) (root : ℕ) (s : IsSolving M difference before now m m' f f' trail last root) where
-    pub IsSolving-next : root < length m → (new : Reduced V) (m'' : List (Option ℕ)) (f'' : Forest V) (last' : Option ℕ) → IsServed M difference now new m' m'' f' f'' last last' root → IsSolving M difference before new m m'' f f'' trail last' (root + 1)
-    IsSolving-next h new m'' f'' last' one = record {
-      phases = s.phases ++ one.phases;
-      lead = LeadTo-join M laws difference s.phases one.phases before now new f f' f'' trail last last' is s.lead one.lead;
-      few = omega (arith, length-append s.phases one.phases, s.few, one.one, fewer (column_at m root) (column_at m' root) (s.rows.kept root), unmatched-more m root h);
-      left = omega (arith, length-append s.phases one.phases, s.left, one.one, unmatched-one m' m'' root one.rows.side one.rows.kept (omega (arith, h, s.rows.side)) one.served);
-      rows = record {
-        side = one.rows.side ∙ s.rows.side;
-        columns = one.rows.columns;
-        absorbed = one.rows.absorbed;
-        kept = λ r has. one.rows.kept r (s.rows.kept r has);
-      };
-      served = λ r low.
-          ⊎_elim
-          (λ earlier. one.rows.kept r (s.served r earlier))
-          (λ here. let at : root ≡ r = omega (arith, here, low) in subst (IsMatched m'') at one.served)
-          (cases_lt r root);
-    }
+module _ {V : Type 0} {M : Monoid V} {difference : V → V → V} {before now : Reduced V} {m m' : List (Option ℕ)} {f f' : Forest V} {trail last : Option ℕ} {root : ℕ} (s : IsSolving M difference before now m m' f f' trail last root) where
+  pub IsSolving-next : (laws : IsOrderedMonoid M) → IsReduced M before → root < length m → (new : Reduced V) (m'' : List (Option ℕ)) (f'' : Forest V) (last' : Option ℕ) → IsServed M difference now new m' m'' f' f'' last last' root → IsSolving M difference before new m m'' f f'' trail last' (root + 1)
+  IsSolving-next laws is h new m'' f'' last' one = record {
+    phases = s.phases ++ one.phases;
+    lead = LeadTo-join M laws difference s.phases one.phases before now new f f' f'' trail last last' is s.lead one.lead;
+    few = omega (arith, length-append s.phases one.phases, s.few, one.one, fewer (column_at m root) (column_at m' root) (s.rows.kept root), unmatched-more m root h);
+    left = omega (arith, length-append s.phases one.phases, s.left, one.one, unmatched-one m' m'' root one.rows.side one.rows.kept (omega (arith, h, s.rows.side)) one.served);
+    rows = record {
+      side = one.rows.side ∙ s.rows.side;
+      columns = one.rows.columns;
+      absorbed = one.rows.absorbed;
+      kept = λ r has. one.rows.kept r (s.rows.kept r has);
+    };
+    served = λ r low.
+        ⊎_elim
+        (λ earlier. one.rows.kept r (s.served r earlier))
+        (λ here. let at : root ≡ r = omega (arith, here, low) in subst (IsMatched m'') at one.served)
+        (cases_lt r root);
+  }
 
-    -- a record is spare for each row that has no column yet
-    pub solving_spare : root < length m → unmatched m ≤ f.spare → column_at m' root ≡ None → 1 ≤ f'.spare
-    solving_spare h room free =
-        let old : column_at m root ≡ None = none_before (column_at m root) (λ has. false≢true (sym (ap is_some free) ∙ s.rows.kept root has)) in
-        omega (arith, ArePushed-spare s.phases f f' trail last s.lead.pushed, s.few, unmatched-more m root h, ap (λ o. unmatched (o ∷ [])) old, unmatched-le m (root + 1), room)
-      where
-        none_before : (o : Option ℕ) → (IsSome o → ⊥) → o ≡ None
-        none_before None n = refl
-        none_before (Some x) n = absurd (n refl)
+  -- a record is spare for each row that has no column yet
+  pub solving_spare : root < length m → unmatched m ≤ f.spare → column_at m' root ≡ None → 1 ≤ f'.spare
+  solving_spare h room free =
+      let old : column_at m root ≡ None = none_before (column_at m root) (λ has. false≢true (sym (ap is_some free) ∙ s.rows.kept root has)) in
+      omega (arith, ArePushed-spare s.phases f f' trail last s.lead.pushed, s.few, unmatched-more m root h, ap (λ o. unmatched (o ∷ [])) old, unmatched-le m (root + 1), room)
+    where
+      none_before : (o : Option ℕ) → (IsSome o → ⊥) → o ≡ None
+      none_before None n = refl
+      none_before (Some x) n = absurd (n refl)
 
-    pub solving_live : IfSome trail (IsLive f) → IfSome last (IsLive f')
-    solving_live live = ArePushed-live s.phases f f' trail last s.lead.pushed live
+  pub solving_live : IfSome trail (IsLive f) → IfSome last (IsLive f')
+  solving_live live = ArePushed-live s.phases f f' trail last s.lead.pushed live
 
-    -- each record that was taken left one row fewer without a column
-    pub solving_left : unmatched m' + f.spare ≤ unmatched m + f'.spare
-    solving_left = omega (arith, s.left, ArePushed-spare s.phases f f' trail last s.lead.pushed)
+  -- each record that was taken left one row fewer without a column
+  pub solving_left : unmatched m' + f.spare ≤ unmatched m + f'.spare
+  solving_left = omega (arith, s.left, ArePushed-spare s.phases f f' trail last s.lead.pushed)
 
-    pub solving_side : f'.side ≡ f.side
-    solving_side = ArePushed-side s.phases f f' trail last s.lead.pushed
+  pub solving_side : f'.side ≡ f.side
+  solving_side = ArePushed-side s.phases f f' trail last s.lead.pushed
 
-    -- all phases so far
-    pub HasSolved-from : IfSome trail (IsLive f) → HasSolved M difference before now m m' f f' trail last
-    HasSolved-from live = record {
-      phases = s.phases;
-      lead = s.lead;
-      few = omega (arith, s.few, unmatched-le m root);
-      list = ArePushed-list s.phases f f' trail last s.lead.pushed;
-      spare = ArePushed-spare s.phases f f' trail last s.lead.pushed;
-      kept = ArePushed-kept s.phases f f' trail last s.lead.pushed;
-      live = ArePushed-live s.phases f f' trail last s.lead.pushed live;
-      rows = s.rows;
-    }
+  -- all phases so far
+  pub HasSolved-from : IfSome trail (IsLive f) → HasSolved M difference before now m m' f f' trail last
+  HasSolved-from live = record {
+    phases = s.phases;
+    lead = s.lead;
+    few = omega (arith, s.few, unmatched-le m root);
+    list = ArePushed-list s.phases f f' trail last s.lead.pushed;
+    spare = ArePushed-spare s.phases f f' trail last s.lead.pushed;
+    kept = ArePushed-kept s.phases f f' trail last s.lead.pushed;
+    live = ArePushed-live s.phases f f' trail last s.lead.pushed live;
+    rows = s.rows;
+  }
 
-    -- when all rows were served each has an absorbed cell
-    pub IsPerfect-from : length m ≡ now.now.side → length m ≤ root → IsPerfect (IsAbsorbed M now.index (cell_at now.now)) now.now.side m'
-    IsPerfect-from side all = record {
-      rows = s.rows.side ∙ side;
-      columns = s.rows.columns;
-      all = λ r h. s.served r (omega (arith, h, side, all));
-      cells = s.rows.absorbed;
-    }
+  -- when all rows were served each has an absorbed cell
+  pub IsPerfect-from : length m ≡ now.now.side → length m ≤ root → IsPerfect (IsAbsorbed M now.index (cell_at now.now)) now.now.side m'
+  IsPerfect-from side all = record {
+    rows = s.rows.side ∙ side;
+    columns = s.rows.columns;
+    all = λ r h. s.served r (omega (arith, h, side, all));
+    cells = s.rows.absorbed;
+  }

@@ -1,10 +1,12 @@
 -- Columns of sets, word by word and bit by bit.
-use Rattle.std.proofs.Common.{◌≡◌, ◌↔◌, ◌⊎◌, inl, inr, ℕ, ◌+◌, ◌*◌, ◌/◌, ◌%◌, ◌<◌, ◌≤◌, ◌^◌, List, length, get_or, set, sym, ◌∙◌, ap, subst, arith, ⊎_elim, w64}
-use Rattle.std.specs.Prelude.{bit_and, bit_or}
+use Rattle.std.proofs.Common.{◌≡◌, ◌↔◌, ◌⊎◌, inl, inr, ℕ, ◌+◌, ◌*◌, ◌/◌, ◌%◌, ◌<◌, ◌≤◌, ◌^◌, List, Option, length, get_or, set, sym, ◌∙◌, ap, subst, arith, ⊎_elim, w64, Fits, eqb}
+use Rattle.std.specs.Prelude.{bit_and, IsSome, is_some}
 use Rattle.std.specs.Int.{bit_at, trailing_zeros}
-use Rattle.std.proofs.lemmas.Bool.{cases_eq, cases_lt}
+use Rattle.std.proofs.Math.Facts.{Fits-lt-pow}
+use Rattle.std.proofs.lemmas.Bool.{cases_eq, cases_lt, eqb-true}
 use Rattle.std.proofs.lemmas.List.{get_or_past, get_or-set_other}
-use Rattle.std.proofs.lemmas.Nat.Bits.{bit_at-lt, bit_at_and, bit_at_or}
+use Rattle.std.proofs.lemmas.Nat.Bits.{bit_at-lt, bit_at_and}
+use Rattle.asg_square.specs.BitTable.{AreWordsOf}
 use Rattle.asg_match.specs.ColumnSet.{HasBit, HasColumn}
 use Rattle.asg_match.specs.laws.Bits.{with_bit, without_bit, bit_below, HasBit-zero, HasBit-with, HasBit-with_same, HasBit-with_kept, HasBit-without, HasBit-without_other, HasBit-trailing_zeros, without_bit-lt}
 use Rattle.std.proofs.lemmas.Grind.{get_or-set_at}
@@ -59,28 +61,25 @@ HasBit-and a b i = (
   λ both. omega (arith, both.0, both.1, bit_at_and a b i),
 )
 
--- bits that one of two words has
-pub HasBit-or : (a b i : ℕ) → HasBit (bit_or a b) i → (HasBit a i → ⊥) → HasBit b i
-HasBit-or a b i has none =
-    ⊎_elim
-    (λ here. absurd (none here))
-    (λ other. omega (arith, has, other, bit_at_or a b i, bit_at-lt a i, bit_at-lt b i))
-    (cases_eq (bit_at a i) 1)
+-- a column whose bit a word of a set has
+pub column_in : (words : List ℕ) (number k : ℕ) → k / 64 ≡ number → HasBit (get_or words number 0) (k % 64) → HasColumn words k
+column_in words number k here has = ap (λ i. bit_at (get_or words i 0) (k % 64)) here ∙ has
 
-pub HasBit-or_left : (a b i : ℕ) → HasBit a i → HasBit (bit_or a b) i
-HasBit-or_left a b i has = omega (arith, has, bit_at_or a b i, bit_at-lt a i, bit_at-lt b i)
+pub bit_in : (words : List ℕ) (number k : ℕ) → k / 64 ≡ number → HasColumn words k → HasBit (get_or words number 0) (k % 64)
+bit_in words number k here has = ap (λ i. bit_at (get_or words i 0) (k % 64)) (sym here) ∙ has
 
-pub HasBit-or_right : (a b i : ℕ) → HasBit b i → HasBit (bit_or a b) i
-HasBit-or_right a b i has = omega (arith, has, bit_at_or a b i, bit_at-lt a i, bit_at-lt b i)
-
--- a column of a set in a word up to this one, whose bit is no longer in the rest
-pub record IsCompared (number : ℕ) (words : List ℕ) (rest k : ℕ) : Type 0 where
-  pub before : k / 64 < number + 1
-  pub there : HasColumn words k
-  pub passed : k / 64 ≡ number → HasBit rest (k % 64) → ⊥
+-- the bits of the rest are columns of a set, in the word of this number
+abbrev pub IsAmong : ℕ → ℕ → List ℕ → Type 0
+IsAmong rest number words = (i : ℕ) → HasBit rest i → HasBit (get_or words number 0) i
 
 -- the next bit of the rest: its column, and the rest without it
-module _ (number rest : ℕ) (some : 0 < rest) (fits : rest < 2 ^ 64) where
+module _ (number rest : ℕ) (some : rest ≡ 0 → ⊥) (fits : Fits w64 rest) where
+  positive : 0 < rest
+  positive = omega (arith, some)
+
+  below_power : rest < 2 ^ 64
+  below_power = Fits-lt-pow fits
+
   abbrev pub next_bit : ℕ
   next_bit = trailing_zeros w64 rest
 
@@ -88,10 +87,10 @@ module _ (number rest : ℕ) (some : 0 < rest) (fits : rest < 2 ^ 64) where
   next_column = 64 * number + next_bit
 
   pub next_has : HasBit rest next_bit
-  next_has = HasBit-trailing_zeros rest some fits
+  next_has = HasBit-trailing_zeros rest positive below_power
 
   pub next_below : next_bit < 64
-  next_below = bit_below rest next_bit fits next_has
+  next_below = bit_below rest next_bit below_power next_has
 
   next_place : next_column % 64 ≡ next_bit
   next_place = let h = next_below in omega arith
@@ -121,9 +120,22 @@ module _ (number rest : ℕ) (some : 0 < rest) (fits : rest < 2 ^ 64) where
   pub next_there : (k : ℕ) → k ≡ next_column → HasBit rest (k % 64)
   next_there k e = subst (HasBit rest) (sym (ap (λ n. n % 64) e ∙ next_place)) next_has
 
--- a column whose bit a word of a set has
-pub column_in : (words : List ℕ) (number k : ℕ) → k / 64 ≡ number → HasBit (get_or words number 0) (k % 64) → HasColumn words k
-column_in words number k here has = ap (λ i. bit_at (get_or words i 0) (k % 64)) here ∙ has
+  pub next_word : next_column / 64 ≡ number
+  next_word = let h = next_below in omega arith
 
-pub bit_in : (words : List ℕ) (number k : ℕ) → k / 64 ≡ number → HasColumn words k → HasBit (get_or words number 0) (k % 64)
-bit_in words number k here has = ap (λ i. bit_at (get_or words i 0) (k % 64)) (sym here) ∙ has
+  pub next_in : (words : List ℕ) → IsAmong rest number words → HasColumn words next_column
+  next_in words among = column_in words number next_column next_word (subst (HasBit (get_or words number 0)) (sym next_place) (among next_bit next_has))
+
+  pub next_among : (words : List ℕ) → IsAmong rest number words → IsAmong (without_bit rest next_bit) number words
+  next_among words among i has = among i (HasBit-without rest next_bit i next_below has).0
+
+  -- the next column is below the side
+  pub next_under : (words : List ℕ) (side : ℕ) → IsAmong rest number words → ((k : ℕ) → HasColumn words k → k < side) → next_column < side
+  next_under words side among below = below next_column (next_in words among)
+
+-- the words of a row say which of its cells are present
+pub present_some : {V : Type 0} (row : ℕ → Option V) (side : ℕ) (words : List ℕ) → AreWordsOf (λ k. is_some (row k)) side words → (k : ℕ) → k < side → HasColumn words k → IsSome (row k)
+present_some row side words are k h has = sym (are.each k (omega (arith, are.count))) ∙ ap (λ b. eqb b 1) has
+
+pub some_present : {V : Type 0} (row : ℕ → Option V) (side : ℕ) (words : List ℕ) → AreWordsOf (λ k. is_some (row k)) side words → (k : ℕ) → k < side → IsSome (row k) → HasColumn words k
+some_present row side words are k h there = eqb-true (bit_at (get_or words (k / 64) 0) (k % 64)) 1 (are.each k (omega (arith, are.count)) ∙ there)

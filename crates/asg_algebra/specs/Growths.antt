@@ -1,6 +1,6 @@
 -- A tree that grows while the square isn't touched, with the keys of the columns and the phase so
 -- far.
-use Rattle.std.specs.Prelude.{◌≡◌, ◌≢◌, ℕ, ◌+◌, ◌≤◌, ◌++◌, ◌∷◌, [], List, length, Option, Some, None, vec_len, vec_capacity, slice_set, slice_index, slice_index_or, replicate}
+use Rattle.std.specs.Prelude.{◌≡◌, ◌≢◌, ◌↔◌, ℕ, ◌+◌, ◌/◌, ◌<◌, ◌≤◌, ◌++◌, ◌∷◌, [], List, length, Option, Some, None, vec_len, vec_capacity, slice_set, slice_index, slice_index_or, replicate}
 use Rattle.asg_model.specs.Limits.{most_side}
 use Rattle.asg_admit.specs.declared.reduced.Reduced.{Reduced}
 use Rattle.asg_match.specs.ColumnSet.{HasColumn, IsColumnSet, word_count}
@@ -12,8 +12,10 @@ use Rattle.asg_square.specs.Grid.{Grid, cell_at}
 use Rattle.asg_algebra.specs.declared.growth.Growth.{Growth}
 use Rattle.asg_algebra.specs.declared.growth.Round.{Round}
 use Rattle.asg_algebra.specs.declared.growth.Round.TheVariants.{Stuck, Exit, More}
-use Rattle.asg_algebra.specs.Leads.{Leads, leads_of, lead_at, place_at, IsLeast}
+use Rattle.asg_algebra.specs.Leads.{Leads, leads_of, lead_at, place_at, IsLeast, Picks}
+use Rattle.asg_algebra.specs.Nearest.{IsWithin, AreNearest}
 use Rattle.asg_algebra.specs.Rest.{cut}
+use Rattle.asg_algebra.specs.Scanned.{AreValued}
 use Rattle.asg_algebra.specs.Underway.{IsUnderway, Advances}
 
 -- a mark of a row that hasn't entered, or of a column that hasn't left
@@ -32,6 +34,7 @@ pub record IsRoomy {V : Type 0} (side : ℕ) (growth : Growth V) : Type 0 where
   pub sums_room : side ≤ vec_capacity growth.sums
   pub keys_room : side ≤ vec_capacity growth.keys
   pub keyed_side : vec_len growth.keyed ≡ word_count side
+  pub nearest_side : vec_len growth.nearest ≡ word_count side
   pub enters_side : vec_len growth.enters ≡ side
   pub leaves_side : vec_len growth.leaves ≡ side
   pub steps_room : side ≤ vec_capacity growth.steps
@@ -49,6 +52,7 @@ pub record IsSearch {V : Type 0} (M : Monoid V) (difference : V → V → V) (Q 
       (lead_at M (leads_in growth)) (place_at (leads_in growth))
       growth.enters.items growth.leaves.items growth.steps.items sum seen
   pub few_steps : vec_len growth.steps ≤ seen
+  pub nearest : AreNearest M (leads_in growth) growth.tree.unseen.items growth.nearest.items
 
 -- the phase that a search made so far, its marks cut to the number of steps
 abbrev pub phase_in : {V : Type 0} → Growth V → PhaseOf V
@@ -67,6 +71,7 @@ pub record KeepsLeads {V : Type 0} (before after : Growth V) : Type 0 where
   pub parents : after.tree.parents ≡ before.tree.parents
   pub keys : after.keys ≡ before.keys
   pub keyed : after.keyed ≡ before.keyed
+  pub nearest : after.nearest ≡ before.nearest
   pub steps : after.steps ≡ before.steps
   pub room : after.room ≡ before.room
 
@@ -77,7 +82,8 @@ pub record Enters {V : Type 0} (before after : Growth V) (next column : ℕ) (su
   pub sums : after.sums.items ≡ before.sums.items ++ sum ∷ []
   pub unseen : IsColumnSet (vec_len before.tree.parents) after.tree.unseen.items
   pub unseen_len : vec_len after.tree.unseen ≡ vec_len before.tree.unseen
-  pub reached : (k : ℕ) → HasColumn after.tree.unseen.items k → HasColumn before.tree.unseen.items k
+  pub reached : (k : ℕ) → HasColumn after.tree.unseen.items k
+      ↔ (HasColumn before.tree.unseen.items k × (k ≢ column))
   pub here : parents_in after.tree column ≡ Some (slice_index before.tree.parents.items column)
   pub others : (k : ℕ) → k ≢ column → parents_in after.tree k ≡ parents_in before.tree k
   pub enters : after.enters.items ≡ slice_set before.enters.items next (vec_len before.steps)
@@ -87,6 +93,27 @@ pub record Enters {V : Type 0} (before after : Growth V) (next column : ℕ) (su
   pub rows_room : vec_capacity after.tree.rows ≡ vec_capacity before.tree.rows
   pub sums_room : vec_capacity after.sums ≡ vec_capacity before.sums
 
+-- what the nearest column of the word of a column is found anew by: keys that are values, in lists
+-- of one side
+pub record CanRenew {V : Type 0} (M : Monoid V) (matching : List (Option ℕ)) (growth : Growth V)
+    (column : ℕ) : Type 0 where
+  pub valued : AreValued M (leads_in growth) growth.tree.unseen.items
+  pub unseen : IsColumnSet (vec_len growth.keys) growth.tree.unseen.items
+  pub small : vec_len growth.keys ≤ most_side
+  pub below : column < vec_len growth.keys
+  pub matching_side : length matching ≡ vec_len growth.keys
+  pub keyed_side : vec_len growth.keyed ≡ vec_len growth.tree.unseen
+  pub nearest_side : vec_len growth.nearest ≡ vec_len growth.tree.unseen
+
+-- the nearest column of the word of a column was found anew
+pub record Renews {V : Type 0} (M : Monoid V) (before after : Growth V)
+    (column : ℕ) : Type 0 where
+  pub kept : after ≡ record before { nearest = after.nearest }
+  pub found : Option ℕ
+  pub nearest : after.nearest.items ≡ slice_set before.nearest.items (column / 64) found
+  pub picks : Picks M (lead_at M (leads_in before))
+      (IsWithin (column / 64) before.tree.unseen.items) found
+
 -- the sum went up to the key of a column
 pub record Climbs {V : Type 0} (M : Monoid V) (difference : V → V → V) (before after : Growth V)
     (sum_before sum_after : V) (column : ℕ) : Type 0 where
@@ -94,6 +121,7 @@ pub record Climbs {V : Type 0} (M : Monoid V) (difference : V → V → V) (befo
   pub sums : after.sums ≡ before.sums
   pub keys : after.keys ≡ before.keys
   pub keyed : after.keyed ≡ before.keyed
+  pub nearest : after.nearest ≡ before.nearest
   pub enters : after.enters ≡ before.enters
   pub leaves : after.leaves ≡ before.leaves
   pub room : after.room ≡ before.room
@@ -129,6 +157,7 @@ pub record IsPlanted {V : Type 0} (M : Monoid V) (side : ℕ) (after : Growth V)
   pub none_reached : (k : ℕ) → parents_in after.tree k ≡ None
   pub sums : after.sums.items ≡ M.unit ∷ []
   pub no_lead : (k : ℕ) → lead_at M (leads_in after) k ≡ None
+  pub nearest : after.nearest.items ≡ replicate (word_count side) None
   pub enters : after.enters.items ≡ slice_set (replicate side never) root 0
   pub leaves : after.leaves.items ≡ replicate side never
   pub steps : after.steps.items ≡ []

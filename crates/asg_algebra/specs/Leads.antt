@@ -1,5 +1,5 @@
 -- The leads of columns: keys, and the places of the rows that they come from, in lists.
-use Rattle.std.specs.Prelude.{◌≡◌, ◌⊎◌, ℕ, ◌/◌, ◌%◌, ◌<◌, ◌==◌, if◌then◌else◌, List, length, Option, Some, None, IsSome, slice_index, slice_index_or}
+use Rattle.std.specs.Prelude.{◌≡◌, ◌⊎◌, ℕ, ◌/◌, ◌%◌, ◌==◌, if◌then◌else◌, List, length, Option, Some, None, IsSome, slice_index, slice_index_or}
 use Rattle.std.specs.Int.{bit_at}
 use Rattle.asg_match.specs.ColumnSet.{HasColumn}
 use Rattle.asg_order.specs.Monoid.{Monoid, IsLe}
@@ -56,11 +56,6 @@ pub record OffersRow {V : Type 0} (M : Monoid V) (row : ℕ → Option V) (side 
   pub values : List V
   pub are_values : AreValuesOf row side values
   pub relaxes : Relaxes M values sum place (λ k. IsSome (row k) × HasColumn columns k) before after
-
--- a column of a set in a word before the one of this number
-pub record IsBelow (number : ℕ) (words : List ℕ) (k : ℕ) : Type 0 where
-  pub before : k / 64 < number
-  pub there : HasColumn words k
 
 -- of some columns the one with the least key, or none of them has a key
 pub record IsLeast {V : Type 0} (M : Monoid V) (lead : ℕ → Option V) (is_among : ℕ → Type 0)

@@ -2,6 +2,7 @@ pub mod Growing
 pub mod Searching
 pub mod Keys
 pub mod Leads
+pub mod Nearest
 pub mod Scanned
 pub mod Underway
 pub mod Rest

@@ -47,6 +47,7 @@ impl<V: Copy> Bench<V> {
                 sums: Vec::with_capacity(alloc, columns)?,
                 keys: Vec::with_capacity(alloc, columns)?,
                 keyed: vec![in alloc; 0; columns.div_ceil(64)]?,
+                nearest: vec![in alloc; None; columns.div_ceil(64)]?,
                 enters: vec![in alloc; 0; columns]?,
                 leaves: vec![in alloc; 0; columns]?,
                 steps: Vec::with_capacity(alloc, columns)?,

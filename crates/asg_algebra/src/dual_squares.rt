@@ -1,8 +1,8 @@
 //! Reduced squares of sums that are kept by dual variables.
 
-use crate::leads::scan;
 use crate::reduced_squares::ReducedSquare;
 use crate::row_values::RowValues;
+use crate::scanning::scan;
 use asg_admit::{DualRow, DualSquare};
 use asg_match::Matching;
 use asg_monoids::Bounded;
@@ -40,12 +40,13 @@ impl ReducedSquare<Bounded> for DualSquare {
         keys: &mut [u128],
         keyed: &mut [u64],
         places: &mut [u32],
+        nearest: &mut [Option<u32>],
         place: u32,
     ) -> Option<u32> {
         let values = self.row(row);
         let present = self.row_words(row);
         scan(
-            m, matching, &values, present, sum, unseen, keys, keyed, places, place,
+            m, matching, &values, present, sum, unseen, keys, keyed, places, nearest, place,
         )
     }
 

@@ -7,19 +7,22 @@ ghost use Rattle.asg_match.specs.Matching.{IsFree};
 ghost use Rattle.asg_order.specs.Monoid.{IsValue};
 ghost use Rattle.asg_algebra.specs.Leads.{lead_at, Picks};
 ghost use Rattle.asg_algebra.specs.Underway.{Advances};
-ghost use Rattle.asg_algebra.specs.Growths.{IsRoomy, Searches, IsPlanted, Enters, Climbs, IsReady, HasNoLead, Ends, leads_in, never};
+ghost use Rattle.asg_algebra.specs.Growths.{IsRoomy, Searches, IsPlanted, Enters, CanRenew, Renews, Climbs, IsReady, HasNoLead, Ends, leads_in, never};
 
+use crate::nearest::nearest_in_word;
 use crate::reduced_squares::ReducedSquare;
 use asg_match::{Branches, Matching, remove, start};
 use asg_order::DMonoid;
 
-/// A tree, the keys of the columns that it didn't reach, and the phase so far.
+/// A tree, the keys of the columns that it didn't reach, of each word of columns the nearest one, and the
+/// phase so far.
 #[derive(Drop)]
 pub(crate) struct Growth<V: Copy> {
     pub(crate) tree: Branches,
     pub(crate) sums: Vec<V>,
     pub(crate) keys: Vec<V>,
     pub(crate) keyed: Vec<u64>,
+    pub(crate) nearest: Vec<Option<u32>>,
     pub(crate) enters: Vec<u32>,
     pub(crate) leaves: Vec<u32>,
     pub(crate) steps: Vec<V>,
@@ -55,6 +58,23 @@ fn enter<V: Copy>(growth: &mut Growth<V>, next: u32, column: u32, sum: V)
     growth.enters[next as usize] = now;
     growth.tree.rows.push_reserved(next);
     growth.sums.push_reserved(sum);
+}
+
+// Finds the nearest column of the word of a column anew.
+fn renew<M: DMonoid>(m: &M, matching: &Matching, growth: &mut Growth<M::Value>, column: u32)
+    requires { CanRenew (M.monoid_of m.now) matching.now growth.old column }
+    ensures { Renews (M.monoid_of m.now) growth.old growth.new column }
+{
+    let number = column / 64;
+    let found = nearest_in_word(
+        m,
+        matching,
+        &growth.keys,
+        &growth.keyed,
+        &growth.tree.unseen,
+        number,
+    );
+    growth.nearest[number as usize] = found;
 }
 
 // Takes the sum up to a key, by a step where the key is greater.
@@ -119,6 +139,7 @@ fn look<M: DMonoid, S: ReducedSquare<M>>(
         &mut growth.keys,
         &mut growth.keyed,
         &mut growth.tree.parents,
+        &mut growth.nearest,
         place,
     )
 }
@@ -173,6 +194,7 @@ fn advance_round<M: DMonoid, S: ReducedSquare<M>>(
             None => Round::Exit(column),
             Some(next) => {
                 enter(growth, next, column, *sum);
+                renew(m, matching, growth, column);
                 Round::More
             }
         },
@@ -220,6 +242,14 @@ pub(crate) fn refill<V: Copy>(list: &mut Vec<V>, value: V, count: usize)
     }
 }
 
+// No word has a nearest column.
+fn forget(nearest: &mut Vec<Option<u32>>)
+    ensures items { nearest.new.items ≡ replicate (vec_len nearest.old) None }
+    ensures len { vec_len nearest.new ≡ vec_len nearest.old }
+{
+    nearest.fill(None);
+}
+
 // The search begins at a root, and at the unit as its sum.
 pub(crate) fn plant<M: DMonoid>(m: &M, growth: &mut Growth<M::Value>, root: u32) -> M::Value
     requires roomy { IsRoomy (vec_len growth.old.enters) growth.old }
@@ -233,6 +263,7 @@ pub(crate) fn plant<M: DMonoid>(m: &M, growth: &mut Growth<M::Value>, root: u32)
     growth.sums.push_reserved(unit);
     refill(&mut growth.keys, unit, side);
     growth.keyed.fill(0);
+    forget(&mut growth.nearest);
     growth.enters.fill(u32::MAX);
     growth.enters[root as usize] = 0;
     growth.leaves.fill(u32::MAX);

@@ -9,10 +9,11 @@ ghost use Rattle.asg_order.specs.Monoid.{IsValue, fold_of};
 ghost use Rattle.asg_proof.specs.Phases.{IsAdmittedPhase};
 ghost use Rattle.asg_square.specs.Grid.{IsGrid, cell_at};
 ghost use Rattle.asg_algebra.specs.Leads.{leads_of, lead_at, OffersRow, Picks};
+ghost use Rattle.asg_algebra.specs.Nearest.{AreNearest};
 ghost use Rattle.asg_algebra.specs.Scanned.{AreValued};
 
-use crate::leads::scan;
 use crate::row_values::PlainRow;
+use crate::scanning::scan;
 use asg_admit::Reduced;
 use asg_match::Matching;
 use asg_order::DMonoid;
@@ -46,6 +47,7 @@ pub(crate) trait ReducedSquare<M: DMonoid> {
         keys: &mut [M::Value],
         keyed: &mut [u64],
         places: &mut [u32],
+        nearest: &mut [Option<u32>],
         place: u32,
     ) -> Option<u32>
         requires reduced { IsReduced (M.monoid_of m.now) (as_reduced self.now) }
@@ -60,9 +62,13 @@ pub(crate) trait ReducedSquare<M: DMonoid> {
         requires places { length places.old ≡ (as_reduced self.now).now.side }
         requires leads { AreValued (M.monoid_of m.now) (leads_of keys.old keyed.old places.old)
             unseen.now }
+        requires nearest { AreNearest (M.monoid_of m.now)
+            (leads_of keys.old keyed.old places.old) unseen.now nearest.old }
         ensures offers { let square = (as_reduced self.now).now in
             OffersRow (M.monoid_of m.now) (cell_at square row) square.side sum place unseen.now
             (leads_of keys.old keyed.old places.old) (leads_of keys.new keyed.new places.new) }
+        ensures nearest { AreNearest (M.monoid_of m.now)
+            (leads_of keys.new keyed.new places.new) unseen.now nearest.new }
         ensures picks { Picks (M.monoid_of m.now)
             (lead_at (M.monoid_of m.now) (leads_of keys.new keyed.new places.new))
             (HasColumn unseen.now) result };
@@ -119,6 +125,7 @@ impl<M: DMonoid> ReducedSquare<M> for Reduced<M::Value> {
         keys: &mut [M::Value],
         keyed: &mut [u64],
         places: &mut [u32],
+        nearest: &mut [Option<u32>],
         place: u32,
     ) -> Option<u32> {
         let values = PlainRow {
@@ -126,7 +133,7 @@ impl<M: DMonoid> ReducedSquare<M> for Reduced<M::Value> {
         };
         let present = self.now.row_words(row);
         scan(
-            m, matching, &values, present, sum, unseen, keys, keyed, places, place,
+            m, matching, &values, present, sum, unseen, keys, keyed, places, nearest, place,
         )
     }
 

@@ -16,7 +16,7 @@ ghost use Rattle.asg_algebra.specs.Solved.{HasSolved, unmatched};
 use crate::NoMemory;
 use crate::bench::Bench;
 use crate::solving::{Progress, Solved, serve_all, solve};
-use asg_admit::{DualSquare, Reduced};
+use asg_admit::{DualSquare, GradedSquare, Reduced};
 use asg_match::Matching;
 use asg_monoids::{Bounded, Graded, Greatest};
 use asg_order::{DMonoid, Written};
@@ -222,7 +222,21 @@ impl SquareSolver for Graded<Bounded> {
             matching.new bench.new.rows s.ended) }
         ensures bench_side { bench.new.side ≡ bench.old.side }
     {
-        let _ = alloc;
-        Ok(solve_rewriting(self, reduced, matching, bench, region, trail))
+        let _ = (reduced.now.side(), matching.side());
+        let mut square = GradedSquare::make(alloc, reduced)?;
+        match serve_all(
+            self,
+            &mut square,
+            matching,
+            &mut bench.growth,
+            region,
+            trail,
+        ) {
+            Progress::Ended(ended) => Ok(SolvedSquare {
+                reduced: square.reduce(),
+                ended,
+            }),
+            Progress::Full(_) => unreachable!(),
+        }
     }
 }

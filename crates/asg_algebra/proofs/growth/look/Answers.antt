@@ -6,6 +6,7 @@ use Rattle.asg_order.specs.Monoid.{IsValue}
 use Rattle.asg_square.specs.Grid.{cell_at}
 use Rattle.asg_algebra.specs.Growths.{never}
 use Rattle.asg_algebra.specs.Leads.{leads_of, lead_at, place_at, OffersRow, Picks}
+use Rattle.asg_algebra.specs.Nearest.{AreNearest}
 use Rattle.asg_algebra.specs.Underway.{IsUnderway}
 use Rattle.asg_algebra.proofs.GrowthLaws.{search_leads, search_looked}
 use Rattle.asg_algebra.proofs.growth.look.Goals as goal
@@ -17,8 +18,6 @@ offer_row-requires-clause-reduced g c =
 
 pub offer_row-requires-clause-row : goal.offer_row-requires-clause-row
 offer_row-requires-clause-row g c =
-    let m = c.args.m.now in
-    let M = g.M.Ordered.monoid_of m in
     let whole = g.S.ReducedSquare.as_reduced c.args.reduced.now in
     let b = c.args.growth.now in
     let s = c.requires.search in
@@ -46,15 +45,22 @@ offer_row-requires-clause-leads g c k old here e =
     let m = c.args.m.now in
     let M = g.M.Ordered.monoid_of m in
     let laws = g.met.M.Ordered.laws m in
-    let d = g.M.DMonoid.difference m in
     let has = g.met.M.DMonoid.difference_laws m in
-    let whole = g.S.ReducedSquare.as_reduced c.args.reduced.now in
     let unseen = c.deref.ensures.value in
     let keys = c.deref_mut.ensures.value in
     let keyed = c.deref_mut-2.ensures.value in
     let places = c.deref_mut-3.ensures.value in
-    search_leads M laws d has whole.now whole.index c.args.matching.now c.args.growth.now c.args.sum c.args.place c.requires.search k old (subst (λ xs. HasColumn xs k) unseen here)
+    search_leads laws has c.requires.search k old (subst (λ xs. HasColumn xs k) unseen here)
     (subst (λ A. A) (λ i. lead_at M (leads_of (keys i) (keyed i) (places i)) k ≡ Some old) e)
+
+pub offer_row-requires-clause-nearest : goal.offer_row-requires-clause-nearest
+offer_row-requires-clause-nearest g c =
+    let unseen = sym c.deref.ensures.value in
+    let keys = sym c.deref_mut.ensures.value in
+    let keyed = sym c.deref_mut-2.ensures.value in
+    let places = sym c.deref_mut-3.ensures.value in
+    let nearest = sym c.deref_mut-4.ensures.value in
+    subst (λ A. A) (λ i. AreNearest (g.M.Ordered.monoid_of c.args.m.now) (leads_of (keys i) (keyed i) (places i)) (unseen i) (nearest i)) c.requires.search.nearest
 
 pub returns-clause-search : goal.returns-clause-search
 returns-clause-search g c =
@@ -80,10 +86,12 @@ returns-clause-search g c =
     let sum_is = get_or_read b.sums.items place entered within_sums c.index-entered.ensures M.unit in
     let offers = subst (λ A. A) (λ i. OffersRow M (cell_at whole.now row) whole.now.side entered place (unseen i) (leads_of (keys i) (keyed i) (places i)) (leads_of new.keys new.keyed new.places)) c.offer_row.ensures.offers in
     let relaxed = offers.relaxes in
-    let base = search_looked M laws d has whole.now whole.index c.args.matching.now b c.args.sum place s place refl within offers.values row entered row_is sum_is offers.are_values new.keys new.keyed new.places relaxed in
+    let base = search_looked laws has s place refl within offers.values row entered row_is sum_is offers.are_values new.keys new.keyed new.places relaxed in
     let keys_back = sym (with_items_is b.keys new.keys (omega (arith, relaxed.keys_side, b.keys.ok.0))) in
     let keyed_back = sym (with_items_is b.keyed new.keyed (omega (arith, relaxed.keyed_side, b.keyed.ok.0))) in
     let places_back = sym (with_items_is b.tree.parents new.places (omega (arith, relaxed.places_side, b.tree.parents.ok.0))) in
+    let are = c.offer_row.ensures.nearest in
+    let nearest_back = sym (with_items_is b.nearest new.nearest (omega (arith, are.count, s.nearest.count, ap length unseen, b.nearest.ok.0))) in
     record {
       small = s.small;
       roomy = record {
@@ -93,6 +101,7 @@ returns-clause-search g c =
         sums_room = s.roomy.sums_room;
         keys_room = s.roomy.keys_room;
         keyed_side = s.roomy.keyed_side;
+        nearest_side = s.roomy.nearest_side;
         enters_side = s.roomy.enters_side;
         leaves_side = s.roomy.leaves_side;
         steps_room = s.roomy.steps_room;
@@ -102,6 +111,7 @@ returns-clause-search g c =
       unseen = s.unseen;
       underway = subst (λ A. A) (λ i. IsUnderway M d never whole.now.side (cell_at whole.now) whole.index c.args.matching.now b.tree.rows.items (parent_of (places_back i) b.tree.unseen.items) b.sums.items (lead_at M (leads_of (keys_back i) (keyed_back i) (places_back i))) (place_at (leads_of (keys_back i) (keyed_back i) (places_back i))) b.enters.items b.leaves.items b.steps.items c.args.sum (place + 1)) base;
       few_steps = omega (arith, s.few_steps);
+      nearest = subst (λ A. A) (λ i. AreNearest M (leads_of (keys_back i) (keyed_back i) (places_back i)) (unseen i) (nearest_back i)) are;
     }
 
 pub returns-clause-found : goal.returns-clause-found

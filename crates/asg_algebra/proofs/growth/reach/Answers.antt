@@ -13,46 +13,32 @@ climb-requires-clause-key g c =
     let m = c.args.m.now in
     let M = g.M.Ordered.monoid_of m in
     let laws = g.met.M.Ordered.laws m in
-    let d = g.M.DMonoid.difference m in
     let has = g.met.M.DMonoid.difference_laws m in
-    let whole = g.S.ReducedSquare.as_reduced c.args.reduced.now in
     let b = c.look-found.new.growth in
     let s = c.look-found.ensures.search in
-    let sum = c.args.sum.now in
     let seen = c.args.place + 1 in
     let picked = c.look-found.ensures.found in
     let w = subst (Picks M (lead_at M (leads_in b)) (HasColumn b.tree.unseen.items)) c.in-Some.is picked in
     let rows : vec_len b.tree.rows ≡ seen = ap (λ v. vec_len v) c.look-found.ensures.rows ∙ c.requires.last in
-    subst (IsValue M) (sym (key_read M laws d has whole.now whole.index c.args.matching.now b sum seen s rows c.in-Some.column w))
-    (search_leads M laws d has whole.now whole.index c.args.matching.now b sum seen s c.in-Some.column w.key w.among w.has)
+    subst (IsValue M) (sym (key_read laws has s rows w))
+    (search_leads laws has s c.in-Some.column w.key w.among w.has)
 
 pub climb-requires-clause-room : goal.climb-requires-clause-room
 climb-requires-clause-room g c =
     let m = c.args.m.now in
-    let M = g.M.Ordered.monoid_of m in
     let laws = g.met.M.Ordered.laws m in
-    let d = g.M.DMonoid.difference m in
     let has = g.met.M.DMonoid.difference_laws m in
-    let whole = g.S.ReducedSquare.as_reduced c.args.reduced.now in
     let b = c.look-found.new.growth in
     let s = c.look-found.ensures.search in
-    let sum = c.args.sum.now in
     let seen = c.args.place + 1 in
     let rows : vec_len b.tree.rows ≡ seen = ap (λ v. vec_len v) c.look-found.ensures.rows ∙ c.requires.last in
-    omega (arith, c.look-found.ensures.steps, s.roomy.steps_room, few_rows M laws d has whole.now whole.index c.args.matching.now b sum seen s, rows)
+    omega (arith, c.look-found.ensures.steps, s.roomy.steps_room, few_rows laws has s, rows)
 
 pub returns-in_default-clause-none : goal.returns-in_default-clause-none
 returns-in_default-clause-none g c =
     let m = c.args.m.now in
     let M = g.M.Ordered.monoid_of m in
-    let laws = g.met.M.Ordered.laws m in
-    let d = g.M.DMonoid.difference m in
-    let has = g.met.M.DMonoid.difference_laws m in
-    let whole = g.S.ReducedSquare.as_reduced c.args.reduced.now in
     let b = c.look-found.new.growth in
-    let s = c.look-found.ensures.search in
-    let sum = c.args.sum.now in
-    let seen = c.args.place + 1 in
     let picked = c.look-found.ensures.found in
     subst (λ o. IfNone o (HasNoLead M b)) (sym c.in_default.is)
     (subst (Picks M (lead_at M (leads_in b)) (HasColumn b.tree.unseen.items)) c.in_default.is picked)
@@ -62,18 +48,15 @@ climbed g c =
     let m = c.args.m.now in
     let M = g.M.Ordered.monoid_of m in
     let laws = g.met.M.Ordered.laws m in
-    let d = g.M.DMonoid.difference m in
     let has = g.met.M.DMonoid.difference_laws m in
-    let whole = g.S.ReducedSquare.as_reduced c.args.reduced.now in
     let b = c.look-found.new.growth in
     let s = c.look-found.ensures.search in
-    let sum = c.args.sum.now in
     let seen = c.args.place + 1 in
     let picked = c.look-found.ensures.found in
     let w = subst (Picks M (lead_at M (leads_in b)) (HasColumn b.tree.unseen.items)) c.in-Some.is picked in
     let rows : vec_len b.tree.rows ≡ seen = ap (λ v. vec_len v) c.look-found.ensures.rows ∙ c.requires.last in
     let few : vec_len b.steps < seen = omega (arith, c.look-found.ensures.steps) in
-    search_climbed M laws d has whole.now whole.index c.args.matching.now b sum seen s rows c.in-Some.column w c.climb.new.growth c.climb.new.sum few c.climb.ensures
+    search_climbed laws has s rows w c.climb.new.growth c.climb.new.sum few c.climb.ensures
 
 pub returns-in-Some-clause-search : goal.returns-in-Some-clause-search
 returns-in-Some-clause-search g c = (climbed g c).0

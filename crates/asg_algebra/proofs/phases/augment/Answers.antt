@@ -8,25 +8,18 @@ grow-requires-clause-search g c =
     let m = c.args.m.now in
     let M = g.M.Ordered.monoid_of m in
     let laws = g.met.M.Ordered.laws m in
-    let d = g.M.DMonoid.difference m in
     let has = g.met.M.DMonoid.difference_laws m in
-    let old = g.S.ReducedSquare.as_reduced c.args.reduced.now in
-    let matching = c.args.matching.now in
     let r = c.requires in
     let planted = subst (λ n. IsPlanted M n c.plant-sum.new.growth c.plant-sum.result c.args.root) r.roomy.enters_side c.plant-sum.ensures in
-    planted_search M laws d has old.now old.index matching c.plant-sum.new.growth c.plant-sum.result c.args.root r.small planted r.rest r.root r.root_free
+    planted_search laws has r.small planted r.rest r.root r.root_free
 
 pub returns-in-None-clause-serves : goal.returns-in-None-clause-serves
 returns-in-None-clause-serves g c =
     let m = c.args.m.now in
-    let M = g.M.Ordered.monoid_of m in
     let laws = g.met.M.Ordered.laws m in
-    let d = g.M.DMonoid.difference m in
-    let has = g.met.M.DMonoid.difference_laws m in
-    let old = g.S.ReducedSquare.as_reduced c.args.reduced.now in
-    let matching = c.args.matching.now in (
+    let has = g.met.M.DMonoid.difference_laws m in (
       record { same_trail = refl; same_square = refl; same_matching = refl; same_forest = refl },
-      stuck_deficient M laws d has old.now old.index matching c.grow.new.growth c.grow.new.sum c.grow.ensures.search c.in-None.ensures.stuck,
+      stuck_deficient laws has c.grow.ensures.search c.in-None.ensures.stuck,
     )
 
 pub returns-in-Some-clause-serves : goal.returns-in-Some-clause-serves

@@ -1,4 +1,4 @@
-use Rattle.std.proofs.Common.{◌<◌, length, sym, ◌∙◌, ap, subst, arith}
+use Rattle.std.proofs.Common.{sym, ◌∙◌, ap, subst, arith}
 use Rattle.asg_algebra.specs.Benches.{IsBench}
 use Rattle.asg_algebra.specs.Solved.{HasSolved, unmatched}
 use Rattle.asg_algebra.proofs.SolvingLaws.{IsReduced-rest, solving_left, IsSolving-start, IsSolving-next, solving_spare, solving_live, solving_side, HasSolved-from}
@@ -6,180 +6,59 @@ use Rattle.asg_algebra.proofs.solving.serve_all.Goals as goal
 
 pub loop-root-init : goal.loop-root-init
 loop-root-init g c =
-    let m = c.args.m.now in
-    let M = g.M.Ordered.monoid_of m in
-    let laws = g.met.M.Ordered.laws m in
-    let d = g.M.DMonoid.difference m in
+    let M = g.M.Ordered.monoid_of c.args.m.now in
     let before = g.S.ReducedSquare.as_reduced c.args.reduced.now in
-    let matching = c.args.matching.now in
-    let forest = c.args.region.now in
-    let r = c.requires in
-    let is = IsReduced-rest M before matching r.rest in
+    let rest = c.requires.rest in
     record {
-      solving = IsSolving-start M laws d before matching forest c.args.trail is r.rest.columns r.rest.absorbed;
-      bench = r.bench;
+      solving = IsSolving-start M (g.met.M.Ordered.laws c.args.m.now) (g.M.DMonoid.difference c.args.m.now) before c.args.matching.now c.args.region.now c.args.trail (IsReduced-rest M before c.args.matching.now rest) rest.columns rest.absorbed;
+      bench = c.requires.bench;
     }
 
 pub serve-requires-clause-spare : goal.serve-requires-clause-spare
 serve-requires-clause-spare g c free =
-    let m = c.args.m.now in
-    let M = g.M.Ordered.monoid_of m in
-    let laws = g.met.M.Ordered.laws m in
-    let d = g.M.DMonoid.difference m in
-    let before = g.S.ReducedSquare.as_reduced c.args.reduced.now in
-    let matching = c.args.matching.now in
-    let forest = c.args.region.now in
-    let r = c.requires in
-    let is = IsReduced-rest M before matching r.rest in
-    let l = c.loop-root in
-    let s = l.invariant.solving in
-    let below : l.root < length matching = omega (arith, c.loop-root-test.true, c.side-root-end.ensures.side) in
-    solving_spare M laws d before matching forest c.args.trail is (g.S.ReducedSquare.as_reduced l.reduced) l.matching l.region l.last l.root s below r.spare free
+    solving_spare c.loop-root.invariant.solving (omega (arith, c.loop-root-test.true, c.side-root-end.ensures.side)) c.requires.spare free
 
 pub serve-requires-clause-live : goal.serve-requires-clause-live
-serve-requires-clause-live g c =
-    let m = c.args.m.now in
-    let M = g.M.Ordered.monoid_of m in
-    let laws = g.met.M.Ordered.laws m in
-    let d = g.M.DMonoid.difference m in
-    let before = g.S.ReducedSquare.as_reduced c.args.reduced.now in
-    let matching = c.args.matching.now in
-    let forest = c.args.region.now in
-    let r = c.requires in
-    let is = IsReduced-rest M before matching r.rest in
-    let l = c.loop-root in
-    let s = l.invariant.solving in
-    solving_live M laws d before matching forest c.args.trail is (g.S.ReducedSquare.as_reduced l.reduced) l.matching l.region l.last l.root s r.live
+serve-requires-clause-live g c = solving_live c.loop-root.invariant.solving c.requires.live
 
 pub serve-requires-clause-region_side : goal.serve-requires-clause-region_side
 serve-requires-clause-region_side g c =
-    let m = c.args.m.now in
-    let M = g.M.Ordered.monoid_of m in
-    let laws = g.met.M.Ordered.laws m in
-    let d = g.M.DMonoid.difference m in
-    let before = g.S.ReducedSquare.as_reduced c.args.reduced.now in
-    let matching = c.args.matching.now in
-    let forest = c.args.region.now in
-    let r = c.requires in
-    let is = IsReduced-rest M before matching r.rest in
-    let l = c.loop-root in
-    let s = l.invariant.solving in
-    solving_side M laws d before matching forest c.args.trail is (g.S.ReducedSquare.as_reduced l.reduced) l.matching l.region l.last l.root s ∙ r.region_side ∙ sym s.lead.labels.side
+    let s = c.loop-root.invariant.solving in solving_side s ∙ c.requires.region_side ∙ sym s.lead.labels.side
 
 pub returns-in-Lacks-clause-solved : goal.returns-in-Lacks-clause-solved
 returns-in-Lacks-clause-solved g c =
-    let m = c.args.m.now in
-    let M = g.M.Ordered.monoid_of m in
-    let laws = g.met.M.Ordered.laws m in
-    let d = g.M.DMonoid.difference m in
-    let before = g.S.ReducedSquare.as_reduced c.args.reduced.now in
-    let matching = c.args.matching.now in
-    let forest = c.args.region.now in
-    let r = c.requires in
-    let is = IsReduced-rest M before matching r.rest in
-    let l = c.loop-root in
-    let s = l.invariant.solving in
-    let lacks = c.in-Lacks.ensures.serves.0 in
-    subst (λ A. A) (λ i. HasSolved M d before ((sym lacks.same_square) i) matching ((sym lacks.same_matching) i) forest ((sym lacks.same_forest) i) c.args.trail ((sym lacks.same_trail) i))
-    (HasSolved-from M laws d before matching forest c.args.trail is (g.S.ReducedSquare.as_reduced l.reduced) l.matching l.region l.last l.root s r.live)
+    let same = c.in-Lacks.ensures.serves.0 in
+    subst (λ A. A) (λ i. HasSolved (g.M.Ordered.monoid_of c.args.m.now) (g.M.DMonoid.difference c.args.m.now) (g.S.ReducedSquare.as_reduced c.args.reduced.now) ((sym same.same_square) i) c.args.matching.now ((sym same.same_matching) i) c.args.region.now ((sym same.same_forest) i) c.args.trail ((sym same.same_trail) i))
+    (HasSolved-from c.loop-root.invariant.solving c.requires.live)
 
 pub returns-in-Full-clause-solved : goal.returns-in-Full-clause-solved
 returns-in-Full-clause-solved g c =
-    let m = c.args.m.now in
-    let M = g.M.Ordered.monoid_of m in
-    let laws = g.met.M.Ordered.laws m in
-    let d = g.M.DMonoid.difference m in
-    let before = g.S.ReducedSquare.as_reduced c.args.reduced.now in
-    let matching = c.args.matching.now in
-    let forest = c.args.region.now in
-    let r = c.requires in
-    let is = IsReduced-rest M before matching r.rest in
-    let l = c.loop-root in
-    let s = l.invariant.solving in
-    let lacks = c.in-Full.ensures.serves.0 in
-    subst (λ A. A) (λ i. HasSolved M d before ((sym lacks.same_square) i) matching ((sym lacks.same_matching) i) forest ((sym lacks.same_forest) i) c.args.trail ((sym lacks.same_trail) i))
-    (HasSolved-from M laws d before matching forest c.args.trail is (g.S.ReducedSquare.as_reduced l.reduced) l.matching l.region l.last l.root s r.live)
+    let same = c.in-Full.ensures.serves.0 in
+    subst (λ A. A) (λ i. HasSolved (g.M.Ordered.monoid_of c.args.m.now) (g.M.DMonoid.difference c.args.m.now) (g.S.ReducedSquare.as_reduced c.args.reduced.now) ((sym same.same_square) i) c.args.matching.now ((sym same.same_matching) i) c.args.region.now ((sym same.same_forest) i) c.args.trail ((sym same.same_trail) i))
+    (HasSolved-from c.loop-root.invariant.solving c.requires.live)
 
 pub returns-in-Lacks-clause-left : goal.returns-in-Lacks-clause-left
 returns-in-Lacks-clause-left g c =
-    let m = c.args.m.now in
-    let M = g.M.Ordered.monoid_of m in
-    let laws = g.met.M.Ordered.laws m in
-    let d = g.M.DMonoid.difference m in
-    let before = g.S.ReducedSquare.as_reduced c.args.reduced.now in
-    let matching = c.args.matching.now in
-    let forest = c.args.region.now in
-    let r = c.requires in
-    let is = IsReduced-rest M before matching r.rest in
-    let l = c.loop-root in
-    let s = l.invariant.solving in
     let same = c.in-Lacks.ensures.serves.0 in
-    let left = solving_left M laws d before matching forest c.args.trail is (g.S.ReducedSquare.as_reduced l.reduced) l.matching l.region l.last l.root s in
-    omega (arith, left, ap unmatched same.same_matching, ap (λ f. f.spare) same.same_forest)
+    omega (arith, solving_left c.loop-root.invariant.solving, ap unmatched same.same_matching, ap (λ f. f.spare) same.same_forest)
 
 pub returns-in-Full-clause-left : goal.returns-in-Full-clause-left
 returns-in-Full-clause-left g c =
-    let m = c.args.m.now in
-    let M = g.M.Ordered.monoid_of m in
-    let laws = g.met.M.Ordered.laws m in
-    let d = g.M.DMonoid.difference m in
-    let before = g.S.ReducedSquare.as_reduced c.args.reduced.now in
-    let matching = c.args.matching.now in
-    let forest = c.args.region.now in
-    let r = c.requires in
-    let is = IsReduced-rest M before matching r.rest in
-    let l = c.loop-root in
-    let s = l.invariant.solving in
     let same = c.in-Full.ensures.serves.0 in
-    let left = solving_left M laws d before matching forest c.args.trail is (g.S.ReducedSquare.as_reduced l.reduced) l.matching l.region l.last l.root s in
-    omega (arith, left, ap unmatched same.same_matching, ap (λ f. f.spare) same.same_forest)
+    omega (arith, solving_left c.loop-root.invariant.solving, ap unmatched same.same_matching, ap (λ f. f.spare) same.same_forest)
 
 pub returns-clause-left : goal.returns-clause-left
-returns-clause-left g c =
-    let m = c.args.m.now in
-    let M = g.M.Ordered.monoid_of m in
-    let laws = g.met.M.Ordered.laws m in
-    let d = g.M.DMonoid.difference m in
-    let before = g.S.ReducedSquare.as_reduced c.args.reduced.now in
-    let matching = c.args.matching.now in
-    let forest = c.args.region.now in
-    let r = c.requires in
-    let is = IsReduced-rest M before matching r.rest in
-    let l = c.loop-root in
-    let s = l.invariant.solving in
-    solving_left M laws d before matching forest c.args.trail is (g.S.ReducedSquare.as_reduced l.reduced) l.matching l.region l.last l.root s
+returns-clause-left g c = solving_left c.loop-root.invariant.solving
 
 pub loop-root-preserved : goal.loop-root-preserved
 loop-root-preserved g c =
-    let m = c.args.m.now in
-    let M = g.M.Ordered.monoid_of m in
-    let laws = g.met.M.Ordered.laws m in
-    let d = g.M.DMonoid.difference m in
-    let before = g.S.ReducedSquare.as_reduced c.args.reduced.now in
-    let matching = c.args.matching.now in
-    let forest = c.args.region.now in
-    let r = c.requires in
-    let is = IsReduced-rest M before matching r.rest in
-    let l = c.loop-root in
-    let s = l.invariant.solving in
-    let below : l.root < length matching = omega (arith, c.loop-root-test.true, c.side-root-end.ensures.side) in
+    let s = c.loop-root.invariant.solving in
     let new = c.serve.new in
+    let is = IsReduced-rest (g.M.Ordered.monoid_of c.args.m.now) (g.S.ReducedSquare.as_reduced c.args.reduced.now) c.args.matching.now c.requires.rest in
     record {
-      solving = IsSolving-next M laws d before matching forest c.args.trail is (g.S.ReducedSquare.as_reduced l.reduced) l.matching l.region l.last l.root s below (g.S.ReducedSquare.as_reduced new.reduced) new.matching new.region c.in-Has.next c.in-Has.ensures.serves;
+      solving = IsSolving-next s (g.met.M.Ordered.laws c.args.m.now) is (omega (arith, c.loop-root-test.true, c.side-root-end.ensures.side)) (g.S.ReducedSquare.as_reduced new.reduced) new.matching new.region c.in-Has.next c.in-Has.ensures.serves;
       bench = subst (λ n. IsBench n new.growth) s.lead.labels.side c.serve.ensures.bench;
     }
 
 pub returns-clause-solved : goal.returns-clause-solved
-returns-clause-solved g c =
-    let m = c.args.m.now in
-    let M = g.M.Ordered.monoid_of m in
-    let laws = g.met.M.Ordered.laws m in
-    let d = g.M.DMonoid.difference m in
-    let before = g.S.ReducedSquare.as_reduced c.args.reduced.now in
-    let matching = c.args.matching.now in
-    let forest = c.args.region.now in
-    let r = c.requires in
-    let is = IsReduced-rest M before matching r.rest in
-    let l = c.loop-root in
-    let s = l.invariant.solving in
-    HasSolved-from M laws d before matching forest c.args.trail is (g.S.ReducedSquare.as_reduced l.reduced) l.matching l.region l.last l.root s r.live
+returns-clause-solved g c = HasSolved-from c.loop-root.invariant.solving c.requires.live

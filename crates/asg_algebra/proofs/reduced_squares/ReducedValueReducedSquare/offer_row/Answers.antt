@@ -1,26 +1,12 @@
-use Rattle.std.proofs.Common.{ℕ, ◌<◌, ◌/◌, ◌%◌, arith}
-use Rattle.std.specs.Prelude.{IsSome}
-use Rattle.asg_match.specs.ColumnSet.{HasColumn}
 use Rattle.asg_square.specs.Grid.{cell_at}
 use Rattle.asg_algebra.specs.Leads.{leads_of}
-use Rattle.asg_algebra.proofs.GrowthLaws.{present_some, some_present}
-use Rattle.asg_algebra.proofs.LeadLemmas.{Relaxes-iff}
+use Rattle.asg_algebra.proofs.ScanLemmas.{OffersRow-scanned}
 use Rattle.asg_algebra.proofs.reduced_squares.ReducedValueReducedSquare.offer_row.Goals as goal
 
 pub returns-clause-offers : goal.returns-clause-offers
 returns-clause-offers g c =
     let square = c.args.self.now.now in
-    let row = cell_at square c.args.row in
-    let unseen = c.args.unseen.now in
-    let present = c.row_words-present.result.now in
-    let values = c.row_values.result.now in
-    let new = c.scan.new in
-    let below : (k : ℕ) → HasColumn unseen k → k < square.side = λ k h. omega (arith, c.requires.unseen.below (k / 64) (k % 64) h) in
-    record {
-      values = values;
-      are_values = c.row_values.ensures;
-      relaxes = Relaxes-iff (g.M.Ordered.monoid_of c.args.m.now) values c.args.sum c.args.place (leads_of c.args.keys.now c.args.keyed.now c.args.places.now) (leads_of new.keys new.keyed new.places) (λ k. HasColumn present k × HasColumn unseen k) (λ k. IsSome (row k) × HasColumn unseen k)
-          (λ k p. (present_some row square.side present c.row_words-present.ensures k (below k p.1) p.0, p.1))
-          (λ k q. (some_present row square.side present c.row_words-present.ensures k (below k q.1) q.0, q.1))
-          c.scan.ensures.relaxes;
-    }
+    let before = leads_of c.args.keys.now c.args.keyed.now c.args.places.now in
+    let after = leads_of c.scan.new.keys c.scan.new.keyed c.scan.new.places in
+    OffersRow-scanned (g.M.Ordered.monoid_of c.args.m.now) (cell_at square c.args.row) square.side c.args.sum c.args.place c.args.unseen.now c.row_values.result.now c.row_words-present.result.now before after
+    c.requires.unseen c.row_values.ensures c.row_words-present.ensures c.scan.ensures.relaxes

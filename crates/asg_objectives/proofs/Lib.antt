@@ -1,5 +1,4 @@
-mod TrailWalks
+mod WordedPhases
 mod LedSquares
-mod EnteredCosts
 mod KindOutcomes
 mod MatchedColumns

@@ -69,19 +69,20 @@ fn choice_by<V: Copy>(
     square.choice_of(alloc, columns.as_slice())
 }
 
-// The best choice and the phases that led to it. The square is let go of before they are written.
+// The best choice and the phases that led to it. The square is let go of before they are written, and
+// their marks are moved out of the region.
 fn best<M: Written>(
     alloc: Global,
     m: &M,
     square: Square<M::Value>,
     matching: &Matching,
-    region: &Region<M::Value>,
+    region: Region<M::Value>,
     last: Option<Trail>,
 ) -> Result<Outcome, NoMemory>
     requires perfect { IsPerfect (IsPresent (cell_at square)) square.side matching.now }
-    requires live { IfSome last (IsLive region.now) }
-    requires values { AreOfValues (M.monoid_of m.now) (phases_to region.now last) }
-    ensures { let words = map (worded (M.word_of m.now)) (phases_to region.now last) in
+    requires live { IfSome last (IsLive region) }
+    requires values { AreOfValues (M.monoid_of m.now) (phases_to region last) }
+    ensures { let words = map (worded (M.word_of m.now)) (phases_to region last) in
         IfOk result (IsBestBy square matching.now words) }
 {
     let choice = choice_by(alloc, square, matching)?;
@@ -147,7 +148,7 @@ pub(crate) fn outcome<M: SquareSolver>(
     let solved = m.solve_square(alloc, reduced, &mut matching, &mut bench, &mut region, None)?;
     let SolvedSquare { reduced, ended } = solved;
     match ended {
-        Solved::Perfect(last) => best(alloc, m, reduced.now, &matching, &region, last),
+        Solved::Perfect(last) => best(alloc, m, reduced.now, &matching, region, last),
         Solved::Short(_) => nothing(alloc, inst, &reduced.now, bench.violator()),
     }
 }

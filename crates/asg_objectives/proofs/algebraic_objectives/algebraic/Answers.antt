@@ -1,12 +1,12 @@
 use Rattle.std.proofs.Common.{ℕ, sym, subst}
+use Rattle.std.proofs.lemmas.Option.{IfSome_then}
 use Rattle.std.proofs.lemmas.Result.{IfOk-weaker}
 use Rattle.asg_model.specs.Live.{live_at}
-use Rattle.asg_order.specs.Entering.{MayEnter}
 use Rattle.asg_order.specs.Monoid.{IsValue}
 use Rattle.asg_square.specs.Grid.{IsSquareOf}
+use Rattle.asg_proof.specs.laws.LiveCosts.{costs_may_enter}
 use Rattle.asg_objectives.specs.FoldOutcomes.{IsFoldOutcome}
 use Rattle.asg_objectives.specs.SolvedSquares.{IsSquareOutcome}
-use Rattle.asg_objectives.proofs.EnteredCosts.{IfSome-weaker, costs_may_enter}
 use Rattle.asg_objectives.proofs.LedSquares.{HasValues-of_square}
 use Rattle.asg_objectives.proofs.algebraic_objectives.algebraic.Goals as goal
 
@@ -23,9 +23,8 @@ outcome-requires-clause-values g c =
     let M = g.K.M.Ordered.monoid_of m in
     let enter = g.K.Kind.entered kind in
     let live = λ (r d : ℕ).
-    IfSome-weaker (MayEnter (g.K.Kind.objective kind) (g.K.Kind.reach kind)) (λ cost. IsValue M (enter cost)) (live_at X r d)
-    (λ cost may. subst (λ n. IsValue (g.K.M.Ordered.monoid_of n) (enter cost)) (sym c.monoid-m.ensures) (g.met.K.Kind.enters_value kind cost may))
-    (costs_may_enter (g.K.Kind.objective kind) (g.K.Kind.reach kind) X c.requires.reach c.rows-rows.ensures.instance c.requires.passes r d) in
+    IfSome_then (live_at X r d) (costs_may_enter (g.K.Kind.objective kind) (g.K.Kind.reach kind) X c.requires.reach c.rows-rows.ensures.instance c.requires.passes r d)
+    (λ cost may. subst (λ n. IsValue (g.K.M.Ordered.monoid_of n) (enter cost)) (sym c.monoid-m.ensures) (g.met.K.Kind.enters_value kind cost may)) in
     HasValues-of_square M (g.met.K.M.Ordered.laws m) X enter c.in_ok-square.square
     (subst (λ u. IsSquareOf X u enter c.in_ok-square.square) c.unit.ensures.unit (c.in_ok-square.ensures.square enter (λ r d cost v at entered. entered.1)))
     live
@@ -39,9 +38,8 @@ returns-clause-outcome g c =
     let enter = g.K.Kind.entered kind in
     let Q = c.in_ok-square.square in
     let live = λ (r d : ℕ).
-    IfSome-weaker (MayEnter (g.K.Kind.objective kind) (g.K.Kind.reach kind)) (λ cost. IsValue M (enter cost)) (live_at X r d)
-    (λ cost may. subst (λ n. IsValue (g.K.M.Ordered.monoid_of n) (enter cost)) (sym c.monoid-m.ensures) (g.met.K.Kind.enters_value kind cost may))
-    (costs_may_enter (g.K.Kind.objective kind) (g.K.Kind.reach kind) X c.requires.reach c.rows-rows.ensures.instance c.requires.passes r d) in
+    IfSome_then (live_at X r d) (costs_may_enter (g.K.Kind.objective kind) (g.K.Kind.reach kind) X c.requires.reach c.rows-rows.ensures.instance c.requires.passes r d)
+    (λ cost may. subst (λ n. IsValue (g.K.M.Ordered.monoid_of n) (enter cost)) (sym c.monoid-m.ensures) (g.met.K.Kind.enters_value kind cost may)) in
     let square = subst (λ u. IsSquareOf X u enter Q) c.unit.ensures.unit (c.in_ok-square.ensures.square enter (λ r d cost v at entered. entered.1)) in
     IfOk-weaker c.outcome.result
     (IsSquareOutcome M (g.K.M.DMonoid.difference m) (g.K.M.Written.word_of m) X Q)

@@ -1,6 +1,0 @@
-use Rattle.std.proofs.Common.{◌≡◌, map, take}
-use Rattle.asg_objectives.proofs.trail_phases.step_words.Given as goal
-
--- the words so far are those of the steps so far
-abbrev pub invariant-loop-step : goal.invariant-loop-step
-invariant-loop-step g l = l.words.items ≡ map (g.M.Written.word_of l.m) (take l.step-index l.steps)

@@ -5,7 +5,7 @@ use mathlib.Core.Logic.Dec.{and, not, of_iff}
 use Rattle.std.proofs.Common.{◌≡◌, ◌↔◌, ◌&&◌, ℕ, suc, Bool, true, false, List, [], ◌∷◌, length, take, Option, inl, inr, refl, sym, ap, ◌∙◌, subst, arith}
 use Rattle.std.proofs.Math.Bool.{Bool-discrete}
 use Rattle.std.proofs.Math.Decide.{ℕ_discrete}
-use Rattle.std.specs.Prelude.{ℤ, pos, IsTrue, All}
+use Rattle.std.specs.Prelude.{ℤ, pos, IsTrue}
 use Rattle.std.proofs.lemmas.Bool.{false_from_ne_true}
 use Rattle.std.proofs.lemmas.List.{take_all}
 use Rattle.asg_order.specs.declared.words.Word.{Word}
@@ -41,7 +41,7 @@ use Rattle.asg_check.specs.Certifies.{Certifies, CertifiesClaim}
 use Rattle.asg_check.specs.DocumentForm.{has_form, is_command_of, takes_claim}
 use Rattle.asg_check.specs.PhaseReasons.{AreAdmittedFor, AreBadAt, HaveOtherIndexFor}
 use Rattle.asg_check.specs.Reasons.{HasBadPhase, HasHallSet, HasNoChoice, HasOtherIndex, HasOtherValue, IsFirstReason, LacksHallSet, LeavesGap, Stands, StandsAgainst, Tells, claim_reasons, phase_reasons, proof_reasons, reasons_in_order, window_reasons}
-use Rattle.asg_check.specs.WindowReasons.{AreNoHallSetsAt, LeaveGapAt, StandsOn}
+use Rattle.asg_check.specs.WindowReasons.{LeaveGapAt, StandsOn}
 use Rattle.asg_check.specs.Replays.{StandsFor}
 use Rattle.asg_check.specs.Spots.{At, Overall, Spot}
 use Rattle.asg_check.specs.Written.{IsWrittenAs, read_cells}

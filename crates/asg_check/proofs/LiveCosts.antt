@@ -1,42 +1,19 @@
 -- Live costs enter as values, and the fold of a choice, row by row.
-use Rattle.std.proofs.Common.{◌≡◌, ℕ, ◌+◌, ◌&&◌, Bool, true, false, cond, List, [], ◌∷◌, ◌++◌, map, Option, Some, None, refl, sym, ap, ◌∙◌, zero-add}
-use Rattle.std.specs.Prelude.{All, IfSome, MatchOption, ◌==◌, filter_map, option_to_list}
+use Rattle.std.proofs.Common.{◌≡◌, ℕ, ◌+◌, false, List, [], ◌∷◌, ◌++◌, map, Option, Some, None, refl, sym, ap, ◌∙◌, zero-add}
+use Rattle.std.specs.Prelude.{IfSome, MatchOption, filter_map, option_to_list}
 use Rattle.std.specs.List.{range_with_len}
 use Rattle.std.proofs.lemmas.List.{append-nil, map-append, map-id}
 use Rattle.std.proofs.lemmas.List.FromFn.{map-range_with_len_more}
-use Rattle.std.proofs.lemmas.List.Elements.{All-head, All-tail, filter_map-append}
+use Rattle.std.proofs.lemmas.List.Elements.{filter_map-append}
 use Rattle.std.proofs.lemmas.List.Sums.{fold-append}
 use Rattle.asg_model.specs.declared.objectives.Objective.{Objective}
 use Rattle.asg_model.specs.declared.parts.Cost.{Cost}
-use Rattle.asg_model.specs.Instances.{IsInstance, IsCostInRange}
-use Rattle.asg_model.specs.Live.{live_at, cost_at, is_active, is_open}
+use Rattle.asg_model.specs.Live.{live_at}
 use Rattle.asg_model.specs.Problem.{Problem}
 use Rattle.asg_model.specs.Refused.{is_refused, PassesNegative}
 use Rattle.asg_order.specs.Entering.{IsWithin, LiesWithin, MayEnter}
 use Rattle.asg_order.specs.Monoid.{Monoid, IsValue, fold_of}
-use Rattle.asg_monoids.specs.Entered.{cost_reach}
 use Rattle.asg_proof.specs.PhaseProofs.{EntersValues}
-
-present : (P : Cost → Type 0) (b : Bool) (cost : Cost) (o : Option Cost) → P cost → IfSome o P → IfSome (cond b (Some cost) o) P
-present P true cost o here others = here
-present P false cost o here others = others
-
-cost_within : (cells : List ((ℕ × ℕ) × Cost)) (r c : ℕ) → All (λ cell. IsCostInRange cell.1) cells → IfSome (cost_at cells r c) (IsWithin cost_reach)
-cost_within [] r c all = tt
-cost_within (cell ∷ cells) r c all =
-    let range = All-head (λ cell. IsCostInRange cell.1) cell cells all in
-    present (IsWithin cost_reach) ((cell.0.0 == r) && (cell.0.1 == c)) cell.1 (cost_at cells r c)
-    (record { a_within = range.a_in_range; b_within = range.b_in_range })
-    (cost_within cells r c (All-tail (λ cell. IsCostInRange cell.1) cell cells all))
-
-where_live : (P : Cost → Type 0) (b : Bool) (o : Option Cost) → IfSome o P → IfSome (cond b o None) P
-where_live P true o holds = holds
-where_live P false o holds = tt
-
--- the live costs of an instance lie within the reach
-pub lies_within : (X : Problem) → IsInstance X → LiesWithin cost_reach X
-lies_within X instance r c =
-    where_live (IsWithin cost_reach) (is_active X r && is_open X c) (cost_at X.cells r c) (cost_within X.cells r c instance.well_formed.costs)
 
 enters_at : (objective : Objective) (reach : ℕ) (P : Cost → Type 0) (o : Option Cost) → ((cost : Cost) → MayEnter objective reach cost → P cost) → IfSome o (IsWithin reach) → IfSome o (λ cost. is_refused objective cost ≡ false) → IfSome o P
 enters_at objective reach P None each near passes = tt

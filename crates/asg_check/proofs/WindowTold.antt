@@ -5,7 +5,7 @@ use Rattle.std.proofs.Common.{◌≡◌, ℕ, suc, ◌+◌, ◌<◌, ◌≤◌, 
 use Rattle.std.proofs.Math.Bool.{Bool-discrete}
 use Rattle.std.specs.Int.{w64}
 use Rattle.std.specs.Prelude.{ℤ, pos, negsuc, ◌≤ℤ◌, ◌<ℤ◌, All, FitsSigned, IfSome, MatchOption, slice_get, unsigned_abs}
-use Rattle.std.proofs.lemmas.Bool.{false≢true, cases_lt, cases_Bool}
+use Rattle.std.proofs.lemmas.Bool.{false≢true, cases_lt}
 use Rattle.std.proofs.lemmas.Int.{ints, by_lt_z}
 use Rattle.std.proofs.lemmas.Option.{none-some, same_Some, slice_get-get_or, slice_get_within}
 use Rattle.std.proofs.lemmas.List.{get_or_default}
@@ -22,16 +22,15 @@ use Rattle.asg_order.specs.Entering.{IsWithin}
 use Rattle.asg_monoids.specs.Entered.{cost_reach}
 use Rattle.asg_proof.specs.declared.windows.Window.{Window}
 use Rattle.asg_proof.specs.Proves.{is_spread_objective}
-use Rattle.asg_proof.specs.Windows.{IsHallWindow, ProvesSpread, ProvesWindows, is_held}
-use Rattle.asg_check.specs.declared.verdicts.Reason.{Reason}
+use Rattle.asg_proof.specs.Windows.{IsHallWindow, ProvesWindows, is_held}
+use Rattle.asg_proof.specs.laws.LiveCosts.{lies_within}
 use Rattle.asg_check.specs.declared.verdicts.Reason.TheVariants.{NotHall, WindowGap}
 use Rattle.asg_check.specs.declared.verdicts.Verdict.{Verdict}
 use Rattle.asg_check.specs.declared.verdicts.Verdict.TheVariants.{No, Yes}
 use Rattle.asg_check.specs.Reasons.{IsToldOf, Tells, window_reasons}
 use Rattle.asg_check.specs.Spans.{live_parts}
 use Rattle.asg_check.specs.Spots.{At, IsNoLater, Overall, Spot}
-use Rattle.asg_check.specs.WindowReasons.{AreNoHallSetsAt, IsGap, IsLeastGap, IsLiveCost, IsNoHallAt, LeaveGapAt, StandsOn}
-use Rattle.asg_check.proofs.LiveCosts.{lies_within}
+use Rattle.asg_check.specs.WindowReasons.{AreNoHallSetsAt, IsLeastGap, IsLiveCost, IsNoHallAt, LeaveGapAt, StandsOn}
 use Rattle.asg_check.proofs.ToldReasons.{Nowhere, Tested, least_below}
 use Rattle.asg_check.proofs.WindowGaps.{part_holds, parts_live}
 
@@ -109,7 +108,7 @@ near_fits (negsuc n) near = omega (arith, near)
 
 pub live_fits : (X : Problem) → IsInstance X → (v : ℤ) → IsLiveCost X v → FitsSigned w64 v
 live_fits X instance v one =
-    let near : IsWithin cost_reach one.cost = subst (λ o. IfSome o (IsWithin cost_reach)) one.live (lies_within X instance one.row one.column) in
+    let near : IsWithin cost_reach one.cost = subst (λ o. IfSome o (IsWithin cost_reach)) one.live (lies_within cost_reach X (omega arith) instance one.row one.column) in
     subst (FitsSigned w64) one.is (near_fits one.cost.a near.a_within)
 
 -- the least of some numbers of which P holds, or none

@@ -1,43 +1,22 @@
 //! Phases of graded steps over the costs `3:5 3:1 / 3:1 3:9`, judged.
 
-ghost use Rattle.std.specs.Prelude.{◌≡◌, true};
-
-use crate::NoMemory;
 use crate::phase_cases::Listed;
 use crate::phase_tests::{claim, verdict};
 use crate::tests::judged;
 use asg_doc::Cells;
 use asg_model::Objective::TimeCost;
-use asg_model::{Column, Instance, Place, Row, Value};
-use std::alloc::Global;
+use asg_model::{Place, Value};
+use asg_samples::Sample;
 use std::test::Fail;
 
-// A column of capacity 1.
-fn column(id: u32) -> Column
-    ensures { result ≡ record { id = id; cap = 1; usable = true } }
-{
-    Column {
-        id,
-        cap: 1,
-        usable: true,
-    }
-}
-
-// A row.
-fn row(id: u32) -> Row
-    ensures { result ≡ record { id = id; active = true } }
-{
-    Row { id, active: true }
-}
-
 // The instance.
-fn instance(alloc: Global) -> Result<Instance, NoMemory> {
-    let rows = vec![in alloc; row(1), row(2)]?;
-    let columns = vec![in alloc; column(1), column(2)]?;
-    let firsts = vec![in alloc; 3, 3, 3, 3]?;
-    let seconds = vec![in alloc; 5, 1, 1, 9]?;
-    Ok(Instance::of_table(rows, columns, firsts, seconds, Place::All))
-}
+const SQUARE: Sample<'static> = Sample {
+    rows: &[true, true],
+    columns: &[(1, true), (1, true)],
+    firsts: &[3, 3, 3, 3],
+    seconds: &[5, 1, 1, 9],
+    place: Place::All,
+};
 
 const FIRST: Listed = (&[(1_000_000_003, 1)], &[0, 1], &[1, 1]);
 
@@ -76,7 +55,7 @@ const TIMES: [(i128, (u32, u32), &'static [Listed], u8, i64); 7] = [
 #[test]
 fn judges_grades(rt: HostRuntime) -> Result<(), Fail> {
     let alloc = rt.alloc();
-    let inst = instance(alloc)?;
+    let inst = SQUARE.instance(alloc)?;
     for (second, columns, listed, reason, place) in TIMES {
         let cells = Cells::from_vec(vec![in alloc; (1, columns.0), (2, columns.1)]?);
         let claim = claim(alloc, Value::Two(3, second), cells, listed)?;

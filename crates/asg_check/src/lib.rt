@@ -12,6 +12,8 @@
 mod checker;
 mod claims;
 mod document_forms;
+mod grade_replays;
+mod grade_verdicts;
 pub mod laws;
 mod phase_verdicts;
 mod replays;

@@ -1,6 +1,6 @@
 //! Phases over the costs `4 1 3 / 2 0 5 / 3 2 2`, judged.
 
-ghost use Rattle.std.specs.Prelude.{◌≡◌, true, IfOk};
+ghost use Rattle.std.specs.Prelude.{IfOk};
 ghost use Rattle.asg_proof.specs.Phases.{IsPhase};
 
 use crate::phase_cases::{Judged, Listed, PEAKS, SUMS};
@@ -8,38 +8,21 @@ use crate::tests::judged;
 use crate::{NoMemory, Verdict};
 use asg_doc::{Answer, Cells, Claim};
 use asg_model::Objective::SumPair;
-use asg_model::{Column, Instance, Objective, Place, Row, Value};
+use asg_model::{Instance, Objective, Place, Value};
 use asg_order::Word;
 use asg_proof::{Phase, Phases, Proof};
+use asg_samples::Sample;
 use std::alloc::Global;
 use std::test::Fail;
 
-// A row.
-fn row(id: u32) -> Row
-    ensures { result ≡ record { id = id; active = true } }
-{
-    Row { id, active: true }
-}
-
-// A column of capacity 1.
-fn column(id: u32) -> Column
-    ensures { result ≡ record { id = id; cap = 1; usable = true } }
-{
-    Column {
-        id,
-        cap: 1,
-        usable: true,
-    }
-}
-
 // The instance.
-pub(crate) fn instance(alloc: Global) -> Result<Instance, NoMemory> {
-    let rows = vec![in alloc; row(1), row(2), row(3)]?;
-    let columns = vec![in alloc; column(1), column(2), column(3)]?;
-    let costs = vec![in alloc; 4, 1, 3, 2, 0, 5, 3, 2, 2]?;
-    let seconds = Vec::new(alloc);
-    Ok(Instance::of_table(rows, columns, costs, seconds, Place::All))
-}
+pub(crate) const SQUARE: Sample<'static> = Sample {
+    rows: &[true, true, true],
+    columns: &[(1, true), (1, true), (1, true)],
+    firsts: &[4, 1, 3, 2, 0, 5, 3, 2, 2],
+    seconds: &[],
+    place: Place::All,
+};
 
 // A phase of words.
 fn phase(alloc: Global, listed: Listed) -> Result<Phase<Word>, NoMemory>
@@ -101,7 +84,7 @@ fn found(alloc: Global, inst: &Instance, case: Judged) -> Result<Option<Verdict>
 #[test]
 fn judges_sums(rt: HostRuntime) -> Result<(), Fail> {
     let alloc = rt.alloc();
-    let inst = instance(alloc)?;
+    let inst = SQUARE.instance(alloc)?;
     for case in SUMS {
         assert_eq!(rt; found(alloc, &inst, case)?, Some(verdict(case.4, case.5)));
     }
@@ -111,7 +94,7 @@ fn judges_sums(rt: HostRuntime) -> Result<(), Fail> {
 #[test]
 fn judges_peaks(rt: HostRuntime) -> Result<(), Fail> {
     let alloc = rt.alloc();
-    let inst = instance(alloc)?;
+    let inst = SQUARE.instance(alloc)?;
     for case in PEAKS {
         assert_eq!(rt; found(alloc, &inst, case)?, Some(verdict(case.4, case.5)));
     }

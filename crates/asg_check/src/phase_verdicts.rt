@@ -1,6 +1,7 @@
 //! What stands against phases for a choice of an instance.
 
 ghost use Rattle.std.specs.Prelude.{◌≡◌, ◌≤◌, ◌<◌, IsTrue, IfOk, MatchOption, length};
+ghost use Rattle.asg_model.specs.declared.objectives.Objective.TheVariants.{TimeCost};
 ghost use Rattle.asg_model.specs.Instances.{IsInstance};
 ghost use Rattle.asg_model.specs.Limits.{most_side};
 ghost use Rattle.asg_model.specs.Refused.{PassesNegative};
@@ -15,6 +16,7 @@ ghost use Rattle.asg_check.specs.Reasons.{Tells, phase_reasons};
 ghost use Rattle.asg_check.specs.Replays.{IsStart, StandsFor, StandsOver};
 
 use crate::NoMemory;
+use crate::grade_verdicts::grade_verdict;
 use crate::square_verdicts::square_verdict;
 use crate::sum_verdicts::sum_verdict;
 use crate::verdicts::Verdict;
@@ -50,7 +52,7 @@ pub(crate) fn phases_verdict(
         Objective::Bottleneck | Objective::BottleneckMax => {
             replayed_verdict(alloc, &PeakKind::of(objective), inst, choice, phases)
         }
-        Objective::TimeCost => replayed_verdict(alloc, &TimeKind::new(), inst, choice, phases),
+        Objective::TimeCost => timed_verdict(alloc, objective, inst, choice, phases),
         Objective::Balanced | Objective::Lex => unreachable!(),
     }
 }
@@ -74,6 +76,28 @@ fn summed_verdict(
     let start = start(alloc, &kind, inst)?;
     let fold = chosen_fold(&kind, inst, choice);
     let verdict = sum_verdict(alloc, kind.monoid(), start, phases, fold)?;
+    Ok(verdict)
+}
+
+// The same of `time-cost`.
+fn timed_verdict(
+    alloc: Global,
+    objective: Objective,
+    inst: &Instance,
+    choice: &Choice,
+    phases: &[Phase<Word>],
+) -> Result<Verdict, NoMemory>
+    requires times { objective ≡ TimeCost }
+    requires instance { IsInstance inst.now }
+    requires side { square_side inst.now ≤ most_side }
+    requires passes { PassesNegative objective inst.now }
+    ensures { IfOk result (Tells
+        (StandsFor objective inst.now choice.now phases.now) phase_reasons) }
+{
+    let kind = TimeKind::new();
+    let start = start(alloc, &kind, inst)?;
+    let fold = chosen_fold(&kind, inst, choice);
+    let verdict = grade_verdict(alloc, kind.monoid(), start, phases, fold)?;
     Ok(verdict)
 }
 

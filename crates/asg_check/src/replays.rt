@@ -1,14 +1,14 @@
 //! Phases, replayed on the square of an instance.
 
-ghost use Rattle.std.specs.Prelude.{◌≡◌, ◌≢◌, ◌<◌, ◌≤◌, false, None, List, length, map, take, All, IsTrue, IfOk, IfSome};
+ghost use Rattle.std.specs.Prelude.{◌≡◌, ◌≢◌, ◌<◌, ◌≤◌, ◌^◌, false, None, List, length, map, take, All, IsTrue, IfOk, IfSome};
 ghost use Rattle.asg_admit.specs.Reduced.{IsReduced};
 ghost use Rattle.asg_order.specs.Monoid.{IsValue};
 ghost use Rattle.asg_square.specs.Grid.{cell_at};
 ghost use Rattle.asg_check.specs.Replays.{IsAdmittedFrom, IsBadFrom, IsReplayed, LeadOn};
 
 use crate::NoMemory;
-use asg_admit::{Reduced, replay};
-use asg_order::{Word, Written};
+use asg_admit::{Reduced, replay_within};
+use asg_order::{Ordered, Word, Written};
 use asg_proof::Phase;
 use std::alloc::Global;
 
@@ -36,12 +36,29 @@ pub(crate) fn read_steps<M: Written>(
     Ok(true)
 }
 
-// Applies a phase where it is admitted, and tells whether it is. Its steps are read into the list,
-// which keeps its room from phase to phase. The error is want of memory.
+// Lets the list have more places than the count. The error is want of memory.
+pub(crate) fn make_room<M: Ordered>(
+    m: &M,
+    room: &mut Vec<M::Value>,
+    count: usize,
+) -> Result<(), NoMemory>
+    requires { count < 2 ^ 63 }
+    ensures { IfOk result (λ _. count < length room.new.items) }
+{
+    if room.len() > count {
+        return Ok(());
+    }
+    room.resize(count + 1, m.unit())
+}
+
+// Applies a phase where it is admitted, and tells whether it is; where it isn't, the square means
+// nothing more. Its steps are read into the list of values, which keeps its room from phase to phase, as
+// the other list does. The error is want of memory.
 fn replay_words<M: Written>(
     m: &M,
     reduced: &mut Reduced<M::Value>,
     values: &mut Vec<M::Value>,
+    room: &mut Vec<M::Value>,
     phase: &Phase<Word>,
 ) -> Result<bool, NoMemory>
     requires { IsReduced (M.monoid_of m.now) reduced.old }
@@ -54,12 +71,14 @@ fn replay_words<M: Written>(
     if !read_steps(m, phase.steps(), values)? {
         return Ok(false);
     }
-    Ok(replay(
+    make_room(m, room, values.len())?;
+    Ok(replay_within(
         m,
         reduced,
         values.as_slice(),
         phase.enters(),
         phase.leaves(),
+        room.as_mut_slice(),
     ))
 }
 
@@ -84,8 +103,9 @@ pub(crate) fn first_bad<M: Written>(
         → IsReduced (M.monoid_of m.now) reduced.new) }
 {
     let mut values = Vec::new(alloc);
+    let mut room = Vec::new(alloc);
     for place in from..phases.len() {
-        if !replay_words(m, reduced, &mut values, &phases[place])? {
+        if !replay_words(m, reduced, &mut values, &mut room, &phases[place])? {
             return Ok(Some(place));
         }
     }

@@ -1,6 +1,6 @@
 //! Phases, replayed on a square of sums that is kept by dual variables.
 
-ghost use Rattle.std.specs.Prelude.{◌≡◌, ◌<◌, ◌^◌, length, IfOk};
+ghost use Rattle.std.specs.Prelude.{◌≡◌, IfOk};
 ghost use Rattle.asg_admit.specs.Reduced.{IsReduced};
 ghost use Rattle.asg_admit.specs.declared.dual_squares.Replayed.TheVariants.{Applied, Refused, Full};
 ghost use Rattle.asg_monoids.specs.BoundedSums.{bounded_sums, bounded_difference, plain_word};
@@ -9,7 +9,7 @@ ghost use Rattle.asg_check.specs.Replays.{IsAdmittedFrom, IsReplayed};
 ghost use Rattle.asg_check.specs.SumReplays.{StopsAt};
 
 use crate::NoMemory;
-use crate::replays::read_steps;
+use crate::replays::{make_room, read_steps};
 use asg_admit::{DualSquare, Replayed};
 use asg_monoids::Bounded;
 use asg_order::Word;
@@ -25,17 +25,6 @@ pub(crate) enum Stop {
     Bad(usize),
     // Those before this place are applied, and sums come near the top.
     Full(usize),
-}
-
-// Lets the list have more places than the count.
-fn make_room(room: &mut Vec<u128>, count: usize) -> Result<(), NoMemory>
-    requires { count < 2 ^ 63 }
-    ensures { IfOk result (λ _. count < length room.new.items) }
-{
-    if room.len() > count {
-        return Ok(());
-    }
-    room.resize(count + 1, 0)
 }
 
 // Applies a phase where it is admitted and there is room for its sums, and tells what came of it. Its
@@ -58,7 +47,7 @@ fn replay_sums(
     if !read_steps(m, phase.steps(), values)? {
         return Ok(Replayed::Refused);
     }
-    make_room(room, values.len())?;
+    make_room(m, room, values.len())?;
     Ok(dual.replay(
         m,
         values.as_slice(),

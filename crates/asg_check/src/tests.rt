@@ -1,31 +1,25 @@
 //! Documents over a small instance, judged.
 
-ghost use Rattle.std.specs.Prelude.{◌≡◌};
-
 use crate::{Form, NoMemory, Verdict, check};
 use asg_doc::{Answer, Cells, Claim, Command, Document};
 use asg_model::Objective::{Balanced, Bottleneck, BottleneckMax, Capped, Lex, Sum};
 use asg_model::limits::MOST_SIDE;
-use asg_model::{Column, Instance, Objective, Place, Row, Value, negative};
+use asg_model::{Instance, Objective, Place, Value, negative};
 use asg_proof::{Ids, Proof};
+use asg_samples::{Fault, Sample};
 use std::alloc::Global;
 use std::test::Fail;
 
-// A column of capacity 1.
-fn column(id: u32, usable: bool) -> Column
-    ensures { result ≡ record { id = id; cap = 1; usable = usable } }
-{
-    Column { id, cap: 1, usable }
-}
-
 // The row `3 1`; its columns are open or closed.
-pub(crate) fn instance(alloc: Global, usable: bool) -> Result<Instance, NoMemory> {
-    let (id, active) = (1, true);
-    let rows = vec![in alloc; Row { id, active }]?;
-    let columns = vec![in alloc; column(1, usable), column(2, usable)]?;
-    let costs = vec![in alloc; 3, 1]?;
-    let seconds = Vec::new(alloc);
-    Ok(Instance::of_table(rows, columns, costs, seconds, Place::All))
+pub(crate) fn instance(alloc: Global, usable: bool) -> Result<Instance, Fault> {
+    let sample = Sample {
+        rows: &[true],
+        columns: &[(1, usable), (1, usable)],
+        firsts: &[3, 1],
+        seconds: &[],
+        place: Place::All,
+    };
+    sample.instance(alloc)
 }
 
 // The verdict on a document, for an instance that may be asked about.

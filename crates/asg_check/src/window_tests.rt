@@ -1,7 +1,7 @@
 //! Documents with windows, judged.
 
-use crate::phase_tests::{instance, verdict};
-use crate::tests::{instance as row_instance, judged_document};
+use crate::phase_tests::{SQUARE, verdict};
+use crate::tests::{instance, judged_document};
 use crate::{NoMemory, Verdict};
 use asg_doc::{DocRefusal, read};
 use asg_model::Objective::{Balanced, Bottleneck, Sum};
@@ -155,7 +155,7 @@ fn judged(
 #[test]
 fn judges_windows(rt: HostRuntime) -> Result<(), Fail> {
     let alloc = rt.alloc();
-    let inst = instance(alloc)?;
+    let inst = SQUARE.instance(alloc)?;
     for (asked, head, proof, reason, place) in DOCUMENTS {
         let text = text(alloc, head, proof)?;
         let found = judged(alloc, &inst, asked, text.as_slice())?;
@@ -167,7 +167,7 @@ fn judges_windows(rt: HostRuntime) -> Result<(), Fail> {
 #[test]
 fn judges_windows_for_no_spread(rt: HostRuntime) -> Result<(), Fail> {
     let alloc = rt.alloc();
-    let inst = row_instance(alloc, true)?;
+    let inst = instance(alloc, true)?;
     for (text, reason, place) in ROWS {
         let found = judged(alloc, &inst, Balanced, text)?;
         assert_eq!(rt; found, Some(verdict(reason, place)));

@@ -1,13 +1,12 @@
+use Rattle.std.proofs.Common.{arith}
 use Rattle.std.proofs.lemmas.Result.{IfOk-weaker}
-use Rattle.asg_check.proofs.LiveCosts.{lies_within}
-use Rattle.asg_check.proofs.PhaseTold.{told_peaks, told_times}
+use Rattle.asg_monoids.specs.Entered.{cost_reach}
+use Rattle.asg_proof.specs.laws.LiveCosts.{lies_within}
+use Rattle.asg_check.proofs.PhaseTold.{told_peaks}
 use Rattle.asg_check.proofs.phase_verdicts.phases_verdict.Goals as goal
 
 pub replayed_verdict-requires-clause-near : goal.replayed_verdict-requires-clause-near
-replayed_verdict-requires-clause-near c = lies_within c.args.inst.now c.rows.ensures.instance
-
-pub replayed_verdict-requires-in-TimeCost-clause-near : goal.replayed_verdict-requires-in-TimeCost-clause-near
-replayed_verdict-requires-in-TimeCost-clause-near c = lies_within c.args.inst.now c.rows.ensures.instance
+replayed_verdict-requires-clause-near c = lies_within cost_reach c.args.inst.now (omega arith) c.rows.ensures.instance
 
 pub returns-in-Bottleneck : goal.returns-in-Bottleneck
 returns-in-Bottleneck c =
@@ -15,10 +14,3 @@ returns-in-Bottleneck c =
     (λ verdict told.
     told_peaks c.args.inst.now c.args.choice.now c.args.phases.now verdict c.args.objective c.of.result.objective c.of.result.is_peak c.of.ensures told)
     c.replayed_verdict.ensures
-
-pub returns-in-TimeCost : goal.returns-in-TimeCost
-returns-in-TimeCost c =
-    IfOk-weaker c.replayed_verdict-in-TimeCost.result _ _
-    (λ verdict told.
-    told_times c.args.inst.now c.args.choice.now c.args.phases.now verdict c.args.objective c.new.result.monoid.inner.top c.in-TimeCost.is c.new.ensures told)
-    c.replayed_verdict-in-TimeCost.ensures

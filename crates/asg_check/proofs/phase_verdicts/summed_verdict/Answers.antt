@@ -1,20 +1,21 @@
-use Rattle.std.proofs.Common.{sym, subst}
+use Rattle.std.proofs.Common.{sym, subst, arith}
 use Rattle.asg_monoids.specs.BoundedSums.{bounded_sums, bounded_difference, plain_word}
 use Rattle.asg_monoids.specs.Entered.{sum_entered}
 use Rattle.asg_order.specs.Monoid.{IsValue}
 use Rattle.asg_square.specs.Grid.{cell_at}
 use Rattle.asg_admit.specs.Reduced.{IsReduced}
+use Rattle.asg_monoids.specs.Entered.{cost_reach}
+use Rattle.asg_proof.specs.laws.LiveCosts.{lies_within}
 use Rattle.asg_check.specs.Reasons.{Tells, phase_reasons}
 use Rattle.asg_check.specs.Replays.{StandsFrom}
-use Rattle.asg_check.proofs.LiveCosts.{lies_within}
 use Rattle.asg_check.proofs.PhaseTold.{told_over, told_sums}
 use Rattle.asg_check.proofs.phase_verdicts.summed_verdict.Goals as goal
 
 pub start-requires-clause-near : goal.start-requires-clause-near
-start-requires-clause-near c = lies_within c.args.inst.now c.requires.instance
+start-requires-clause-near c = lies_within cost_reach c.args.inst.now (omega arith) c.requires.instance
 
 pub chosen_fold-fold-requires-clause-near : goal.chosen_fold-fold-requires-clause-near
-chosen_fold-fold-requires-clause-near c = lies_within c.args.inst.now c.requires.instance
+chosen_fold-fold-requires-clause-near c = lies_within cost_reach c.args.inst.now (omega arith) c.requires.instance
 
 pub sum_verdict-requires-clause-reduced : goal.sum_verdict-requires-clause-reduced
 sum_verdict-requires-clause-reduced c = subst (λ n. IsReduced (bounded_sums n.top) c.in_ok-start.start) (sym c.monoid.ensures) c.in_ok-start.ensures.reduced

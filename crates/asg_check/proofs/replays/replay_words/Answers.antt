@@ -22,9 +22,9 @@ returns-clause-applied g c =
       first = record {
         phase = phase_of c.as_slice.result.now c.enters.result.now c.leaves.result.now;
         written = phase-words word_of _ _ _ c.args.phase.now (ap (λ xs. map word_of xs) c.as_slice.ensures.value ∙ spelled ∙ c.steps.ensures) c.enters.ensures.enters c.leaves.ensures.leaves;
-        admitted = c.replay.ensures.admitted.0 is;
+        admitted = c.replay_within.ensures.admitted.0 is;
       };
-      leads = c.replay.ensures.applied is;
+      leads = c.replay_within.ensures.applied is;
     }
 
 pub returns-clause-refused : goal.returns-clause-refused
@@ -38,4 +38,4 @@ returns-clause-refused g c =
     refused-words M (g.M.DMonoid.difference m) word_of (g.M.Written.value_of m) (g.met.M.Written.word_laws m) c.args.reduced.now.now.side (cell_at c.args.reduced.now.now) c.args.phase.now phase
     (subst (All (IsValue M)) (sym c.as_slice.ensures.value) (c.in_ok-read_steps.ensures.values c.if-not-branch.false))
     (phase-words word_of _ _ _ c.args.phase.now (ap (λ xs. map word_of xs) c.as_slice.ensures.value ∙ spelled ∙ c.steps.ensures) c.enters.ensures.enters c.leaves.ensures.leaves)
-    (λ admitted. false≢true (sym off ∙ c.replay.ensures.admitted.1 admitted))
+    (λ admitted. false≢true (sym off ∙ c.replay_within.ensures.admitted.1 admitted))

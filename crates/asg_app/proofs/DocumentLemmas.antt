@@ -46,6 +46,7 @@ use Rattle.asg_check.specs.TrueClaim.{ClaimsTruly}
 use Rattle.asg_check.specs.declared.verdicts.Form.{Form}
 use Rattle.asg_check.specs.declared.verdicts.Form.TheVariants.{Solve}
 use Rattle.asg_app.specs.DocumentParts.{KeepsRanges}
+use Rattle.asg_window.specs.Costs.{most_costs}
 use Rattle.asg_app.specs.WrittenDocument.{IsBestDocument, IsNoneDocument, IsPromisedProof}
 use Rattle.asg_app.proofs.CellCounts.{length-cells_by_id-le, length-cells_by_id-some}
 use Rattle.asg_app.proofs.CellIds.{cell_ids}
@@ -158,10 +159,17 @@ few_phases BottleneckMax X words promised = absurd promised
 few_phases Balanced X words promised = absurd promised
 few_phases Lex X words promised = absurd promised
 
--- windows that prove a spread can be written, where they can be counted
-HaveWindowText-proved : IsHallShort → (objective : Objective) (X : Problem) (value : Value) (windows : List Window) → ProvesWindows objective X value windows → AreWindows windows → length windows < 2 ^ 32 → HaveWindowText windows
+-- windows that are promised are few
+few_windows : (objective : Objective) (X : Problem) (windows : List Window) → IsPromisedProof objective X (Windows windows) → length windows ≤ most_costs
+few_windows Balanced X windows promised = promised
+few_windows Bottleneck X windows promised = absurd promised
+few_windows BottleneckMax X windows promised = absurd promised
+few_windows _ X windows promised = absurd promised
+
+-- windows that prove a spread can be written, where they are few
+HaveWindowText-proved : IsHallShort → (objective : Objective) (X : Problem) (value : Value) (windows : List Window) → ProvesWindows objective X value windows → AreWindows windows → length windows ≤ most_costs → HaveWindowText windows
 HaveWindowText-proved short Balanced X (One d) windows proves kept few = record {
-  few = few;
+  few = omega (arith, few);
   each = λ k w below.
       let window = get_or windows k w in
       let keeps = kept k w below in
@@ -181,7 +189,7 @@ HasProofText-promised short objective X choice (Phases words) word within proves
 HasProofText-promised short objective X choice (Below rows) word within proves promised kept =
     AreRows-below short objective X (choice_value objective X choice) rows proves kept
 HasProofText-promised short objective X choice (Windows windows) word within proves promised kept =
-    HaveWindowText-proved short objective X (choice_value objective X choice) windows proves kept.0 kept.1
+    HaveWindowText-proved short objective X (choice_value objective X choice) windows proves kept (few_windows objective X windows promised)
 
 -- the document of a claim
 abbrev made : Objective → Claim → Document

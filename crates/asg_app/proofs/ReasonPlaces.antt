@@ -1,20 +1,20 @@
 -- The place of a reason against a document that has a text fits its type: it is 0, the number of a phase or
 -- a window, or a cost of an instance.
-use Rattle.std.proofs.Common.{◌≡◌, ◌==◌, ◌&&◌, cond, ℕ, suc, ◌<◌, ◌^◌, Bool, true, false, List, [], ◌∷◌, length, Option, Some, None, inl, inr, sym, subst, rules, arith}
-use Rattle.std.specs.Prelude.{All, FitsSigned, IfSome, ℤ, pos}
+use Rattle.std.proofs.Common.{◌≡◌, ℕ, suc, ◌<◌, ◌^◌, List, [], ◌∷◌, length, Some, inl, inr, sym, subst, rules, arith}
+use Rattle.std.specs.Prelude.{FitsSigned, IfSome, ℤ, pos}
 use Rattle.std.specs.Int.{w64}
 use Rattle.std.proofs.lemmas.Int.{fits_signed_from_abs}
-use Rattle.std.proofs.lemmas.List.Elements.{All-head, All-tail}
 use Rattle.std.proofs.lemmas.Option.{slice_get_within}
 use Rattle.asg_model.specs.declared.objectives.Objective.{Objective}
 use Rattle.asg_model.specs.declared.objectives.Value.{Value}
 use Rattle.asg_model.specs.declared.objectives.Value.TheVariants.{One, Two, Many}
 use Rattle.asg_model.specs.declared.parts.Cost.{Cost}
 use Rattle.asg_model.specs.Instances.{IsInstance, IsCostInRange}
-use Rattle.asg_model.specs.Live.{cost_at, is_active, is_open, live_at}
+use Rattle.asg_model.specs.Live.{live_at}
 use Rattle.asg_model.specs.Problem.{Problem}
 use Rattle.asg_proof.specs.declared.outcomes.Proof.TheVariants.{Below, Phases, Windows}
 use Rattle.asg_proof.specs.declared.windows.Window.{Window}
+use Rattle.asg_proof.specs.laws.LiveCosts.{live_in_range}
 use Rattle.asg_doc.specs.declared.documents.Claim.{Claim}
 use Rattle.asg_doc.specs.declared.documents.Claim.TheVariants.{Best, Nothing}
 use Rattle.asg_doc.specs.declared.documents.Document.{Document}
@@ -35,25 +35,10 @@ number_fits : (n count : ℕ) → n < count → count < 2 ^ 32 → FitsSigned w6
 number_fits n count below few = fits_signed_from_abs w64 (pos (suc n)) (omega (arith, below, few))
 
 -- the first part of a live cost
-part_fits : (cells : List ((ℕ × ℕ) × Cost)) (r c : ℕ) → All (λ cell. IsCostInRange cell.1) cells → IfSome (cost_at cells r c) (λ cost. FitsSigned w64 cost.a)
-part_fits [] r c all = tt
-part_fits (cell ∷ cells) r c all =
-    by_test ((cell.0.0 == r) && (cell.0.1 == c)) (cost_at cells r c) (part_fits cells r c (All-tail (λ cell. IsCostInRange cell.1) cell cells all))
-  where
-    by_test : (test : Bool) (rest : Option Cost) → IfSome rest (λ cost. FitsSigned w64 cost.a) → IfSome (cond test (Some cell.1) rest) (λ cost. FitsSigned w64 cost.a)
-    by_test true rest others =
-        let range = All-head (λ cell. IsCostInRange cell.1) cell cells all in
-        fits_signed_from_abs w64 cell.1.a (omega (arith, range.a_in_range))
-    by_test false rest others = others
-
 live_fits : (X : Problem) → IsInstance X → (r c : ℕ) (cost : Cost) → live_at X r c ≡ Some cost → FitsSigned w64 cost.a
 live_fits X instance r c cost live =
-    subst (λ o. IfSome o (λ cost. FitsSigned w64 cost.a)) live
-    (by_test (is_active X r && is_open X c) (cost_at X.cells r c) (part_fits X.cells r c instance.well_formed.costs))
-  where
-    by_test : (test : Bool) (o : Option Cost) → IfSome o (λ cost. FitsSigned w64 cost.a) → IfSome (cond test o None) (λ cost. FitsSigned w64 cost.a)
-    by_test true o fits = fits
-    by_test false o fits = tt
+    let range : IsCostInRange cost = subst (λ o. IfSome o IsCostInRange) live (live_in_range X instance r c) in
+    fits_signed_from_abs w64 cost.a (omega (arith, range.a_in_range))
 
 -- the place of a bad phase
 bad_fits : (objective own : Objective) (X : Problem) (claim : Claim) (place : ℤ) → HasClaimText own claim → HasBadPhase objective X claim (At place) → FitsSigned w64 place

@@ -1,5 +1,5 @@
 -- The parts of a document that claims a best choice.
-use Rattle.std.specs.Prelude.{ℕ, ◌<◌, ◌^◌, List, length, Option, option_and_then, slice_get}
+use Rattle.std.specs.Prelude.{ℕ, List, Option, option_and_then, slice_get}
 use Rattle.asg_model.specs.Problem.{Problem}
 use Rattle.asg_proof.specs.declared.outcomes.Proof.{Proof}
 use Rattle.asg_proof.specs.declared.outcomes.Proof.TheVariants.{Below, Phases, Windows}
@@ -14,8 +14,8 @@ cell_at X f r = option_and_then (λ row.
     option_and_then (λ chosen. cell_by_id X (row, chosen)) (slice_get f r)) (slice_get X.rows r)
 
 -- the ids of a threshold proof and of windows, and the steps at which rows enter and columns leave, have
--- 32 bits, and so has the number of windows; their costs have 64
+-- 32 bits; the costs of windows have 64
 abbrev pub KeepsRanges : Proof → Type 0
 KeepsRanges (Phases words) = ArePhases words
 KeepsRanges (Below rows) = AreIds rows
-KeepsRanges (Windows windows) = AreWindows windows × (length windows < 2 ^ 32)
+KeepsRanges (Windows windows) = AreWindows windows

@@ -7,9 +7,10 @@ use Rattle.asg_model.specs.Shapes.{square_side}
 use Rattle.asg_proof.specs.declared.outcomes.Outcome.{Outcome}
 use Rattle.asg_proof.specs.declared.outcomes.Outcome.TheVariants as outcomes
 use Rattle.asg_proof.specs.declared.outcomes.Proof.{Proof}
-use Rattle.asg_proof.specs.declared.outcomes.Proof.TheVariants.{Windows}
 use Rattle.asg_objectives.specs.FoldOutcomes.{HasFewPhases}
 use Rattle.asg_thresh.specs.Objectives.{IsThresholdProof}
+use Rattle.asg_window.specs.Costs.{most_costs}
+use Rattle.asg_window.specs.WindowProofs.{AreFewWindows}
 use Rattle.asg_doc.specs.declared.documents.Answer.{Answer}
 use Rattle.asg_doc.specs.declared.documents.Claim.{Claim}
 use Rattle.asg_doc.specs.declared.documents.Claim.TheVariants.{Best, Nothing}
@@ -19,18 +20,13 @@ use Rattle.asg_check.specs.declared.verdicts.Form.{Form}
 use Rattle.asg_check.specs.Certifies.{Certifies}
 use Rattle.asg_check.specs.TrueClaim.{ClaimsTruly}
 
--- the proof is a list of windows
-abbrev pub IsWindowsProof : Proof → Type 0
-IsWindowsProof (Windows windows) = Unit {0}
-IsWindowsProof _ = ⊥
-
 -- the proof that is promised for an objective and an instance: a threshold proof for the two
--- bottleneck objectives, windows for `balanced`, and for the other algebraic ones at most as many
--- phases as the side of the instance's square, each of at most as many steps
+-- bottleneck objectives, at most 20,000 windows for `balanced`, and for the other algebraic ones at
+-- most as many phases as the side of the instance's square, each of at most as many steps
 abbrev pub IsPromisedProof : Objective → Problem → Proof → Type 0
 IsPromisedProof Bottleneck X proof = IsThresholdProof proof
 IsPromisedProof BottleneckMax X proof = IsThresholdProof proof
-IsPromisedProof Balanced X proof = IsWindowsProof proof
+IsPromisedProof Balanced X proof = AreFewWindows most_costs proof
 IsPromisedProof Lex X proof = ⊥
 IsPromisedProof _ X proof = HasFewPhases (square_side X) proof
 

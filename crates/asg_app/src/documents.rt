@@ -19,10 +19,7 @@ use asg_doc::{Answer, Cells, Claim, Command, Document};
 use asg_model::laws::hall_rows_law;
 use asg_model::{Choice, Instance, NoMemory, Objective, value};
 use asg_proof::{Ids, Proof};
-use std::alloc::{AllocError, Global};
-
-// The greatest number of windows that a document counts.
-const MOST_WINDOWS: usize = 4_294_967_295;
+use std::alloc::Global;
 
 // The id of the column at a place, where there is one.
 fn column_id(inst: &Instance, place: u32) -> Option<u32>
@@ -82,27 +79,15 @@ fn answer(
     Ok(Answer { value, cells })
 }
 
-// What the parts of a proof keep. The error is want of memory: a document counts windows in 32 bits,
-// and more of them are taken as more than there is memory for.
-fn keeps_ranges(proof: &Proof) -> Result<(), NoMemory>
-    ensures { IfOk result (λ _. KeepsRanges proof.now) }
+// Tells the proof what the parts of a proof keep, as their types say.
+fn tell_ranges(proof: &Proof)
+    ensures { KeepsRanges proof.now }
 {
-    match proof {
-        Proof::Phases(phases) => {
-            let _count = phases.len();
-            Ok(())
-        }
-        Proof::Below(rows) => {
-            let _count = rows.len();
-            Ok(())
-        }
-        Proof::Windows(windows) => {
-            if windows.len() > MOST_WINDOWS {
-                return Err(AllocError);
-            }
-            Ok(())
-        }
-    }
+    let _count = match proof {
+        Proof::Phases(phases) => phases.len(),
+        Proof::Below(rows) => rows.len(),
+        Proof::Windows(windows) => windows.len(),
+    };
 }
 
 // The document that claims a choice as best, with its proof, which is one that is promised. The error
@@ -123,7 +108,7 @@ pub(crate) fn best_document(
 {
     soundness_law();
     hall_rows_law();
-    keeps_ranges(&proof)?;
+    tell_ranges(&proof);
     let _rows = inst.rows();
     let answer = answer(alloc, objective, inst, choice)?;
     Ok(Document {

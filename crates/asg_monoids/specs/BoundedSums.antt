@@ -1,4 +1,4 @@
-use Rattle.std.specs.Prelude.{ℕ, ◌+◌, ◌-◌, min, nat_le, ◌==◌, ◌&&◌, if◌then◌else◌, Option, Some, None}
+use Rattle.std.specs.Prelude.{ℕ, ◌+◌, ◌-◌, ◌^◌, min, nat_le, ◌==◌, ◌&&◌, if◌then◌else◌, Option, Some, None}
 use Rattle.asg_order.specs.declared.words.Word.{Word}
 use Rattle.asg_order.specs.Monoid.{Monoid}
 
@@ -22,3 +22,7 @@ plain_word x = record { grade = 0; amount = x }
 -- the number up to top that has the word
 abbrev pub bounded_value : ℕ → Word → Option ℕ
 bounded_value top w = if (w.grade == 0) && nat_le w.amount top then Some w.amount else None
+
+-- where sums in 64 bits stop
+abbrev pub narrow_top : ℕ
+narrow_top = 2 ^ 62

@@ -15,6 +15,7 @@
 mod grades;
 pub mod laws;
 mod maxima;
+mod narrow_sums;
 mod peak_kinds;
 mod ranks;
 mod shifts;
@@ -24,6 +25,7 @@ mod time_kinds;
 
 pub use grades::Graded;
 pub use maxima::Greatest;
+pub use narrow_sums::NarrowSums;
 pub use peak_kinds::PeakKind;
 pub use ranks::compare_ranks;
 pub use sum_kinds::SumKind;

@@ -24,8 +24,8 @@ pub near_b : (objective : Objective) (u : List Cost) → All (MayEnter objective
 near_b objective u may = All-weaker (MayEnter objective cost_reach) (λ cost. unsigned_abs cost.b ≤ cost_reach) (λ cost m. m.within.b_within) u may
 
 -- below the top a bounded sum is the sum
-pub fold_is : (enter : Cost → ℕ) (u : List Cost) → sum_by enter u < 2 ^ 120 → costs_fold (bounded_sums (2 ^ 120)) enter u ≡ sum_by enter u
-fold_is enter u lt = omega (arith, bounded_fold (2 ^ 120) (map enter u), sum-map enter u)
+pub fold_is : (top : ℕ) (enter : Cost → ℕ) (u : List Cost) → sum_by enter u < top → costs_fold (bounded_sums top) enter u ≡ sum_by enter u
+fold_is top enter u lt = omega (arith, bounded_fold top (map enter u), sum-map enter u)
 
 -- of numbers, one is strictly less exactly where it is less
 less_is : (top x y p q : ℕ) → x ≡ p → y ≡ q → IsLess (bounded_sums top) x y ↔ (p < q)
@@ -35,7 +35,7 @@ less_is top x y p q ex ey = (λ h. grind (arith, nat_tests), λ h. grind (arith,
 by_sums : {Better : Type 0} (enter : Cost → ℕ) (u v : List Cost) → sum_by enter u < 2 ^ 120 → sum_by enter v < 2 ^ 120 → Better ↔ (sum_by enter u < sum_by enter v) → Better ↔ IsLess (bounded_sums (2 ^ 120)) (costs_fold (bounded_sums (2 ^ 120)) enter u) (costs_fold (bounded_sums (2 ^ 120)) enter v)
 by_sums enter u v lu lv better =
     let M = bounded_sums (2 ^ 120) in
-    let less = less_is (2 ^ 120) (costs_fold M enter u) (costs_fold M enter v) (sum_by enter u) (sum_by enter v) (fold_is enter u lu) (fold_is enter v lv) in
+    let less = less_is (2 ^ 120) (costs_fold M enter u) (costs_fold M enter v) (sum_by enter u) (sum_by enter v) (fold_is (2 ^ 120) enter u lu) (fold_is (2 ^ 120) enter v lv) in
     (λ b. less.1 (better.0 b), λ l. better.1 (less.0 l))
 
 sum_order : KeepsOrder (bounded_sums (2 ^ 120)) (sum_entered Sum) Sum cost_reach

@@ -7,5 +7,6 @@ pub mod WindowsAreBest
 pub mod BestLaw
 pub mod Raised
 pub mod RaisedInstances
+pub mod Tops
 pub mod WorkedPhase
 pub mod WorkedWindows

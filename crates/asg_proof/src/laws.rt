@@ -1,6 +1,6 @@
 //! Laws over the definitions: each is the contract of a function that only calls laws.
 
-ghost use Rattle.std.specs.Prelude.{◌≡◌, ◌↔◌, ℕ, Bool, List, Option};
+ghost use Rattle.std.specs.Prelude.{◌≡◌, ◌↔◌, ◌≤◌, ◌<◌, ℕ, Bool, List, Option};
 ghost use Rattle.asg_model.specs.declared.objectives.Objective.{Objective};
 ghost use Rattle.asg_model.specs.declared.parts.Cost.{Cost};
 ghost use Rattle.asg_model.specs.Best.{IsBest};
@@ -9,10 +9,13 @@ ghost use Rattle.asg_model.specs.Problem.{Problem};
 ghost use Rattle.asg_model.specs.Refused.{PassesNegative};
 ghost use Rattle.asg_model.specs.Shapes.{square_side};
 ghost use Rattle.asg_model.specs.ValidChoice.{IsValid};
+ghost use Rattle.asg_monoids.specs.BoundedSums.{bounded_sums, bounded_difference};
+ghost use Rattle.asg_order.specs.declared.words.Word.{Word};
 ghost use Rattle.asg_order.specs.Bridge.{choice_fold};
 ghost use Rattle.asg_order.specs.Monoid.{IsValue, IsLe, IsLess};
 ghost use Rattle.asg_proof.specs.declared.outcomes.Outcome.TheVariants.{Best, Nothing};
 ghost use Rattle.asg_proof.specs.declared.outcomes.Proof.{Proof};
+ghost use Rattle.asg_proof.specs.FoldProofs.{ProvesFold};
 ghost use Rattle.asg_proof.specs.Outcomes.{IsOutcome};
 ghost use Rattle.asg_proof.specs.PhaseProofs.{ProvesIndex, EntersValues, IsRaised};
 ghost use Rattle.asg_proof.specs.Phases.{PhaseOf, AreAdmittedPhases, after_phases, index_of};
@@ -180,3 +183,25 @@ pub fn raised_law<M: DMonoid>(m: &M)
 {
     differences(m);
 }
+
+/// The tops law: phases that are admitted in turn where sums stop at a top are admitted where they stop
+/// at a greater one, from the same square; and an index below the lesser top stays. So what they prove
+/// of an instance by the lesser top they prove by the greater one.
+pub fn tops_law()
+    ensures admitted { (low high side : ℕ) (phases : List (PhaseOf ℕ)) (square : ℕ → ℕ → Option ℕ)
+        → low ≤ high
+        → AreAdmittedPhases (bounded_sums low) bounded_difference side phases square
+        → AreAdmittedPhases (bounded_sums high) bounded_difference side phases square }
+    ensures index { (low high : ℕ) (phases : List (PhaseOf ℕ))
+        → low ≤ high
+        → index_of (bounded_sums low) phases < low
+        → index_of (bounded_sums high) phases ≡ index_of (bounded_sums low) phases }
+    ensures folds { (low high : ℕ) (word_of : ℕ → Word) (enter : Cost → ℕ) (X : Problem)
+        (choice : List (Option ℕ)) (words : List (PhaseOf Word))
+        → low ≤ high
+        → choice_fold (bounded_sums low) enter X choice < low
+        → choice_fold (bounded_sums high) enter X choice
+        ≡ choice_fold (bounded_sums low) enter X choice
+        → ProvesFold (bounded_sums low) bounded_difference word_of enter X choice words
+        → ProvesFold (bounded_sums high) bounded_difference word_of enter X choice words }
+{}

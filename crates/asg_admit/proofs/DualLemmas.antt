@@ -1,5 +1,5 @@
 -- The square that dual variables make.
-use Rattle.std.proofs.Common.{◌≡◌, ℕ, zero, ◌+◌, ◌-◌, ◌*◌, ◌/◌, ◌%◌, ◌^◌, ◌<◌, ◌≤◌, cond, List, length, get_or, refl, sym, ◌∙◌, ap, subst, arith, ⊎_elim}
+use Rattle.std.proofs.Common.{◌≡◌, ℕ, zero, ◌+◌, ◌-◌, ◌*◌, ◌/◌, ◌%◌, ◌<◌, ◌≤◌, cond, List, length, get_or, refl, sym, ◌∙◌, ap, subst, arith, ⊎_elim}
 use Rattle.std.specs.Prelude.{Option, Some, None, slice_index}
 use Rattle.std.specs.Option.{option_map}
 use Rattle.std.proofs.lemmas.Bool.{cases_lt, lt-ltb}
@@ -96,15 +96,15 @@ kept_within n a c h k =
     ∙ add-mod_left n (a - c)
     ∙ mod-eq_of_lt (let few : a - c < n = omega (arith, h) in few)
 
--- where nothing passes 128 bits, the number is what is left in them
-pub bits_kept : (row column x : ℕ) → column ≤ x + row → x + row < 2 ^ 128 → dual_bits row column x ≡ dual_value row column x
-bits_kept row column x h k = kept_within (2 ^ 128) (x + row) column k h
+-- where nothing passes the width, the number is what is left below it
+pub bits_kept : (width row column x : ℕ) → column ≤ x + row → x + row < width → dual_bits width row column x ≡ dual_value row column x
+bits_kept width row column x h k = kept_within width (x + row) column k h
 
-pub length_of_values : (values columns : List ℕ) (row : ℕ) → length (dual_values values columns row) ≡ length values
-length_of_values values columns row = length-map-range_with_len (λ k. dual_bits row (slice_index columns k) (slice_index values k)) 0 (length values)
+pub length_of_values : (width : ℕ) (values columns : List ℕ) (row : ℕ) → length (dual_values width values columns row) ≡ length values
+length_of_values width values columns row = length-map-range_with_len (λ k. dual_bits width row (slice_index columns k) (slice_index values k)) 0 (length values)
 
-pub dual_values_at : (values columns : List ℕ) (row k : ℕ) → k < length values → slice_index (dual_values values columns row) k ≡ dual_bits row (slice_index columns k) (slice_index values k)
-dual_values_at values columns row k h = get_or-map-range_with_len (λ i. dual_bits row (slice_index columns i) (slice_index values i)) 0 (length values) k k 0 h (omega arith)
+pub dual_values_at : (width : ℕ) (values columns : List ℕ) (row k : ℕ) → k < length values → slice_index (dual_values width values columns row) k ≡ dual_bits width row (slice_index columns k) (slice_index values k)
+dual_values_at width values columns row k h = get_or-map-range_with_len (λ i. dual_bits width row (slice_index columns i) (slice_index values i)) 0 (length values) k k 0 h (omega arith)
 
 -- ---- equal squares
 

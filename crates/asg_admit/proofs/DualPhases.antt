@@ -1,5 +1,5 @@
 -- Phases by dual variables.
-use Rattle.std.proofs.Common.{◌≡◌, ℕ, suc, ◌+◌, ◌-◌, ◌^◌, ◌<◌, ◌≤◌, min, List, length, get_or, replicate, inl, inr, refl, sym, ◌∙◌, ap, subst, arith, ⊎_elim}
+use Rattle.std.proofs.Common.{◌≡◌, ℕ, suc, ◌+◌, ◌-◌, ◌<◌, ◌≤◌, min, List, length, get_or, replicate, inl, inr, refl, sym, ◌∙◌, ap, subst, arith, ⊎_elim}
 use Rattle.std.specs.Prelude.{All, Option, Some, None, IsSome, is_some, slice_get, slice_index}
 use Rattle.std.specs.Option.{option_map}
 use Rattle.std.proofs.lemmas.Bool.{cases_lt, le-leb, leb-true, false≢true}
@@ -19,7 +19,7 @@ use Rattle.asg_admit.specs.laws.SettledCells.{after_phase-cell}
 use Rattle.asg_admit.proofs.SumLemmas.{fold_is, settled_is, allowed_fits, fits_allowed, before_more, before_rises}
 use Rattle.asg_admit.proofs.DualLemmas.{present_within, same_cells, dual_is_grid, dual_cell_at, mapped_from, mapped_twice, bits_kept, dual_values_at, length_of_values}
 
-module _ (Q : Grid ℕ) (rows columns : List ℕ) (index greatest : ℕ) (duals : AreDuals Q rows columns index greatest) where
+module _ {bound : ℕ} (Q : Grid ℕ) (rows columns : List ℕ) (index greatest : ℕ) (duals : AreDuals bound Q rows columns index greatest) where
   abbrev now : Grid ℕ
   now = dual_grid Q rows columns
 
@@ -101,14 +101,14 @@ module _ (Q : Grid ℕ) (rows columns : List ℕ) (index greatest : ℕ) (duals 
     pub steps_are_values : All (IsValue (bounded_sums top)) steps
     steps_are_values t d h = subst (λ x. IsValue (bounded_sums top) x) (get_or_default steps t 0 d h) (le-leb (slice_index steps t) top (steps_few t h))
 
-    module _ (allows : AllowsRows (bounded_sums top) bounded_difference (phase_of steps enters leaves) now) (few : top ≤ 2 ^ 120) (rows′ columns′ : List ℕ) (raised_rows : RaisesDuals steps enters rows rows′) (raised_columns : RaisesDuals steps leaves columns columns′) where
+    module _ (allows : AllowsRows (bounded_sums top) bounded_difference (phase_of steps enters leaves) now) (few : top ≤ bound) (rows′ columns′ : List ℕ) (raised_rows : RaisesDuals steps enters rows rows′) (raised_columns : RaisesDuals steps leaves columns columns′) where
       row_is : (r : ℕ) → r < Q.side → slice_index rows′ r ≡ slice_index rows r + sum_before steps (min (slice_index enters r) (length steps))
       row_is r h = raised_rows.each r (omega (arith, h, duals.row_count))
 
       column_is : (k : ℕ) → k < Q.side → slice_index columns′ k ≡ slice_index columns k + sum_before steps (min (slice_index leaves k) (length steps))
       column_is k h = raised_columns.each k (omega (arith, h, duals.column_count))
 
-      pub duals_after : AreDuals Q rows′ columns′ (index + sum) greatest
+      pub duals_after : AreDuals bound Q rows′ columns′ (index + sum) greatest
       duals_after = record {
         grid = duals.grid;
         row_count = raised_rows.count ∙ duals.row_count;
@@ -181,13 +181,13 @@ module _ (Q : Grid ℕ) (rows columns : List ℕ) (index greatest : ℕ) (duals 
       inr (r, k, dual_value (slice_index rows r) (slice_index columns k) greatest, dual_to r k greatest is, omega (arith, near, column)))
       duals.is_greatest.reached
 
-  pub duals_fit : (r k : ℕ) → FitsDuals (slice_index rows r) (slice_index columns k) (cell_at Q r k)
-  duals_fit r k = λ x is.
+  pub duals_fit : (width : ℕ) → bound + bound < width → (r k : ℕ) → FitsDuals width (slice_index rows r) (slice_index columns k) (cell_at Q r k)
+  duals_fit width few r k = λ x is.
       let within = present_within Q duals.grid r k x is in
       let least = duals.is_greatest.above r k x within.0 is in
       let row = duals.rows_within r within.0 in (
         duals.cells r k x is,
-        omega (arith, least, row, duals.few_index, duals.few_greatest),
+        omega (arith, few, least, row, duals.few_index, duals.few_greatest),
       )
 
   -- ---- reading
@@ -208,31 +208,31 @@ module _ (Q : Grid ℕ) (rows columns : List ℕ) (index greatest : ℕ) (duals 
         ∙ sym (ap is_some (dual_cell_at Q duals.grid rows columns r k) ∙ mapped_some (dual_value (slice_index rows r) (slice_index columns k)) (cell_at Q r k));
   }
 
-  pub dual_row_is : (r : ℕ) (values cs : List ℕ) (row : ℕ) (result : List ℕ) → AreValuesOf (cell_at Q r) Q.side values → cs ≡ columns → row ≡ slice_index rows r → result ≡ dual_values values cs row → AreValuesOf (cell_at now r) Q.side result
-  dual_row_is r values cs row result are columns_are row_is is = record {
+  pub dual_row_is : (width : ℕ) → bound + bound < width → (r : ℕ) (values cs : List ℕ) (row : ℕ) (result : List ℕ) → AreValuesOf (cell_at Q r) Q.side values → cs ≡ columns → row ≡ slice_index rows r → result ≡ dual_values width values cs row → AreValuesOf (cell_at now r) Q.side result
+  dual_row_is width few r values cs row result are columns_are row_is is = record {
     count = count;
     each = λ k some.
         let one = some_is (cell_at now r k) some in
         let from = dual_from r k one.0 one.1 in
         let x = from.0 in
         let within = present_within Q duals.grid r k x from.1 in
-        let fits = duals_fit r k x from.1 in
+        let fits = duals_fit width few r k x from.1 in
         let read : slice_get values k ≡ Some x = are.each k (ap is_some from.1) ∙ from.1 in
         let there : get_or values k 0 ≡ x = get_or_from_slice_get values k x 0 read in
         slice_get-get_or result k 0 (omega (arith, count, within.1))
         ∙ ap Some (
         ap (λ xs. get_or xs k 0) is
-        ∙ dual_values_at values cs row k (omega (arith, are.count, within.1))
-        ∙ ap (λ v. dual_bits row (slice_index cs k) v) there
-        ∙ ap (λ v. dual_bits v (slice_index cs k) x) row_is
-        ∙ ap (λ v. dual_bits (slice_index rows r) (slice_index v k) x) columns_are
-        ∙ bits_kept (slice_index rows r) (slice_index columns k) x fits.0 fits.1
+        ∙ dual_values_at width values cs row k (omega (arith, are.count, within.1))
+        ∙ ap (λ v. dual_bits width row (slice_index cs k) v) there
+        ∙ ap (λ v. dual_bits width v (slice_index cs k) x) row_is
+        ∙ ap (λ v. dual_bits width (slice_index rows r) (slice_index v k) x) columns_are
+        ∙ bits_kept width (slice_index rows r) (slice_index columns k) x fits.0 fits.1
         ∙ from.2)
         ∙ sym one.1;
   }
     where
       count : length result ≡ Q.side
-      count = ap length is ∙ length_of_values values cs row ∙ are.count
+      count = ap length is ∙ length_of_values width values cs row ∙ are.count
 
 -- ---- the start
 
@@ -261,7 +261,7 @@ module _ (Q : Grid ℕ) (grid : IsGrid Q) (n : ℕ) (side : n ≡ Q.side) (rows 
       (λ r k h l. dual_cell_at Q grid rows columns r k
       ∙ unchanged (dual_value (slice_index rows r) (slice_index columns k)) (cell_at Q r k) (λ x. omega (arith, row_zero r, column_zero k))))
 
-  pub duals_start : (top index greatest : ℕ) → top ≤ 2 ^ 120 → IsReduced (bounded_sums top) (record { now = Q; index = index }) → IsGreatest Q.side (cell_at Q) greatest → AreDuals Q rows columns index greatest
+  pub duals_start : {bound : ℕ} (top index greatest : ℕ) → top ≤ bound → IsReduced (bounded_sums top) (record { now = Q; index = index }) → IsGreatest Q.side (cell_at Q) greatest → AreDuals bound Q rows columns index greatest
   duals_start top index greatest few reduced so =
       let below : index ≤ top = leb-true index top reduced.index in
       record {

@@ -6,7 +6,9 @@ mod AdmissionLemmas
 mod GreatestLemmas
 mod SumLemmas
 mod DualLemmas
+mod LesserLemmas
 mod DualPhases
+mod NarrowPhases
 mod CountLemmas
 mod LeftLemmas
 mod WordBits

@@ -1,5 +1,5 @@
 -- A square of sums that is kept as it was, with a dual variable for each row and each column.
-use Rattle.std.specs.Prelude.{◌≡◌, ◌≢◌, ◌⊎◌, ℕ, ◌+◌, ◌-◌, ◌*◌, ◌/◌, ◌%◌, ◌^◌, ◌<◌, ◌≤◌, List, length, take, map, min, Option, Some, None, slice_index, slice_index_or}
+use Rattle.std.specs.Prelude.{◌≡◌, ◌≢◌, ◌⊎◌, ℕ, ◌+◌, ◌-◌, ◌*◌, ◌/◌, ◌%◌, ◌<◌, ◌≤◌, List, length, take, map, min, Option, Some, None, slice_index, slice_index_or}
 use Rattle.std.specs.List.{range_with_len, sum}
 use Rattle.std.specs.Option.{option_map}
 use Rattle.asg_square.specs.Grid.{Grid, IsGrid, cell_at}
@@ -37,8 +37,8 @@ pub record IsGreatestOf (n : ℕ) (row : ℕ → Option ℕ) (greatest : ℕ) : 
   pub reached : (greatest ≡ 0) ⊎ ((k : ℕ) × (row k ≡ Some greatest))
 
 -- what dual variables keep: there is one for each row and column, none is greater than the index, that of a
--- column is at most each present cell with that of the row more, and no number passes 2^120
-pub record AreDuals (Q : Grid ℕ) (rows columns : List ℕ) (index greatest : ℕ) : Type 0 where
+-- column is at most each present cell with that of the row more, and no number passes the bound
+pub record AreDuals (bound : ℕ) (Q : Grid ℕ) (rows columns : List ℕ) (index greatest : ℕ) : Type 0 where
   pub grid : IsGrid Q
   pub row_count : length rows ≡ Q.side
   pub column_count : length columns ≡ Q.side
@@ -46,8 +46,8 @@ pub record AreDuals (Q : Grid ℕ) (rows columns : List ℕ) (index greatest : �
   pub columns_within : (k : ℕ) → k < Q.side → slice_index columns k ≤ index
   pub cells : (r k x : ℕ) → cell_at Q r k ≡ Some x → slice_index columns k ≤ x + slice_index rows r
   pub is_greatest : IsGreatest Q.side (cell_at Q) greatest
-  pub few_index : index ≤ 2 ^ 120
-  pub few_greatest : greatest ≤ 2 ^ 120
+  pub few_index : index ≤ bound
+  pub few_greatest : greatest ≤ bound
 
 -- no sum reaches the top while steps are applied that add up to this: neither the index nor a present cell
 -- does with the sum more
@@ -76,19 +76,19 @@ pub record RaisesDuals (steps marks before after : List ℕ) : Type 0 where
   pub each : (i : ℕ) → i < length before
       → slice_index after i ≡ slice_index before i + sum_before steps (min (slice_index marks i) (length steps))
 
--- what is left in 128 bits of a number with one more and one less
-abbrev pub dual_bits : ℕ → ℕ → ℕ → ℕ
-dual_bits row column x = ((x + row) % 2 ^ 128 + (2 ^ 128 - column)) % 2 ^ 128
+-- what is left below a width, as 2^64 or 2^128, of a number with one more and one less
+abbrev pub dual_bits : ℕ → ℕ → ℕ → ℕ → ℕ
+dual_bits width row column x = ((x + row) % width + (width - column)) % width
 
 -- the values of a row by the dual variables of the row and of the columns
-abbrev pub dual_values : List ℕ → List ℕ → ℕ → List ℕ
-dual_values values columns row =
-    map (λ k. dual_bits row (slice_index columns k) (slice_index values k)) (range_with_len 0 (length values))
+abbrev pub dual_values : ℕ → List ℕ → List ℕ → ℕ → List ℕ
+dual_values width values columns row =
+    map (λ k. dual_bits width row (slice_index columns k) (slice_index values k)) (range_with_len 0 (length values))
 
--- the cell, if it is present, is a number with these dual variables, and fits 128 bits on the way
-abbrev pub FitsDuals : ℕ → ℕ → Option ℕ → Type 0
-FitsDuals row column cell =
-    (x : ℕ) → cell ≡ Some x → (column ≤ x + row) × (x + row < 2 ^ 128)
+-- the cell, if it is present, is a number with these dual variables, and stays below a width on the way
+abbrev pub FitsDuals : ℕ → ℕ → ℕ → Option ℕ → Type 0
+FitsDuals width row column cell =
+    (x : ℕ) → cell ≡ Some x → (column ≤ x + row) × (x + row < width)
 
 -- the cells of a row have the dual variable of the row more and those of the columns less, and all others stay
 pub record WritesDuals (row : ℕ) (columns : List ℕ) (before after : Grid ℕ) (r : ℕ) : Type 0 where

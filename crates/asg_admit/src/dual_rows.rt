@@ -1,6 +1,6 @@
 //! Rows of squares that are kept by dual variables.
 
-ghost use Rattle.std.specs.Prelude.{◌≡◌, ◌<◌, length, slice_index};
+ghost use Rattle.std.specs.Prelude.{◌≡◌, ◌<◌, ◌^◌, length, slice_index};
 ghost use Rattle.asg_admit.specs.Duals.{dual_values};
 
 use std::marker::Model;
@@ -15,12 +15,12 @@ pub struct DualRow<'a> {
 }
 
 impl<'a> Model for DualRow<'a> {
-    ghost use Rattle.std.specs.Prelude.{◌≡◌, List, ℕ, length};
+    ghost use Rattle.std.specs.Prelude.{◌≡◌, ◌^◌, List, ℕ, length};
     ghost use Rattle.asg_admit.specs.Duals.{dual_values};
 
     ghost Value = { List ℕ };
 
-    ghost view = { λ r. dual_values r.values.now r.columns.now r.row };
+    ghost view = { λ r. dual_values (2 ^ 128) r.values.now r.columns.now r.row };
 
     ghost invariant = { λ r. length r.columns.now ≡ length r.values.now };
 }
@@ -41,7 +41,7 @@ impl<'a> DualRow<'a> {
 // The row of these values, with the dual variables of the columns and of the row.
 pub(crate) fn dual_row<'a>(values: &'a [u128], columns: &'a [u128], row: u128) -> DualRow<'a>
     requires { length columns.now ≡ length values.now }
-    ensures { result ≡ dual_values values.now columns.now row }
+    ensures { result ≡ dual_values (2 ^ 128) values.now columns.now row }
 {
     DualRow {
         values,

@@ -49,7 +49,7 @@ pub struct DualSquare {
 }
 
 impl Model for DualSquare {
-    ghost use Rattle.std.specs.Prelude.{ℕ};
+    ghost use Rattle.std.specs.Prelude.{ℕ, ◌^◌};
     ghost use Rattle.asg_admit.specs.declared.reduced.Reduced.{Reduced as ReducedSquare};
     ghost use Rattle.asg_admit.specs.Duals.{dual_reduced, AreDuals};
 
@@ -57,7 +57,7 @@ impl Model for DualSquare {
 
     ghost view = { λ d. dual_reduced d.base d.rows.items d.columns.items d.index };
 
-    ghost invariant = { λ d. AreDuals d.base d.rows.items d.columns.items d.index d.greatest };
+    ghost invariant = { λ d. AreDuals (2 ^ 120) d.base d.rows.items d.columns.items d.index d.greatest };
 }
 
 impl DualSquare {

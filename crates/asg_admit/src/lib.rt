@@ -9,9 +9,11 @@
 //!
 //! Where a square holds sums that stay below the top, a phase adds to each cell what its row takes
 //! and subtracts what its column gives: [`DualSquare`] keeps those as dual variables, so that a phase
-//! doesn't go over the cells. Where it holds graded values, a phase leaves the cells of a greater grade
-//! than those of its steps as they are: [`GradedSquare`] knows the others, and visits those alone.
-//! Making one of the two takes memory; nothing else here does.
+//! doesn't go over the cells. [`NarrowSquare`] does so in 64 bits, for sums below 2^62, and compares 64
+//! sums of a row with keys at a time. Where a square holds graded values, a phase leaves the cells of
+//! a greater grade than those of its steps as they are: [`GradedSquare`] knows the others, and visits
+//! those alone.
+//! Making one of the three takes memory; nothing else here does.
 #![tactic(auto)]
 
 mod admission;
@@ -29,6 +31,12 @@ mod left_words;
 mod low_cells;
 mod marked_cells;
 mod marked_rows;
+mod narrow_cells;
+mod narrow_fits;
+mod narrow_greatest;
+mod narrow_rows;
+mod narrow_squares;
+mod narrow_sums;
 mod products;
 mod reduced;
 mod replayed_cells;
@@ -43,6 +51,8 @@ mod tests;
 pub use dual_rows::DualRow;
 pub use dual_squares::{DualSquare, Replayed};
 pub use graded_squares::GradedSquare;
+pub use narrow_rows::NarrowRow;
+pub use narrow_squares::NarrowSquare;
 pub use products::range;
 pub use reduced::Reduced;
 pub use replayed_cells::replay_cell;

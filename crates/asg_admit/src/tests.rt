@@ -6,6 +6,7 @@ ghost use Rattle.asg_monoids.specs.BoundedSums.{bounded_sums};
 
 mod dual_squares;
 mod graded_squares;
+mod narrow_squares;
 mod one_pass;
 
 use crate::admission::{admits, are_values};

@@ -1,4 +1,4 @@
-use Rattle.std.proofs.Common.{◌≡◌, ℕ, ◌+◌, List, length, refl, sym, ◌∙◌, ap, subst, arith}
+use Rattle.std.proofs.Common.{◌≡◌, ℕ, ◌+◌, ◌^◌, List, length, refl, sym, ◌∙◌, ap, subst, arith}
 use Rattle.std.specs.Prelude.{slice_index}
 use Rattle.asg_admit.specs.declared.reduced.Reduced.{Reduced}
 use Rattle.asg_monoids.specs.BoundedSums.{bounded_sums, bounded_difference}
@@ -102,7 +102,7 @@ invariant_of-self-2 c =
     subst (λ (xs : List ℕ). FitsRows s.base rows xs steps enters) c.as_slice-columns.ensures.value
     (subst (λ (xs : List ℕ). FitsRows s.base xs c.as_slice-columns.result.now steps enters) c.as_slice-rows.ensures.value
     (c.rows_fit.ensures.0 c.if-not-rows_fit.false)) in
-    subst (λ sum. AreDuals s.base c.raise-2.new.duals.items raised (s.index + sum) s.greatest) (sym (c.sum_up.ensures.sums (length steps) (omega arith)))
+    subst (λ sum. AreDuals (2 ^ 120) s.base c.raise-2.new.duals.items raised (s.index + sum) s.greatest) (sym (c.sum_up.ensures.sums (length steps) (omega arith)))
     (duals_after s.base rows columns s.index s.greatest c.self.invariant top steps enters leaves room
     (fits_allow s.base rows columns s.index s.greatest c.self.invariant top steps enters leaves room raised c.raise.ensures fits)
     c.args.m.now.small c.raise-2.new.duals.items raised c.raise-2.ensures c.raise.ensures)

@@ -1,4 +1,4 @@
-use Rattle.std.proofs.Common.{◌≡◌, ℕ, List, sym, ◌∙◌, ap, subst}
+use Rattle.std.proofs.Common.{◌≡◌, ℕ, ◌^◌, List, sym, ◌∙◌, ap, subst, arith}
 use Rattle.std.specs.Prelude.{slice_index}
 use Rattle.std.specs.Option.{option_map}
 use Rattle.asg_admit.specs.Duals.{FitsDuals, dual_value, dual_grid}
@@ -10,9 +10,9 @@ use Rattle.asg_admit.proofs.dual_squares.DualSquare.reduce.Goals as goal
 pub write_cells-requires-clause-fits : goal.write_cells-requires-clause-fits
 write_cells-requires-clause-fits c =
     let s = c.self.inside in
-    subst (λ (rows : List ℕ). (r k : ℕ) → FitsDuals (slice_index rows r) (slice_index c.as_slice-2.result.now k) (cell_at s.base r k)) (sym c.as_slice.ensures.value)
-    (subst (λ (columns : List ℕ). (r k : ℕ) → FitsDuals (slice_index s.rows.items r) (slice_index columns k) (cell_at s.base r k)) (sym c.as_slice-2.ensures.value)
-    (duals_fit s.base s.rows.items s.columns.items s.index s.greatest c.self.invariant))
+    subst (λ (rows : List ℕ). (r k : ℕ) → FitsDuals (2 ^ 128) (slice_index rows r) (slice_index c.as_slice-2.result.now k) (cell_at s.base r k)) (sym c.as_slice.ensures.value)
+    (subst (λ (columns : List ℕ). (r k : ℕ) → FitsDuals (2 ^ 128) (slice_index s.rows.items r) (slice_index columns k) (cell_at s.base r k)) (sym c.as_slice-2.ensures.value)
+    (duals_fit s.base s.rows.items s.columns.items s.index s.greatest c.self.invariant (2 ^ 128) (omega arith)))
 
 pub returns : goal.returns
 returns c =

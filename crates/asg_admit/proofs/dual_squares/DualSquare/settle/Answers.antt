@@ -1,4 +1,4 @@
-use Rattle.std.proofs.Common.{ℕ, ◌+◌, length, sym, subst, arith}
+use Rattle.std.proofs.Common.{ℕ, ◌+◌, ◌^◌, length, sym, subst, arith}
 use Rattle.std.specs.Prelude.{slice_index}
 use Rattle.asg_admit.specs.declared.reduced.Reduced.{Reduced}
 use Rattle.asg_monoids.specs.BoundedSums.{bounded_sums, bounded_difference}
@@ -58,7 +58,7 @@ invariant_of-self c =
     let phase = phase_of steps enters leaves in
     let room = subst (λ (R : Reduced ℕ). HasRoom top R (fold_of (bounded_sums top) steps)) (sym c.self.view_is) c.requires.sums in
     let admitted = subst (λ (R : Reduced ℕ). IsAdmittedPhase (bounded_sums top) bounded_difference R.now.side phase (cell_at R.now)) (sym c.self.view_is) c.requires.admitted in
-    subst (λ sum. AreDuals s.base c.raise.new.duals.items c.raise-2.new.duals.items (s.index + sum) s.greatest) (sym (c.sum_up.ensures.sums (length steps) (omega arith)))
+    subst (λ sum. AreDuals (2 ^ 120) s.base c.raise.new.duals.items c.raise-2.new.duals.items (s.index + sum) s.greatest) (sym (c.sum_up.ensures.sums (length steps) (omega arith)))
     (duals_after s.base rows columns s.index s.greatest c.self.invariant top steps enters leaves room
     (allows_from (bounded_sums top) bounded_difference phase (dual_grid s.base rows columns) admitted) c.args.m.now.small
     c.raise.new.duals.items c.raise-2.new.duals.items c.raise.ensures c.raise-2.ensures)

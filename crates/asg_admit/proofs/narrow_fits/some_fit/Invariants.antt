@@ -1,0 +1,15 @@
+use Rattle.std.proofs.Common.{ℕ, ◌+◌}
+use Rattle.asg_admit.specs.Duals.{FitsAt}
+use Rattle.asg_admit.proofs.WordBits.{HasBit}
+use Rattle.asg_admit.proofs.narrow_fits.some_fit.Given as goal
+
+-- the bits that are left are the word's, and the cells of those that are left no more do so
+abbrev pub invariant-bits : goal.invariant-bits
+invariant-bits l =
+    record {
+      left : (i : ℕ) → HasBit l.rest i → HasBit l.word i;
+      passed : (i : ℕ) → HasBit l.word i → (HasBit l.rest i → ⊥) → FitsAt l.values l.columns l.raise (l.first + i);
+    }
+
+abbrev pub decreases-bits : goal.decreases-bits
+decreases-bits l = l.rest

@@ -8,6 +8,7 @@ use Rattle.std.proofs.lemmas.Option.{none-some}
 use Rattle.asg_match.specs.ColumnSet.{HasColumn}
 use Rattle.asg_order.specs.Monoid.{Monoid, IsLe}
 use Rattle.asg_algebra.specs.Leads.{Leads, lead_at, place_at, KeepsLead, IsOffered, Relaxes}
+use Rattle.asg_algebra.specs.Scanned.{IsSoon}
 use Rattle.asg_algebra.proofs.WordLemmas.{cases_column}
 
 module _ {V : Type 0} (M : Monoid V) where
@@ -48,6 +49,16 @@ module _ {V : Type 0} (M : Monoid V) where
       keyed_side = refl;
       places_side = refl;
       looked_at = λ k h. absurd (none k h);
+      others = λ k _. record { lead = refl; place = refl };
+    }
+
+    -- columns whose keys are at most what they would be offered were looked at, and keep them
+    pub Relaxes-soon : (leads : Leads V) (p : ℕ → Type 0) → ((k : ℕ) → p k → IsSoon M values sum leads k) → Relaxes M values sum place p leads leads
+    Relaxes-soon leads p soon = record {
+      keys_side = refl;
+      keyed_side = refl;
+      places_side = refl;
+      looked_at = λ k h. let is = soon k h in inr (is.0, is.1, is.2, record { lead = refl; place = refl });
       others = λ k _. record { lead = refl; place = refl };
     }
 

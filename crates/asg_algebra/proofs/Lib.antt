@@ -5,6 +5,7 @@ pub mod KeyLaws
 pub mod KeyStates
 pub mod WordLemmas
 pub mod LeadLemmas
+pub mod OfferLemmas
 pub mod ScanLemmas
 pub mod NearestLemmas
 pub mod UnderwayLaws

@@ -1,15 +1,29 @@
 -- The nearest of some columns, when columns come to them or take keys.
 use Rattle.std.proofs.Common.{◌≡◌, ◌↔◌, ◌⊎◌, inl, inr, ℕ, ◌/◌, ◌<◌, List, length, Option, Some, None, get_or, set, replicate, refl, sym, ◌∙◌, ap, subst, arith, ⊎_elim}
 use Rattle.std.proofs.lemmas.Bool.{cases_eq}
-use Rattle.std.proofs.lemmas.List.{get_or-replicate, get_or-set_other, length-replicate, length-set}
+use Rattle.std.proofs.lemmas.List.{get_or-replicate, get_or-set_same, get_or-set_other, length-replicate, length-set}
 use Rattle.std.proofs.lemmas.Grind.{get_or-set_at}
 use Rattle.std.proofs.lemmas.Option.{none-some, same_Some}
 use Rattle.asg_match.specs.ColumnSet.{HasColumn}
 use Rattle.asg_order.specs.Monoid.{Monoid, IsValue, IsLe, IsOrderedMonoid}
 use Rattle.asg_order.specs.laws.Orders.{reflexive}
 use Rattle.asg_algebra.specs.Leads.{Leads, lead_at, IsLeast, Picks}
-use Rattle.asg_algebra.specs.Nearest.{IsWithin, AreNearest, HasKey, IsNoFarther, IsNearer, IsNearest, HasTaken, IsApproached}
+use Rattle.asg_algebra.specs.Nearest.{IsWithin, AreNearest, HasKey, IsNoFarther, IsNearer, IsNearest}
 use Rattle.asg_algebra.proofs.LeadLemmas.{lead_there, lead_has}
+
+-- a column has a new key, which is at most the one that it had
+pub record HasTaken {V : Type 0} (M : Monoid V) (before after : Leads V) (column : ℕ) : Type 0 where
+  pub key : V
+  pub keys : after.keys ≡ set before.keys column key
+  pub has : lead_at M after column ≡ Some key
+  pub is_value : IsValue M key
+  pub low : (old : V) → lead_at M before column ≡ Some old → IsLe M key old
+
+-- no key changed, or a column took one and was compared with the nearest one so far
+abbrev pub IsApproached : {V : Type 0} → Monoid V → Leads V → Leads V → ℕ → Option ℕ → Option ℕ → Type 0
+IsApproached M before after column former result =
+    (((k : ℕ) → lead_at M after k ≡ lead_at M before k) × (result ≡ former))
+    ⊎ (HasTaken M before after column × IsNearer M after.keys former column result)
 
 -- a column of a set in a word before the one of this number
 pub record IsBelow (number : ℕ) (words : List ℕ) (k : ℕ) : Type 0 where
@@ -49,6 +63,13 @@ module _ {V : Type 0} (M : Monoid V) where
         (λ same. subst (IsValue M) (sym (get_or-set_at keys column k key M.unit same h)) value)
         (λ other. subst (IsValue M) (sym (get_or-set_other keys column k key M.unit other)) has.value)
         (cases_eq k column);
+  }
+
+  -- a column has the key that it took
+  pub HasKey-given : (keys : List V) (column : ℕ) (key : V) → column < length keys → IsValue M key → HasKey M (set keys column key) column
+  HasKey-given keys column key h value = record {
+    within = subst (λ n. column < n) (sym (length-set keys column key)) h;
+    value = subst (IsValue M) (sym (get_or-set_same keys column key M.unit h)) value;
   }
 
   module _ (laws : IsOrderedMonoid M) where
@@ -172,7 +193,7 @@ module _ {V : Type 0} (M : Monoid V) where
     pub Picks-approached : (before after : Leads V) (p : ℕ → Type 0) (column : ℕ) (former result : Option ℕ) → p column → ((k : ℕ) → (k ≡ column → ⊥) → lead_at M after k ≡ lead_at M before k) → ((k : ℕ) (key : V) → p k → lead_at M before k ≡ Some key → IsValue M key) → IsApproached M before after column former result → Picks M (lead_at M before) p former → Picks M (lead_at M after) p result
     Picks-approached before after p column former result there others valued approached picks =
         ⊎_elim
-        (λ same. subst (λ leads. Picks M (lead_at M leads) p result) (sym same.0) (subst (Picks M (lead_at M before) p) (sym same.1) picks))
+        (λ same. Picks-same (lead_at M before) (lead_at M after) p p result (λ k h. h) (λ k h. h) (λ k _. same.0 k) (subst (Picks M (lead_at M before) p) (sym same.1) picks))
         (λ taken. Picks-taken before after p column there others taken.0 valued former result taken.1 picks)
         approached
 

@@ -1,16 +1,16 @@
 -- What leads are after a scan of columns.
-use Rattle.std.proofs.Common.{◌≡◌, inl, inr, ℕ, ◌+◌, ◌/◌, ◌%◌, ◌<◌, List, Option, Some, sym, ◌∙◌, ap, subst, arith, ⊎_elim}
+use Rattle.std.proofs.Common.{◌≡◌, inl, inr, ℕ, ◌+◌, ◌/◌, ◌%◌, ◌<◌, List, Option, get_or, sym, ◌∙◌, ap, subst, arith, ⊎_elim}
 use Rattle.std.proofs.lemmas.Bool.{cases_eq, cases_lt}
 use Rattle.std.proofs.lemmas.Option.{same_Some}
 use Rattle.std.specs.Prelude.{IsSome, is_some}
 use Rattle.asg_match.specs.ColumnSet.{HasColumn, IsColumnSet}
-use Rattle.asg_order.specs.Monoid.{Monoid, IsValue}
+use Rattle.asg_order.specs.Monoid.{Monoid, IsValue, IsOrderedMonoid}
 use Rattle.asg_square.specs.BitTable.{AreWordsOf}
 use Rattle.asg_square.specs.CellTable.{AreValuesOf}
 use Rattle.asg_algebra.specs.Leads.{Leads, lead_at, Relaxes, OffersRow}
-use Rattle.asg_algebra.specs.Nearest.{IsApproached}
 use Rattle.asg_algebra.specs.Scanned.{AreValued, IsBoth}
 use Rattle.asg_algebra.proofs.LeadLemmas.{Relaxes-join, Relaxes-iff}
+use Rattle.asg_algebra.proofs.NearestLemmas.{IsApproached}
 use Rattle.asg_algebra.proofs.WordLemmas.{present_some, some_present}
 
 module _ {V : Type 0} (M : Monoid V) where
@@ -18,13 +18,25 @@ module _ {V : Type 0} (M : Monoid V) where
   pub AreValued-approached : (values : List V) (sum : V) (place column : ℕ) (before after : Leads V) (former result : Option ℕ) (columns : List ℕ) → Relaxes M values sum place (λ k. k ≡ column) before after → IsApproached M before after column former result → AreValued M before columns → AreValued M after columns
   AreValued-approached values sum place column before after former result columns relaxes approached valued k key h e =
       ⊎_elim
-      (λ same. valued k key h (subst (λ leads. lead_at M leads k ≡ Some key) same.0 e))
+      (λ same. valued k key h (sym (same.0 k) ∙ e))
       (λ taken.
       ⊎_elim
       (λ here. subst (IsValue M) (same_Some taken.0.key key (sym taken.0.has ∙ ap (lead_at M after) (sym here) ∙ e)) taken.0.is_value)
       (λ other. let keeps = relaxes.others k other in valued k key h (sym keeps.lead ∙ e))
       (cases_eq k column))
       approached
+
+  -- the keys are values after each column of a word was offered one
+  pub AreValued-word : IsOrderedMonoid M → (values : List V) (sum : V) (place number : ℕ) (before after : Leads V) (columns : List ℕ) → IsValue M sum → ((k : ℕ) → k / 64 ≡ number → IsValue M (get_or values k M.unit)) → Relaxes M values sum place (λ k. k / 64 ≡ number) before after → AreValued M before columns → AreValued M after columns
+  AreValued-word laws values sum place number before after columns sum_is valued relaxes are k key h e =
+      ⊎_elim
+      (λ here.
+      ⊎_elim
+      (λ new. subst (IsValue M) (same_Some (M.product sum (get_or values k M.unit)) key (sym new.0 ∙ e)) (laws.product_is_value sum (get_or values k M.unit) sum_is (valued k here)))
+      (λ stays. let keeps = stays.3 in are k key h (sym keeps.lead ∙ e))
+      (relaxes.looked_at k here))
+      (λ other. let keeps = relaxes.others k other in are k key h (sym keeps.lead ∙ e))
+      (cases_eq (k / 64) number)
 
   -- the columns of one more word were looked at
   pub Relaxes-more : (values : List V) (sum : V) (place : ℕ) (first second third : Leads V) (present unseen : List ℕ) (number : ℕ) → Relaxes M values sum place (λ k. (k / 64 < number) × HasColumn present k × HasColumn unseen k) first second → Relaxes M values sum place (IsBoth number present unseen) second third → Relaxes M values sum place (λ k. (k / 64 < number + 1) × HasColumn present k × HasColumn unseen k) first third

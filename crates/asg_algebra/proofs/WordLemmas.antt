@@ -1,11 +1,11 @@
 -- Columns of sets, word by word and bit by bit.
 use Rattle.std.proofs.Common.{◌≡◌, ◌↔◌, ◌⊎◌, inl, inr, ℕ, ◌+◌, ◌*◌, ◌/◌, ◌%◌, ◌<◌, ◌≤◌, ◌^◌, List, Option, length, get_or, set, sym, ◌∙◌, ap, subst, arith, ⊎_elim, w64, Fits, eqb}
-use Rattle.std.specs.Prelude.{bit_and, IsSome, is_some}
-use Rattle.std.specs.Int.{bit_at, trailing_zeros}
+use Rattle.std.specs.Prelude.{bit_and, bit_or, IsSome, is_some}
+use Rattle.std.specs.Int.{bit_at, bit_not, trailing_zeros}
 use Rattle.std.proofs.Math.Facts.{Fits-lt-pow}
 use Rattle.std.proofs.lemmas.Bool.{cases_eq, cases_lt, eqb-true}
 use Rattle.std.proofs.lemmas.List.{get_or_past, get_or-set_other}
-use Rattle.std.proofs.lemmas.Nat.Bits.{bit_at-lt, bit_at_and}
+use Rattle.std.proofs.lemmas.Nat.Bits.{bit_at_ones, bit_at-lt, bit_at_and, bit_at_or, bit_at_not}
 use Rattle.asg_square.specs.BitTable.{AreWordsOf}
 use Rattle.asg_match.specs.ColumnSet.{HasBit, HasColumn}
 use Rattle.asg_match.specs.laws.Bits.{with_bit, without_bit, bit_below, HasBit-zero, HasBit-with, HasBit-with_same, HasBit-with_kept, HasBit-without, HasBit-without_other, HasBit-trailing_zeros, without_bit-lt}
@@ -61,9 +61,27 @@ HasBit-and a b i = (
   λ both. omega (arith, both.0, both.1, bit_at_and a b i),
 )
 
+-- a bit of a word that the word of those that may be less, or aren't known, leaves out
+pub left_out : (offered lesser known i : ℕ) → i < 64 → Fits w64 known → HasBit offered i → (HasBit (bit_and offered (bit_or lesser (bit_not w64 known))) i → ⊥) → HasBit known i × (HasBit lesser i → ⊥)
+left_out offered lesser known i h fits has none =
+    let both = bit_at_and offered (bit_or lesser (bit_not w64 known)) i in
+    let either = bit_at_or lesser (bit_not w64 known) i in
+    let unknown = bit_at_not w64 known i (Fits-lt-pow fits) h in (
+      ⊎_elim
+          (λ is. is)
+          (λ other. absurd (none (omega (arith, both, either, unknown, has, other, bit_at-lt known i, bit_at-lt lesser i))))
+          (cases_eq (bit_at known i) 1),
+      λ less. none (omega (arith, both, either, less, has, bit_at-lt (bit_not w64 known) i)),
+    )
+
 -- a column whose bit a word of a set has
 pub column_in : (words : List ℕ) (number k : ℕ) → k / 64 ≡ number → HasBit (get_or words number 0) (k % 64) → HasColumn words k
 column_in words number k here has = ap (λ i. bit_at (get_or words i 0) (k % 64)) here ∙ has
+
+-- a column whose word has each bit
+pub column_of_all : (words : List ℕ) (number word : ℕ) → word ≡ 18446744073709551615 → ((i : ℕ) → HasBit word i → HasBit (get_or words number 0) i) → (k : ℕ) → k / 64 ≡ number → HasColumn words k
+column_of_all words number word all among k here =
+    column_in words number k here (among (k % 64) (ap (λ w. bit_at w (k % 64)) all ∙ bit_at_ones 64 (k % 64) (omega arith)))
 
 pub bit_in : (words : List ℕ) (number k : ℕ) → k / 64 ≡ number → HasColumn words k → HasBit (get_or words number 0) (k % 64)
 bit_in words number k here has = ap (λ i. bit_at (get_or words i 0) (k % 64)) (sym here) ∙ has
@@ -92,8 +110,20 @@ module _ (number rest : ℕ) (some : rest ≡ 0 → ⊥) (fits : Fits w64 rest) 
   pub next_below : next_bit < 64
   next_below = bit_below rest next_bit below_power next_has
 
-  next_place : next_column % 64 ≡ next_bit
+  pub next_place : next_column % 64 ≡ next_bit
   next_place = let h = next_below in omega arith
+
+  -- the bits of a word with that of the next column
+  pub next_more : (word i : ℕ) → HasBit (with_bit word next_bit) i ↔ (HasBit word i ⊎ (i ≡ next_column % 64))
+  next_more word i =
+      let h = next_below in (
+        λ has. ⊎_elim (λ old. inl old) (λ e. inr (e ∙ sym next_place)) (HasBit-with word next_bit i h has),
+        λ either.
+            ⊎_elim
+            (λ old. HasBit-with_kept word next_bit i h old)
+            (λ e. subst (HasBit (with_bit word next_bit)) (sym (e ∙ next_place)) (HasBit-with_same word next_bit h))
+            either,
+      )
 
   pub next_smaller : without_bit rest next_bit < rest
   next_smaller = without_bit-lt rest next_bit next_below next_has

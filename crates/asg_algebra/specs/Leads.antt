@@ -1,5 +1,5 @@
 -- The leads of columns: keys, and the places of the rows that they come from, in lists.
-use Rattle.std.specs.Prelude.{◌≡◌, ◌⊎◌, ℕ, ◌/◌, ◌%◌, ◌==◌, if◌then◌else◌, List, length, Option, Some, None, IsSome, slice_index, slice_index_or}
+use Rattle.std.specs.Prelude.{◌≡◌, ◌⊎◌, ℕ, ◌/◌, ◌%◌, ◌==◌, if◌then◌else◌, Bool, IsTrue, List, length, Option, Some, None, IsSome, slice_index, slice_index_or, slice_set}
 use Rattle.std.specs.Int.{bit_at}
 use Rattle.asg_match.specs.ColumnSet.{HasColumn}
 use Rattle.asg_order.specs.Monoid.{Monoid, IsLe}
@@ -68,3 +68,18 @@ pub record IsLeast {V : Type 0} (M : Monoid V) (lead : ℕ → Option V) (is_amo
 abbrev pub Picks : {V : Type 0} → Monoid V → (ℕ → Option V) → (ℕ → Type 0) → Option ℕ → Type 0
 Picks M lead is_among None = (k : ℕ) → is_among k → lead k ≡ None
 Picks M lead is_among (Some column) = IsLeast M lead is_among column
+
+-- a column took a key and the place of a row, where it had no key or one that isn't less
+pub record TakesKey {V : Type 0} (M : Monoid V) (offered : V) (place column : ℕ) (has_key : Bool)
+    (keys_before keys_after : List V) (places_before places_after : List ℕ) : Type 0 where
+  pub keys : keys_after ≡ slice_set keys_before column offered
+  pub places : places_after ≡ slice_set places_before column place
+  pub low : IsTrue has_key → IsLe M offered (slice_index_or keys_before column M.unit)
+
+-- a column kept the key that it has, which is at most the one that it was offered
+pub record KeepsKey {V : Type 0} (M : Monoid V) (offered : V) (column : ℕ) (has_key : Bool)
+    (keys_before keys_after : List V) (places_before places_after : List ℕ) : Type 0 where
+  pub keys : keys_after ≡ keys_before
+  pub places : places_after ≡ places_before
+  pub has : IsTrue has_key
+  pub low : IsLe M (slice_index_or keys_before column M.unit) offered

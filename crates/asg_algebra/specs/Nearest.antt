@@ -1,9 +1,9 @@
 -- The nearest column of each word of 64 columns: of those that weren't reached the one with the
 -- least key.
-use Rattle.std.specs.Prelude.{◌≡◌, ◌⊎◌, ℕ, ◌/◌, ◌<◌, List, length, Option, Some, None, slice_set, slice_index_or}
+use Rattle.std.specs.Prelude.{◌≡◌, ◌⊎◌, ℕ, Bool, ◌/◌, ◌<◌, List, length, Option, Some, None, slice_index_or}
 use Rattle.asg_match.specs.ColumnSet.{HasColumn}
 use Rattle.asg_order.specs.Monoid.{Monoid, IsValue, IsLe}
-use Rattle.asg_algebra.specs.Leads.{Leads, lead_at, Picks}
+use Rattle.asg_algebra.specs.Leads.{Leads, lead_at, Picks, TakesKey, KeepsKey}
 
 -- a column of a set in the word of this number
 abbrev pub IsWithin : ℕ → List ℕ → ℕ → Type 0
@@ -37,18 +37,13 @@ abbrev pub IsNearest : {V : Type 0} → Monoid V → List V → Option ℕ → O
 IsNearest M keys former None result = result ≡ former
 IsNearest M keys former (Some column) result = IsNearer M keys former column result
 
--- a column has a new key, which is at most the one that it had
-pub record HasTaken {V : Type 0} (M : Monoid V) (before after : Leads V)
-    (column : ℕ) : Type 0 where
-  pub key : V
-  pub keys : after.keys ≡ slice_set before.keys column key
-  pub has : lead_at M after column ≡ Some key
-  pub is_value : IsValue M key
-  pub low : (old : V) → lead_at M before column ≡ Some old → IsLe M key old
-
--- nothing changed, or a column took a key and was compared with the nearest one so far
-abbrev pub IsApproached : {V : Type 0} → Monoid V → Leads V → Leads V → ℕ → Option ℕ → Option ℕ
-    → Type 0
-IsApproached M before after column former result =
-    ((after ≡ before) × (result ≡ former))
-    ⊎ (HasTaken M before after column × IsNearer M after.keys former column result)
+-- a column kept its key, or took the one that it was offered and was compared with the nearest one
+-- so far
+abbrev pub IsAnswered : {V : Type 0} → Monoid V → V → ℕ → ℕ → Bool → List V → List V → List ℕ
+    → List ℕ → Option ℕ → Option ℕ → Type 0
+IsAnswered M offered place column has_key keys_before keys_after places_before places_after former
+    result =
+    (KeepsKey M offered column has_key keys_before keys_after places_before places_after
+    × (result ≡ former))
+    ⊎ (TakesKey M offered place column has_key keys_before keys_after places_before places_after
+    × IsNearer M keys_after former column result)

@@ -3,11 +3,11 @@
 use crate::reduced_squares::ReducedSquare;
 use crate::row_values::RowValues;
 use crate::scanning::scan;
-use asg_admit::{DualRow, DualSquare};
+use asg_admit::{DualRow, DualSquare, Reduced};
 use asg_match::Matching;
 use asg_monoids::Bounded;
 
-impl<'a> RowValues<u128> for DualRow<'a> {
+impl<'a> RowValues<Bounded> for DualRow<'a> {
     ghost values_of = { λ row. row };
 
     #[inline]
@@ -63,5 +63,9 @@ impl ReducedSquare<Bounded> for DualSquare {
         room: &mut [u128],
     ) {
         DualSquare::settle(self, m, steps, enters, leaves, room);
+    }
+
+    fn into_reduced(self) -> Reduced<u128> {
+        self.reduce()
     }
 }

@@ -3,7 +3,7 @@
 use crate::reduced_squares::ReducedSquare;
 use crate::row_values::PlainRow;
 use crate::scanning::scan;
-use asg_admit::GradedSquare;
+use asg_admit::{GradedSquare, Reduced};
 use asg_match::Matching;
 use asg_monoids::{Bounded, Graded};
 
@@ -57,5 +57,9 @@ impl ReducedSquare<Graded<Bounded>> for GradedSquare {
         room: &mut [(u64, u128)],
     ) {
         GradedSquare::settle(self, m, steps, enters, leaves, room);
+    }
+
+    fn into_reduced(self) -> Reduced<(u64, u128)> {
+        self.reduce()
     }
 }

@@ -19,6 +19,7 @@ mod graded_squares;
 mod growth;
 pub mod laws;
 mod leads;
+mod narrow_squares;
 mod nearest;
 mod phases;
 mod reduced_squares;
@@ -26,10 +27,11 @@ mod row_values;
 mod scanning;
 mod solving;
 mod square_solvers;
+mod whole_words;
 
 pub use bench::Bench;
 pub use solving::{Solved, solve};
-pub use square_solvers::{SolvedSquare, SquareSolver, solve_sums};
+pub use square_solvers::{SolvedSquare, SquareSolver};
 
 /// There was not enough memory.
 pub type NoMemory = std::alloc::AllocError;

@@ -1,11 +1,11 @@
 //! The nearest column of a word of 64 columns: of those that weren't reached the one with the least key,
 //! and of equal ones one that no row has.
 
-ghost use Rattle.std.specs.Prelude.{◌≡◌, ℕ, [], ◌+◌, ◌*◌, ◌/◌, ◌<◌, ◌≤◌, false, None, Some, length, IsTrue};
+ghost use Rattle.std.specs.Prelude.{◌≡◌, ℕ, [], ◌+◌, ◌*◌, ◌/◌, ◌<◌, ◌≤◌, false, None, Some, length, slice_index_or, IsTrue};
 ghost use Rattle.asg_model.specs.Limits.{most_side};
 ghost use Rattle.asg_order.specs.Monoid.{IsValue, IsLe};
 ghost use Rattle.asg_match.specs.ColumnSet.{HasColumn};
-ghost use Rattle.asg_algebra.specs.Leads.{leads_of, lead_at, Picks};
+ghost use Rattle.asg_algebra.specs.Leads.{leads_of, lead_at, IsLeast, Picks};
 ghost use Rattle.asg_algebra.specs.Nearest.{IsWithin, HasKey, IsNearer, IsNearest};
 ghost use Rattle.asg_algebra.specs.Scanned.{AreValued};
 
@@ -84,6 +84,35 @@ pub(crate) fn nearest_of<M: DMonoid>(
     }
 }
 
+// The column with the least key of a word all of whose columns have keys; of equal ones one that no row
+// has.
+#[inline]
+pub(crate) fn nearest_of_whole<M: DMonoid>(
+    m: &M,
+    matching: &Matching,
+    keys: &[M::Value],
+    number: u32,
+) -> u32
+    requires keys { (k : ℕ) → k / 64 ≡ number → HasKey (M.monoid_of m.now) keys.now k }
+    requires small { length keys.now ≤ most_side }
+    requires matching { length matching.now ≡ length keys.now }
+    ensures { let monoid = M.monoid_of m.now in
+        IsLeast monoid (λ k. Some (slice_index_or keys.now k monoid.unit)) (λ k. k / 64 ≡ number)
+        result }
+{
+    let first = 64 * number;
+    let mut nearest = first;
+    let mut least = keys[first as usize];
+    'columns: for k in 1..64 {
+        let key = keys[(first + k) as usize];
+        if takes_place(m, matching, least, first + k, key) {
+            nearest = first + k;
+            least = key;
+        }
+    }
+    nearest
+}
+
 // The column with the least key of those of a word that weren't reached, if one has a key; of equal ones
 // one that no row has.
 pub(crate) fn nearest_in_word<M: DMonoid>(
@@ -104,6 +133,9 @@ pub(crate) fn nearest_in_word<M: DMonoid>(
         (IsWithin number unseen.now) result }
 {
     let mut rest = unseen[number as usize] & keyed[number as usize];
+    if rest == u64::MAX {
+        return Some(nearest_of_whole(m, matching, keys, number));
+    }
     let mut nearest = None;
     'columns: while rest != 0 {
         let k = rest.trailing_zeros();

@@ -100,6 +100,10 @@ pub(crate) trait ReducedSquare<M: DMonoid> {
             IsPhaseTo (M.monoid_of m.now) (M.difference m.now) phase (as_reduced self.old)
             (as_reduced self.new) }
         ensures room { length room.new ≡ length room.old };
+
+    /// The reduced square with its cells written out.
+    fn into_reduced(self) -> Reduced<M::Value>
+        ensures { result ≡ as_reduced self };
 }
 
 impl<M: DMonoid> ReducedSquare<M> for Reduced<M::Value> {
@@ -152,5 +156,9 @@ impl<M: DMonoid> ReducedSquare<M> for Reduced<M::Value> {
         room: &mut [M::Value],
     ) {
         asg_admit::settle(m, self, steps, enters, leaves, room);
+    }
+
+    fn into_reduced(self) -> Reduced<M::Value> {
+        self
     }
 }

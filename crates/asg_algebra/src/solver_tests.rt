@@ -7,7 +7,7 @@ use asg_admit::Reduced;
 use asg_match::Matching;
 use asg_model::Cost;
 use asg_model::limits::MOST_SIDE;
-use asg_monoids::{Bounded, Graded, Greatest};
+use asg_monoids::{Bounded, Graded, Greatest, NarrowSums};
 use asg_pool::Region;
 use asg_square::Square;
 use std::alloc::Global;
@@ -92,6 +92,40 @@ fn sums_near_the_top(rt: HostRuntime) -> Result<(), Fail> {
     let m = Bounded { top: 4_000 };
     let found = solved_answer(rt.alloc(), &m, 3, &THREE, &COLUMNS)?.expect(&rt, "values");
     assert_eq!(rt; found.reduced.index, 3_005);
+    assert!(rt; found.is_expected);
+    Ok(())
+}
+
+// The same cells in 64 bits.
+const NARROW_THREE: [Option<u64>; 9] = [
+    Some(1_004),
+    Some(1_001),
+    Some(1_003),
+    Some(1_002),
+    Some(1_000),
+    Some(1_005),
+    Some(1_003),
+    Some(1_002),
+    Some(1_002),
+];
+
+#[test]
+fn narrow_sums_far_from_the_top(rt: HostRuntime) -> Result<(), Fail> {
+    let found = solved_answer(rt.alloc(), &NarrowSums, 3, &NARROW_THREE, &COLUMNS)?;
+    let found = found.expect(&rt, "values");
+    assert_eq!(rt; found.reduced.index, 3_005);
+    assert!(rt; found.is_expected);
+    Ok(())
+}
+
+// Cells near the top, of which the greater two pass it together.
+const NARROW_HIGH: [Option<u64>; 4] = [Some(3 << 60), Some(1 << 60), Some(1 << 60), Some(3 << 60)];
+
+#[test]
+fn narrow_sums_near_the_top(rt: HostRuntime) -> Result<(), Fail> {
+    let found = solved_answer(rt.alloc(), &NarrowSums, 2, &NARROW_HIGH, &[1, 0])?;
+    let found = found.expect(&rt, "values");
+    assert_eq!(rt; found.reduced.index, 1 << 61);
     assert!(rt; found.is_expected);
     Ok(())
 }

@@ -3,22 +3,22 @@
 ghost use Rattle.std.specs.Prelude.{◌≡◌, ◌≤◌, ℕ, length, IfOk, IfSome};
 ghost use Rattle.asg_admit.specs.Reduced.{IsReduced};
 ghost use Rattle.asg_match.specs.Matching.{AllAllowed};
-ghost use Rattle.asg_monoids.specs.BoundedSums.{bounded_sums, bounded_difference};
+ghost use Rattle.asg_monoids.specs.BoundedSums.{bounded_sums, bounded_difference, narrow_top};
 ghost use Rattle.asg_monoids.specs.Grades.{graded, graded_difference};
 ghost use Rattle.asg_monoids.specs.Maxima.{maxima, maxima_difference};
 ghost use Rattle.asg_pool.specs.Forest.{IsLive};
 ghost use Rattle.asg_square.specs.Grid.{cell_at};
 ghost use Rattle.asg_algebra.specs.Ended.{last_of, EndsIn};
 ghost use Rattle.asg_algebra.specs.Growing.{IsAbsorbed};
-ghost use Rattle.asg_algebra.specs.Rest.{IsRestOf};
 ghost use Rattle.asg_algebra.specs.Solved.{HasSolved, unmatched};
 
 use crate::NoMemory;
 use crate::bench::Bench;
+use crate::reduced_squares::ReducedSquare;
 use crate::solving::{Progress, Solved, serve_all, solve};
-use asg_admit::{DualSquare, GradedSquare, Reduced};
+use asg_admit::{DualSquare, GradedSquare, NarrowSquare, Reduced};
 use asg_match::Matching;
-use asg_monoids::{Bounded, Graded, Greatest};
+use asg_monoids::{Bounded, Graded, Greatest, NarrowSums};
 use asg_order::{DMonoid, Written};
 use asg_pool::{Region, Trail};
 use std::alloc::Global;
@@ -32,7 +32,9 @@ pub struct SolvedSquare<V: Copy> {
     pub ended: Solved,
 }
 
-/// The monoids of the objectives, each with the way to solve its squares that is fastest.
+/// The monoids of the objectives, each with the way to solve its squares that is fastest: sums by dual
+/// variables while none comes near the top, so that a phase costs the rows that it looked at and not
+/// the cells of the whole square; graded values by their low cells.
 pub trait SquareSolver: Written {
     /// Does what [`solve`] does to a reduced square, under the same conditions. The error is want of
     /// memory. The time grows with the cube of the side at most.
@@ -90,49 +92,42 @@ fn solve_rewriting<M: DMonoid>(
     SolvedSquare { reduced, ended }
 }
 
-/// Solves a square of sums, as [`solve`] does and under the same conditions. While no sum reaches the top
-/// the square is kept by dual variables, so that a phase costs the rows that it looked at and not the
-/// cells of the whole square; from there on its cells are rewritten. The error is want of memory,
-/// which it takes for the dual variables alone. The time grows with the cube of the side at most.
-pub fn solve_sums(
-    alloc: Global,
-    m: &Bounded,
-    reduced: Reduced<u128>,
+// Solves a square as it is kept, so long as it takes the phases. From the first that it doesn't take on, its
+// cells are written out and rewritten after each phase.
+fn solve_kept<M: DMonoid, S: ReducedSquare<M> + Drop>(
+    m: &M,
+    square: S,
     matching: &mut Matching,
-    bench: &mut Bench<u128>,
-    region: &mut Region<u128>,
+    bench: &mut Bench<M::Value>,
+    region: &mut Region<M::Value>,
     trail: Option<Trail>,
-) -> Result<SolvedSquare<u128>, NoMemory>
-    requires reduced { IsReduced (bounded_sums m.now.top) reduced }
-    requires matching_side { length matching.old ≡ reduced.now.side }
-    requires absorbed { AllAllowed
-        (IsAbsorbed (bounded_sums m.now.top) reduced.index (cell_at reduced.now)) matching.old }
-    requires bench_side { bench.old.side ≡ reduced.now.side }
-    requires region_side { region.old.side ≡ reduced.now.side }
+) -> SolvedSquare<M::Value>
+    requires reduced { IsReduced (M.monoid_of m.now) (S.as_reduced square) }
+    requires matching_side { length matching.old ≡ (S.as_reduced square).now.side }
+    requires absorbed { let reduced = S.as_reduced square in
+        AllAllowed (IsAbsorbed (M.monoid_of m.now) reduced.index (cell_at reduced.now))
+        matching.old }
+    requires bench_side { bench.old.side ≡ (S.as_reduced square).now.side }
+    requires region_side { region.old.side ≡ (S.as_reduced square).now.side }
     requires spare { unmatched matching.old ≤ region.old.spare }
     requires live { IfSome trail (IsLive region.old) }
-    ensures solved { IfOk result (λ s. HasSolved (bounded_sums m.now.top) bounded_difference
-        reduced s.reduced matching.old matching.new region.old region.new trail
-        (last_of s.ended)) }
-    ensures ends { IfOk result (λ s. EndsIn (bounded_sums m.now.top) s.reduced matching.new
-        bench.new.rows s.ended) }
+    ensures solved { HasSolved (M.monoid_of m.now) (M.difference m.now) (S.as_reduced square)
+        result.reduced matching.old matching.new region.old region.new trail
+        (last_of result.ended) }
+    ensures ends { EndsIn (M.monoid_of m.now) result.reduced matching.new bench.new.rows
+        result.ended }
     ensures bench_side { bench.new.side ≡ bench.old.side }
 {
-    let _ = (reduced.now.side(), matching.side());
-    let mut dual = DualSquare::make(alloc, m, reduced)?;
-    match serve_all(m, &mut dual, matching, &mut bench.growth, region, trail) {
-        Progress::Ended(ended) => Ok(SolvedSquare {
-            reduced: dual.reduce(),
+    let _ = (square.side(), matching.side());
+    let mut square = square;
+    match serve_all(m, &mut square, matching, &mut bench.growth, region, trail) {
+        Progress::Ended(ended) => SolvedSquare {
+            reduced: square.into_reduced(),
             ended,
-        }),
-        Progress::Full(last) => Ok(solve_rewriting(
-            m,
-            dual.reduce(),
-            matching,
-            bench,
-            region,
-            last,
-        )),
+        },
+        Progress::Full(last) => {
+            solve_rewriting(m, square.into_reduced(), matching, bench, region, last)
+        }
     }
 }
 
@@ -161,7 +156,38 @@ impl SquareSolver for Bounded {
             matching.new bench.new.rows s.ended) }
         ensures bench_side { bench.new.side ≡ bench.old.side }
     {
-        solve_sums(alloc, self, reduced, matching, bench, region, trail)
+        let square = DualSquare::make(alloc, self, reduced)?;
+        Ok(solve_kept(self, square, matching, bench, region, trail))
+    }
+}
+
+impl SquareSolver for NarrowSums {
+    fn solve_square(
+        &self,
+        alloc: Global,
+        reduced: Reduced<u64>,
+        matching: &mut Matching,
+        bench: &mut Bench<u64>,
+        region: &mut Region<u64>,
+        trail: Option<Trail>,
+    ) -> Result<SolvedSquare<u64>, NoMemory>
+        requires reduced { IsReduced (bounded_sums narrow_top) reduced }
+        requires matching_side { length matching.old ≡ reduced.now.side }
+        requires absorbed { AllAllowed (IsAbsorbed (bounded_sums narrow_top) reduced.index
+            (cell_at reduced.now)) matching.old }
+        requires bench_side { bench.old.side ≡ reduced.now.side }
+        requires region_side { region.old.side ≡ reduced.now.side }
+        requires spare { unmatched matching.old ≤ region.old.spare }
+        requires live { IfSome trail (IsLive region.old) }
+        ensures solved { IfOk result (λ s. HasSolved (bounded_sums narrow_top)
+            bounded_difference reduced s.reduced matching.old matching.new
+            region.old region.new trail (last_of s.ended)) }
+        ensures ends { IfOk result (λ s. EndsIn (bounded_sums narrow_top) s.reduced
+            matching.new bench.new.rows s.ended) }
+        ensures bench_side { bench.new.side ≡ bench.old.side }
+    {
+        let square = NarrowSquare::make(alloc, reduced)?;
+        Ok(solve_kept(self, square, matching, bench, region, trail))
     }
 }
 
@@ -222,21 +248,7 @@ impl SquareSolver for Graded<Bounded> {
             matching.new bench.new.rows s.ended) }
         ensures bench_side { bench.new.side ≡ bench.old.side }
     {
-        let _ = (reduced.now.side(), matching.side());
-        let mut square = GradedSquare::make(alloc, reduced)?;
-        match serve_all(
-            self,
-            &mut square,
-            matching,
-            &mut bench.growth,
-            region,
-            trail,
-        ) {
-            Progress::Ended(ended) => Ok(SolvedSquare {
-                reduced: square.reduce(),
-                ended,
-            }),
-            Progress::Full(_) => unreachable!(),
-        }
+        let square = GradedSquare::make(alloc, reduced)?;
+        Ok(solve_kept(self, square, matching, bench, region, trail))
     }
 }

@@ -1,12 +1,45 @@
-use Rattle.std.proofs.Common.{◌≡◌, inl, inr, ◌%◌, [], Some, length, get_or, refl, sym, subst, arith, ⊎_elim}
+use Rattle.std.proofs.Common.{◌≡◌, inl, inr, ◌%◌, ◌/◌, [], Some, length, get_or, refl, sym, subst, arith, ⊎_elim}
+use Rattle.std.specs.Prelude.{bit_and}
 use Rattle.asg_match.specs.ColumnSet.{HasBit}
 use Rattle.asg_match.specs.laws.Bits.{without_bit, HasBit-zero}
 use Rattle.asg_algebra.specs.Leads.{leads_of, lead_at}
 use Rattle.asg_algebra.specs.Nearest.{IsWithin}
 use Rattle.asg_algebra.proofs.LeadLemmas.{lead_none, lead_there}
 use Rattle.asg_algebra.proofs.NearestLemmas.{Picks-same, Picks-nearest, Picks-itself, Picks-key}
-use Rattle.asg_algebra.proofs.WordLemmas.{HasBit-and, bit_in, next_bit, next_column, next_word, next_in, next_among, next_under, next_smaller, next_cases, next_gone, next_kept}
+use Rattle.asg_algebra.proofs.WordLemmas.{HasBit-and, column_of_all, bit_in, next_bit, next_column, next_word, next_in, next_among, next_under, next_smaller, next_cases, next_gone, next_kept}
 use Rattle.asg_algebra.proofs.nearest.nearest_in_word.Goals as goal
+
+pub nearest_of_whole-requires-clause-keys : goal.nearest_of_whole-requires-clause-keys
+nearest_of_whole-requires-clause-keys g c k here =
+    let M = g.M.Ordered.monoid_of c.args.m.now in
+    let n = c.args.number in
+    let unseen = c.args.unseen.now in
+    let keyed = c.args.keyed.now in
+    let U = get_or unseen n 0 in
+    let K = get_or keyed n 0 in
+    let keys = c.args.keys.now in
+    let there = column_of_all unseen n (bit_and U K) c.if-rest.true (λ i h. ((HasBit-and U K i).0 h).0) k here in
+    let has = column_of_all keyed n (bit_and U K) c.if-rest.true (λ i h. ((HasBit-and U K i).0 h).1) k here in
+    record {
+      within = c.requires.within k there;
+      value = c.requires.leads k (get_or keys k M.unit) there (lead_there M (leads_of keys keyed []) k has);
+    }
+
+pub returns-then-rest : goal.returns-then-rest
+returns-then-rest g c =
+    let M = g.M.Ordered.monoid_of c.args.m.now in
+    let n = c.args.number in
+    let unseen = c.args.unseen.now in
+    let keyed = c.args.keyed.now in
+    let U = get_or unseen n 0 in
+    let K = get_or keyed n 0 in
+    let keys = c.args.keys.now in
+    let all = c.if-rest.true in
+    Picks-same M (λ k. Some (get_or keys k M.unit)) (lead_at M (leads_of keys keyed [])) (λ k. k / 64 ≡ n) (IsWithin n unseen) (Some c.nearest_of_whole.result)
+    (λ k here. (here, column_of_all unseen n (bit_and U K) all (λ i h. ((HasBit-and U K i).0 h).0) k here))
+    (λ k w. w.0)
+    (λ k here. lead_there M (leads_of keys keyed []) k (column_of_all keyed n (bit_and U K) all (λ i h. ((HasBit-and U K i).0 h).1) k here))
+    c.nearest_of_whole.ensures
 
 pub columns-init : goal.columns-init
 columns-init g c =

@@ -1,4 +1,4 @@
-use Rattle.std.proofs.Common.{◌%◌}
+use Rattle.std.proofs.Common.{◌%◌, set}
 use Rattle.asg_match.specs.ColumnSet.{HasBit}
 use Rattle.asg_algebra.specs.Leads.{leads_of, lead_at, Relaxes, Picks}
 use Rattle.asg_algebra.specs.Nearest.{IsWithin}
@@ -12,9 +12,9 @@ invariant-columns g l =
     record {
       unseen : IsAmong l.rest l.number l.unseen;
       present : IsAmong l.rest l.number l.present;
-      relaxed : Relaxes (g.M.Ordered.monoid_of l.m) (g.R.RowValues.values_of l.values) l.sum l.place (λ k. IsBoth l.number l.present l.unseen k × (HasBit l.rest (k % 64) → ⊥)) (leads_of l.fn.keys l.fn.keyed l.fn.places) (leads_of l.keys l.keyed l.places);
-      valued : AreValued (g.M.Ordered.monoid_of l.m) (leads_of l.keys l.keyed l.places) l.unseen;
-      picks : Picks (g.M.Ordered.monoid_of l.m) (lead_at (g.M.Ordered.monoid_of l.m) (leads_of l.keys l.keyed l.places)) (IsWithin l.number l.unseen) l.nearest;
+      relaxed : Relaxes (g.M.Ordered.monoid_of l.m) (g.R.RowValues.values_of l.values) l.sum l.place (λ k. IsBoth l.number l.present l.unseen k × (HasBit l.rest (k % 64) → ⊥)) (leads_of l.fn.keys l.fn.keyed l.fn.places) (leads_of l.keys (set l.fn.keyed l.number l.word) l.places);
+      valued : AreValued (g.M.Ordered.monoid_of l.m) (leads_of l.keys (set l.fn.keyed l.number l.word) l.places) l.unseen;
+      picks : Picks (g.M.Ordered.monoid_of l.m) (lead_at (g.M.Ordered.monoid_of l.m) (leads_of l.keys (set l.fn.keyed l.number l.word) l.places)) (IsWithin l.number l.unseen) l.nearest;
     }
 
 abbrev pub decreases-columns : goal.decreases-columns

@@ -2,3 +2,4 @@ mod WordedPhases
 mod LedSquares
 mod KindOutcomes
 mod MatchedColumns
+mod NarrowOutcomes

@@ -1,3 +1,4 @@
 pub mod FoldOutcomes
+pub mod NarrowObjectives
 pub mod SolvedSquares
 pub mod Workspaces

@@ -5,20 +5,24 @@ ghost use Rattle.asg_model.specs.declared.objectives.Objective.TheVariants.{Time
 ghost use Rattle.asg_model.specs.Limits.{most_cost, most_side};
 ghost use Rattle.asg_model.specs.Refused.{PassesNegative};
 ghost use Rattle.asg_model.specs.Shapes.{square_side};
-ghost use Rattle.asg_monoids.specs.Entered.{is_sum_objective, is_peak_objective};
+ghost use Rattle.asg_monoids.specs.Entered.{is_sum_objective, is_peak_objective, cost_reach, sum_entered};
 ghost use Rattle.asg_order.specs.Entering.{MayEnter};
 ghost use Rattle.asg_proof.specs.Outcomes.{IsOutcome};
 ghost use Rattle.asg_proof.specs.Proves.{is_algebraic};
+ghost use Rattle.asg_square.specs.Grid.{IsSquareOf};
 ghost use Rattle.asg_objectives.specs.FoldOutcomes.{IsFoldOutcome, GivesFewPhases};
+ghost use Rattle.asg_objectives.specs.NarrowObjectives.{is_narrow_objective};
 
 use crate::NoMemory;
 use crate::solved_squares::outcome;
 use crate::workspaces::Workspace;
 use asg_algebra::SquareSolver;
 use asg_model::{Cost, Instance, Objective};
-use asg_monoids::{PeakKind, SumKind, TimeKind};
+use asg_monoids::laws::narrow_sums;
+use asg_monoids::{NarrowSums, PeakKind, SumKind, TimeKind};
 use asg_order::{Kind, Ordered};
 use asg_proof::Outcome;
+use asg_proof::laws::tops_law;
 use asg_square::Square;
 use std::alloc::Global;
 
@@ -50,7 +54,52 @@ where
     outcome(alloc, m, inst, square, workspace)
 }
 
-// The outcome of an objective whose costs enter sums.
+// The number as which a cost of `sum` or `sum-max` enters, in 64 bits.
+fn narrow_entry(objective: Objective, cost: Cost) -> u64
+    requires objective { IsTrue (is_narrow_objective objective) }
+    requires may { MayEnter objective cost_reach cost }
+    ensures { result ≡ sum_entered objective cost }
+{
+    narrow_sums();
+    SumKind::of(objective).enter(cost) as u64
+}
+
+// The square of an instance whose live costs enter for `sum` or `sum-max`, in 64 bits.
+fn narrow_square(
+    alloc: Global,
+    objective: Objective,
+    inst: &Instance,
+) -> Result<Square<u64>, NoMemory>
+    requires objective { IsTrue (is_narrow_objective objective) }
+    requires side { square_side inst.now ≤ most_side }
+    requires passes { PassesNegative objective inst.now }
+    ensures { IfOk result (IsSquareOf inst.now 0 (sum_entered objective)) }
+{
+    let _rows = inst.rows();
+    let enter = |cost: Cost| -> u64
+        requires { IsTrue (is_narrow_objective objective) × MayEnter objective cost_reach cost }
+        ensures { result ≡ sum_entered objective cost }
+    { narrow_entry(objective, cost) };
+    Square::of(alloc, inst, 0, &enter)
+}
+
+// The outcome of `sum` or `sum-max`, by sums in 64 bits, which stay far below their top.
+fn by_narrow_sums(alloc: Global, objective: Objective, inst: &Instance) -> Result<Outcome, NoMemory>
+    requires objective { IsTrue (is_narrow_objective objective) }
+    requires side { square_side inst.now ≤ most_side }
+    requires passes { PassesNegative objective inst.now }
+    ensures outcome { IfOk result (IsOutcome objective inst.now) }
+    ensures phases { IfOk result (GivesFewPhases (square_side inst.now)) }
+{
+    narrow_sums();
+    tops_law();
+    let workspace = Workspace::make(alloc, inst.side())?;
+    let _rows = inst.rows();
+    let square = narrow_square(alloc, objective, inst)?;
+    outcome(alloc, &NarrowSums, inst, square, workspace)
+}
+
+// The outcome of an objective whose costs enter sums, by sums in 128 bits.
 fn by_sums(alloc: Global, objective: Objective, inst: &Instance) -> Result<Outcome, NoMemory>
     requires objective { IsTrue (is_sum_objective objective) }
     requires side { square_side inst.now ≤ most_side }
@@ -86,7 +135,7 @@ fn by_grades(alloc: Global, inst: &Instance) -> Result<Outcome, NoMemory>
 /// the instance's square, each of 1 to side steps. Where no choice is valid, a Hall set of the whole
 /// instance. The objective is any but `Balanced` and `Lex`, it refuses no live cost of the instance
 /// (`asg_model::negative`), and the side is at most 2,000. The error is want of memory. The method and
-/// its time are those of [`algebraic`].
+/// its time are those of [`algebraic`]; the sums of `sum` and `sum-max` are taken in 64 bits.
 pub fn algebraic_assignment(
     alloc: Global,
     objective: Objective,
@@ -99,9 +148,8 @@ pub fn algebraic_assignment(
     ensures phases { IfOk result (GivesFewPhases (square_side inst.now)) }
 {
     match objective {
-        Objective::Sum | Objective::SumMax | Objective::SumPair | Objective::Capped(_) => {
-            by_sums(alloc, objective, inst)
-        }
+        Objective::Sum | Objective::SumMax => by_narrow_sums(alloc, objective, inst),
+        Objective::SumPair | Objective::Capped(_) => by_sums(alloc, objective, inst),
         Objective::Bottleneck | Objective::BottleneckMax => by_maxima(alloc, objective, inst),
         Objective::TimeCost => by_grades(alloc, inst),
         Objective::Balanced | Objective::Lex => unreachable!(),

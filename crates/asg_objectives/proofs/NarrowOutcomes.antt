@@ -1,0 +1,98 @@
+-- Outcomes by sums in 64 bits are outcomes of `sum` and `sum-max`.
+use Rattle.std.proofs.Common.{◌≡◌, ℕ, ◌<◌, ◌≤◌, ◌^◌, true, List, length, Option, arith, refl, sym, is_some}
+use Rattle.std.specs.Prelude.{All, IsTrue}
+use Rattle.std.proofs.lemmas.Bool.{false≢true}
+use Rattle.std.proofs.lemmas.List.Sums.{count_by-le-length}
+use Rattle.asg_model.specs.declared.objectives.Objective.{Objective}
+use Rattle.asg_model.specs.declared.objectives.Objective.TheVariants.{Sum, SumMax, SumPair, Capped, Bottleneck, BottleneckMax, TimeCost, Balanced, Lex}
+use Rattle.asg_model.specs.declared.parts.Cost.{Cost}
+use Rattle.asg_model.specs.Instances.{IsInstance}
+use Rattle.asg_model.specs.Limits.{most_rows}
+use Rattle.asg_model.specs.Problem.{Problem}
+use Rattle.asg_model.specs.Refused.{PassesNegative}
+use Rattle.asg_model.specs.ValidChoice.{IsValid}
+use Rattle.asg_model.specs.Values.{costs_of}
+use Rattle.asg_monoids.specs.BoundedSums.{bounded_sums, bounded_difference, plain_word, narrow_top}
+use Rattle.asg_monoids.specs.Entered.{is_sum_objective, cost_reach, sum_entered}
+use Rattle.asg_order.specs.declared.words.Word.{Word}
+use Rattle.asg_order.specs.Bridge.{costs_fold, choice_fold}
+use Rattle.asg_order.specs.Entering.{MayEnter}
+use Rattle.asg_order.specs.Monoid.{IsValue}
+use Rattle.asg_order.specs.laws.ChosenCosts.{costs_may_enter, length-costs_of}
+use Rattle.asg_proof.specs.declared.outcomes.Outcome.{Outcome}
+use Rattle.asg_proof.specs.FoldProofs.{ProvesFold, ProvesPhases}
+use Rattle.asg_proof.specs.laws.LiveCosts.{lies_within}
+use Rattle.asg_proof.specs.Outcomes.{IsOutcome}
+use Rattle.asg_proof.specs.Phases.{PhaseOf}
+use Rattle.asg_objectives.specs.FoldOutcomes.{IsFoldOutcome}
+use Rattle.asg_objectives.specs.NarrowObjectives.{is_narrow_objective}
+use Rattle.asg_objectives.proofs.KindOutcomes.{IsOutcome-from_fold}
+
+-- sums of so few entered costs are the same by both tops, and below the lesser one
+abbrev pub FoldsNarrow : Objective → Type 0
+FoldsNarrow objective =
+    (u : List Cost) → length u ≤ most_rows → All (MayEnter objective cost_reach) u
+    → (costs_fold (bounded_sums narrow_top) (sum_entered objective) u ≡ costs_fold (bounded_sums (2 ^ 120)) (sum_entered objective) u)
+    × (costs_fold (bounded_sums narrow_top) (sum_entered objective) u < narrow_top)
+
+-- costs of both objectives enter as values
+abbrev pub EnterNarrow : Type 0
+EnterNarrow =
+    (cost : Cost)
+    → (MayEnter Sum cost_reach cost → IsValue (bounded_sums narrow_top) (sum_entered Sum cost))
+    × (MayEnter SumMax cost_reach cost → IsValue (bounded_sums narrow_top) (sum_entered SumMax cost))
+
+-- phases that prove a fold below the lesser of two tops prove it by the greater
+abbrev pub FoldsByTops : Type 0
+FoldsByTops =
+    (low high : ℕ) (word_of : ℕ → Word) (enter : Cost → ℕ) (X : Problem) (choice : List (Option ℕ)) (words : List (PhaseOf Word))
+    → low ≤ high
+    → choice_fold (bounded_sums low) enter X choice < low
+    → choice_fold (bounded_sums high) enter X choice ≡ choice_fold (bounded_sums low) enter X choice
+    → ProvesFold (bounded_sums low) bounded_difference word_of enter X choice words
+    → ProvesFold (bounded_sums high) bounded_difference word_of enter X choice words
+
+-- what holds for `sum` and for `sum-max` holds for each of these objectives
+by_cases : (Holds : Objective → Type 0) (objective : Objective) → is_narrow_objective objective ≡ true → Holds Sum → Holds SumMax → Holds objective
+by_cases Holds Sum is sum sum_max = sum
+by_cases Holds SumMax is sum sum_max = sum_max
+by_cases Holds SumPair is sum sum_max = absurd (false≢true is)
+by_cases Holds (Capped cap) is sum sum_max = absurd (false≢true is)
+by_cases Holds Bottleneck is sum sum_max = absurd (false≢true is)
+by_cases Holds BottleneckMax is sum sum_max = absurd (false≢true is)
+by_cases Holds TimeCost is sum sum_max = absurd (false≢true is)
+by_cases Holds Balanced is sum sum_max = absurd (false≢true is)
+by_cases Holds Lex is sum sum_max = absurd (false≢true is)
+
+-- they are objectives of sums
+pub is_sum-narrow : (objective : Objective) → is_narrow_objective objective ≡ true → IsTrue (is_sum_objective objective)
+is_sum-narrow objective is = by_cases (λ o. IsTrue (is_sum_objective o)) objective is refl refl
+
+-- their costs enter as values
+pub enters_narrow : (objective : Objective) → is_narrow_objective objective ≡ true → EnterNarrow → (cost : Cost) → MayEnter objective cost_reach cost → IsValue (bounded_sums narrow_top) (sum_entered objective cost)
+enters_narrow objective is values =
+    by_cases (λ o. (cost : Cost) → MayEnter o cost_reach cost → IsValue (bounded_sums narrow_top) (sum_entered o cost)) objective is
+    (λ cost. (values cost).0) (λ cost. (values cost).1)
+
+-- their sums stop at 2^120
+from_narrow : (objective : Objective) → is_narrow_objective objective ≡ true → (X : Problem) (choice : List (Option ℕ)) (words : List (PhaseOf Word)) → ProvesFold (bounded_sums (2 ^ 120)) bounded_difference plain_word (sum_entered objective) X choice words → ProvesPhases objective X choice words
+from_narrow objective is X choice words =
+    by_cases (λ o. ProvesFold (bounded_sums (2 ^ 120)) bounded_difference plain_word (sum_entered o) X choice words → ProvesPhases o X choice words) objective is
+    (λ proof. proof) (λ proof. proof)
+
+-- a valid choice has few costs
+few_costs : (X : Problem) → IsInstance X → (choice : List (Option ℕ)) → IsValid X choice → length (costs_of X choice) ≤ most_rows
+few_costs X instance choice valid =
+    omega (arith, length-costs_of X choice valid, valid.counted, valid.over, count_by-le-length is_some choice, instance.well_formed.few_rows)
+
+-- what is proved by sums in 64 bits is proved by those that stop at the top of the objective
+pub IsOutcome-narrow : (objective : Objective) → is_narrow_objective objective ≡ true → FoldsNarrow Sum → FoldsNarrow SumMax → FoldsByTops → (X : Problem) → IsInstance X → PassesNegative objective X → (outcome : Outcome) → IsFoldOutcome (bounded_sums narrow_top) bounded_difference plain_word (sum_entered objective) X outcome → IsOutcome objective X outcome
+IsOutcome-narrow objective is sum sum_max tops X instance passes outcome by =
+    IsOutcome-from_fold (bounded_sums narrow_top) bounded_difference plain_word (sum_entered objective) objective X proves outcome by
+  where
+    proves : (choice : List (Option ℕ)) (words : List (PhaseOf Word)) → IsValid X choice → ProvesFold (bounded_sums narrow_top) bounded_difference plain_word (sum_entered objective) X choice words → ProvesPhases objective X choice words
+    proves choice words valid proof =
+        let may = costs_may_enter objective cost_reach X choice (lies_within cost_reach X (omega arith) instance) passes in
+        let folds = by_cases FoldsNarrow objective is sum sum_max (costs_of X choice) (few_costs X instance choice valid) may in
+        from_narrow objective is X choice words
+        (tops narrow_top (2 ^ 120) plain_word (sum_entered objective) X choice words (omega arith) folds.1 (sym folds.0) proof)

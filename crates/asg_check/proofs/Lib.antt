@@ -3,6 +3,8 @@ pub mod ToldReasons
 pub mod Decisions
 pub mod PhaseWords
 pub mod Replaying
+pub mod Outcomes
+pub mod NarrowSums
 pub mod ByObjective
 pub mod LiveCosts
 pub mod PhaseTold

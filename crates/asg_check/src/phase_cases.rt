@@ -31,7 +31,7 @@ const LEAST: (u32, u32, u32) = (2, 1, 3);
 // A choice of the greatest least cost.
 const WIDEST: (u32, u32, u32) = (3, 1, 2);
 
-pub(crate) const SUMS: [Judged; 17] = [
+pub(crate) const SUMS: [Judged; 20] = [
     (Sum, (5, 0), LEAST, &[FIRST, SECOND, THIRD], 0, 0),
     (
         Sum,
@@ -79,6 +79,42 @@ pub(crate) const SUMS: [Judged; 17] = [
         &[(&[(1, 1_000_000_001)], &[0, 1, 1], &[1, 1, 1]), SECOND],
         6,
         1,
+    ),
+    (
+        Sum,
+        (5, 0),
+        LEAST,
+        &[
+            (&[(0, (1 << 64) + 1_000_000_001)], &[0, 1, 1], &[1, 1, 1]),
+            SECOND,
+            THIRD,
+        ],
+        6,
+        1,
+    ),
+    (
+        Sum,
+        (5, 0),
+        LEAST,
+        &[
+            FIRST,
+            (&[(0, (1 << 62) - 1)], &[1, 0, 1], &[1, 1, 1]),
+            THIRD,
+        ],
+        6,
+        2,
+    ),
+    (
+        Sum,
+        (5, 0),
+        LEAST,
+        &[
+            FIRST,
+            SECOND,
+            (&[(0, 1 << 62), (0, 1 << 63)], &[1, 2, 0], &[2, 2, 2]),
+        ],
+        6,
+        3,
     ),
     (
         SumMax,

@@ -1,6 +1,6 @@
 //! What stands against phases for a choice of an instance.
 
-ghost use Rattle.std.specs.Prelude.{◌≡◌, ◌≤◌, ◌<◌, IsTrue, IfOk, MatchOption, length};
+ghost use Rattle.std.specs.Prelude.{◌≡◌, ◌≤◌, ◌<◌, IsTrue, IfOk, IfSome, MatchOption, length};
 ghost use Rattle.asg_model.specs.declared.objectives.Objective.TheVariants.{TimeCost};
 ghost use Rattle.asg_model.specs.Instances.{IsInstance};
 ghost use Rattle.asg_model.specs.Limits.{most_side};
@@ -17,8 +17,9 @@ ghost use Rattle.asg_check.specs.Replays.{IsStart, StandsFor, StandsOver};
 
 use crate::NoMemory;
 use crate::grade_verdicts::grade_verdict;
+use crate::narrow_starts::narrow_start;
 use crate::square_verdicts::square_verdict;
-use crate::sum_verdicts::sum_verdict;
+use crate::sum_verdicts::{narrow_verdict, sum_verdict};
 use crate::verdicts::Verdict;
 use asg_admit::Reduced;
 use asg_model::{Choice, Cost, Instance, Objective};
@@ -72,11 +73,41 @@ fn summed_verdict(
     ensures { IfOk result (Tells
         (StandsFor objective inst.now choice.now phases.now) phase_reasons) }
 {
+    if let Some(told) = narrow_told(alloc, objective, inst, choice, phases)? {
+        return Ok(told);
+    }
     let kind = SumKind::of(objective);
     let start = start(alloc, &kind, inst)?;
     let fold = chosen_fold(&kind, inst, choice);
     let verdict = sum_verdict(alloc, kind.monoid(), start, phases, fold)?;
     Ok(verdict)
+}
+
+// The same where sums in 64 bits tell it: for `sum` and `sum-max`, while none comes near 2^62.
+fn narrow_told(
+    alloc: Global,
+    objective: Objective,
+    inst: &Instance,
+    choice: &Choice,
+    phases: &[Phase<Word>],
+) -> Result<Option<Verdict>, NoMemory>
+    requires sums { IsTrue (is_sum_objective objective) }
+    requires instance { IsInstance inst.now }
+    requires side { square_side inst.now ≤ most_side }
+    requires passes { PassesNegative objective inst.now }
+    ensures { IfOk result (λ told. IfSome told (Tells
+        (StandsFor objective inst.now choice.now phases.now) phase_reasons)) }
+{
+    match objective {
+        Objective::Sum | Objective::SumMax => {
+            let kind = SumKind::of(objective);
+            let start = narrow_start(alloc, objective, inst)?;
+            let fold = chosen_fold(&kind, inst, choice);
+            let told = narrow_verdict(alloc, kind.monoid(), start, phases, fold)?;
+            Ok(told)
+        }
+        _ => Ok(None),
+    }
 }
 
 // The same of `time-cost`.

@@ -1,16 +1,13 @@
 //! Phases, replayed on a square of sums that is kept by dual variables.
 
-ghost use Rattle.std.specs.Prelude.{◌≡◌, IfOk};
+ghost use Rattle.std.specs.Prelude.{◌≡◌, ◌≤◌, IfOk};
 ghost use Rattle.asg_admit.specs.Reduced.{IsReduced};
-ghost use Rattle.asg_admit.specs.declared.dual_squares.Replayed.TheVariants.{Applied, Refused, Full};
 ghost use Rattle.asg_monoids.specs.BoundedSums.{bounded_sums, bounded_difference, plain_word};
-ghost use Rattle.asg_square.specs.Grid.{cell_at};
-ghost use Rattle.asg_check.specs.Replays.{IsAdmittedFrom, IsReplayed};
 ghost use Rattle.asg_check.specs.SumReplays.{StopsAt};
 
 use crate::NoMemory;
-use crate::replays::{make_room, read_steps};
-use asg_admit::{DualSquare, Replayed};
+use crate::sum_squares::SumSquare;
+use asg_admit::Replayed;
 use asg_monoids::Bounded;
 use asg_order::Word;
 use asg_proof::Phase;
@@ -27,52 +24,23 @@ pub(crate) enum Stop {
     Full(usize),
 }
 
-// Applies a phase where it is admitted and there is room for its sums, and tells what came of it. Its
-// steps are read into the list of values. The error is want of memory.
-fn replay_sums(
-    m: &Bounded,
-    dual: &mut DualSquare,
-    values: &mut Vec<u128>,
-    room: &mut Vec<u128>,
-    phase: &Phase<Word>,
-) -> Result<Replayed, NoMemory>
-    requires { IsReduced (bounded_sums m.now.top) dual.old }
-    ensures applied { IfOk result (λ came. came ≡ Applied → IsReplayed (bounded_sums m.now.top)
-        bounded_difference plain_word phase.now dual.old dual.new) }
-    ensures refused { IfOk result (λ came. came ≡ Refused → ¬ IsAdmittedFrom
-        (bounded_sums m.now.top) bounded_difference plain_word dual.old.now.side
-        (cell_at dual.old.now) phase.now) }
-    ensures full { IfOk result (λ came. came ≡ Full → dual.new ≡ dual.old) }
-{
-    if !read_steps(m, phase.steps(), values)? {
-        return Ok(Replayed::Refused);
-    }
-    make_room(m, room, values.len())?;
-    Ok(dual.replay(
-        m,
-        values.as_slice(),
-        phase.enters(),
-        phase.leaves(),
-        room.as_mut_slice(),
-    ))
-}
-
 // Applies the phases in turn, up to the first that isn't admitted after those before it, or for which
 // there isn't room. The error is want of memory.
-pub(crate) fn first_stop(
+pub(crate) fn first_stop<S: SumSquare>(
     alloc: Global,
     m: &Bounded,
-    dual: &mut DualSquare,
+    square: &mut S,
     phases: &[Phase<Word>],
 ) -> Result<Stop, NoMemory>
-    requires { IsReduced (bounded_sums m.now.top) dual.old }
+    requires reduced { IsReduced (bounded_sums m.now.top) (S.as_reduced square.old) }
+    requires top { S.least_top ≤ m.now.top }
     ensures { IfOk result (StopsAt (bounded_sums m.now.top) bounded_difference plain_word phases.now
-        dual.old dual.new) }
+        (S.as_reduced square.old) (S.as_reduced square.new)) }
 {
     let mut values = Vec::new(alloc);
     let mut room = Vec::new(alloc);
     for place in 0..phases.len() {
-        let came = replay_sums(m, dual, &mut values, &mut room, &phases[place])?;
+        let came = square.replay_phase(m, &mut values, &mut room, &phases[place])?;
         match came {
             Replayed::Applied => {}
             Replayed::Refused => return Ok(Stop::Bad(place)),

@@ -1,8 +1,8 @@
 //! What stands against phases that are replayed from a square of sums, kept by dual variables.
 
-ghost use Rattle.std.specs.Prelude.{◌≡◌, IfOk};
+ghost use Rattle.std.specs.Prelude.{◌≡◌, ◌≤◌, IfOk, IfSome};
 ghost use Rattle.asg_admit.specs.Reduced.{IsReduced};
-ghost use Rattle.asg_monoids.specs.BoundedSums.{bounded_sums, bounded_difference, plain_word};
+ghost use Rattle.asg_monoids.specs.BoundedSums.{bounded_sums, bounded_difference, narrow_top, plain_word};
 ghost use Rattle.asg_order.specs.Monoid.{IsValue};
 ghost use Rattle.asg_square.specs.Grid.{cell_at};
 ghost use Rattle.asg_check.specs.Reasons.{Tells, phase_reasons};
@@ -12,7 +12,7 @@ use crate::NoMemory;
 use crate::square_verdicts::{index_verdict, square_verdict};
 use crate::sum_replays::{Stop, first_stop};
 use crate::verdicts::{Reason, Verdict};
-use asg_admit::{DualSquare, Reduced};
+use asg_admit::{DualSquare, NarrowSquare, Reduced};
 use asg_monoids::Bounded;
 use asg_order::Word;
 use asg_proof::Phase;
@@ -40,5 +40,31 @@ pub(crate) fn sum_verdict(
         Stop::End => Ok(index_verdict(m, dual.index(), value)),
         Stop::Bad(place) => Ok(Reason::BadPhase.verdict_at(place as i64 + 1)),
         Stop::Full(place) => square_verdict(alloc, m, dual.reduce(), phases, place, value),
+    }
+}
+
+// The same from a square in 64 bits, where no sum comes near 2^62 with any of the phases. Otherwise
+// nothing is told.
+pub(crate) fn narrow_verdict(
+    alloc: Global,
+    m: &Bounded,
+    start: Reduced<u64>,
+    phases: &[Phase<Word>],
+    value: u128,
+) -> Result<Option<Verdict>, NoMemory>
+    requires reduced { IsReduced (bounded_sums narrow_top) start }
+    requires top { narrow_top ≤ m.now.top }
+    requires unit { start.index ≡ 0 }
+    requires value { IsValue (bounded_sums m.now.top) value }
+    ensures { IfOk result (λ told. IfSome told (Tells (StandsFrom (bounded_sums m.now.top)
+        bounded_difference plain_word start.now.side (cell_at start.now) value phases.now)
+        phase_reasons)) }
+{
+    let mut narrow = NarrowSquare::make(alloc, start)?;
+    let stop = first_stop(alloc, m, &mut narrow, phases)?;
+    match stop {
+        Stop::End => Ok(Some(index_verdict(m, narrow.index() as u128, value))),
+        Stop::Bad(place) => Ok(Some(Reason::BadPhase.verdict_at(place as i64 + 1))),
+        Stop::Full(_) => Ok(None),
     }
 }

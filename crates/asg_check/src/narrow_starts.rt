@@ -1,0 +1,53 @@
+//! The square of an instance in 64 bits, where sums of its costs fit.
+
+ghost use Rattle.std.specs.Prelude.{◌≡◌, ◌⊎◌, ◌≤◌, IfOk};
+ghost use Rattle.asg_model.specs.declared.objectives.Objective.TheVariants.{Sum, SumMax};
+ghost use Rattle.asg_model.specs.Limits.{most_side};
+ghost use Rattle.asg_model.specs.Refused.{PassesNegative};
+ghost use Rattle.asg_model.specs.Shapes.{square_side};
+ghost use Rattle.asg_monoids.specs.BoundedSums.{bounded_sums, narrow_top};
+ghost use Rattle.asg_monoids.specs.Entered.{cost_reach, sum_entered};
+ghost use Rattle.asg_order.specs.Entering.{LiesWithin, MayEnter};
+ghost use Rattle.asg_check.specs.Replays.{IsStart};
+
+use crate::NoMemory;
+use asg_admit::Reduced;
+use asg_model::{Cost, Instance, Objective};
+use asg_monoids::SumKind;
+use asg_monoids::laws::narrow_sums;
+use asg_order::Kind;
+use asg_square::Square;
+use std::alloc::Global;
+
+// The square of the instance for `sum` or `sum-max`, before any step. The error is want of memory.
+pub(crate) fn narrow_start(
+    alloc: Global,
+    objective: Objective,
+    inst: &Instance,
+) -> Result<Reduced<u64>, NoMemory>
+    requires narrow { (objective ≡ Sum) ⊎ (objective ≡ SumMax) }
+    requires side { square_side inst.now ≤ most_side }
+    requires near { LiesWithin cost_reach inst.now }
+    requires passes { PassesNegative objective inst.now }
+    ensures { IfOk result (IsStart (bounded_sums narrow_top) (sum_entered objective) inst.now) }
+{
+    narrow_sums();
+    let enter = |cost: Cost| -> u64
+        requires narrow { (objective ≡ Sum) ⊎ (objective ≡ SumMax) }
+        requires may { MayEnter objective cost_reach cost }
+        ensures { result ≡ sum_entered objective cost }
+    { narrow_entered(objective, cost) };
+    let now = Square::of(alloc, inst, 0, &enter)?;
+    Ok(Reduced { now, index: 0 })
+}
+
+// The number as which a cost enters for `sum` or `sum-max`.
+fn narrow_entered(objective: Objective, cost: Cost) -> u64
+    requires narrow { (objective ≡ Sum) ⊎ (objective ≡ SumMax) }
+    requires may { MayEnter objective cost_reach cost }
+    ensures { result ≡ sum_entered objective cost }
+{
+    narrow_sums();
+    let kind = SumKind::of(objective);
+    kind.enter(cost) as u64
+}

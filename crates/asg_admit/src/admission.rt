@@ -15,8 +15,10 @@ use crate::replayed_cells::replay_cell;
 use asg_order::DMonoid;
 use asg_square::Square;
 
-// Whether a phase is admitted from the square.
-pub(crate) fn admits<M: DMonoid>(
+/// Whether a phase is admitted from the square: the lists are over the rows and the columns, each step
+/// is a value, and each step in turn has one more row and column than the side and is at most each
+/// present cell of both. It takes no memory.
+pub fn admits<M: DMonoid>(
     m: &M,
     square: &Square<M::Value>,
     steps: &[M::Value],
@@ -58,8 +60,8 @@ pub(crate) fn is_over<M: DMonoid>(
     are_counted(enters, leaves, steps.len())
 }
 
-// Whether each step is a value.
-pub(crate) fn are_values<M: DMonoid>(m: &M, steps: &[M::Value]) -> bool
+/// Whether each of the values is one of the monoid.
+pub fn are_values<M: DMonoid>(m: &M, steps: &[M::Value]) -> bool
     ensures { IsTrue result ↔ All (IsValue (M.monoid_of m.now)) steps.now }
 {
     for t in 0..steps.len() {

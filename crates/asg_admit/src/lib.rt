@@ -41,13 +41,10 @@ mod products;
 mod reduced;
 mod replayed_cells;
 mod replaying;
-#[cfg(test)]
-mod samples;
 mod settling;
 mod stepping;
-#[cfg(test)]
-mod tests;
 
+pub use admission::{admits, are_values};
 pub use dual_rows::DualRow;
 pub use dual_squares::{DualSquare, Replayed};
 pub use graded_squares::GradedSquare;

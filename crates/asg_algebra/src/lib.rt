@@ -35,10 +35,3 @@ pub use square_solvers::{SolvedSquare, SquareSolver};
 
 /// There was not enough memory.
 pub type NoMemory = std::alloc::AllocError;
-
-#[cfg(test)]
-mod samples;
-#[cfg(test)]
-mod solver_tests;
-#[cfg(test)]
-mod tests;

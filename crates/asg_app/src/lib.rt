@@ -7,28 +7,16 @@
 //! means. It serves the program alone.
 #![tactic(auto)]
 
-#[cfg(test)]
-mod algebraic_runs;
 mod answers;
-#[cfg(test)]
-mod balanced_tests;
-#[cfg(test)]
-mod check_tests;
 mod commands;
 mod documents;
 mod files;
 pub mod laws;
-#[cfg(test)]
-mod memory_runs;
-#[cfg(test)]
-mod phase_tests;
 mod program;
 mod refusals;
 mod replies;
 mod requests;
 mod sheets;
-#[cfg(test)]
-mod solve_tests;
 mod sources;
 mod stages;
 mod status;

@@ -33,14 +33,3 @@ pub use verdicts::{Form, Reason, Verdict};
 
 /// Want of memory: the one error of the calls that take memory.
 pub type NoMemory = std::alloc::AllocError;
-
-#[cfg(test)]
-mod grade_tests;
-#[cfg(test)]
-mod phase_cases;
-#[cfg(test)]
-mod phase_tests;
-#[cfg(test)]
-mod tests;
-#[cfg(test)]
-mod window_tests;

@@ -24,6 +24,3 @@ pub use sink::{PutFault, Sink};
 
 /// The answer of a call for which memory was wanting.
 pub type NoMemory = std::alloc::AllocError;
-
-#[cfg(test)]
-mod tests;

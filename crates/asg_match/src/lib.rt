@@ -17,8 +17,6 @@ mod path;
 mod perfect;
 mod pruning;
 mod search;
-#[cfg(test)]
-mod tests;
 
 pub use allowed::Allowed;
 pub use alternating_tree::{Branches, Tree};

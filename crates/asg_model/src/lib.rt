@@ -42,10 +42,3 @@ pub use valuation::value;
 
 /// Want of memory: the one error of the calls that take memory.
 pub type NoMemory = std::alloc::AllocError;
-
-#[cfg(test)]
-mod squares;
-#[cfg(test)]
-mod tests;
-#[cfg(test)]
-mod value_tests;

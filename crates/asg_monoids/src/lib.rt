@@ -31,8 +31,3 @@ pub use ranks::compare_ranks;
 pub use sum_kinds::SumKind;
 pub use sums::Bounded;
 pub use time_kinds::TimeKind;
-
-#[cfg(test)]
-mod kind_tests;
-#[cfg(test)]
-mod tests;

@@ -18,8 +18,3 @@ pub use algebraic_objectives::{algebraic, algebraic_assignment};
 
 /// There was not enough memory.
 pub type NoMemory = std::alloc::AllocError;
-
-#[cfg(test)]
-mod samples;
-#[cfg(test)]
-mod tests;

@@ -22,6 +22,3 @@ pub use fields::{graded, next_graded, next_long, numbers, pair, positive, signed
 pub use line_cursor::{Lines, count_ends};
 pub use number_lists::Numbers;
 pub use numerals::{number, signed_number, wide_number};
-
-#[cfg(test)]
-mod tests;

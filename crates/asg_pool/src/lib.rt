@@ -11,8 +11,6 @@ mod links;
 mod records;
 mod regions;
 mod strips;
-#[cfg(test)]
-mod tests;
 mod trails;
 
 pub use regions::Region;

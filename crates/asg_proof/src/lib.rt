@@ -15,8 +15,6 @@ mod outcomes;
 mod phase_lists;
 mod phases;
 mod row_ids;
-#[cfg(test)]
-mod samples;
 mod windows;
 
 pub use outcomes::{Outcome, Proof};
@@ -27,6 +25,3 @@ pub use windows::{Window, Windows};
 
 /// There was not enough memory.
 pub type NoMemory = std::alloc::AllocError;
-
-#[cfg(test)]
-mod tests;

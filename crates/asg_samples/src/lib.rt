@@ -9,8 +9,6 @@ mod fours;
 mod parts;
 mod ranges;
 mod samples;
-#[cfg(test)]
-mod tests;
 
 pub use faults::Fault;
 pub use fours::{Fours, ONE_COLUMN, PRODUCTS, SIGNED, THREE, TWO_COLUMNS, four_by_four};

@@ -11,19 +11,13 @@ mod assignments;
 mod bit_rows;
 mod cell_tables;
 mod cells;
-#[cfg(test)]
-mod change_tests;
 mod choices;
 mod labels;
 pub mod laws;
 mod pieces;
 mod row_changes;
 mod rows;
-#[cfg(test)]
-mod samples;
 mod squares;
-#[cfg(test)]
-mod tests;
 
 pub use bit_rows::BitRows;
 pub use squares::Square;

@@ -18,13 +18,9 @@ mod network_tables;
 mod numbers;
 mod pieces;
 mod refusals;
-#[cfg(test)]
-mod refused_files;
 mod short_integers;
 mod slots;
 mod tables;
-#[cfg(test)]
-mod tests;
 
 pub use files::read;
 pub use formats::Format;

@@ -19,6 +19,3 @@ pub use outcomes::bottleneck;
 
 /// There was not enough memory.
 pub type NoMemory = std::alloc::AllocError;
-
-#[cfg(test)]
-mod tests;

@@ -26,6 +26,3 @@ pub use outcomes::{BalancedRefusal, MOST_COSTS, balanced};
 
 /// There was not enough memory.
 pub type NoMemory = std::alloc::AllocError;
-
-#[cfg(test)]
-mod tests;

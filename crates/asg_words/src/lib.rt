@@ -22,6 +22,3 @@ mod requests;
 pub use file_names::FileName;
 pub use parsing::parse;
 pub use requests::{Job, Request, Task, WordsRefusal};
-
-#[cfg(test)]
-mod tests;

@@ -1,0 +1,15 @@
+//! Tests of the crates below.
+#![tactic(auto)]
+
+#[cfg(test)]
+mod of_io;
+#[cfg(test)]
+mod of_model;
+#[cfg(test)]
+mod of_parts;
+#[cfg(test)]
+mod of_samples;
+#[cfg(test)]
+mod of_text;
+#[cfg(test)]
+mod of_words;

@@ -1,0 +1,4 @@
+//! Tests of `asg_text`.
+
+mod refused_files;
+mod tests;

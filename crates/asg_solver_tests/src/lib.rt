@@ -1,0 +1,13 @@
+//! Tests of the crates below.
+#![tactic(auto)]
+
+#[cfg(test)]
+mod of_admit;
+#[cfg(test)]
+mod of_algebra;
+#[cfg(test)]
+mod of_objectives;
+#[cfg(test)]
+mod of_thresh;
+#[cfg(test)]
+mod of_window;

@@ -1,0 +1,4 @@
+//! Tests of `asg_admit`.
+
+mod samples;
+mod tests;

@@ -1,0 +1,105 @@
+//! Best choices and Hall sets of small instances of every shape, by hand.
+
+ghost use Rattle.std.specs.Prelude.{◌≤◌};
+ghost use Rattle.asg_model.specs.Limits.{most_side};
+ghost use Rattle.asg_model.specs.Shapes.{square_side};
+ghost use Rattle.asg_thresh.specs.Objectives.{IsBottleneck};
+
+use asg_model::Place::{All, Exactly};
+use asg_model::limits::MOST_SIDE;
+use asg_model::{
+    ABSENT, Band, Instance, NoMemory, Objective, Place, Value, is_hall, is_valid, value,
+};
+use asg_proof::{Outcome, Proof};
+use asg_samples::{Fours, ONE_COLUMN, PRODUCTS, SIGNED, THREE, TWO_COLUMNS, four_by_four};
+use asg_thresh::bottleneck;
+use std::alloc::Global;
+use std::test::Fail;
+
+// The place rule, whether the second column holds three, whether the last row is active and the last
+// column open, the costs, and the values of `bottleneck` and `bottleneck-max`, if a choice is valid.
+const CASES: [(Place, bool, bool, Fours, Option<(i64, i64)>); 19] = [
+    (All, false, true, [5; 16], Some((5, 5))),
+    (All, false, true, SIGNED, Some((-2, 2))),
+    (
+        All,
+        false,
+        true,
+        [9, 9, 9, 1, 9, 9, 9, 2, 9, 9, 9, 3, 0, 0, 0, 0],
+        Some((9, 0)),
+    ),
+    (All, false, true, PRODUCTS, Some((6, 4))),
+    (All, false, false, PRODUCTS, Some((4, 3))),
+    (Exactly(3), false, false, PRODUCTS, Some((4, 3))),
+    (Exactly(4), false, false, PRODUCTS, None),
+    (Exactly(1), false, false, PRODUCTS, Some((1, 9))),
+    (Exactly(4), false, true, PRODUCTS, Some((6, 4))),
+    (All, false, false, THREE, Some((2, 2))),
+    (All, true, false, THREE, Some((2, 2))),
+    (Exactly(2), false, false, THREE, Some((2, 4))),
+    (Exactly(1), false, false, THREE, Some((0, 5))),
+    (All, false, true, ONE_COLUMN, None),
+    (Exactly(3), false, true, ONE_COLUMN, Some((4, 2))),
+    (All, true, true, TWO_COLUMNS, Some((7, 4))),
+    (All, false, true, TWO_COLUMNS, None),
+    (Exactly(2), false, true, TWO_COLUMNS, Some((5, 4))),
+    (All, false, true, [ABSENT; 16], None),
+];
+
+// The cells with a strictly better cost than a value.
+fn better_cells(objective: Objective, cost: i64) -> Band {
+    match objective {
+        Objective::BottleneckMax => Band::Over(cost),
+        _ => Band::Under(cost),
+    }
+}
+
+// Whether a proof is rows that are a Hall set of the cells with a strictly better cost than a value.
+fn is_proved(objective: Objective, inst: &Instance, cost: i64, proof: &Proof) -> bool {
+    match proof {
+        Proof::Below(rows) => is_hall(inst, better_cells(objective, cost), rows.as_slice()),
+        _ => false,
+    }
+}
+
+// Whether the outcome is a valid choice of this value with its proof, or where there is no value, a
+// Hall set of the instance.
+fn is_right(
+    alloc: Global,
+    objective: Objective,
+    inst: &Instance,
+    want: Option<i64>,
+) -> Result<bool, NoMemory>
+    requires objective { IsBottleneck objective }
+    requires side { square_side inst.now ≤ most_side }
+{
+    match (bottleneck(alloc, objective, inst)?, want) {
+        (Outcome::Best { choice, proof }, Some(cost)) => {
+            let found = value(alloc, objective, inst, &choice)?;
+            let is_value = matches!(found, Value::One(one) if one == i128::from(cost));
+            let is_proved = is_proved(objective, inst, cost, &proof);
+            Ok(is_value && is_valid(inst, &choice) && is_proved)
+        }
+        (Outcome::Nothing { rows }, None) => Ok(is_hall(inst, Band::Whole, rows.as_slice())),
+        _ => Ok(false),
+    }
+}
+
+#[test]
+fn finds_best_choices_and_hall_sets(rt: HostRuntime) -> Result<(), Fail> {
+    for (place, wide, last, costs, want) in CASES {
+        let inst = four_by_four(rt.alloc(), place, wide, last, &costs)?;
+        assert!(rt; inst.side() <= MOST_SIDE);
+        let low = want.map(|values| values.0);
+        let high = want.map(|values| values.1);
+        assert!(rt;
+            is_right(rt.alloc(), Objective::Bottleneck, &inst, low)?,
+            "{place:?} {want:?}"
+        );
+        assert!(rt;
+            is_right(rt.alloc(), Objective::BottleneckMax, &inst, high)?,
+            "{place:?} {want:?}"
+        );
+    }
+    Ok(())
+}

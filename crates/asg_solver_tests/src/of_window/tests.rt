@@ -1,0 +1,104 @@
+//! Best choices, windows and Hall sets of small instances of every shape, by hand.
+
+ghost use Rattle.std.specs.Prelude.{◌≤◌};
+ghost use Rattle.asg_model.specs.Limits.{most_side};
+ghost use Rattle.asg_model.specs.Shapes.{square_side};
+
+use asg_model::Place::{All, Exactly};
+use asg_model::limits::MOST_SIDE;
+use asg_model::{ABSENT, Band, Instance, Objective, Place, Value, is_hall, is_valid, value};
+use asg_proof::{Outcome, Proof, Window};
+use asg_samples::{Fours, ONE_COLUMN, PRODUCTS, SIGNED, THREE, TWO_COLUMNS, four_by_four};
+use asg_window::balanced;
+use std::alloc::Global;
+use std::test::Fail;
+
+// The second column has one cost, the others different ones.
+const ONE_COST: Fours = [
+    1, 5, 9, ABSENT, 2, 5, 8, ABSENT, 3, 5, 7, ABSENT, ABSENT, ABSENT, ABSENT, ABSENT,
+];
+
+// The place rule, whether the second column holds three, whether the last row is active and the last
+// column open, the costs, and the value, if a choice is valid.
+const CASES: [(Place, bool, bool, Fours, Option<i64>); 17] = [
+    (All, false, true, [5; 16], Some(0)),
+    (All, false, true, SIGNED, Some(3)),
+    (All, false, true, PRODUCTS, Some(2)),
+    (All, false, false, THREE, Some(1)),
+    (All, true, false, THREE, Some(1)),
+    (Exactly(2), false, false, THREE, Some(0)),
+    (Exactly(1), false, false, THREE, Some(0)),
+    (All, false, false, ONE_COST, Some(5)),
+    (All, true, false, ONE_COST, Some(0)),
+    (Exactly(1), false, true, PRODUCTS, Some(0)),
+    (Exactly(3), false, true, PRODUCTS, Some(0)),
+    (Exactly(4), false, true, PRODUCTS, Some(2)),
+    (Exactly(4), false, false, PRODUCTS, None),
+    (All, false, true, ONE_COLUMN, None),
+    (All, true, true, TWO_COLUMNS, Some(3)),
+    (All, false, true, TWO_COLUMNS, None),
+    (All, false, true, [ABSENT; 16], None),
+];
+
+// Whether the rows of each window are a Hall set of its band.
+fn are_halls(inst: &Instance, windows: &[Window]) -> bool {
+    windows.iter().all(|window| is_hall(
+        inst,
+        Band::Between(window.lo, window.hi),
+        window.rows.as_slice(),
+    ))
+}
+
+// Whether a window holds so many costs from one on.
+fn holds(window: &Window, cost: i64, count: i64) -> bool {
+    window.lo <= cost && cost.saturating_add(count) <= window.hi.saturating_add(1)
+}
+
+// Whether for each cost of the table that is live some window holds so many costs from there on.
+fn is_covered(inst: &Instance, windows: &[Window], count: i64) -> bool {
+    for place in 0..16 {
+        if let Some(cost) = inst.live(place / 4, place % 4) {
+            if !windows.iter().any(|window| holds(window, cost.a, count)) {
+                return false;
+            }
+        }
+    }
+    true
+}
+
+// Whether the windows prove the value.
+fn is_proved(inst: &Instance, proof: &Proof, spread: i64) -> bool {
+    match proof {
+        Proof::Windows(windows) => {
+            let windows = windows.as_slice();
+            are_halls(inst, windows) && (spread == 0 || is_covered(inst, windows, spread))
+        }
+        _ => false,
+    }
+}
+
+// Whether the outcome is a valid choice of this value with its proof, or where there is no value, a
+// Hall set of the instance.
+fn is_right(alloc: Global, inst: &Instance, want: Option<i64>) -> Result<bool, Fail>
+    requires { square_side inst.now ≤ most_side }
+{
+    match (balanced(alloc, inst)?, want) {
+        (Outcome::Best { choice, proof }, Some(spread)) => {
+            let found = value(alloc, Objective::Balanced, inst, &choice)?;
+            let is_value = matches!(found, Value::One(one) if one == i128::from(spread));
+            Ok(is_value && is_valid(inst, &choice) && is_proved(inst, &proof, spread))
+        }
+        (Outcome::Nothing { rows }, None) => Ok(is_hall(inst, Band::Whole, rows.as_slice())),
+        _ => Ok(false),
+    }
+}
+
+#[test]
+fn finds_best_choices_and_hall_sets(rt: HostRuntime) -> Result<(), Fail> {
+    for (place, wide, last, costs, want) in CASES {
+        let inst = four_by_four(rt.alloc(), place, wide, last, &costs)?;
+        assert!(rt; inst.side() <= MOST_SIDE);
+        assert!(rt; is_right(rt.alloc(), &inst, want)?, "{place:?} {want:?}");
+    }
+    Ok(())
+}

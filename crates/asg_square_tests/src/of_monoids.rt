@@ -1,0 +1,4 @@
+//! Tests of `asg_monoids`.
+
+mod kind_tests;
+mod tests;

@@ -1,0 +1,190 @@
+//! Regions of side 2, step by step.
+
+ghost use Rattle.std.specs.Prelude.{◌≡◌, ◌≢◌, ◌≤◌, ◌+◌, ℕ, length, IfSome};
+ghost use Rattle.asg_pool.specs.Forest.{IsLive, IsLeaf};
+
+use asg_pool::{Region, Trail};
+use asg_proof::Phase;
+use std::test::Fail;
+
+// The steps of four phases, and for each the steps at which rows enter and columns leave.
+const P: ([u64; 1], [u32; 2], [u32; 2]) = ([5], [0, 1], [1, 0]);
+
+const Q: ([u64; 2], [u32; 2], [u32; 2]) = ([7, 8], [0, 2], [2, 1]);
+
+const R: ([u64; 1], [u32; 2], [u32; 2]) = ([9], [1, 1], [0, 1]);
+
+const S: ([u64; 2], [u32; 2], [u32; 2]) = ([3, 4], [2, 0], [1, 2]);
+
+// Pushes a phase: the new trail is live and no parent, and each live trail is another one and stays.
+fn grow(
+    region: &mut Region<u64>,
+    parent: Option<Trail>,
+    steps: &[u64],
+    enters: &[u32; 2],
+    leaves: &[u32; 2],
+) -> Trail
+    requires spare { 1 ≤ region.old.spare }
+    requires side { region.old.side ≡ 2 }
+    requires parent { IfSome parent (IsLive region.old) }
+    requires some_steps { 1 ≤ length steps.now }
+    requires few_steps { length steps.now ≤ 2 }
+    ensures live { IsLive region.new result }
+    ensures leaf { IsLeaf region.new result }
+    ensures kept { (t : ℕ) → IsLive region.old t → IsLive region.new t }
+    ensures others { (t : ℕ) → IsLive region.old t → t ≢ result }
+    ensures leaves { (t : ℕ) → IfSome parent (λ p. p ≢ t) → IsLeaf region.old t → IsLeaf region.new t }
+    ensures spare { region.new.spare + 1 ≡ region.old.spare }
+    ensures side { region.new.side ≡ 2 }
+{
+    region.spare();
+    region.push(parent, steps, enters, leaves)
+}
+
+// What a region gives of a trail: its parent, its length, and its last phase.
+fn shown(region: &Region<u64>, trail: Trail) -> (Option<Trail>, u32, &[u64], &[u32], &[u32])
+    requires { IsLive region.now trail }
+{
+    (
+        region.parent(trail),
+        region.len(trail),
+        region.steps(trail),
+        region.enters(trail),
+        region.leaves(trail),
+    )
+}
+
+// A trail, and two that grew on it.
+#[derive(Clone, Copy)]
+struct Fork {
+    stem: Trail,
+    first: Trail,
+    second: Trail,
+}
+
+// Pushes P, then Q on it and R on P.
+fn forked(region: &mut Region<u64>) -> Fork
+    requires spare { 3 ≤ region.old.spare }
+    requires side { region.old.side ≡ 2 }
+    ensures stem { IsLive region.new result.stem }
+    ensures first { IsLive region.new result.first }
+    ensures second { IsLive region.new result.second }
+    ensures leaf { IsLeaf region.new result.first }
+    ensures stem_differs { result.stem ≢ result.first }
+    ensures second_differs { result.second ≢ result.first }
+    ensures spare { region.new.spare + 3 ≡ region.old.spare }
+    ensures side { region.new.side ≡ 2 }
+{
+    let stem = grow(region, None, &P.0, &P.1, &P.2);
+    let first = grow(region, Some(stem), &Q.0, &Q.1, &Q.2);
+    let second = grow(region, Some(stem), &R.0, &R.1, &R.2);
+    Fork {
+        stem,
+        first,
+        second,
+    }
+}
+
+// Releases a trail: each other live trail stays.
+fn cut(region: &mut Region<u64>, trail: Trail)
+    requires live { IsLive region.old trail }
+    requires leaf { IsLeaf region.old trail }
+    ensures kept { (t : ℕ) → t ≢ trail → IsLive region.old t → IsLive region.new t }
+    ensures spare { region.new.spare ≡ region.old.spare + 1 }
+    ensures side { region.new.side ≡ region.old.side }
+{
+    region.release(trail);
+}
+
+#[test]
+fn records_reserved_are_spare(rt: HostRuntime) -> Result<(), Fail> {
+    let mut region: Region<u64> = Region::make(rt.alloc(), 2)?;
+    assert_eq!(rt; region.spare(), 0);
+    region.reserve(3)?;
+    assert_eq!(rt; region.spare(), 3);
+    region.reserve(2)?;
+    assert_eq!(rt; region.spare(), 3);
+    region.reserve(5)?;
+    assert_eq!(rt; region.spare(), 5);
+    Ok(())
+}
+
+#[test]
+fn two_trails_grow_on_one(rt: HostRuntime) -> Result<(), Fail> {
+    let mut region = Region::make(rt.alloc(), 2)?;
+    region.reserve(3)?;
+    let fork = forked(&mut region);
+    assert_eq!(rt;
+        shown(&region, fork.first),
+        (Some(fork.stem), 2, &Q.0[..], &Q.1[..], &Q.2[..])
+    );
+    assert_eq!(rt;
+        shown(&region, fork.second),
+        (Some(fork.stem), 2, &R.0[..], &R.1[..], &R.2[..])
+    );
+    Ok(())
+}
+
+#[test]
+fn a_trail_released_leaves_the_others(rt: HostRuntime) -> Result<(), Fail> {
+    let mut region = Region::make(rt.alloc(), 2)?;
+    region.reserve(3)?;
+    let fork = forked(&mut region);
+    cut(&mut region, fork.first);
+    let stem = Some(fork.stem);
+    assert_eq!(rt; region.spare(), 1);
+    assert_eq!(rt;
+        shown(&region, fork.stem),
+        (None, 1, &P.0[..], &P.1[..], &P.2[..])
+    );
+    assert_eq!(rt;
+        shown(&region, fork.second),
+        (stem, 2, &R.0[..], &R.1[..], &R.2[..])
+    );
+    Ok(())
+}
+
+#[test]
+fn a_freed_record_serves_another_trail(rt: HostRuntime) -> Result<(), Fail> {
+    let mut region = Region::make(rt.alloc(), 2)?;
+    region.reserve(3)?;
+    let fork = forked(&mut region);
+    cut(&mut region, fork.first);
+    let last = grow(&mut region, Some(fork.second), &S.0, &S.1, &S.2);
+    let (stem, second) = (Some(fork.stem), Some(fork.second));
+    assert_eq!(rt; region.spare(), 0);
+    assert_eq!(rt;
+        shown(&region, last),
+        (second, 3, &S.0[..], &S.1[..], &S.2[..])
+    );
+    assert_eq!(rt;
+        shown(&region, fork.second),
+        (stem, 2, &R.0[..], &R.1[..], &R.2[..])
+    );
+    Ok(())
+}
+
+// The lists of a phase.
+fn lists(phase: &Phase<u64>) -> (&[u64], &[u32], &[u32]) {
+    (phase.steps(), phase.enters(), phase.leaves())
+}
+
+#[test]
+fn the_phases_of_a_trail_are_moved_out(rt: HostRuntime) -> Result<(), Fail> {
+    let mut region = Region::make(rt.alloc(), 2)?;
+    region.reserve(4)?;
+    let fork = forked(&mut region);
+    let phases = region.into_phases(rt.alloc(), Some(fork.second))?;
+    assert_eq!(rt; phases.len(), 2);
+    assert_eq!(rt; lists(&phases[0]), (&P.0[..], &P.1[..], &P.2[..]));
+    assert_eq!(rt; lists(&phases[1]), (&R.0[..], &R.1[..], &R.2[..]));
+    Ok(())
+}
+
+#[test]
+fn no_trail_has_no_phase(rt: HostRuntime) -> Result<(), Fail> {
+    let mut region: Region<u64> = Region::make(rt.alloc(), 2)?;
+    region.reserve(1)?;
+    assert_eq!(rt; region.into_phases(rt.alloc(), None)?.len(), 0);
+    Ok(())
+}

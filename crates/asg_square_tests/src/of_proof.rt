@@ -1,0 +1,4 @@
+//! Tests of `asg_proof`.
+
+mod samples;
+mod tests;

@@ -1,0 +1,9 @@
+//! Tests of the crates below.
+#![tactic(auto)]
+
+#[cfg(test)]
+mod of_app;
+#[cfg(test)]
+mod of_check;
+#[cfg(test)]
+mod of_doc;

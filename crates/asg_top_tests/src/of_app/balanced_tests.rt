@@ -1,0 +1,142 @@
+//! Requests with the objective `balanced`, as runs over memory.
+
+use crate::of_app::memory_runs::{Case, THREE, held, run_over};
+use crate::of_app::solve_tests::is_answered;
+use std::alloc::{AllocError, Global};
+use std::test::Fail;
+
+// Requests to solve with their answers: a square, fewer rows to be placed, a greater capacity, a table
+// with absent cells, a graph without a valid choice, and one cell, which needs no window.
+const BALANCED: [Case; 6] = [
+    (
+        "balanced",
+        &[],
+        "3\n4 1 3\n2 0 5\n3 2 2\n",
+        0,
+        "status best\nvalue 1\ncells 3\n",
+    ),
+    (
+        "balanced",
+        &["--place", "2"],
+        "3\n4 1 3\n2 0 5\n3 2 2\n",
+        0,
+        "status best\nvalue 0\ncells 2\n",
+    ),
+    (
+        "balanced",
+        &["--format", "rect", "--each", "2"],
+        "2 1\n1\n2\n",
+        0,
+        "status best\nvalue 1\ncells 2\n1 1\n2 1\nproof windows ",
+    ),
+    (
+        "balanced",
+        &["--format", "rect"],
+        "2 3\n5 - 1\n- 2 1\n",
+        0,
+        "status best\nvalue 1\ncells 2\n1 3\n2 2\nproof windows ",
+    ),
+    (
+        "balanced",
+        &["--format", "asn"],
+        "p asn 4 2\nn 1\nn 2\na 1 3 5\na 2 3 6\n",
+        1,
+        "status none\nhall ",
+    ),
+    (
+        "balanced",
+        &[],
+        "1\n-1000000000\n",
+        0,
+        "status best\nvalue 0\ncells 1\n1 1\nproof windows 0\nend\n",
+    ),
+];
+
+#[test]
+fn balanced_documents(rt: HostRuntime) -> Result<(), Fail> {
+    for case in BALANCED {
+        assert!(rt; is_answered(rt.alloc(), case)?, "{case:?}");
+    }
+    Ok(())
+}
+
+// What comes before the proof of an answer for the square `THREE`.
+const HEAD: &str =
+    "assignment 1\ncommand solve\nobjective balanced\nstatus best\nvalue 1\ncells 3\n1 2\n2 1\n3 3\n";
+
+// Proofs of this answer, and what is told of them: without the second window no other one holds the
+// cost 2.
+const PROOFS: [(&str, u8, &str); 2] = [
+    (
+        "proof windows 3\nwindow 0 1 3\nwindow 2 2 1\nwindow 3 5 1 2 3\nend\n",
+        0,
+        "yes 1\n",
+    ),
+    (
+        "proof windows 2\nwindow 0 1 3\nwindow 3 5 1 2 3\nend\n",
+        6,
+        "no 1 8 2\n",
+    ),
+];
+
+#[test]
+fn windows_that_are_checked(rt: HostRuntime) -> Result<(), Fail> {
+    for (proof, code, text) in PROOFS {
+        let answer = format!(in rt.alloc(); "{HEAD}{proof}")?;
+        let words = ["check", "balanced", "f", "g"];
+        let ran = run_over(rt.alloc(), &words, &[], held(THREE, answer.as_bytes()))?;
+        assert_eq!(rt; ran.code, code, "{proof}");
+        assert_eq!(rt; ran.written.as_slice(), text.as_bytes(), "{proof}");
+    }
+    Ok(())
+}
+
+// The square of side 142 with the costs 0 to 20163, row by row.
+fn many_costs(alloc: Global) -> Result<String, AllocError> {
+    let mut file = String::from_str(alloc, "142\n")?;
+    for cost in 0..20_164 {
+        let part = format!(in alloc; "{cost} ")?;
+        file.push_str(part.as_str())?;
+    }
+    Ok(file)
+}
+
+// Words and options with this square, and how they are refused: a request to solve `balanced` for its
+// costs, behind the refusals of the options and of the side; one to check for its answer alone.
+const MANY: [(&[&str], &[&str], u8, &str); 4] = [
+    (
+        &["solve", "balanced", "f"],
+        &[],
+        3,
+        "refused instance 16 20164\n",
+    ),
+    (
+        &["solve", "balanced", "f"],
+        &["--place", "143"],
+        3,
+        "refused instance 13 143\n",
+    ),
+    (
+        &["solve", "balanced", "f"],
+        &["--each", "15"],
+        3,
+        "refused instance 15 2130\n",
+    ),
+    (
+        &["check", "balanced", "f", "g"],
+        &[],
+        5,
+        "refused document 0\n",
+    ),
+];
+
+#[test]
+fn too_many_costs(rt: HostRuntime) -> Result<(), Fail> {
+    let file = many_costs(rt.alloc())?;
+    for (words, options, code, text) in MANY {
+        let ran = run_over(rt.alloc(), words, options, held(file.as_bytes(), b""))?;
+        assert_eq!(rt; ran.code, code, "{text}");
+        assert_eq!(rt; ran.written.as_slice(), text.as_bytes(), "{text}");
+    }
+    Ok(())
+}

@@ -1,0 +1,213 @@
+//! Requests to check documents with phases, as runs over memory.
+
+use crate::of_app::memory_runs::{THREE, held, run_over};
+use std::test::Fail;
+
+// An objective, a square file, what comes behind the objective of a document, the status, and what is
+// told of the document.
+type Case = (&'static str, &'static [u8], &'static str, u8, &'static str);
+
+// The square of the times and costs 3:5 3:1 and 3:1 3:9.
+const TIMES: &[u8] = b"2\n3:5 3:1\n3:1 3:9\n";
+
+// Documents with phases by hand, which certify or are bent.
+const CASES: [Case; 22] = [
+    (
+        "sum",
+        THREE,
+        "status best\nvalue 5\ncells 3\n1 2\n2 1\n3 3\nproof phases 3\nsteps 1000000001\nenters 0 1 1\nleaves 1 1 1\nsteps 1000000000 2\nenters 1 0 2\nleaves 2 1 2\nsteps 1000000002\nenters 1 1 0\nleaves 1 1 1\nend\n",
+        0,
+        "yes 1\n",
+    ),
+    (
+        "sum",
+        THREE,
+        "status best\nvalue 6\ncells 3\n1 2\n2 1\n3 3\nproof phases 3\nsteps 1000000001\nenters 0 1 1\nleaves 1 1 1\nsteps 1000000000 2\nenters 1 0 2\nleaves 2 1 2\nsteps 1000000002\nenters 1 1 0\nleaves 1 1 1\nend\n",
+        6,
+        "no 1 4 0\n",
+    ),
+    // Without its last two bytes.
+    (
+        "sum",
+        THREE,
+        "status best\nvalue 5\ncells 3\n1 2\n2 1\n3 3\nproof phases 3\nsteps 1000000001\nenters 0 1 1\nleaves 1 1 1\nsteps 1000000000 2\nenters 1 0 2\nleaves 2 1 2\nsteps 1000000002\nenters 1 1 0\nleaves 1 1 1\nen",
+        5,
+        "refused document 20\n",
+    ),
+    // The first step is greater than a cell.
+    (
+        "sum",
+        THREE,
+        "status best\nvalue 5\ncells 3\n1 2\n2 1\n3 3\nproof phases 3\nsteps 1000000002\nenters 0 1 1\nleaves 1 1 1\nsteps 1000000000 2\nenters 1 0 2\nleaves 2 1 2\nsteps 1000000002\nenters 1 1 0\nleaves 1 1 1\nend\n",
+        6,
+        "no 1 6 1\n",
+    ),
+    // The second step of the second phase is.
+    (
+        "sum",
+        THREE,
+        "status best\nvalue 5\ncells 3\n1 2\n2 1\n3 3\nproof phases 3\nsteps 1000000001\nenters 0 1 1\nleaves 1 1 1\nsteps 1000000000 3\nenters 1 0 2\nleaves 2 1 2\nsteps 1000000002\nenters 1 1 0\nleaves 1 1 1\nend\n",
+        6,
+        "no 1 6 2\n",
+    ),
+    // The index is 2000000003, and the fold 3000000005.
+    (
+        "sum",
+        THREE,
+        "status best\nvalue 5\ncells 3\n1 2\n2 1\n3 3\nproof phases 2\nsteps 1000000001\nenters 0 1 1\nleaves 1 1 1\nsteps 1000000000 2\nenters 1 0 2\nleaves 2 1 2\nend\n",
+        6,
+        "no 1 7 0\n",
+    ),
+    // A list that is shorter than the side.
+    (
+        "sum",
+        THREE,
+        "status best\nvalue 5\ncells 3\n1 2\n2 1\n3 3\nproof phases 3\nsteps 1000000001\nenters 0 1\nleaves 1 1 1\nsteps 1000000000 2\nenters 1 0 2\nleaves 2 1 2\nsteps 1000000002\nenters 1 1 0\nleaves 1 1 1\nend\n",
+        6,
+        "no 1 6 1\n",
+    ),
+    // The greatest number of 128 bits is no value of the sums, and the next one can't be written.
+    (
+        "sum",
+        THREE,
+        "status best\nvalue 5\ncells 3\n1 2\n2 1\n3 3\nproof phases 3\nsteps 340282366920938463463374607431768211455\nenters 0 1 1\nleaves 1 1 1\nsteps 1000000000 2\nenters 1 0 2\nleaves 2 1 2\nsteps 1000000002\nenters 1 1 0\nleaves 1 1 1\nend\n",
+        6,
+        "no 1 6 1\n",
+    ),
+    (
+        "sum",
+        THREE,
+        "status best\nvalue 5\ncells 3\n1 2\n2 1\n3 3\nproof phases 3\nsteps 340282366920938463463374607431768211456\nenters 0 1 1\nleaves 1 1 1\nsteps 1000000000 2\nenters 1 0 2\nleaves 2 1 2\nsteps 1000000002\nenters 1 1 0\nleaves 1 1 1\nend\n",
+        5,
+        "refused document 11\n",
+    ),
+    // A count takes no memory before its phases are there.
+    (
+        "sum",
+        THREE,
+        "status best\nvalue 5\ncells 3\n1 2\n2 1\n3 3\nproof phases 4294967295\nsteps 1000000001\nenters 0 1 1\nleaves 1 1 1\nsteps 1000000000 2\nenters 1 0 2\nleaves 2 1 2\nsteps 1000000002\nenters 1 1 0\nleaves 1 1 1\nend\n",
+        5,
+        "refused document 20\n",
+    ),
+    // A sum takes no threshold proof.
+    (
+        "sum",
+        THREE,
+        "status best\nvalue 5\ncells 3\n1 2\n2 1\n3 3\nproof below 3\nend\n",
+        6,
+        "no 1 2 0\n",
+    ),
+    // The objective itself takes phases too: the third row has no cell under 2.
+    (
+        "bottleneck",
+        THREE,
+        "status best\nvalue 2\ncells 3\n1 2\n2 1\n3 3\nproof phases 1\nsteps 1000000002\nenters 1 1 0\nleaves 1 1 1\nend\n",
+        0,
+        "yes 1\n",
+    ),
+    (
+        "bottleneck",
+        THREE,
+        "status best\nvalue 2\ncells 3\n1 2\n2 1\n3 3\nproof phases 1\nsteps 1000000003\nenters 1 1 0\nleaves 1 1 1\nend\n",
+        6,
+        "no 1 6 1\n",
+    ),
+    (
+        "bottleneck",
+        THREE,
+        "status best\nvalue 2\ncells 3\n1 2\n2 1\n3 3\nproof phases 1\nsteps 1000000001\nenters 1 1 0\nleaves 1 1 1\nend\n",
+        6,
+        "no 1 7 0\n",
+    ),
+    // A step past 64 bits is no value of the maxima.
+    (
+        "bottleneck",
+        THREE,
+        "status best\nvalue 2\ncells 3\n1 2\n2 1\n3 3\nproof phases 1\nsteps 18446744073709551616\nenters 1 1 0\nleaves 1 1 1\nend\n",
+        6,
+        "no 1 6 1\n",
+    ),
+    // The second column has no cell above 2.
+    (
+        "bottleneck-max",
+        THREE,
+        "status best\nvalue 2\ncells 3\n1 1\n2 3\n3 2\nproof phases 1\nsteps 999999998\nenters 0 0 0\nleaves 0 1 0\nend\n",
+        0,
+        "yes 1\n",
+    ),
+    (
+        "bottleneck-max",
+        THREE,
+        "status best\nvalue 2\ncells 3\n1 1\n2 3\n3 2\nproof phases 1\nsteps 999999999\nenters 0 0 0\nleaves 0 1 0\nend\n",
+        6,
+        "no 1 6 1\n",
+    ),
+    (
+        "bottleneck-max",
+        THREE,
+        "status best\nvalue 2\ncells 3\n1 1\n2 3\n3 2\nproof phases 0\nend\n",
+        6,
+        "no 1 7 0\n",
+    ),
+    (
+        "time-cost",
+        TIMES,
+        "status best\nvalue 3:2\ncells 2\n1 2\n2 1\nproof phases 2\nsteps 1000000003:1\nenters 0 1\nleaves 1 1\nsteps 1000000003:1\nenters 1 0\nleaves 1 1\nend\n",
+        0,
+        "yes 1\n",
+    ),
+    (
+        "time-cost",
+        TIMES,
+        "status best\nvalue 3:14\ncells 2\n1 1\n2 2\nproof phases 2\nsteps 1000000003:1\nenters 0 1\nleaves 1 1\nsteps 1000000003:1\nenters 1 0\nleaves 1 1\nend\n",
+        6,
+        "no 1 7 0\n",
+    ),
+    (
+        "time-cost",
+        TIMES,
+        "status best\nvalue 3:2\ncells 2\n1 2\n2 1\nproof phases 2\nsteps 1000000003:2\nenters 0 1\nleaves 1 1\nsteps 1000000003:1\nenters 1 0\nleaves 1 1\nend\n",
+        6,
+        "no 1 6 1\n",
+    ),
+    // The steps of times and costs have grades.
+    (
+        "time-cost",
+        TIMES,
+        "status best\nvalue 3:2\ncells 2\n1 2\n2 1\nproof phases 1\nsteps 1000000003\nenters 0 1\nleaves 1 1\nend\n",
+        5,
+        "refused document 10\n",
+    ),
+];
+
+#[test]
+fn documents_with_phases(rt: HostRuntime) -> Result<(), Fail> {
+    for (objective, file, rest, code, text) in CASES {
+        let answer = format!(in rt.alloc();
+            "assignment 1\ncommand solve\nobjective {objective}\n{rest}"
+        )?;
+        let words = ["check", objective, "f", "g"];
+        let ran = run_over(rt.alloc(), &words, &[], held(file, answer.as_bytes()))?;
+        assert_eq!(rt; ran.code, code, "{rest}");
+        assert_eq!(rt; ran.written.as_slice(), text.as_bytes(), "{rest}");
+    }
+    Ok(())
+}
+
+// A document of one sum isn't one of another.
+#[test]
+fn phases_of_another_objective(rt: HostRuntime) -> Result<(), Fail> {
+    let answer =
+        "assignment 1\ncommand solve\nobjective sum\nstatus best\nvalue 7\ncells 1\n1 1\nproof phases 1\nsteps 1000000007\nenters 0\nleaves 1\nend\n";
+    for (objective, code, text) in [
+        ("sum", 0, "yes 1\n"),
+        ("sum-max", 6, "no 1 1 0\n"),
+        ("capped=7", 6, "no 1 1 0\n"),
+    ] {
+        let words = ["check", objective, "f", "g"];
+        let ran = run_over(rt.alloc(), &words, &[], held(b"1\n7\n", answer.as_bytes()))?;
+        assert_eq!(rt; ran.code, code, "{objective}");
+        assert_eq!(rt; ran.written.as_slice(), text.as_bytes(), "{objective}");
+    }
+    Ok(())
+}

@@ -1,0 +1,277 @@
+//! Requests to solve, and words that are no request, as runs over memory.
+
+use crate::of_app::algebraic_runs::ALGEBRAIC;
+use crate::of_app::memory_runs::{CASES, Case, Files, THREE, held, run_over};
+use asg_app::Status;
+use std::alloc::{AllocError, Global};
+use std::test::Fail;
+
+const USAGE: &str =
+    "usage: asg solve OBJECTIVE INSTANCE | rank OBJECTIVE INSTANCE --count K | edit OBJECTIVE INSTANCE SCRIPT | check OBJECTIVE INSTANCE ANSWER | make SEED SIDE\n";
+
+const SOLVE: &[&str] = &["solve", "bottleneck", "f"];
+
+// Whether a request has its status and its document, and the document is accepted.
+pub(crate) fn is_answered(alloc: Global, case: Case) -> Result<bool, AllocError> {
+    let (objective, options, file, code, lines) = case;
+    let words = ["solve", objective, "f"];
+    let solved = run_over(alloc, &words, options, held(file.as_bytes(), b""))?;
+    let text = format!(in alloc; "assignment 1\ncommand solve\nobjective {objective}\n{lines}")?;
+    let words = ["check", objective, "f", "g"];
+    let again = held(file.as_bytes(), &solved.written);
+    let checked = run_over(alloc, &words, options, again)?;
+    Ok(
+        solved.code == code
+            && solved.written.starts_with(text.as_bytes())
+            && checked.code == 0
+            && checked.written.as_slice() == b"yes 1\n".as_slice(),
+    )
+}
+
+#[test]
+fn bottleneck_documents(rt: HostRuntime) -> Result<(), Fail> {
+    for case in CASES {
+        assert!(rt; is_answered(rt.alloc(), case)?, "{case:?}");
+    }
+    Ok(())
+}
+
+#[test]
+fn algebraic_documents(rt: HostRuntime) -> Result<(), Fail> {
+    for case in ALGEBRAIC {
+        assert!(rt; is_answered(rt.alloc(), case)?, "{case:?}");
+    }
+    Ok(())
+}
+
+// Two rows with one column between them: the Hall set is both, in either order.
+#[test]
+fn a_hall_set_of_two_rows(rt: HostRuntime) -> Result<(), Fail> {
+    let file = b"p asn 4 2\nn 1\nn 2\na 1 3 5\na 2 3 6\n";
+    for objective in ["bottleneck", "sum"] {
+        let words = ["solve", objective, "f"];
+        let ran = run_over(rt.alloc(), &words, &["--format", "asn"], held(file, b""))?;
+        assert_eq!(rt; ran.code, 1);
+        let both = ran.written.ends_with(b"\nhall 1 2\nend\n")
+            || ran.written.ends_with(b"\nhall 2 1\nend\n");
+        assert!(rt; both);
+    }
+    Ok(())
+}
+
+// Options and files, and how the files are refused.
+const REFUSED: [(&[&str], &str, &str); 16] = [
+    (&[], "0", "refused instance 10\n"),
+    (&[], "", "refused instance 11 1 0\n"),
+    (&[], "2\n1 2 3", "refused instance 11 4 3\n"),
+    (&[], "2\n1 2 3 x", "refused instance 12 5\n"),
+    (&[], "2\n1 2\n3 1:\n", "refused instance 12 5\n"),
+    (&[], "1001", "refused instance 9 1001 1001\n"),
+    (&[], "1\n1000000001\n", "refused instance 6 2\n"),
+    (
+        &["--format", "rect"],
+        "1 2\n1 2 3",
+        "refused instance 11 2 3\n",
+    ),
+    (
+        &["--place", "4"],
+        "3\n4 1 3\n2 0 5\n3 2 2\n",
+        "refused instance 13 4\n",
+    ),
+    (
+        &["--place", "3", "--format", "rect"],
+        "3 2\n1 1\n1 1\n1 1\n",
+        "refused instance 13 3\n",
+    ),
+    (
+        &["--each", "1000"],
+        "3\n4 1 3\n2 0 5\n3 2 2\n",
+        "refused instance 15 3000\n",
+    ),
+    (
+        &["--place", "4", "--each", "1000"],
+        "3\n4 1 3\n2 0 5\n3 2 2\n",
+        "refused instance 13 4\n",
+    ),
+    (&["--format", "asn"], "n 1\n", "refused instance 3 1\n"),
+    (&["--format", "asn"], "c\n", "refused instance 1\n"),
+    (
+        &["--format", "asn"],
+        "p asn 4 3\nn 1\nn 2\na 1 3 5\na 2 4 6\n",
+        "refused instance 8 3 2\n",
+    ),
+    (
+        &["--format", "asn"],
+        "p asn 4 2\nn 1\nn 2\na 1 3 5\na 1 3 6\n",
+        "refused instance 7 5\n",
+    ),
+];
+
+#[test]
+fn files_that_are_refused(rt: HostRuntime) -> Result<(), Fail> {
+    for (options, file, text) in REFUSED {
+        let ran = run_over(rt.alloc(), SOLVE, options, held(file.as_bytes(), b""))?;
+        assert_eq!(rt; ran.code, 3, "{file}");
+        assert_eq!(rt; ran.written.as_slice(), text.as_bytes(), "{file}");
+    }
+    Ok(())
+}
+
+// Objectives, options and files, and how the files are refused by the objective: no objective but
+// `capped` and `time-cost` refuses a negative cost, and the refusal comes behind that of the options'
+// place and before that of the side.
+const REFUSED_COSTS: [(&str, &[&str], &str, &str); 12] = [
+    ("capped=5", &[], "1\n-1\n", "refused instance 14 1 1\n"),
+    (
+        "capped=5",
+        &[],
+        "3\n4 1 3\n2 0:-1 5\n-3 -2 2\n",
+        "refused instance 14 3 1\n",
+    ),
+    (
+        "time-cost",
+        &[],
+        "2\n-1 2\n-3 4:-1\n",
+        "refused instance 14 2 2\n",
+    ),
+    (
+        "capped=5",
+        &["--format", "asn"],
+        "p asn 9 3\nn 7\nn 5\na 7 9 1\na 5 9 0\na 5 8 -2\n",
+        "refused instance 14 5 8\n",
+    ),
+    (
+        "capped=5",
+        &[],
+        "1\n-1000000001\n",
+        "refused instance 6 2\n",
+    ),
+    (
+        "capped=5",
+        &["--place", "2"],
+        "1\n-1\n",
+        "refused instance 13 2\n",
+    ),
+    (
+        "capped=5",
+        &["--each", "1000"],
+        "3\n4 1 3\n2 -1 5\n3 2 2\n",
+        "refused instance 14 2 2\n",
+    ),
+    (
+        "capped=5",
+        &["--each", "1000"],
+        "3\n4 1 3\n2 0 5\n3 2 2\n",
+        "refused instance 15 3000\n",
+    ),
+    (
+        "sum",
+        &["--each", "1000"],
+        "3\n4 -1 3\n2 0:-1 5\n3 2 2\n",
+        "refused instance 15 3000\n",
+    ),
+    (
+        "sum",
+        &["--place", "4"],
+        "3\n4 1 3\n2 0 5\n3 2 2\n",
+        "refused instance 13 4\n",
+    ),
+    (
+        "sum",
+        &["--format", "asn"],
+        "p asn 4 3\nn 1\nn 2\na 1 3 5\na 2 4 6\n",
+        "refused instance 8 3 2\n",
+    ),
+    (
+        "sum",
+        &["--format", "asn"],
+        "p asn 4 2\nn 1\nn 2\na 1 3 5\na 1 3 6\n",
+        "refused instance 7 5\n",
+    ),
+];
+
+// A request to check refuses an instance as one to solve does.
+#[test]
+fn costs_that_are_refused(rt: HostRuntime) -> Result<(), Fail> {
+    for (objective, options, file, text) in REFUSED_COSTS {
+        let files = held(file.as_bytes(), b"");
+        for words in [
+            ["solve", objective, "f"].as_slice(),
+            ["check", objective, "f", "g"].as_slice(),
+        ] {
+            let ran = run_over(rt.alloc(), words, options, files)?;
+            assert_eq!(rt; ran.code, 3, "{objective} {file}");
+            assert_eq!(rt;
+                ran.written.as_slice(),
+                text.as_bytes(),
+                "{objective} {file}"
+            );
+        }
+    }
+    Ok(())
+}
+
+// Words that are no request, and requests that aren't built.
+const NO_REQUESTS: [&[&str]; 18] = [
+    &[],
+    &["solve", "bottleneck"],
+    &["solve", "bottleneck", "f", "g"],
+    &["--help"],
+    &["solve", "bottleneck", "-x"],
+    &["Solve", "bottleneck", "f"],
+    &["check", "bottleneck", "f"],
+    &["check", "bottleneck", "f", "g", "h"],
+    &["edit", "lex", "f", "g"],
+    &["rank", "sum", "f"],
+    &["solve", "sum"],
+    &["check", "lex", "f", "g"],
+    &["solve", "capped=0", "f"],
+    &["solve", "bottleneck", "f", "--brief"],
+    &["check", "bottleneck", "f", "g", "--count", "1"],
+    &["check", "bottleneck", "f", "g", "--script", "f"],
+    &["solve", "bottleneck", "f", "--place", "0"],
+    &["make", "1", "1"],
+];
+
+#[test]
+fn words_that_are_no_request(rt: HostRuntime) -> Result<(), Fail> {
+    for words in NO_REQUESTS {
+        let ran = run_over(rt.alloc(), words, &[], held(b"1 1", b""))?;
+        assert_eq!(rt; ran.code, 2);
+        assert_eq!(rt; ran.written.as_slice(), USAGE.as_bytes());
+    }
+    Ok(())
+}
+
+#[test]
+fn faults_of_shelf_and_sink(rt: HostRuntime) -> Result<(), Fail> {
+    let whole = held(THREE, b"");
+    let cut = Files {
+        put_fails: &[(1, 10)],
+        ..whole
+    };
+    let unread = Files {
+        fetch_fails: &[1],
+        ..whole
+    };
+    for objective in ["bottleneck", "sum"] {
+        let words = ["solve", objective, "f"];
+        let ran = run_over(rt.alloc(), &words, &[], cut)?;
+        assert_eq!(rt; ran.code, 8);
+        assert_eq!(rt; ran.written.as_slice(), b"assignment".as_slice());
+        let ran = run_over(rt.alloc(), &words, &[], unread)?;
+        assert_eq!(rt; ran.code, 7);
+        assert_eq!(rt; ran.written.as_slice(), b"".as_slice());
+    }
+    let ran = run_over(rt.alloc(), &["solve", "bottleneck", "h"], &[], whole)?;
+    assert_eq!(rt; ran.code, 7);
+    let unsaid = Files {
+        put_fails: &[(1, 3)],
+        ..whole
+    };
+    let ran = run_over(rt.alloc(), &["solve"], &[], unsaid)?;
+    assert_eq!(rt; ran.code, 8);
+    assert_eq!(rt; ran.written.as_slice(), b"usa".as_slice());
+    assert_eq!(rt; Status::TooLong.code(), 10);
+    Ok(())
+}

@@ -1,0 +1,116 @@
+//! Documents over a small instance, judged.
+
+use asg_check::{Form, NoMemory, Verdict, check};
+use asg_doc::{Answer, Cells, Claim, Command, Document};
+use asg_model::Objective::{Balanced, Bottleneck, BottleneckMax, Capped, Lex, Sum};
+use asg_model::limits::MOST_SIDE;
+use asg_model::{Instance, Objective, Place, Value, negative};
+use asg_proof::{Ids, Proof};
+use asg_samples::{Fault, Sample};
+use std::alloc::Global;
+use std::test::Fail;
+
+// The row `3 1`; its columns are open or closed.
+pub(crate) fn instance(alloc: Global, usable: bool) -> Result<Instance, Fault> {
+    let sample = Sample {
+        rows: &[true],
+        columns: &[(1, usable), (1, usable)],
+        firsts: &[3, 1],
+        seconds: &[],
+        place: Place::All,
+    };
+    sample.instance(alloc)
+}
+
+// The verdict on a document, for an instance that may be asked about.
+pub(crate) fn judged_document(
+    alloc: Global,
+    inst: &Instance,
+    asked: Objective,
+    doc: &Document,
+) -> Result<Option<Verdict>, NoMemory> {
+    if inst.side() > MOST_SIDE {
+        return Ok(None);
+    }
+    if negative(asked, inst).is_some() {
+        return Ok(None);
+    }
+    let verdict = check(alloc, asked, inst, Form::Solve, doc)?;
+    Ok(Some(verdict))
+}
+
+// The verdict on a document with this claim.
+pub(crate) fn judged(
+    alloc: Global,
+    inst: &Instance,
+    asked: Objective,
+    objective: Objective,
+    claim: Claim,
+) -> Result<Option<Verdict>, NoMemory> {
+    let command = Command::Solve;
+    let doc = Document {
+        command,
+        objective,
+        claim,
+    };
+    judged_document(alloc, inst, asked, &doc)
+}
+
+// The verdict for a reason against the whole document, or that it certifies.
+fn verdict(reason: Option<u8>) -> Verdict {
+    match reason {
+        Some(reason) => Verdict::No { reason, place: 0 },
+        None => Verdict::Yes,
+    }
+}
+
+// The objective that is asked and the document's, the value, the cell and the row of an answer, and
+// the number of what stands first against it.
+type Answered = (Objective, Objective, i128, (u32, u32), u32, Option<u8>);
+
+const ANSWERS: [Answered; 13] = [
+    (Bottleneck, Bottleneck, 1, (1, 2), 1, None),
+    (BottleneckMax, BottleneckMax, 3, (1, 1), 1, None),
+    (Bottleneck, Bottleneck, 3, (1, 1), 1, Some(5)),
+    (BottleneckMax, BottleneckMax, 1, (1, 2), 1, Some(5)),
+    (Bottleneck, Bottleneck, 1, (1, 2), 2, Some(5)),
+    (Bottleneck, Bottleneck, 2, (1, 2), 2, Some(4)),
+    (Bottleneck, Bottleneck, 2, (1, 3), 1, Some(3)),
+    (Bottleneck, Bottleneck, 1, (2, 2), 1, Some(3)),
+    (Bottleneck, BottleneckMax, 1, (1, 2), 1, Some(1)),
+    (Sum, Bottleneck, 1, (1, 2), 1, Some(1)),
+    (Capped(1), Capped(2), 1, (1, 2), 1, Some(1)),
+    (Sum, Sum, 1, (1, 2), 1, Some(2)),
+    (Lex, Lex, 1, (1, 2), 1, Some(2)),
+];
+
+#[test]
+fn judges_answers(rt: HostRuntime) -> Result<(), Fail> {
+    let alloc = rt.alloc();
+    let inst = instance(alloc, true)?;
+    for (asked, objective, value, cell, row, want) in ANSWERS {
+        let value = Value::One(value);
+        let cells = Cells::from_vec(vec![in alloc; cell]?);
+        let answer = Answer { value, cells };
+        let proof = Proof::Below(Ids::from_vec(vec![in alloc; row]?));
+        let claim = Claim::Best { answer, proof };
+        let found = judged(alloc, &inst, asked, objective, claim)?;
+        assert_eq!(rt; found, Some(verdict(want)));
+    }
+    Ok(())
+}
+
+#[test]
+fn judges_empty_answers(rt: HostRuntime) -> Result<(), Fail> {
+    let alloc = rt.alloc();
+    for (usable, want) in [(true, Some(5)), (false, None)] {
+        let inst = instance(alloc, usable)?;
+        for objective in [Bottleneck, Sum, Balanced] {
+            let rows = Ids::from_vec(vec![in alloc; 1]?);
+            let claim = Claim::Nothing { rows };
+            let found = judged(alloc, &inst, objective, objective, claim)?;
+            assert_eq!(rt; found, Some(verdict(want)));
+        }
+    }
+    Ok(())
+}

@@ -1,0 +1,176 @@
+//! Documents with windows, judged.
+
+use crate::of_check::phase_tests::{SQUARE, verdict};
+use crate::of_check::tests::{instance, judged_document};
+use asg_check::{NoMemory, Verdict};
+use asg_doc::{DocRefusal, read};
+use asg_model::Objective::{Balanced, Bottleneck, Sum};
+use asg_model::{Instance, Objective};
+use std::alloc::Global;
+use std::test::Fail;
+
+// The objective, its lines of objective, status and value, the proof, and the reason and its place;
+// 0 and 0 where the document certifies.
+type Judged = (Objective, &'static [u8], &'static [u8], u8, i64);
+
+const SPREAD: &[u8] = b"balanced\nstatus best\nvalue 1\n";
+
+// Over the costs `4 1 3 / 2 0 5 / 3 2 2`.
+const DOCUMENTS: [Judged; 16] = [
+    (
+        Balanced,
+        SPREAD,
+        b"windows 3\nwindow 0 1 3\nwindow 2 2 1\nwindow 3 5 1 2 3\n",
+        0,
+        0,
+    ),
+    (
+        Balanced,
+        SPREAD,
+        b"windows 4\nwindow 3 5 1 2 3\nwindow 2 2 1\nwindow 3 4 3 2 1\nwindow 0 1 3\n",
+        0,
+        0,
+    ),
+    (
+        Balanced,
+        SPREAD,
+        b"windows 2\nwindow 0 1 3\nwindow 3 5 1 2 3\n",
+        8,
+        2,
+    ),
+    (
+        Balanced,
+        SPREAD,
+        b"windows 2\nwindow 2 2 1\nwindow 3 5 1 2 3\n",
+        8,
+        0,
+    ),
+    (
+        Balanced,
+        SPREAD,
+        b"windows 2\nwindow 0 1 3\nwindow 2 2 1\n",
+        8,
+        3,
+    ),
+    (
+        Balanced,
+        SPREAD,
+        b"windows 3\nwindow 0 1 3\nwindow 2 2 1\nwindow 3 4 1 2 3\n",
+        8,
+        5,
+    ),
+    (Balanced, SPREAD, b"windows 0\n", 8, 0),
+    (Balanced, SPREAD, b"windows 1\nwindow 1 0 1\n", 8, 0),
+    (
+        Balanced,
+        SPREAD,
+        b"windows 3\nwindow 0 1 3\nwindow 2 2 2\nwindow 3 5 1 2 3\n",
+        5,
+        2,
+    ),
+    (Balanced, SPREAD, b"windows 1\nwindow 0 1 9\n", 5, 1),
+    (
+        Balanced,
+        SPREAD,
+        b"windows 2\nwindow 0 1 3\nwindow 0 1 3 3\n",
+        5,
+        2,
+    ),
+    (
+        Balanced,
+        b"balanced\nstatus best\nvalue 2\n",
+        b"windows 1\nwindow 0 1 9\n",
+        4,
+        0,
+    ),
+    (Balanced, SPREAD, b"below 3\n", 2, 0),
+    (Balanced, SPREAD, b"phases 0\n", 2, 0),
+    (
+        Bottleneck,
+        b"bottleneck\nstatus best\nvalue 2\n",
+        b"windows 0\n",
+        2,
+        0,
+    ),
+    (Sum, b"sum\nstatus best\nvalue 5\n", b"windows 0\n", 2, 0),
+];
+
+// Documents of one row with the costs `3 1`, whose value is 0, with the reason and its place.
+const ROWS: [(&[u8], u8, i64); 4] = [
+    (
+        b"assignment 1\ncommand solve\nobjective balanced\nstatus best\nvalue 0\ncells 1\n1 1\nproof windows 0\nend\n",
+        0,
+        0,
+    ),
+    (
+        b"assignment 1\ncommand solve\nobjective balanced\nstatus best\nvalue 0\ncells 1\n1 1\nproof windows 1\nwindow 4 9 1\nend\n",
+        0,
+        0,
+    ),
+    (
+        b"assignment 1\ncommand solve\nobjective balanced\nstatus best\nvalue 0\ncells 1\n1 2\nproof windows 1\nwindow 0 9 1\nend\n",
+        5,
+        1,
+    ),
+    (
+        b"assignment 1\ncommand solve\nobjective balanced\nstatus best\nvalue 0\ncells 1\n1 2\nproof windows 2\nwindow 4 9 1\nwindow 1 1 1\nend\n",
+        5,
+        2,
+    ),
+];
+
+// A length that no text here reaches.
+const LONGEST_TEXT: usize = 1_000;
+
+// The text of a document with the cells 1-2, 2-1 and 3-3.
+fn text(alloc: Global, head: &[u8], proof: &[u8]) -> Result<Vec<u8>, NoMemory> {
+    let mut bytes = Vec::from_slice(alloc, b"assignment 1\ncommand solve\nobjective ")?;
+    bytes.extend_from_slice(head)?;
+    bytes.extend_from_slice(b"cells 3\n1 2\n2 1\n3 3\nproof ")?;
+    bytes.extend_from_slice(proof)?;
+    bytes.extend_from_slice(b"end\n")?;
+    Ok(bytes)
+}
+
+// The verdict on the one document of a text.
+fn judged(
+    alloc: Global,
+    inst: &Instance,
+    asked: Objective,
+    text: &[u8],
+) -> Result<Option<Verdict>, NoMemory> {
+    if text.len() > LONGEST_TEXT {
+        return Ok(None);
+    }
+    match read(alloc, text) {
+        Ok(documents) => match documents.as_slice() {
+            [document] => judged_document(alloc, inst, asked, document),
+            _ => Ok(None),
+        },
+        Err(DocRefusal::Line(_)) => Ok(None),
+        Err(DocRefusal::NoMemory) => Err(std::alloc::AllocError),
+    }
+}
+
+#[test]
+fn judges_windows(rt: HostRuntime) -> Result<(), Fail> {
+    let alloc = rt.alloc();
+    let inst = SQUARE.instance(alloc)?;
+    for (asked, head, proof, reason, place) in DOCUMENTS {
+        let text = text(alloc, head, proof)?;
+        let found = judged(alloc, &inst, asked, text.as_slice())?;
+        assert_eq!(rt; found, Some(verdict(reason, place)));
+    }
+    Ok(())
+}
+
+#[test]
+fn judges_windows_for_no_spread(rt: HostRuntime) -> Result<(), Fail> {
+    let alloc = rt.alloc();
+    let inst = instance(alloc, true)?;
+    for (text, reason, place) in ROWS {
+        let found = judged(alloc, &inst, Balanced, text)?;
+        assert_eq!(rt; found, Some(verdict(reason, place)));
+    }
+    Ok(())
+}

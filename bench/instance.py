@@ -6,7 +6,7 @@ KIND says what the costs are, for row i and column j from 1:
   middle     random from 0 to 19,999
   near       distances as below, of points of a square of side 14,000
   distance   the rounded distances of random points of a square of side 10^6
-  product    i * j (Machol and Wien's, on which many methods are slow)
+  product    i * j, on which many methods are slow [Machol and Wien 1976]
   sparse     random from 1 to 10^6, in about ten cells a row; some choice places all rows
   pair       two random parts, from 0 to 20 and from 0 to 1,000
 FORMAT is square, rect or asn; a square file has ROWS columns, and an asn file no pairs.

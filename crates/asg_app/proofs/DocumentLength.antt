@@ -40,7 +40,7 @@ use Rattle.asg_check.specs.declared.verdicts.Form.{Form}
 use Rattle.asg_check.specs.declared.verdicts.Form.TheVariants.{Solve}
 use Rattle.asg_check.specs.Certifies.{CertifiesClaim}
 use Rattle.asg_check.specs.TrueClaim.{IsTrueClaim}
-use Rattle.asg_thresh.specs.Objectives.{IsBottleneck}
+use Rattle.asg_model.specs.Objectives.{IsBottleneck}
 use Rattle.asg_words.specs.declared.requests.Job.{Job}
 use Rattle.asg_app.specs.Promised.{IsSolved, IsUnsolvable}
 use Rattle.asg_app.specs.WrittenDocument.{IsBestDocument, IsNoneDocument, IsPromisedClaim, IsPromisedProof}

@@ -24,7 +24,8 @@ use Rattle.asg_proof.specs.declared.windows.Window.{Window}
 use Rattle.asg_proof.specs.Windows.{holds_from, is_held}
 use Rattle.asg_check.specs.declared.window_gaps.Span.{Span}
 use Rattle.asg_check.specs.Spans.{AreCostsUp, AreSpansUp, IsFirstOutside, in_span, in_spans, live_part, live_parts, row_parts, span_of}
-use Rattle.asg_check.specs.WindowReasons.{IsLeastGap, IsLiveCost}
+use Rattle.asg_check.specs.WindowReasons.{IsLeastGap}
+use Rattle.asg_model.specs.DifferentCosts.{IsLiveCost}
 use Rattle.asg_check.proofs.LiveCosts.{filter_map-more, range_with_len_more}
 
 -- ---- what holds of each cost of a list

@@ -10,7 +10,8 @@ ghost use Rattle.asg_order.specs.Entering.{MayEnter};
 ghost use Rattle.asg_proof.specs.Outcomes.{IsOutcome};
 ghost use Rattle.asg_proof.specs.Proves.{is_algebraic};
 ghost use Rattle.asg_square.specs.Grid.{IsSquareOf};
-ghost use Rattle.asg_objectives.specs.FoldOutcomes.{IsFoldOutcome, GivesFewPhases};
+ghost use Rattle.asg_objectives.specs.FoldOutcomes.{IsFoldOutcome};
+ghost use Rattle.asg_proof.specs.PromisedProofs.{GivesFewPhases};
 ghost use Rattle.asg_objectives.specs.NarrowObjectives.{is_narrow_objective};
 
 use crate::NoMemory;

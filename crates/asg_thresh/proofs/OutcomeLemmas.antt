@@ -23,7 +23,7 @@ use Rattle.asg_proof.specs.Threshold.{ProvesBelow}
 use Rattle.asg_square.specs.Cells.{square_cell, entered_or_free}
 use Rattle.asg_square.specs.Grid.{Grid, cell_at, IsSquareOf, IsPerm}
 use Rattle.asg_thresh.specs.Grades.{grade_of, free_grade, no_grade, IsUnder, AreGradesOf}
-use Rattle.asg_thresh.specs.Objectives.{IsBottleneck}
+use Rattle.asg_model.specs.Objectives.{IsBottleneck}
 use Rattle.asg_thresh.specs.Thresholds.{IsAssignmentUpTo}
 use Rattle.asg_match.specs.laws.Choices.{costs_each, costs_some, chosen_live, greatest-le, least-ge, some_cost, if_some, from_if_some}
 use Rattle.asg_proof.specs.laws.LiveCosts.{first_part_in_range}

@@ -9,7 +9,7 @@ use Rattle.asg_doc.specs.Text.{text_of}
 use Rattle.asg_check.specs.declared.verdicts.Form.TheVariants as forms
 use Rattle.asg_check.specs.Certifies.{Certifies}
 use Rattle.asg_check.specs.TrueClaim.{ClaimsTruly}
-use Rattle.asg_thresh.specs.Objectives.{IsBottleneck}
+use Rattle.asg_model.specs.Objectives.{IsBottleneck}
 use Rattle.asg_words.specs.declared.requests.Job.{Job}
 use Rattle.asg_words.specs.declared.requests.Task.TheVariants.{Solve, Check}
 use Rattle.asg_app.specs.declared.status.Status.{Status}

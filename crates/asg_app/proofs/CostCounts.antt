@@ -7,7 +7,7 @@ use Rattle.std.proofs.lemmas.Map.Made.{length-le_from_is_member, IsDistinct-from
 use Rattle.asg_model.specs.declared.objectives.Objective.{Objective}
 use Rattle.asg_model.specs.declared.objectives.Objective.TheVariants.{Balanced}
 use Rattle.asg_model.specs.Problem.{Problem}
-use Rattle.asg_window.specs.Costs.{AreLiveCosts, HasCosts}
+use Rattle.asg_model.specs.DifferentCosts.{AreLiveCosts, HasCosts}
 use Rattle.asg_app.specs.CostCounts.{RefusesCosts, TakesCosts}
 
 -- different costs of live cells are no more than all of them

@@ -23,7 +23,7 @@ use Rattle.asg_model.specs.ValueRange.{IsValueInRange}
 use Rattle.asg_model.specs.Values.{choice_value}
 use Rattle.asg_proof.specs.RowIds.{AreIds}
 use Rattle.asg_order.specs.declared.words.Word.{Word}
-use Rattle.asg_objectives.specs.FoldOutcomes.{AreFewPhases}
+use Rattle.asg_proof.specs.PromisedProofs.{AreFewPhases}
 use Rattle.asg_proof.specs.FoldProofs.{ProvesPhases}
 use Rattle.asg_proof.specs.Outcomes.{IsProvedBest}
 use Rattle.asg_proof.specs.Phases.{PhaseOf}
@@ -46,7 +46,7 @@ use Rattle.asg_check.specs.TrueClaim.{ClaimsTruly}
 use Rattle.asg_check.specs.declared.verdicts.Form.{Form}
 use Rattle.asg_check.specs.declared.verdicts.Form.TheVariants.{Solve}
 use Rattle.asg_app.specs.DocumentParts.{KeepsRanges}
-use Rattle.asg_window.specs.Costs.{most_costs}
+use Rattle.asg_model.specs.DifferentCosts.{most_costs}
 use Rattle.asg_app.specs.WrittenDocument.{IsBestDocument, IsNoneDocument, IsPromisedProof}
 use Rattle.asg_app.proofs.CellCounts.{length-cells_by_id-le, length-cells_by_id-some}
 use Rattle.asg_app.proofs.CellIds.{cell_ids}

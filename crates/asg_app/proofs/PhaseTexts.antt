@@ -13,7 +13,7 @@ use Rattle.asg_order.specs.Monoid.{Monoid, IsValue}
 use Rattle.asg_monoids.specs.BoundedSums.{bounded_sums, plain_word}
 use Rattle.asg_monoids.specs.Grades.{graded, graded_word}
 use Rattle.asg_monoids.specs.Maxima.{maxima}
-use Rattle.asg_objectives.specs.FoldOutcomes.{AreFewPhases}
+use Rattle.asg_proof.specs.PromisedProofs.{AreFewPhases}
 use Rattle.asg_proof.specs.FoldProofs.{ProvesFold, ProvesPhases}
 use Rattle.asg_proof.specs.laws.PhaseSteps.{phase_has_values}
 use Rattle.asg_proof.specs.Phases.{AreAdmittedPhases, ArePhases, PhaseOf, after_phase, worded}

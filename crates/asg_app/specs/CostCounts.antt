@@ -3,9 +3,7 @@ use Rattle.std.specs.Prelude.{ℕ, ◌<◌}
 use Rattle.asg_model.specs.declared.objectives.Objective.{Objective}
 use Rattle.asg_model.specs.declared.objectives.Objective.TheVariants.{Balanced}
 use Rattle.asg_model.specs.Problem.{Problem}
-use Rattle.asg_window.specs.declared.outcomes.BalancedRefusal.{BalancedRefusal}
-use Rattle.asg_window.specs.declared.outcomes.BalancedRefusal.TheVariants.{TooManyCosts, NoMemory}
-use Rattle.asg_window.specs.Costs.{HasCosts, HasFewCosts, most_costs}
+use Rattle.asg_model.specs.DifferentCosts.{HasCosts, HasFewCosts, most_costs}
 
 -- the solver takes the instance: for `balanced` the live cells have at most 20,000 different costs,
 -- the other objectives take any number
@@ -18,8 +16,3 @@ TakesCosts _ X = Unit {0}
 abbrev pub RefusesCosts : Objective → Problem → ℕ → Type 0
 RefusesCosts Balanced X count = HasCosts X count × (most_costs < count)
 RefusesCosts _ X count = ⊥
-
--- a refusal of a solver is true
-abbrev pub IsCostRefusal : Objective → Problem → BalancedRefusal → Type 0
-IsCostRefusal objective X (TooManyCosts count) = RefusesCosts objective X count
-IsCostRefusal objective X NoMemory = Unit {0}

@@ -13,6 +13,7 @@ pub mod Readiness
 pub mod RefusedCosts
 pub mod Replies
 pub mod Requests
+pub mod SolverRefusals
 pub mod Sources
 pub mod Statuses
 pub mod Texts

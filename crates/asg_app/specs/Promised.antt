@@ -10,7 +10,7 @@ use Rattle.asg_check.specs.declared.verdicts.Form.TheVariants.{Solve}
 use Rattle.asg_check.specs.Certifies.{Certifies}
 use Rattle.asg_check.specs.Reasons.{IsFirstReason}
 use Rattle.asg_check.specs.TrueClaim.{ClaimsTruly}
-use Rattle.asg_thresh.specs.Objectives.{IsBottleneck}
+use Rattle.asg_model.specs.Objectives.{IsBottleneck}
 use Rattle.asg_words.specs.declared.requests.Job.{Job}
 use Rattle.asg_words.specs.declared.requests.Task.TheVariants.{Solve as Solving}
 use Rattle.asg_app.specs.declared.status.Status.{Status}

@@ -7,10 +7,8 @@ use Rattle.asg_model.specs.Shapes.{square_side}
 use Rattle.asg_proof.specs.declared.outcomes.Outcome.{Outcome}
 use Rattle.asg_proof.specs.declared.outcomes.Outcome.TheVariants as outcomes
 use Rattle.asg_proof.specs.declared.outcomes.Proof.{Proof}
-use Rattle.asg_objectives.specs.FoldOutcomes.{HasFewPhases}
-use Rattle.asg_thresh.specs.Objectives.{IsThresholdProof}
-use Rattle.asg_window.specs.Costs.{most_costs}
-use Rattle.asg_window.specs.WindowProofs.{AreFewWindows}
+use Rattle.asg_model.specs.DifferentCosts.{most_costs}
+use Rattle.asg_proof.specs.PromisedProofs.{AreFewWindows, IsThresholdProof, HasFewPhases}
 use Rattle.asg_doc.specs.declared.documents.Answer.{Answer}
 use Rattle.asg_doc.specs.declared.documents.Claim.{Claim}
 use Rattle.asg_doc.specs.declared.documents.Claim.TheVariants.{Best, Nothing}

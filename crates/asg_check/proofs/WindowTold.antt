@@ -30,7 +30,8 @@ use Rattle.asg_check.specs.declared.verdicts.Verdict.TheVariants.{No, Yes}
 use Rattle.asg_check.specs.Reasons.{IsToldOf, Tells, window_reasons}
 use Rattle.asg_check.specs.Spans.{live_parts}
 use Rattle.asg_check.specs.Spots.{At, IsNoLater, Overall, Spot}
-use Rattle.asg_check.specs.WindowReasons.{AreNoHallSetsAt, IsLeastGap, IsLiveCost, IsNoHallAt, LeaveGapAt, StandsOn}
+use Rattle.asg_check.specs.WindowReasons.{AreNoHallSetsAt, IsLeastGap, IsNoHallAt, LeaveGapAt, StandsOn}
+use Rattle.asg_model.specs.DifferentCosts.{IsLiveCost}
 use Rattle.asg_check.proofs.ToldReasons.{Nowhere, Tested, least_below}
 use Rattle.asg_check.proofs.WindowGaps.{part_holds, parts_live}
 

@@ -2,8 +2,7 @@
 use Rattle.std.specs.Prelude.{◌≡◌, ℕ, ℤ, suc, pos, ◌≤ℤ◌, ◌<ℤ◌, false, true, List, Option, Some, None, slice_get}
 use Rattle.asg_model.specs.declared.objectives.Value.{Value}
 use Rattle.asg_model.specs.declared.objectives.Value.TheVariants.{One}
-use Rattle.asg_model.specs.declared.parts.Cost.{Cost}
-use Rattle.asg_model.specs.Live.{live_at}
+use Rattle.asg_model.specs.DifferentCosts.{IsLiveCost}
 use Rattle.asg_model.specs.Problem.{Problem}
 use Rattle.asg_proof.specs.declared.windows.Window.{Window}
 use Rattle.asg_proof.specs.Windows.{IsHallWindow, is_held}
@@ -21,14 +20,6 @@ pub record IsNoHallAt (X : Problem) (windows : List Window) (n : ℕ) : Type 0 w
 abbrev pub AreNoHallSetsAt : Problem → List Window → Spot → Type 0
 AreNoHallSetsAt X windows (At place) = (n : ℕ) × (place ≡ pos (suc n)) × IsNoHallAt X windows n
 AreNoHallSetsAt X windows Overall = ⊥
-
--- a live cell has this cost
-pub record IsLiveCost (X : Problem) (v : ℤ) : Type 0 where
-  pub row : ℕ
-  pub column : ℕ
-  pub cost : Cost
-  pub live : live_at X row column ≡ Some cost
-  pub is : cost.a ≡ v
 
 -- the spread is above 0, and v is the cost of a live cell such that no window holds the costs from v on
 pub record IsGap (X : Problem) (d : ℤ) (windows : List Window) (v : ℤ) : Type 0 where

@@ -19,7 +19,7 @@ use Rattle.asg_model.specs.Values.{costs_of}
 use Rattle.asg_order.specs.declared.words.Word.{Word}
 use Rattle.asg_order.specs.Bridge.{costs_fold, choice_fold}
 use Rattle.asg_order.specs.Monoid.{Monoid, IsValue, IsOrderedMonoid, fold_of}
-use Rattle.asg_pool.specs.Forest.{Forest, IsPhaseOver}
+use Rattle.asg_pool.specs.Forest.{Forest}
 use Rattle.asg_proof.specs.declared.outcomes.Outcome.{Outcome}
 use Rattle.asg_proof.specs.declared.outcomes.Outcome.TheVariants.{Best, Nothing}
 use Rattle.asg_proof.specs.declared.outcomes.Proof.TheVariants.{Phases}
@@ -33,7 +33,8 @@ use Rattle.asg_proof.specs.laws.Squares.{HasSide-square_cell, HasValues-square_c
 use Rattle.asg_square.specs.Cells.{square_cell, IsAssignment, IsPresent, choice_of, assignment_values}
 use Rattle.asg_square.specs.Grid.{Grid, cell_at, HasLabelsOf, IsSquareOf, IsWithinSquareOf, IsPerm, grid_choice}
 use Rattle.asg_square.specs.Presence.{has_cell}
-use Rattle.asg_objectives.specs.FoldOutcomes.{IsFoldOutcome, AreFewPhases, GivesFewPhases}
+use Rattle.asg_objectives.specs.FoldOutcomes.{IsFoldOutcome}
+use Rattle.asg_proof.specs.PromisedProofs.{AreFewPhases, GivesFewPhases, IsPhaseOver}
 use Rattle.asg_objectives.specs.SolvedSquares.{AreOfValues, IsChoiceBy, IsBestBy, IsNothingBy}
 
 -- the square of an instance, whose live costs enter as values, is of values

@@ -1,5 +1,5 @@
 -- What the solver of an algebraic objective gives.
-use Rattle.std.specs.Prelude.{ℕ, ◌≤◌, List, length, All, Option}
+use Rattle.std.specs.Prelude.{ℕ, List, Option}
 use Rattle.asg_model.specs.declared.bands.Band.TheVariants.{Whole}
 use Rattle.asg_model.specs.declared.parts.Cost.{Cost}
 use Rattle.asg_model.specs.HallSet.{IsHall}
@@ -7,13 +7,11 @@ use Rattle.asg_model.specs.Problem.{Problem}
 use Rattle.asg_model.specs.ValidChoice.{IsValid}
 use Rattle.asg_order.specs.declared.words.Word.{Word}
 use Rattle.asg_order.specs.Monoid.{Monoid}
-use Rattle.asg_pool.specs.Forest.{IsPhaseOver}
 use Rattle.asg_proof.specs.declared.outcomes.Outcome.{Outcome}
 use Rattle.asg_proof.specs.declared.outcomes.Outcome.TheVariants.{Best, Nothing}
 use Rattle.asg_proof.specs.declared.outcomes.Proof.{Proof}
 use Rattle.asg_proof.specs.declared.outcomes.Proof.TheVariants.{Phases}
 use Rattle.asg_proof.specs.FoldProofs.{ProvesFold}
-use Rattle.asg_proof.specs.Phases.{PhaseOf}
 
 -- phases prove the fold of the choice in the monoid; a proof of another kind doesn't
 abbrev pub ProvesFoldBy : {V : Type 0} → Monoid V → (V → V → V) → (V → Word) → (Cost → V) → Problem
@@ -34,18 +32,3 @@ abbrev pub IsFoldOutcome : {V : Type 0} → Monoid V → (V → V → V) → (V 
 IsFoldOutcome M difference word_of enter X (Best choice proof) =
     IsFoldBest M difference word_of enter X choice proof
 IsFoldOutcome M difference word_of enter X (Nothing rows) = IsHall X Whole rows
-
--- at most so many phases as the side, each of 1 to side steps over the rows and the columns
-pub record AreFewPhases {V : Type 0} (side : ℕ) (phases : List (PhaseOf V)) : Type 0 where
-  pub few : length phases ≤ side
-  pub each : All (IsPhaseOver side) phases
-
--- the proof is such phases
-abbrev pub HasFewPhases : ℕ → Proof → Type 0
-HasFewPhases side (Phases words) = AreFewPhases side words
-HasFewPhases side _ = ⊥
-
--- where there is a best choice its proof is such phases
-abbrev pub GivesFewPhases : ℕ → Outcome → Type 0
-GivesFewPhases side (Best choice proof) = HasFewPhases side proof
-GivesFewPhases side (Nothing rows) = Unit {0}

@@ -9,7 +9,7 @@ ghost use Rattle.asg_proof.specs.Phases.{worded};
 ghost use Rattle.asg_proof.specs.Steps.{HasValues};
 ghost use Rattle.asg_square.specs.Cells.{IsPresent};
 ghost use Rattle.asg_square.specs.Grid.{cell_at, HasLabelsOf};
-ghost use Rattle.asg_objectives.specs.FoldOutcomes.{GivesFewPhases};
+ghost use Rattle.asg_proof.specs.PromisedProofs.{GivesFewPhases};
 ghost use Rattle.asg_objectives.specs.SolvedSquares.{AreOfValues, IsChoiceBy, IsBestBy, IsNothingBy, IsSquareOutcome};
 ghost use Rattle.asg_objectives.specs.Workspaces.{IsReady};
 

@@ -8,7 +8,8 @@ use Rattle.std.proofs.lemmas.List.{get_or_past}
 use Rattle.std.proofs.lemmas.List.FromFn.{get_or-map-range_with_len, length-map-range_with_len}
 use Rattle.asg_proof.specs.Phases.{PhaseOf, phase_of}
 use Rattle.asg_pool.specs.declared.links.Link.{Link}
-use Rattle.asg_pool.specs.Forest.{Branch, Forest, trail_at, IsLive, parent_of, phases_of, phases_to, last_phase, IsPhaseOver, IsGrown, IsForest}
+use Rattle.asg_pool.specs.Forest.{Branch, Forest, trail_at, IsLive, parent_of, phases_of, phases_to, last_phase, IsGrown, IsForest}
+use Rattle.asg_proof.specs.PromisedProofs.{IsPhaseOver}
 use Rattle.asg_pool.specs.Links.{Table, link_at}
 use Rattle.asg_pool.specs.Paths.{path, parent_at, depth_at, branch_at, forest_of, AreRooted}
 use Rattle.asg_pool.proofs.PathLemmas.{some_of, some_there, if_some, if_some_at, depth_is, IsThere, closed, parent_there, path_more, path_length}

@@ -4,7 +4,8 @@ use Rattle.std.specs.Prelude.{option_map, option_and_then}
 use Rattle.std.proofs.lemmas.Bool.{cases_eq}
 use Rattle.asg_proof.specs.Phases.{PhaseOf, phase_of}
 use Rattle.asg_pool.specs.declared.links.Link.{Link}
-use Rattle.asg_pool.specs.Forest.{phases_to, grown_on, Changes, IsPhaseOver}
+use Rattle.asg_pool.specs.Forest.{phases_to, grown_on, Changes}
+use Rattle.asg_proof.specs.PromisedProofs.{IsPhaseOver}
 use Rattle.asg_pool.specs.Links.{Table, link_at}
 use Rattle.asg_pool.specs.Strips.{Rows, row_at, with_row}
 use Rattle.asg_pool.specs.Paths.{path, parent_at, depth_at, phase_at, branch_at, forest_of, IsRooted, AreRooted, AreRowsFor, IsRegion}

@@ -1,6 +1,7 @@
 -- What contracts see of a region: a forest of trails.
 use Rattle.std.specs.Prelude.{◌≡◌, ◌≢◌, ℕ, ◌-◌, ◌<◌, ◌≤◌, List, [], ◌∷◌, ◌++◌, length, Option, Some, None, IsSome, IfSome, slice_index_or, unwrap_or, option_map, option_and_then}
 use Rattle.asg_proof.specs.Phases.{PhaseOf, phase_of}
+use Rattle.asg_proof.specs.PromisedProofs.{IsPhaseOver}
 
 -- a live trail: the trail that it grew on, if any, and its list of phases
 pub record Branch (V : Type 0) : Type 0 where
@@ -51,13 +52,6 @@ grown_on F parent phase = record { parent = parent; phases = phases_to F parent 
 pub record Changes {V : Type 0} (before after : Forest V) (t : ℕ) (branch : Option (Branch V)) : Type 0 where
   pub changed : trail_at after t ≡ branch
   pub others : (other : ℕ) → other ≢ t → trail_at after other ≡ trail_at before other
-
--- a phase over a side: 1 to side steps, and a step for each row and column
-pub record IsPhaseOver {V : Type 0} (side : ℕ) (phase : PhaseOf V) : Type 0 where
-  pub some : 0 < length phase.steps
-  pub few : length phase.steps ≤ side
-  pub enters : length phase.enters ≡ side
-  pub leaves : length phase.leaves ≡ side
 
 -- the trail's list is that of its parent, which is live, and then one phase
 pub record IsGrown {V : Type 0} (F : Forest V) (branch : Branch V) : Type 0 where

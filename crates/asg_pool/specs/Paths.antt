@@ -4,7 +4,8 @@ use Rattle.std.specs.List.{range_with_len}
 use Rattle.asg_proof.specs.Phases.{PhaseOf, phase_of}
 use Rattle.asg_pool.specs.declared.links.Link.{Link}
 use Rattle.asg_pool.specs.declared.records.Records.{Records}
-use Rattle.asg_pool.specs.Forest.{Branch, Forest, IsPhaseOver}
+use Rattle.asg_pool.specs.Forest.{Branch, Forest}
+use Rattle.asg_proof.specs.PromisedProofs.{IsPhaseOver}
 use Rattle.asg_pool.specs.Links.{Table, link_at, spare_of, most_room}
 use Rattle.asg_pool.specs.Strips.{Rows}
 

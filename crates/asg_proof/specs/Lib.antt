@@ -7,4 +7,5 @@ pub mod PhaseProofs
 pub mod FoldProofs
 pub mod Proves
 pub mod Outcomes
+pub mod PromisedProofs
 pub mod laws

@@ -1,4 +1,3 @@
-pub mod Objectives
 pub mod Grades
 pub mod Words
 pub mod Bounds

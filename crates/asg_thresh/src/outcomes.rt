@@ -9,7 +9,8 @@ ghost use Rattle.asg_square.specs.CellTable.{AreAllValuesOf};
 ghost use Rattle.asg_square.specs.Grid.{HasLabelsOf};
 ghost use Rattle.asg_model.specs.Shapes.{square_side};
 ghost use Rattle.asg_thresh.specs.Grades.{grade_of, no_grade, IsGradedSquareOf, IsUnder};
-ghost use Rattle.asg_thresh.specs.Objectives.{HasThresholdProof, IsBottleneck};
+ghost use Rattle.asg_model.specs.Objectives.{IsBottleneck};
+ghost use Rattle.asg_proof.specs.PromisedProofs.{HasThresholdProof};
 ghost use Rattle.asg_thresh.specs.Thresholds.{IsLeast};
 
 use crate::NoMemory;

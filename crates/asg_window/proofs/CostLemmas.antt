@@ -12,7 +12,7 @@ use Rattle.asg_model.specs.Problem.{Problem}
 use Rattle.asg_square.specs.Grid.{Grid, IsSquareOf}
 use Rattle.asg_window.specs.declared.live_cells.Entry.{Entry}
 use Rattle.asg_window.specs.Assignments.{IsSpread}
-use Rattle.asg_window.specs.Costs.{HasCosts}
+use Rattle.asg_model.specs.DifferentCosts.{HasCosts}
 use Rattle.asg_window.specs.Grades.{grade_of, free_grade, cost_of}
 use Rattle.asg_window.specs.LiveCells.{entry_of, entry_at, AreEntries, AreGradesOf}
 use Rattle.asg_match.specs.laws.Choices.{from_if_some}

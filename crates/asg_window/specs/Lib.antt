@@ -9,5 +9,4 @@ pub mod Extremes
 pub mod Seekers
 pub mod Gaps
 pub mod CostWindows
-pub mod Costs
-pub mod WindowProofs
+pub mod Refusals

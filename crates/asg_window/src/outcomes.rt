@@ -8,12 +8,13 @@ ghost use Rattle.asg_model.specs.Shapes.{square_side};
 ghost use Rattle.asg_proof.specs.Outcomes.{IsOutcome};
 ghost use Rattle.asg_proof.specs.Windows.{AreWindows, ProvesSpread};
 ghost use Rattle.asg_square.specs.Grid.{IsSquareOf};
-ghost use Rattle.asg_window.specs.Costs.{HasFewCosts, IsRefusal, most_costs};
+ghost use Rattle.asg_model.specs.DifferentCosts.{HasFewCosts, most_costs};
+ghost use Rattle.asg_window.specs.Refusals.{IsRefusal};
 ghost use Rattle.asg_window.specs.Bands.{IsWithin};
 ghost use Rattle.asg_window.specs.Gaps.{IsLeast};
 ghost use Rattle.asg_window.specs.Grades.{free_grade, grade_of, no_bound};
 ghost use Rattle.asg_window.specs.LiveCells.{AreEntries, AreGradesOf};
-ghost use Rattle.asg_window.specs.WindowProofs.{HasFewWindows};
+ghost use Rattle.asg_proof.specs.PromisedProofs.{HasFewWindows};
 
 use crate::NoMemory;
 use crate::cells_within::CellsWithin;

@@ -4,7 +4,7 @@ ghost use Rattle.std.specs.Prelude.{◌≡◌, ◌≤◌, ◌⊎◌, ℕ, List, 
 ghost use Rattle.asg_model.specs.Limits.{longest_file};
 ghost use Rattle.asg_model.specs.Problem.{Problem};
 ghost use Rattle.asg_model.specs.ValidChoice.{IsValid};
-ghost use Rattle.asg_thresh.specs.Objectives.{IsBottleneck};
+ghost use Rattle.asg_model.specs.Objectives.{IsBottleneck};
 ghost use Rattle.asg_words.specs.declared.requests.Job.{Job};
 ghost use Rattle.asg_words.specs.declared.requests.Task.TheVariants.{Solve};
 ghost use Rattle.asg_app.specs.declared.status.Status.{Status as Ended};

@@ -3,7 +3,7 @@
 ghost use Rattle.std.specs.Prelude.{◌≤◌};
 ghost use Rattle.asg_model.specs.Limits.{most_side};
 ghost use Rattle.asg_model.specs.Shapes.{square_side};
-ghost use Rattle.asg_thresh.specs.Objectives.{IsBottleneck};
+ghost use Rattle.asg_model.specs.Objectives.{IsBottleneck};
 
 use asg_model::Place::{All, Exactly};
 use asg_model::limits::MOST_SIDE;

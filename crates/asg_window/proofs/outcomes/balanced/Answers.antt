@@ -1,6 +1,6 @@
 use Rattle.std.proofs.Common.{◌≡◌, subst, arith, length, List}
 use Rattle.asg_window.specs.declared.live_cells.Entry.{Entry}
-use Rattle.asg_window.specs.Costs.{HasCosts}
+use Rattle.asg_model.specs.DifferentCosts.{HasCosts}
 use Rattle.asg_window.specs.Grades.{grade_of}
 use Rattle.asg_window.specs.LiveCells.{AreGradesOf}
 use Rattle.asg_window.proofs.CostLemmas.{HasCosts-grades, count_fits}

@@ -1,6 +1,7 @@
 use Rattle.std.proofs.Common.{[], ◌∷◌, refl, sym, subst}
 use Rattle.asg_app.specs.declared.status.Status.TheVariants.{Instance}
-use Rattle.asg_app.specs.CostCounts.{IsCostRefusal, RefusesCosts}
+use Rattle.asg_app.specs.CostCounts.{RefusesCosts}
+use Rattle.asg_app.specs.SolverRefusals.{IsCostRefusal}
 use Rattle.asg_app.specs.DueToSolve.{DueToSolve, TooManyCosts}
 use Rattle.asg_app.specs.Texts.{refused_instance_text}
 use Rattle.asg_app.proofs.ReplyLemmas.{replied}

@@ -1,10 +1,8 @@
--- The different costs of live cells, and why no outcome is given.
-use Rattle.std.specs.Prelude.{◌≡◌, ◌≢◌, ◌↔◌, ℕ, ℤ, ◌<◌, ◌≤◌, List, length, AllPairs, Contains, Some}
+-- The different costs of live cells.
+use Rattle.std.specs.Prelude.{◌≡◌, ◌≢◌, ◌↔◌, ℕ, ℤ, ◌≤◌, List, length, AllPairs, Contains, Some}
 use Rattle.asg_model.specs.declared.parts.Cost.{Cost}
 use Rattle.asg_model.specs.Live.{live_at}
 use Rattle.asg_model.specs.Problem.{Problem}
-use Rattle.asg_window.specs.declared.outcomes.BalancedRefusal.{BalancedRefusal}
-use Rattle.asg_window.specs.declared.outcomes.BalancedRefusal.TheVariants.{TooManyCosts, NoMemory}
 
 -- the greatest number of different costs
 abbrev pub most_costs : ℕ
@@ -34,8 +32,3 @@ pub record HasFewCosts (X : Problem) : Type 0 where
   pub count : ℕ
   pub costs : HasCosts X count
   pub few : count ≤ most_costs
-
--- a refusal is true: `TooManyCosts` tells the number of different costs, which is more than 20,000
-abbrev pub IsRefusal : Problem → BalancedRefusal → Type 0
-IsRefusal X (TooManyCosts n) = HasCosts X n × (most_costs < n)
-IsRefusal X NoMemory = Unit {0}

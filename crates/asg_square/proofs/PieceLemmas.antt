@@ -1,21 +1,27 @@
 -- Cells that stand side by side as values and the bits of a word.
-use Rattle.std.proofs.Common.{◌≡◌, ◌≢◌, ℕ, ◌+◌, ◌-◌, ◌*◌, ◌%◌, ◌<◌, ◌≤◌, Bool, true, false, cond, eqb, List, length, get_or, set, zero-mul, refl, arith, sym, ap, subst, ◌∙◌, ⊎_elim}
-use Rattle.std.specs.Prelude.{Option, Some, None, slice_get, is_some, bit_or, ◌^◌, ◌||◌}
-use Rattle.std.specs.Option.{unwrap_or}
+use Rattle.std.proofs.Common.{◌≡◌, ◌≢◌, ℕ, ℤ, ◌+◌, ◌-◌, ◌*◌, ◌%◌, ◌<◌, ◌≤◌, Bool, true, false, cond, eqb, List, length, get_or, set, zero-mul, refl, arith, sym, ap, subst, ◌∙◌, ⊎_elim}
+use Rattle.std.specs.Prelude.{Option, Some, None, slice_get, is_some, bit_or, ◌^◌, ◌||◌, pos}
+use Rattle.std.specs.Option.{unwrap_or, option_map_or}
+use Rattle.std.specs.Ordering.{int_eq}
 use Rattle.std.specs.Int.{w64}
 use Rattle.std.specs.Int.Bits.{or_zero_r}
 use mir.Val.{bool_byte}
 use Rattle.std.proofs.lemmas.Bool.{false≢true, cases_Bool, cases_lt, cases_eq, eq-eqb, ne_eqb}
+use Rattle.std.proofs.lemmas.Bool.Decides.{Decides-int_eq}
+use Rattle.std.proofs.lemmas.Option.{slice_get_cases}
 use Rattle.std.proofs.lemmas.Nat.Bits.{bit_at_set_same, bit_at_set_other, bit_at_ones, bit_at_ones_above}
 use Rattle.asg_square.specs.BitTable.{is_bit_set}
 use Rattle.asg_square.specs.CellTable.{piece_cell}
-use Rattle.asg_square.specs.Filling.{IsInside, ArePieceOf, AreBitsOf}
+use Rattle.asg_square.specs.Filling.{IsInside, IsLiveRow, ArePieceOf, AreBitsOf}
 use Rattle.asg_model.specs.declared.parts.Cost.{Cost}
+use Rattle.asg_model.specs.declared.bands.Band.TheVariants.{Whole}
+use Rattle.asg_model.specs.HallSet.{is_live_within}
 use Rattle.asg_model.specs.Problem.{Problem}
+use Rattle.asg_model.specs.Table.{absent}
 use Rattle.asg_model.specs.declared.parts.Place.{Place}
 use Rattle.asg_model.specs.declared.parts.Place.TheVariants.{All as PlaceAll, Exactly}
 use Rattle.asg_square.specs.Cells.{labelled_cell}
-use Rattle.asg_square.specs.Presence.{has_corner}
+use Rattle.asg_square.specs.Presence.{has_corner, is_labelled_within}
 use Rattle.asg_square.proofs.TableLemmas.{get_set_same, get_set_other}
 
 -- ---- one cell more of a piece
@@ -115,15 +121,6 @@ bits_more word count passes false b few is bit so_far =
 bits_more word count passes true b few is bit so_far =
     subst (λ n. AreBitsOf (count + 1) passes (bit_or word (n * 2 ^ count % 2 ^ 64))) (sym bit) (set_bit_passes word count passes few is so_far)
 
-pub inside_more : (word count b : ℕ) (t : Bool) → count < 64 → b ≡ bool_byte t → IsInside count word → IsInside (count + 1) (bit_or word (b * 2 ^ count % 2 ^ 64))
-inside_more word count b t few bit so_far =
-    let passes = λ (k : ℕ). cond (eqb k count) t (is_bit_set word k) in
-    let bits : AreBitsOf count passes word = record {
-      each = λ k h. sym (ap (λ x. cond x t (is_bit_set word k)) (ne_eqb k count (λ e. omega (arith, e, h))));
-      inside = so_far;
-    } in
-    (bits_more word count passes t b few (sym (ap (λ x. cond x t (is_bit_set word count)) (eq-eqb count count refl))) bit bits).inside
-
 -- a word of ones is inside 64
 pub ones_inside : IsInside 64 (2 ^ 64 - 1)
 ones_inside k has =
@@ -133,11 +130,60 @@ ones_inside k has =
     (cases_lt k 64)
 
 -- a word of ones, where all pass
-pub ones_pass : (passes : ℕ → Bool) → ((k : ℕ) → true ≡ passes k) → AreBitsOf 64 passes (2 ^ 64 - 1)
+pub ones_pass : (passes : ℕ → Bool) → ((k : ℕ) → k < 64 → true ≡ passes k) → AreBitsOf 64 passes (2 ^ 64 - 1)
 ones_pass passes all = record {
-  each = λ k h. ap (λ n. eqb n 1) (bit_at_ones 64 k h) ∙ all k;
+  each = λ k h. ap (λ n. eqb n 1) (bit_at_ones 64 k h) ∙ all k h;
   inside = ones_inside;
 }
+
+-- a test that is the same below the count
+pub bits_same : (count word : ℕ) (passes other : ℕ → Bool) → AreBitsOf count passes word → ((k : ℕ) → k < count → passes k ≡ other k) → AreBitsOf count other word
+bits_same count word passes other bits same = record {
+  each = λ k h. bits.each k h ∙ same k h;
+  inside = bits.inside;
+}
+
+-- ---- which cells are present
+
+-- of two cells one or the other
+pub some_cond : {V : Type 0} (b : Bool) (x y : Option V) → is_some (cond b x y) ≡ cond b (is_some x) (is_some y)
+some_cond true x y = refl
+some_cond false x y = refl
+
+-- a cell of a piece is present where its bit is set
+pub some_piece : {V : Type 0} (values : List V) (word k : ℕ) → k < length values → is_some (piece_cell values word k) ≡ is_bit_set word k
+some_piece values word k h = some_if (is_bit_set word k)
+  where
+    read : is_some (slice_get values k) ≡ true
+    read = ⊎_elim (λ found. ap is_some found.2) (λ past. absurd (omega (arith, h, past.0))) (slice_get_cases values k).1
+
+    some_if : (b : Bool) → is_some (cond b (slice_get values k) None) ≡ b
+    some_if true = read
+    some_if false = refl
+
+-- a live cell whose first part isn't that of an absent one
+pub live_there : (X : Problem) (r d : ℕ) (firsts seconds : List ℤ) → IsLiveRow X r firsts seconds → get_or firsts d absent ≢ absent → is_live_within X Whole r d ≡ true
+live_there X r d firsts seconds live there =
+    ap (λ o. option_map_or (λ (cost : Cost). true) o false)
+    (live d
+    ∙ ap (λ b. cond b None (Some (record { a = get_or firsts d absent; b = get_or seconds d (pos 0) })))
+    (⊎_elim
+    (λ (same : int_eq (get_or firsts d absent) absent ≡ true). absurd (there ((Decides-int_eq (get_or firsts d absent) absent).0 same)))
+    (λ (other : int_eq (get_or firsts d absent) absent ≡ false). other)
+    (cases_Bool (int_eq (get_or firsts d absent) absent))))
+
+-- the cells of a row that isn't counted
+pub free_label : (X : Problem) (o : Option ℕ) → (has_corner X.place || is_some o) ≡ is_labelled_within X Whole None o
+free_label X None = without (has_corner X.place)
+  where
+    without : (b : Bool) → (b || false) ≡ b
+    without true = refl
+    without false = refl
+free_label X (Some d) = with_one (has_corner X.place)
+  where
+    with_one : (b : Bool) → (b || true) ≡ true
+    with_one true = refl
+    with_one false = refl
 
 -- ---- pieces of a counted row
 
@@ -159,7 +205,7 @@ values_more values count cell v within is so_far k h =
 -- ---- pieces of a row that isn't counted
 
 -- equal values, present where the bits say so
-pub piece_free : {V : Type 0} (X : Problem) (free : V) (enter : Cost → V) (columns : List (Option ℕ)) (values : List V) (word count : ℕ) → ((k : ℕ) → k < count → slice_get values k ≡ Some free) → AreBitsOf count (λ k. has_corner X.place || is_some (get_or columns k None)) word → ArePieceOf count values word (λ k. labelled_cell X free enter None (get_or columns k None))
+pub piece_free : {V : Type 0} (X : Problem) (free : V) (enter : Cost → V) (columns : List (Option ℕ)) (values : List V) (word count : ℕ) → ((k : ℕ) → k < count → slice_get values k ≡ Some free) → AreBitsOf count (λ k. is_labelled_within X Whole None (get_or columns k None)) word → ArePieceOf count values word (λ k. labelled_cell X free enter None (get_or columns k None))
 piece_free X free enter columns values word count same bits = record {
   each = λ k h.
       ap (λ o. cond (is_bit_set word k) o None) (same k h)
@@ -168,8 +214,7 @@ piece_free X free enter columns values word count same bits = record {
   inside = bits.inside;
 }
   where
-    by_label : (place : Place) (o : Option ℕ) → cond (has_corner place || is_some o) (Some free) None ≡ labelled_cell (record X { place = place }) free enter None o
+    by_label : (place : Place) (o : Option ℕ) → cond (is_labelled_within (record X { place = place }) Whole None o) (Some free) None ≡ labelled_cell (record X { place = place }) free enter None o
     by_label PlaceAll None = refl
-    by_label PlaceAll (Some d) = refl
+    by_label place (Some d) = refl
     by_label (Exactly k) None = refl
-    by_label (Exactly k) (Some d) = refl

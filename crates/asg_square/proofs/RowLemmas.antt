@@ -1,6 +1,6 @@
 -- Rows of a square that are filled 64 cells at a time.
 use Rattle.std.proofs.Common.{◌≡◌, ℕ, ◌+◌, ◌-◌, ◌*◌, ◌/◌, ◌%◌, ◌<◌, ◌≤◌, min, Bool, true, false, ◌&&◌, cond, eqb, ltb, List, ◌++◌, leb, length, get_or, take, drop, Option, None, refl, arith, sym, ap, subst, ◌∙◌, ⊎_elim, ℤ}
-use Rattle.std.specs.Prelude.{IsTrue}
+use Rattle.std.specs.Prelude.{IsTrue, is_some}
 use Rattle.std.specs.Option.{option_map_or}
 use Rattle.std.proofs.lemmas.Bool.{cases_lt, cases_order, eq-eqb, ne_eqb, lt-ltb, le-ltb, leb-true}
 use Rattle.std.proofs.lemmas.List.{get_or_past, get_or-take, get_or-drop, length-append, length-take, length-take-le, length-drop, drop-drop, drop_all, append-nil, take_all}
@@ -9,9 +9,10 @@ use Rattle.asg_model.specs.declared.parts.Column.{Column}
 use Rattle.asg_model.specs.Problem.{Problem}
 use Rattle.asg_model.specs.Live.{is_active, is_open, cost_at}
 use Rattle.asg_model.specs.Table.{absent, table_cost, AreRowParts}
-use Rattle.asg_square.specs.CellTable.{CellTable, entry_at, stored_cells, IsStored, piece_cell}
-use Rattle.asg_square.specs.Filling.{IsLiveRow, ArePlain, IsPlainPiece, ArePieceOf, FillsPiece, FillsRow}
+use Rattle.asg_square.specs.CellTable.{CellTable, entry_at, table_at, is_present_at, stored_cells, IsStored, piece_cell}
+use Rattle.asg_square.specs.Filling.{IsLiveRow, ArePlain, IsPlainPiece, ArePieceOf, AreBitsOf, FillsPiece, FillsRow}
 use Rattle.asg_square.specs.BitTable.{BitTable, word_count, PutsWord}
+use Rattle.asg_square.proofs.PieceLemmas.{some_cond, some_piece, bits_same}
 use Rattle.asg_square.proofs.TablePieces.{PutsPiece, spliced, stored_after, puts_piece}
 
 -- ---- a row that is live as a whole
@@ -37,37 +38,46 @@ live_of_parts X r firsts seconds active opened parts d =
 pub piece_labels : {A : Type 0} (columns : List A) (first count k : ℕ) (o : A) → k < count → get_or (take count (drop first columns)) k o ≡ get_or columns (first + k) o
 piece_labels columns first count k o h = get_or-take count (drop first columns) k o h ∙ get_or-drop first columns k o
 
--- what was written is the piece of these columns
-pub fills_piece : {V : Type 0} (T after : CellTable V) (r number : ℕ) (columns : List (Option ℕ)) (cell : Option ℕ → Option V) (values : List V) (word count : ℕ) → min 64 (T.side - 64 * number) ≤ count → PutsPiece T after r number values word → ArePieceOf count values word (λ k. cell (get_or columns (64 * number + k) None)) → FillsPiece T after r number columns cell
-fills_piece T after r number columns cell values word count enough puts piece = record {
-  side = puts.side;
-  each = λ s d h. puts.each s d h ∙ here s d h (eqb s r);
-}
+-- what was put is the piece of these columns
+fills_from : {A : Type 0} (side r number count : ℕ) (before after : ℕ → ℕ → A) (columns : List (Option ℕ)) (cell : Option ℕ → A) (put : ℕ → A) → min 64 (side - 64 * number) ≤ count → ((s d : ℕ) → d < side → after s d ≡ cond (eqb s r && eqb (d / 64) number) (put (d % 64)) (before s d)) → ((k : ℕ) → k < count → put k ≡ cell (get_or columns (64 * number + k) None)) → FillsPiece side before after r number columns cell
+fills_from {A} side r number count before after columns cell put enough puts piece = λ s d h. puts s d h ∙ here s d h (eqb s r)
   where
-    inner : (s d : ℕ) → d < T.side → d / 64 ≡ number → piece_cell values word (d % 64) ≡ cell (get_or columns d None)
+    inner : (s d : ℕ) → d < side → d / 64 ≡ number → put (d % 64) ≡ cell (get_or columns d None)
     inner s d h e =
-        piece.each (d % 64) (omega (arith, e, h, enough))
+        piece (d % 64) (omega (arith, e, h, enough))
         ∙ ap (λ i. cell (get_or columns i None)) (omega (arith, e))
 
-    here : (s d : ℕ) → d < T.side → (b : Bool) → cond (b && eqb (d / 64) number) (piece_cell values word (d % 64)) (entry_at T.side T.cells s d) ≡ cond (b && eqb (d / 64) number) (cell (get_or columns d None)) (entry_at T.side T.cells s d)
+    here : (s d : ℕ) → d < side → (b : Bool) → cond (b && eqb (d / 64) number) (put (d % 64)) (before s d) ≡ cond (b && eqb (d / 64) number) (cell (get_or columns d None)) (before s d)
     here s d h false = refl
     here s d h true =
         ⊎_elim
         (λ (same : d / 64 ≡ number). rw (eq-eqb (d / 64) number same) (inner s d h same))
         (⊎_elim
-        (λ (before : d / 64 < number). rw (ne_eqb (d / 64) number (λ e. omega (arith, e, before))) refl)
-        (λ (after_it : number < d / 64). rw (ne_eqb (d / 64) number (λ e. omega (arith, e, after_it))) refl))
+        (λ (less : d / 64 < number). rw (ne_eqb (d / 64) number (λ e. omega (arith, e, less))) refl)
+        (λ (more : number < d / 64). rw (ne_eqb (d / 64) number (λ e. omega (arith, e, more))) refl))
         (cases_order (d / 64) number)
 
+-- what was written is the piece of these columns
+pub fills_piece : {V : Type 0} (T after : CellTable V) (r number : ℕ) (columns : List (Option ℕ)) (cell : Option ℕ → Option V) (values : List V) (word count : ℕ) → min 64 (T.side - 64 * number) ≤ count → PutsPiece T after r number values word → ArePieceOf count values word (λ k. cell (get_or columns (64 * number + k) None)) → FillsPiece T.side (table_at T) (table_at after) r number columns cell
+fills_piece T after r number columns cell values word count enough puts piece =
+    fills_from T.side r number count (table_at T) (table_at after) columns cell (piece_cell values word) enough puts.each piece.each
+
+-- and it is present where the labels say so
+pub fills_present : {V : Type 0} (T after : CellTable V) (r number : ℕ) (columns : List (Option ℕ)) (has : Option ℕ → Bool) (values : List V) (word count : ℕ) → min 64 (T.side - 64 * number) ≤ count → count ≤ length values → PutsPiece T after r number values word → AreBitsOf count (λ k. has (get_or columns (64 * number + k) None)) word → FillsPiece T.side (is_present_at T) (is_present_at after) r number columns has
+fills_present T after r number columns has values word count enough within puts bits =
+    fills_from T.side r number count (is_present_at T) (is_present_at after) columns has (λ k. is_some (piece_cell values word k)) enough
+    (λ s d h. ap is_some (puts.each s d h) ∙ some_cond (eqb s r && eqb (d / 64) number) (piece_cell values word (d % 64)) (entry_at T.side T.cells s d))
+    (λ k h. some_piece values word k (omega (arith, h, within)) ∙ bits.each k h)
+
 -- the row as far as its first n pieces is filled
-abbrev pub FilledPieces : {V : Type 0} → CellTable V → CellTable V → ℕ → ℕ → List (Option ℕ) → (Option ℕ → Option V) → Type 0
-FilledPieces T now r n columns cell = (s d : ℕ) → d < T.side → entry_at now.side now.cells s d ≡ cond (eqb s r && ltb (d / 64) n) (cell (get_or columns d None)) (entry_at T.side T.cells s d)
+abbrev pub FilledPieces : {A : Type 0} → ℕ → (ℕ → ℕ → A) → (ℕ → ℕ → A) → ℕ → ℕ → List (Option ℕ) → (Option ℕ → A) → Type 0
+FilledPieces side before now r n columns cell = (s d : ℕ) → d < side → now s d ≡ cond (eqb s r && ltb (d / 64) n) (cell (get_or columns d None)) (before s d)
 
 -- nothing yet
-pub pieces_none : {V : Type 0} (T : CellTable V) (r : ℕ) (columns : List (Option ℕ)) (cell : Option ℕ → Option V) → FilledPieces T T r 0 columns cell
-pieces_none T r columns cell s d within = none (eqb s r)
+pub pieces_none : {A : Type 0} (side : ℕ) (before : ℕ → ℕ → A) (r : ℕ) (columns : List (Option ℕ)) (cell : Option ℕ → A) → FilledPieces side before before r 0 columns cell
+pieces_none side before r columns cell s d within = none (eqb s r)
   where
-    none : (b : Bool) → entry_at T.side T.cells s d ≡ cond (b && ltb (d / 64) 0) (cell (get_or columns d None)) (entry_at T.side T.cells s d)
+    none : (b : Bool) → before s d ≡ cond (b && ltb (d / 64) 0) (cell (get_or columns d None)) (before s d)
     none true = rw (le-ltb (d / 64) 0 (omega arith)) refl
     none false = refl
 
@@ -82,17 +92,17 @@ step_by c d x old true =
     (cases_order d c)
 
 -- one piece more
-pub pieces_more : {V : Type 0} (T now after : CellTable V) (r n : ℕ) (columns : List (Option ℕ)) (cell : Option ℕ → Option V) → now.side ≡ T.side → FillsPiece now after r n columns cell → FilledPieces T now r n columns cell → FilledPieces T after r (n + 1) columns cell
-pieces_more T now after r n columns cell side fills filled s d within =
-    fills.each s d (omega (arith, within, side))
+pub pieces_more : {A : Type 0} (side width : ℕ) (before now after : ℕ → ℕ → A) (r n : ℕ) (columns : List (Option ℕ)) (cell : Option ℕ → A) → width ≡ side → FillsPiece width now after r n columns cell → FilledPieces side before now r n columns cell → FilledPieces side before after r (n + 1) columns cell
+pieces_more side width before now after r n columns cell same fills filled s d within =
+    fills s d (omega (arith, within, same))
     ∙ ap (cond (eqb s r && eqb (d / 64) n) (cell (get_or columns d None))) (filled s d within)
-    ∙ step_by n (d / 64) (cell (get_or columns d None)) (entry_at T.side T.cells s d) (eqb s r)
+    ∙ step_by n (d / 64) (cell (get_or columns d None)) (before s d) (eqb s r)
 
 -- the whole row
-pub pieces_all : {V : Type 0} (T now : CellTable V) (r n : ℕ) (columns : List (Option ℕ)) (cell : Option ℕ → Option V) → now.side ≡ T.side → T.side ≤ 64 * n → FilledPieces T now r n columns cell → FillsRow T now r columns cell
-pieces_all T now r n columns cell side enough filled = record { side = side; each = λ s d within. filled s d within ∙ whole s d within (eqb s r) }
+pub pieces_all : {A : Type 0} (side : ℕ) (before now : ℕ → ℕ → A) (r n : ℕ) (columns : List (Option ℕ)) (cell : Option ℕ → A) → side ≤ 64 * n → FilledPieces side before now r n columns cell → FillsRow side before now r columns cell
+pieces_all side before now r n columns cell enough filled = λ s d within. filled s d within ∙ whole s d within (eqb s r)
   where
-    whole : (s d : ℕ) → d < T.side → (b : Bool) → cond (b && ltb (d / 64) n) (cell (get_or columns d None)) (entry_at T.side T.cells s d) ≡ cond b (cell (get_or columns d None)) (entry_at T.side T.cells s d)
+    whole : (s d : ℕ) → d < side → (b : Bool) → cond (b && ltb (d / 64) n) (cell (get_or columns d None)) (before s d) ≡ cond b (cell (get_or columns d None)) (before s d)
     whole s d within true = rw (lt-ltb (d / 64) n (omega (arith, within, enough))) refl
     whole s d within false = refl
 
@@ -151,3 +161,8 @@ labelled_piece count first columns cell values word piece = record {
   each = λ k h. piece.each k h ∙ ap cell (piece_labels columns first count k None (omega (arith, h, length-take count (drop first columns))));
   inside = piece.inside;
 }
+
+-- and so are the bits
+pub labelled_bits : (count first : ℕ) (columns : List (Option ℕ)) (has : Option ℕ → Bool) (word : ℕ) → AreBitsOf (length (take count (drop first columns))) (λ k. has (get_or (take count (drop first columns)) k None)) word → AreBitsOf (length (take count (drop first columns))) (λ k. has (get_or columns (first + k) None)) word
+labelled_bits count first columns has word bits =
+    bits_same _ word _ _ bits (λ k h. ap has (piece_labels columns first count k None (omega (arith, h, length-take count (drop first columns)))))

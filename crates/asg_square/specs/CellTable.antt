@@ -1,5 +1,5 @@
 -- Tables of optional values.
-use Rattle.std.specs.Prelude.{◌≡◌, ℕ, ◌*◌, ◌+◌, ◌/◌, ◌%◌, ◌≤◌, if◌then◌else◌, nat_lt, Option, None, IsSome, List, length, map, slice_get, slice_index_or}
+use Rattle.std.specs.Prelude.{◌≡◌, ℕ, ◌*◌, ◌+◌, ◌/◌, ◌%◌, ◌≤◌, if◌then◌else◌, nat_lt, Bool, Option, None, IsSome, is_some, List, length, map, slice_get, slice_index_or}
 use Rattle.std.specs.List.{range_with_len}
 use Rattle.asg_square.specs.BitTable.{BitTable, has_bit, is_bit_set}
 use Rattle.asg_model.specs.Limits.{most_side}
@@ -12,6 +12,14 @@ pub record CellTable (V : Type 0) : Type 0 where
 -- the cell at a row and a column, none outside the side
 abbrev pub entry_at : {V : Type 0} → ℕ → List (Option V) → ℕ → ℕ → Option V
 entry_at side cells r c = if nat_lt c side then slice_index_or cells (r * side + c) None else None
+
+-- the cells of a table, by row and column
+abbrev pub table_at : {V : Type 0} → CellTable V → ℕ → ℕ → Option V
+table_at T = entry_at T.side T.cells
+
+-- which of them are present
+abbrev pub is_present_at : {V : Type 0} → CellTable V → ℕ → ℕ → Bool
+is_present_at T r c = is_some (entry_at T.side T.cells r c)
 
 -- as many cells as the side has places
 pub record IsCellTable {V : Type 0} (T : CellTable V) : Type 0 where

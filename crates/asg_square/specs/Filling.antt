@@ -4,23 +4,24 @@ use Rattle.asg_model.specs.Problem.{Problem}
 use Rattle.asg_model.specs.Live.{is_open, live_at}
 use Rattle.asg_model.specs.Table.{absent, table_cost}
 use Rattle.asg_square.specs.BitTable.{is_bit_set}
-use Rattle.asg_square.specs.CellTable.{CellTable, entry_at, piece_cell}
+use Rattle.asg_square.specs.CellTable.{piece_cell}
 
--- the row at place r has this cell for each column label, and all other rows are as before
-pub record FillsRow {V : Type 0} (T after : CellTable V) (r : ℕ) (columns : List (Option ℕ)) (cell : Option ℕ → Option V) : Type 0 where
-  pub side : after.side ≡ T.side
-  pub each : (s d : ℕ) → d < T.side → entry_at after.side after.cells s d ≡ (if s == r then cell (slice_index_or columns d None) else entry_at T.side T.cells s d)
+-- of the cells, or of what is told of each: the row at place r has this one for each column label, and all
+-- other rows are as before
+abbrev pub FillsRow : {A : Type 0} → ℕ → (ℕ → ℕ → A) → (ℕ → ℕ → A) → ℕ → List (Option ℕ) → (Option ℕ → A) → Type 0
+FillsRow side before after r columns cell =
+    (s d : ℕ) → d < side → after s d ≡ (if s == r then cell (slice_index_or columns d None) else before s d)
 
--- in place of 64 columns of row r, fewer at its end, the cells of these column labels stand, and all other
--- cells are as before
-pub record FillsPiece {V : Type 0} (T after : CellTable V) (r number : ℕ) (columns : List (Option ℕ)) (cell : Option ℕ → Option V) : Type 0 where
-  pub side : after.side ≡ T.side
-  pub each : (s d : ℕ) → d < T.side → entry_at after.side after.cells s d ≡ (if (s == r) && (d / 64 == number) then cell (slice_index_or columns d None) else entry_at T.side T.cells s d)
+-- in place of 64 columns of row r, fewer at its end, those of these column labels stand, and all others are
+-- as before
+abbrev pub FillsPiece : {A : Type 0} → ℕ → (ℕ → ℕ → A) → (ℕ → ℕ → A) → ℕ → ℕ → List (Option ℕ) → (Option ℕ → A) → Type 0
+FillsPiece side before after r number columns cell =
+    (s d : ℕ) → d < side → after s d ≡ (if (s == r) && (d / 64 == number) then cell (slice_index_or columns d None) else before s d)
 
--- each row has this cell for its label and each column label
-abbrev pub AreFilled : {V : Type 0} → CellTable V → List (Option ℕ) → List (Option ℕ) → (Option ℕ → Option ℕ → Option V) → Type 0
-AreFilled T rows columns cell =
-    (r c : ℕ) → r < T.side → c < T.side → entry_at T.side T.cells r c ≡ cell (slice_index_or rows r None) (slice_index_or columns c None)
+-- each row has this one for its label and each column label
+abbrev pub AreFilled : {A : Type 0} → ℕ → (ℕ → ℕ → A) → List (Option ℕ) → List (Option ℕ) → (Option ℕ → Option ℕ → A) → Type 0
+AreFilled side now rows columns cell =
+    (r c : ℕ) → r < side → c < side → now r c ≡ cell (slice_index_or rows r None) (slice_index_or columns c None)
 
 -- the costs of the live cells of the row at place r are those of these parts
 abbrev pub IsLiveRow : Problem → ℕ → List ℤ → List ℤ → Type 0

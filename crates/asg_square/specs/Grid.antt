@@ -1,5 +1,5 @@
 -- What contracts see of a square.
-use Rattle.std.specs.Prelude.{◌≡◌, ℕ, ◌≤◌, IsTrue, Option, Some, None, List, length, map, IfSome, IsSome, slice_index_or, slice_index}
+use Rattle.std.specs.Prelude.{◌≡◌, ℕ, ◌≤◌, IsTrue, Option, Some, None, List, length, map, IfSome, IsSome, is_some, slice_index_or, slice_index}
 use Rattle.std.specs.List.{range_with_len}
 use Rattle.std.specs.Option.{option_and_then}
 use Rattle.asg_model.specs.declared.parts.Cost.{Cost}
@@ -49,6 +49,10 @@ pub record HasLabelsOf {V : Type 0} (X : Problem) (Q : Grid V) : Type 0 where
 -- the square has the cells of the square of the instance
 abbrev pub HasCellsOf : {V : Type 0} → Problem → V → (Cost → V) → Grid V → Type 0
 HasCellsOf X free enter Q = (r c : ℕ) → cell_at Q r c ≡ square_cell X free enter r c
+
+-- the square has cells exactly where that of the instance has some
+abbrev pub HasPresenceOf : {V : Type 0} → Problem → Grid V → Type 0
+HasPresenceOf X Q = (r c : ℕ) → is_some (cell_at Q r c) ≡ has_cell X Whole r c
 
 -- the square is that of the instance
 pub record IsSquareOf {V : Type 0} (X : Problem) (free : V) (enter : Cost → V) (Q : Grid V) : Type 0 where

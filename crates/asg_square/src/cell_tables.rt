@@ -1,13 +1,15 @@
 //! Square tables of optional values: plain values row by row, and rows of bits that say which are there.
 
 ghost use Rattle.std.specs.Prelude.{◌≡◌, ◌<◌, ◌≤◌, ◌+◌, ◌*◌, length, Some, is_some, IsSome, IfOk, IfSome, slice_set};
+ghost use Rattle.asg_model.specs.declared.bands.Band.TheVariants.{Whole};
 ghost use Rattle.asg_model.specs.declared.parts.Cost.{Cost};
 ghost use Rattle.asg_square.specs.BitTable.{AreWordsOf, word_count};
 ghost use Rattle.asg_square.specs.Cells.{labelled_cell};
 ghost use Rattle.asg_square.specs.Changes.{MapsTableRow, MayMapRow};
-ghost use Rattle.asg_square.specs.CellTable.{CellTable as Table, entry_at, IsCellTable, AreValuesOf, AreAllValuesOf};
+ghost use Rattle.asg_square.specs.CellTable.{CellTable as Table, entry_at, table_at, is_present_at, IsCellTable, AreValuesOf, AreAllValuesOf};
 ghost use Rattle.asg_square.specs.Filling.{IsLiveRow, FillsPiece};
 ghost use Rattle.asg_square.specs.Grid.{MayEnterEach, Entering};
+ghost use Rattle.asg_square.specs.Presence.{is_labelled_within};
 ghost use Rattle.asg_model.specs.Limits.{most_side};
 
 use crate::NoMemory;
@@ -131,8 +133,11 @@ impl<V: Copy> CellTable<V> {
         ensures side { self.new.side ≡ self.old.side }
         ensures table { IsCellTable self.new }
         ensures piece { Entering inst.now (E.post enter.now) (λ entered.
-            FillsPiece self.old self.new r number columns.now.labels.now
-            (labelled_cell inst.now free entered row)) }
+            FillsPiece self.old.side (table_at self.old) (table_at self.new) r number
+            columns.now.labels.now (labelled_cell inst.now free entered row)) }
+        ensures present { FillsPiece self.old.side (is_present_at self.old)
+            (is_present_at self.new) r number columns.now.labels.now
+            (is_labelled_within inst.now Whole row) }
     {
         let first = 64 * number as usize;
         let end = (first + 64).min(self.side as usize);

@@ -1,13 +1,16 @@
 //! The cells of the square of an instance.
 
-ghost use Rattle.std.specs.Prelude.{◌≡◌, ◌<◌, ◌≤◌, IsTrue, IfSome, length};
+ghost use Rattle.std.specs.Prelude.{◌≡◌, ◌<◌, ◌≤◌, IsTrue, IfSome, is_some, length};
 ghost use Rattle.std.specs.Option.{option_map};
+ghost use Rattle.asg_model.specs.declared.bands.Band.TheVariants.{Whole};
 ghost use Rattle.asg_model.specs.declared.parts.Cost.{Cost};
+ghost use Rattle.asg_model.specs.HallSet.{is_live_within};
 ghost use Rattle.asg_model.specs.Live.{live_at};
 ghost use Rattle.asg_square.specs.Cells.{labelled_cell};
-ghost use Rattle.asg_square.specs.CellTable.{IsCellTable};
+ghost use Rattle.asg_square.specs.CellTable.{IsCellTable, table_at, is_present_at};
 ghost use Rattle.asg_square.specs.Filling.{AreAllOpen, IsLiveRow, FillsRow, AreFilled};
 ghost use Rattle.asg_square.specs.Grid.{MayEnterEach, Entering};
+ghost use Rattle.asg_square.specs.Presence.{is_labelled_within};
 
 use crate::cell_tables::CellTable;
 use crate::pieces::extra_cell;
@@ -29,7 +32,10 @@ pub(crate) fn fill_cells<V: Copy, E: Fn(Cost) -> V>(
     ensures side { cells.new.side ≡ cells.old.side }
     ensures table { IsCellTable cells.new }
     ensures cells { Entering inst.now (E.post enter.now) (λ entered.
-        AreFilled cells.new rows.now columns.now (labelled_cell inst.now free entered)) }
+        AreFilled cells.new.side (table_at cells.new) rows.now columns.now
+        (labelled_cell inst.now free entered)) }
+    ensures present { AreFilled cells.new.side (is_present_at cells.new) rows.now columns.now
+        (is_labelled_within inst.now Whole) }
 {
     let side = cells.side();
     let are_open = are_all_open(inst);
@@ -67,8 +73,10 @@ fn fill_row<V: Copy, E: Fn(Cost) -> V>(
     ensures side { cells.new.side ≡ cells.old.side }
     ensures table { IsCellTable cells.new }
     ensures row { Entering inst.now (E.post enter.now) (λ entered.
-        FillsRow cells.old cells.new r columns.now.labels.now
+        FillsRow cells.old.side (table_at cells.old) (table_at cells.new) r columns.now.labels.now
         (labelled_cell inst.now free entered row)) }
+    ensures present { FillsRow cells.old.side (is_present_at cells.old) (is_present_at cells.new) r
+        columns.now.labels.now (is_labelled_within inst.now Whole row) }
 {
     match row_parts(inst, row, are_open) {
         Some(parts) => fill_pieces(inst, free, enter, row, parts, columns, r, cells),
@@ -94,8 +102,10 @@ fn fill_pieces<V: Copy, E: Fn(Cost) -> V>(
     ensures side { cells.new.side ≡ cells.old.side }
     ensures table { IsCellTable cells.new }
     ensures row { Entering inst.now (E.post enter.now) (λ entered.
-        FillsRow cells.old cells.new r columns.now.labels.now
+        FillsRow cells.old.side (table_at cells.old) (table_at cells.new) r columns.now.labels.now
         (labelled_cell inst.now free entered row)) }
+    ensures present { FillsRow cells.old.side (is_present_at cells.old) (is_present_at cells.new) r
+        columns.now.labels.now (is_labelled_within inst.now Whole row) }
 {
     let side = cells.side();
     for number in 0..side.div_ceil(64) {
@@ -119,7 +129,10 @@ fn fill_one_by_one<V: Copy, E: Fn(Cost) -> V>(
     ensures side { cells.new.side ≡ cells.old.side }
     ensures table { IsCellTable cells.new }
     ensures row { Entering inst.now (E.post enter.now) (λ entered.
-        FillsRow cells.old cells.new r columns.now (labelled_cell inst.now free entered row)) }
+        FillsRow cells.old.side (table_at cells.old) (table_at cells.new) r columns.now
+        (labelled_cell inst.now free entered row)) }
+    ensures present { FillsRow cells.old.side (is_present_at cells.old) (is_present_at cells.new) r
+        columns.now (is_labelled_within inst.now Whole row) }
 {
     let side = cells.side();
     for c in 0..side {
@@ -137,8 +150,9 @@ fn labelled_cell<V: Copy, E: Fn(Cost) -> V>(
     column: Option<u32>,
 ) -> Option<V>
     requires { MayEnterEach inst.now (E.pre enter.now) }
-    ensures { Entering inst.now (E.post enter.now) (λ entered.
+    ensures cell { Entering inst.now (E.post enter.now) (λ entered.
         result ≡ labelled_cell inst.now free entered row column) }
+    ensures present { is_some result ≡ is_labelled_within inst.now Whole row column }
 {
     match (row, column) {
         (Some(r), Some(d)) => entered_cost(inst, enter, r, d),
@@ -154,8 +168,9 @@ fn labelled_cell<V: Copy, E: Fn(Cost) -> V>(
 // What the cost of a live cell enters as.
 fn entered_cost<V: Copy, E: Fn(Cost) -> V>(inst: &Instance, enter: &E, r: u32, d: u32) -> Option<V>
     requires { MayEnterEach inst.now (E.pre enter.now) }
-    ensures { Entering inst.now (E.post enter.now) (λ entered.
+    ensures cost { Entering inst.now (E.post enter.now) (λ entered.
         result ≡ option_map entered (live_at inst.now r d)) }
+    ensures present { is_some result ≡ is_live_within inst.now Whole r d }
 {
     match inst.live(r, d) {
         Some(cost) => Some(enter(cost)),

@@ -3,13 +3,15 @@
 
 ghost use Rattle.std.specs.Prelude.{◌≡◌, ◌≢◌, ℕ, ◌<◌, ◌≤◌, ◌+◌, ◌||◌, IsTrue, IfSome, Some, None, is_some, length, slice_get, slice_index_or};
 ghost use Rattle.std.specs.Option.{option_map};
+ghost use Rattle.asg_model.specs.declared.bands.Band.TheVariants.{Whole};
 ghost use Rattle.asg_model.specs.declared.parts.Cost.{Cost};
+ghost use Rattle.asg_model.specs.HallSet.{is_live_within};
 ghost use Rattle.asg_model.specs.Live.{live_at};
 ghost use Rattle.asg_square.specs.Cells.{labelled_cell, extra_column_cell};
-ghost use Rattle.asg_square.specs.Filling.{IsLiveRow, IsPlainPiece, IsInside, ArePieceOf, AreBitsOf};
+ghost use Rattle.asg_square.specs.Filling.{IsLiveRow, IsPlainPiece, ArePieceOf, AreBitsOf};
 ghost use Rattle.asg_model.specs.Table.{absent};
 ghost use Rattle.asg_square.specs.Grid.{MayEnterEach, Entering};
-ghost use Rattle.asg_square.specs.Presence.{has_corner};
+ghost use Rattle.asg_square.specs.Presence.{has_corner, is_labelled_within};
 
 use asg_model::{ABSENT, Cost, Instance, Place, RowParts};
 
@@ -35,8 +37,9 @@ fn entered_part<V: Copy, E: Fn(Cost) -> V>(
 ) -> Option<V>
     requires enters { MayEnterEach inst.now (E.pre enter.now) }
     requires live { IsLiveRow inst.now r parts.firsts.now parts.seconds.now }
-    ensures { Entering inst.now (E.post enter.now) (λ entered.
+    ensures cost { Entering inst.now (E.post enter.now) (λ entered.
         result ≡ option_map entered (live_at inst.now r d)) }
+    ensures present { is_some result ≡ is_live_within inst.now Whole r d }
 {
     let _ = inst;
     match parts.cost(d) {
@@ -57,8 +60,9 @@ fn part_cell<V: Copy, E: Fn(Cost) -> V>(
 ) -> Option<V>
     requires enters { MayEnterEach inst.now (E.pre enter.now) }
     requires live { IsLiveRow inst.now r parts.firsts.now parts.seconds.now }
-    ensures { Entering inst.now (E.post enter.now) (λ entered.
+    ensures cell { Entering inst.now (E.post enter.now) (λ entered.
         result ≡ labelled_cell inst.now free entered (Some r) column) }
+    ensures present { is_some result ≡ is_labelled_within inst.now Whole (Some r) column }
 {
     match column {
         Some(d) => entered_part(inst, enter, r, parts, d),
@@ -81,7 +85,8 @@ fn enter_labelled<V: Copy, E: Fn(Cost) -> V>(
     requires live { IsLiveRow inst.now r parts.firsts.now parts.seconds.now }
     requires count { length columns.now ≡ length values.old }
     requires few { length values.old ≤ 64 }
-    ensures inside { IsInside (length values.old) result }
+    ensures present { AreBitsOf (length values.old)
+        (λ k. is_labelled_within inst.now Whole (Some r) (slice_index_or columns.now k None)) result }
     ensures count { length values.new ≡ length values.old }
     ensures cells { Entering inst.now (E.post enter.now) (λ entered.
         ArePieceOf (length values.old) values.new result
@@ -125,6 +130,8 @@ fn enter_present<V: Copy, E: Fn(Cost) -> V>(
     requires present { (k : ℕ) → k < length values.old
         → slice_index_or parts.firsts.now (first + k) absent ≢ absent }
     ensures count { length values.new ≡ length values.old }
+    ensures present { (k : ℕ) → k < length values.old
+        → IsTrue (is_live_within inst.now Whole r (first + k)) }
     ensures values { Entering inst.now (E.post enter.now) (λ entered.
         (k : ℕ) → k < length values.old
         → slice_get values.new k ≡ option_map entered (live_at inst.now r (first + k))) }
@@ -157,7 +164,8 @@ fn counted_piece<V: Copy, E: Fn(Cost) -> V>(
         → IsPlainPiece first (length parts.firsts.now) columns.now }
     requires count { length columns.now ≡ length values.old }
     requires few { length values.old ≤ 64 }
-    ensures inside { IsInside (length values.old) result }
+    ensures present { AreBitsOf (length values.old)
+        (λ k. is_labelled_within inst.now Whole (Some r) (slice_index_or columns.now k None)) result }
     ensures count { length values.new ≡ length values.old }
     ensures cells { Entering inst.now (E.post enter.now) (λ entered.
         ArePieceOf (length values.old) values.new result
@@ -212,7 +220,8 @@ fn free_bits(columns: &[Option<u32>], are_all: bool) -> u64
 fn free_piece<V: Copy>(inst: &Instance, free: V, columns: &[Option<u32>], values: &mut [V]) -> u64
     requires count { length columns.now ≡ length values.old }
     requires few { length values.old ≤ 64 }
-    ensures inside { IsInside (length values.old) result }
+    ensures present { AreBitsOf (length values.old)
+        (λ k. is_labelled_within inst.now Whole None (slice_index_or columns.now k None)) result }
     ensures count { length values.new ≡ length values.old }
     ensures cells { (entered : Cost → V) → ArePieceOf (length values.old) values.new result
         (λ k. labelled_cell inst.now free entered None (slice_index_or columns.now k None)) }
@@ -263,7 +272,8 @@ pub(crate) fn row_piece<V: Copy, E: Fn(Cost) -> V>(
         → IsPlainPiece first (length parts.firsts.now) columns.now }
     requires count { length columns.now ≡ length values.old }
     requires few { length values.old ≤ 64 }
-    ensures inside { IsInside (length values.old) result }
+    ensures present { AreBitsOf (length values.old)
+        (λ k. is_labelled_within inst.now Whole row (slice_index_or columns.now k None)) result }
     ensures count { length values.new ≡ length values.old }
     ensures cells { Entering inst.now (E.post enter.now) (λ entered.
         ArePieceOf (length values.old) values.new result

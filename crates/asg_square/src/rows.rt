@@ -1,14 +1,15 @@
 //! Rows of the square of an instance, 64 cells at a time.
 
 ghost use Rattle.std.specs.Prelude.{◌≡◌, ℕ, ◌+◌, ◌<◌, ◌≤◌, ◌&&◌, ◌||◌, IsTrue, IfSome, true, false, None, Some, is_some, length, slice_get, slice_index_or};
+ghost use Rattle.asg_model.specs.declared.bands.Band.TheVariants.{Whole};
 ghost use Rattle.asg_model.specs.declared.parts.Cost.{Cost};
 ghost use Rattle.asg_square.specs.BitTable.{word_count};
 ghost use Rattle.asg_square.specs.Cells.{labelled_cell};
 ghost use Rattle.asg_square.specs.CellTable.{IsCellTable};
-ghost use Rattle.asg_square.specs.Filling.{AreAllOpen, ArePlain, IsPlainPiece, IsInside, IsLiveRow, ArePieceOf, WritesPiece};
+ghost use Rattle.asg_square.specs.Filling.{AreAllOpen, ArePlain, IsPlainPiece, IsLiveRow, ArePieceOf, AreBitsOf, WritesPiece};
 ghost use Rattle.asg_model.specs.Limits.{most_side};
 ghost use Rattle.asg_square.specs.Grid.{MayEnterEach, Entering};
-ghost use Rattle.asg_square.specs.Presence.{has_corner};
+ghost use Rattle.asg_square.specs.Presence.{is_labelled_within};
 
 use crate::cell_tables::CellTable;
 use crate::labels::is_active;
@@ -119,7 +120,8 @@ pub(crate) fn write_piece<V: Copy, E: Fn(Cost) -> V>(
         → IsPlainPiece first (length parts.firsts.now) columns.now }
     requires within { start + length columns.now ≤ length values.old.items }
     requires few { length columns.now ≤ 64 }
-    ensures inside { IsInside (length columns.now) result }
+    ensures present { AreBitsOf (length columns.now)
+        (λ k. is_labelled_within inst.now Whole row (slice_index_or columns.now k None)) result }
     ensures piece { WritesPiece values.old.items values.new.items start (length columns.now)
         (λ piece. Entering inst.now (E.post enter.now) (λ entered.
         ArePieceOf (length columns.now) piece result

@@ -5,7 +5,7 @@ ghost use Rattle.asg_model.specs.declared.parts.Cost.{Cost};
 ghost use Rattle.asg_square.specs.BitTable.{AreWordsOf};
 ghost use Rattle.asg_square.specs.Changes.{MapsRow, MayMapRow};
 ghost use Rattle.asg_square.specs.CellTable.{AreValuesOf, AreAllValuesOf};
-ghost use Rattle.asg_square.specs.Grid.{Grid, IsGrid, cell_at, MayEnterEach, IsSquareBy, HasLabelsOf};
+ghost use Rattle.asg_square.specs.Grid.{Grid, IsGrid, cell_at, MayEnterEach, IsSquareBy, HasLabelsOf, HasPresenceOf};
 ghost use Rattle.asg_model.specs.Limits.{most_side};
 ghost use Rattle.asg_model.specs.Shapes.{square_side};
 
@@ -50,6 +50,7 @@ impl<V: Copy> Square<V> {
         requires side { square_side inst.now ≤ most_side }
         requires enters { MayEnterEach inst.now (E.pre enter.now) }
         ensures labels { IfOk result (HasLabelsOf inst.now) }
+        ensures present { IfOk result (HasPresenceOf inst.now) }
         ensures square { IfOk result (IsSquareBy inst.now free (E.post enter.now)) }
     {
         let side = inst.side();
@@ -72,6 +73,7 @@ impl<V: Copy> Square<V> {
         requires side { self.old.side ≡ square_side inst.now }
         requires enters { MayEnterEach inst.now (E.pre enter.now) }
         ensures labels { HasLabelsOf inst.now self.new }
+        ensures present { HasPresenceOf inst.now self.new }
         ensures square { IsSquareBy inst.now free (E.post enter.now) self.new }
     {
         self.rows = inst.rows().len() as u32;

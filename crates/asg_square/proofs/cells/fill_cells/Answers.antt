@@ -1,21 +1,34 @@
 use Rattle.std.proofs.Common.{◌<◌, ◌∙◌, ℕ, get_or, None, sym, ap, subst}
+use Rattle.asg_model.specs.declared.bands.Band.TheVariants.{Whole}
 use Rattle.asg_square.specs.Cells.{labelled_cell}
-use Rattle.asg_square.specs.CellTable.{entry_at}
+use Rattle.asg_square.specs.CellTable.{table_at, is_present_at}
 use Rattle.asg_square.specs.Filling.{FillsRow}
+use Rattle.asg_square.specs.Presence.{is_labelled_within}
 use Rattle.asg_square.proofs.SquareFilling.{row_more}
 use Rattle.asg_square.proofs.cells.fill_cells.Goals as goal
 
 pub loop-r-preserved : goal.loop-r-preserved
 loop-r-preserved g c =
+    let X = c.args.inst.now in
+    let i = c.loop-r.invariant in
     let now = c.loop-r.cells in
+    let after = c.fill_row.new.cells in
     let r = c.loop-r.r in
-    let side = c.loop-r.invariant.0 in (
-      c.fill_row.ensures.side ∙ side,
-      c.fill_row.ensures.table,
-      λ entered enters s d below within.
-          let cell = λ (k : ℕ). labelled_cell c.args.inst.now c.args.free entered (get_or c.args.rows.now k None) (get_or c.args.columns.now d None) in
-          (subst (λ list. FillsRow now c.fill_row.new.cells r list (labelled_cell c.args.inst.now c.args.free entered (get_or c.args.rows.now r None))) c.column_labels-labels.ensures (c.fill_row.ensures.row entered enters)).each s d (subst (λ (n : ℕ). d < n) (sym side) within)
-          ∙ row_more s r (cell r) (entry_at now.side now.cells s d) (cell s) below
-          (λ before. c.loop-r.invariant.2 entered enters s d before within)
-          (λ here. ap cell (sym here)),
-    )
+    let rows = c.args.rows.now in
+    let labels = c.column_labels-labels.ensures in
+    record {
+      side = c.fill_row.ensures.side ∙ i.side;
+      table = c.fill_row.ensures.table;
+      cells = λ entered enters s d below within.
+          let cell = λ (k : ℕ). labelled_cell X c.args.free entered (get_or rows k None) (get_or c.args.columns.now d None) in
+          (subst (λ list. FillsRow now.side (table_at now) (table_at after) r list (labelled_cell X c.args.free entered (get_or rows r None))) labels (c.fill_row.ensures.row entered enters)) s d (subst (λ (n : ℕ). d < n) (sym i.side) within)
+          ∙ row_more s r (cell r) (table_at now s d) (cell s) below
+          (λ before. i.cells entered enters s d before within)
+          (λ here. ap cell (sym here));
+      present = λ s d below within.
+          let has = λ (k : ℕ). is_labelled_within X Whole (get_or rows k None) (get_or c.args.columns.now d None) in
+          (subst (λ list. FillsRow now.side (is_present_at now) (is_present_at after) r list (is_labelled_within X Whole (get_or rows r None))) labels c.fill_row.ensures.present) s d (subst (λ (n : ℕ). d < n) (sym i.side) within)
+          ∙ row_more s r (has r) (is_present_at now s d) (has s) below
+          (λ before. i.present s d before within)
+          (λ here. ap has (sym here));
+    }

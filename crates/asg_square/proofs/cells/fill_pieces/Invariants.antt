@@ -1,7 +1,9 @@
 use Rattle.std.proofs.Common.{◌≡◌}
+use Rattle.asg_model.specs.declared.bands.Band.TheVariants.{Whole}
 use Rattle.asg_square.specs.Cells.{labelled_cell}
-use Rattle.asg_square.specs.CellTable.{IsCellTable}
+use Rattle.asg_square.specs.CellTable.{IsCellTable, table_at, is_present_at}
 use Rattle.asg_square.specs.Grid.{Entering}
+use Rattle.asg_square.specs.Presence.{is_labelled_within}
 use Rattle.asg_square.proofs.RowLemmas.{FilledPieces}
 use Rattle.asg_square.proofs.cells.fill_pieces.Given as goal
 
@@ -11,5 +13,6 @@ invariant-loop-number g l =
     record {
       side : l.cells.side ≡ l.fn.cells.side;
       table : IsCellTable l.cells;
-      filled : Entering l.inst (goal.E-post g l.enter) (λ entered. FilledPieces l.fn.cells l.cells l.r l.number l.columns.labels.now (labelled_cell l.inst l.free entered l.row));
+      filled : Entering l.inst (goal.E-post g l.enter) (λ entered. FilledPieces l.fn.cells.side (table_at l.fn.cells) (table_at l.cells) l.r l.number l.columns.labels.now (labelled_cell l.inst l.free entered l.row));
+      present : FilledPieces l.fn.cells.side (is_present_at l.fn.cells) (is_present_at l.cells) l.r l.number l.columns.labels.now (is_labelled_within l.inst Whole l.row);
     }

@@ -2,7 +2,7 @@ use Rattle.std.proofs.Common.{◌≡◌, ◌∙◌, ◌+◌, ◌<◌, Some, sym,
 use Rattle.std.specs.Option.{option_map}
 use Rattle.std.proofs.lemmas.List.{length-set}
 use Rattle.asg_model.specs.Live.{live_at}
-use Rattle.asg_square.proofs.PieceLemmas.{values_more}
+use Rattle.asg_square.proofs.PieceLemmas.{values_more, live_there}
 use Rattle.asg_square.proofs.pieces.enter_present.Goals as goal
 
 pub loop-k-preserved : goal.loop-k-preserved
@@ -20,3 +20,7 @@ loop-k-preserved g c =
           (ap Some (enters c.args.r d c.present_cost-cost.result c.enter.result live c.enter.ensures) ∙ sym (ap (option_map entered) live))
           (i.values entered enters);
     }
+
+pub returns-clause-present : goal.returns-clause-present
+returns-clause-present g c = λ k h.
+    live_there c.args.inst.now c.args.r (c.args.first + k) c.args.parts.firsts.now c.args.parts.seconds.now c.requires.live (c.requires.present k h)

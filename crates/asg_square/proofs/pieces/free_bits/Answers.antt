@@ -8,4 +8,4 @@ pub returns-then-columns-eq64 : goal.returns-then-columns-eq64
 returns-then-columns-eq64 c =
     let passes = λ (b : Bool) (k : ℕ). b || is_some (get_or c.args.columns.now k None) in
     subst (λ b. AreBitsOf (length c.args.columns.now) (passes b) 18446744073709551615) (sym c.if-are_all.true)
-    (subst (λ n. AreBitsOf n (passes true) 18446744073709551615) (sym c.if-columns-eq64.true) (ones_pass (passes true) (λ k. refl)))
+    (subst (λ n. AreBitsOf n (passes true) 18446744073709551615) (sym c.if-columns-eq64.true) (ones_pass (passes true) (λ k h. refl)))

@@ -1,9 +1,21 @@
 use Rattle.std.proofs.Common.{◌≡◌, ◌∙◌, ◌-◌, ◌+◌, length, get_or, None, drop, sym, ap, subst, arith}
 use Rattle.std.proofs.lemmas.List.{length-take, length-drop}
+use Rattle.asg_model.specs.declared.bands.Band.TheVariants.{Whole}
 use Rattle.asg_square.specs.Cells.{labelled_cell}
-use Rattle.asg_square.specs.Filling.{ArePieceOf}
+use Rattle.asg_square.specs.Filling.{ArePieceOf, AreBitsOf}
+use Rattle.asg_square.specs.Presence.{is_labelled_within}
 use Rattle.asg_square.proofs.RowLemmas.{written_back}
 use Rattle.asg_square.proofs.rows.write_piece.Goals as goal
+
+pub returns-clause-present : goal.returns-clause-present
+returns-clause-present g c =
+    let old = c.args.values.now.items in
+    let xs = c.as_mut_slice.result.now in
+    let start = c.args.start in
+    let count = length c.args.columns.now in
+    subst (λ n. AreBitsOf n (λ k. is_labelled_within c.args.inst.now Whole c.args.row (get_or c.args.columns.now k None)) c.row_piece.result)
+    (omega (arith, length-take (start + count - start) (drop start xs), length-drop start xs, ap length c.as_mut_slice.ensures.value, c.requires.within))
+    c.row_piece.ensures.present
 
 pub returns-clause-piece : goal.returns-clause-piece
 returns-clause-piece g c =

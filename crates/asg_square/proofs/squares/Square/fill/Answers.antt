@@ -1,12 +1,15 @@
 use Rattle.std.proofs.Common.{◌≡◌, ◌∙◌, length, map, sym, ap, subst, arith}
 use Rattle.std.specs.List.{range_with_len}
 use Rattle.asg_model.specs.Shapes.{square_side}
+use Rattle.asg_model.specs.declared.bands.Band.TheVariants.{Whole}
 use Rattle.asg_square.specs.Labels.{row_label, column_label}
 use Rattle.asg_square.specs.Cells.{labelled_cell}
 use Rattle.asg_square.specs.Filling.{AreFilled}
+use Rattle.asg_square.specs.CellTable.{table_at, is_present_at}
 use Rattle.asg_square.specs.Grid.{Grid}
+use Rattle.asg_square.specs.Presence.{is_labelled_within}
 use Rattle.asg_square.specs.laws.Rows.{rows_within}
-use Rattle.asg_square.proofs.SquareFilling.{has_cells}
+use Rattle.asg_square.proofs.SquareFilling.{has_cells, has_presence}
 use Rattle.asg_square.proofs.squares.Square.fill.Goals as goal
 
 pub invariant_of-self : goal.invariant_of-self
@@ -49,6 +52,21 @@ returns-clause-square g c = λ entered enters.
     record {
       labels = returns-clause-labels g c;
       cells = has_cells X c.args.free entered Q (returns-clause-labels g c) c.fill_cells.ensures.table
-          (subst (λ rows. AreFilled c.fill_cells.new.cells rows c.fill_column_labels.new.labels.items cell) c.as_slice-rows.ensures.value
-          (subst (λ columns. AreFilled c.fill_cells.new.cells c.as_slice-rows.result.now columns cell) c.as_slice-columns.ensures.value filled));
+          (subst (λ rows. AreFilled c.fill_cells.new.cells.side (table_at c.fill_cells.new.cells) rows c.fill_column_labels.new.labels.items cell) c.as_slice-rows.ensures.value
+          (subst (λ columns. AreFilled c.fill_cells.new.cells.side (table_at c.fill_cells.new.cells) c.as_slice-rows.result.now columns cell) c.as_slice-columns.ensures.value filled));
     }
+
+pub returns-clause-present : goal.returns-clause-present
+returns-clause-present g c =
+    let X = c.args.inst.now in
+    let after = c.fill_cells.new.cells in
+    let Q : Grid g.row.V.Denot = record {
+      side = after.side;
+      rows = length c.rows.result.now;
+      row_labels = c.fill_row_labels.new.labels.items;
+      column_labels = c.fill_column_labels.new.labels.items;
+      cells = after.cells;
+    } in
+    has_presence X Q (returns-clause-labels g c) c.fill_cells.ensures.table
+    (subst (λ rows. AreFilled after.side (is_present_at after) rows c.fill_column_labels.new.labels.items (is_labelled_within X Whole)) c.as_slice-rows.ensures.value
+    (subst (λ columns. AreFilled after.side (is_present_at after) c.as_slice-rows.result.now columns (is_labelled_within X Whole)) c.as_slice-columns.ensures.value c.fill_cells.ensures.present))

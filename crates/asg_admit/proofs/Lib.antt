@@ -1,6 +1,8 @@
 mod ProductLemmas
 mod SquareLemmas
 mod SettleLemmas
+mod SettledRows
+mod PartLemmas
 mod ReplayLemmas
 mod AdmissionLemmas
 mod GreatestLemmas

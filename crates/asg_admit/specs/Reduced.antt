@@ -1,5 +1,5 @@
 -- A square that phases have reduced, with the product of their steps.
-use Rattle.std.specs.Prelude.{◌≡◌, ℕ, List}
+use Rattle.std.specs.Prelude.{◌≡◌, ◌⊎◌, ℕ, ◌<◌, List}
 use Rattle.asg_order.specs.Monoid.{Monoid, IsValue, fold_of}
 use Rattle.asg_proof.specs.Phases.{PhaseOf, after_phase}
 use Rattle.asg_proof.specs.Steps.{HasValues}
@@ -29,5 +29,16 @@ pub record IsPhaseTo {V : Type 0} (M : Monoid V) (difference : V → V → V) (p
   pub cells : (r k : ℕ) →
       cell_at after.now r k ≡ after_phase M difference phase (cell_at before.now) r k
   pub index : after.index ≡ M.product before.index (fold_of M phase.steps)
+  pub labels : KeepsLabels before.now after.now
+  pub reduced : IsReduced M after
+
+-- what a phase that is applied in part makes of a reduced square: each cell is as it was or that after
+-- the phase, the labels and the index stay, and the cells and the index are values
+pub record IsPhaseInPart {V : Type 0} (M : Monoid V) (difference : V → V → V) (phase : PhaseOf V)
+    (before after : Reduced V) : Type 0 where
+  pub cells : (r k : ℕ) → r < before.now.side → k < before.now.side
+      → (cell_at after.now r k ≡ cell_at before.now r k)
+      ⊎ (cell_at after.now r k ≡ after_phase M difference phase (cell_at before.now) r k)
+  pub index : after.index ≡ before.index
   pub labels : KeepsLabels before.now after.now
   pub reduced : IsReduced M after

@@ -15,9 +15,9 @@ use crate::replayed_cells::replay_cell;
 use asg_order::DMonoid;
 use asg_square::Square;
 
-/// Whether a phase is admitted from the square: the lists are over the rows and the columns, each step
-/// is a value, and each step in turn has one more row and column than the side and is at most each
-/// present cell of both. It takes no memory.
+/// Whether a phase is admitted from the square: the lists are over the rows and the columns, each
+/// step is a value, and each step in turn has one more row and column than the side and is at most
+/// each present cell of both. It takes no memory.
 pub fn admits<M: DMonoid>(
     m: &M,
     square: &Square<M::Value>,
@@ -27,8 +27,8 @@ pub fn admits<M: DMonoid>(
 ) -> bool
     requires { HasValues (M.monoid_of m.now) square.now.side (cell_at square.now) }
     ensures { let phase = phase_of steps.now enters.now leaves.now in
-        IsTrue result ↔ IsAdmittedPhase (M.monoid_of m.now) (M.difference m.now) square.now.side phase
-        (cell_at square.now) }
+        IsTrue result ↔ IsAdmittedPhase (M.monoid_of m.now) (M.difference m.now) square.now.side
+        phase (cell_at square.now) }
 {
     if !is_over(m, square, steps, enters, leaves) {
         return false;

@@ -1,9 +1,9 @@
 //! The rows that enter in a phase, each tested and then settled.
 
-ghost use Rattle.std.specs.Prelude.{◌≡◌, ◌↔◌, ◌<◌, ℕ, length, All, IsTrue, slice_index};
+ghost use Rattle.std.specs.Prelude.{◌≡◌, ◌↔◌, ◌<◌, ℕ, false, length, All, IsTrue, slice_index};
 ghost use Rattle.asg_admit.specs.Admission.{AllowsRow, AllowsRows};
 ghost use Rattle.asg_admit.specs.Reduced.{phase_of};
-ghost use Rattle.asg_admit.specs.Settling.{HasValueAt, SettlesEntered, SettlesEnteredRow};
+ghost use Rattle.asg_admit.specs.Settling.{HasValueAt, SettlesEntered, SettlesEnteredRow, SettlesInPart};
 ghost use Rattle.asg_order.specs.Monoid.{IsValue};
 
 use crate::admission::row_allows;
@@ -11,8 +11,8 @@ use crate::settling::settle_row;
 use asg_order::DMonoid;
 use asg_square::Square;
 
-// Settles the rows that enter, each if its cells allow the steps, up to the first whose cells don't, and
-// tells whether there is none.
+// Settles the rows that enter, each if its cells allow the steps, up to the first whose cells
+// don't, and tells whether there is none.
 pub(crate) fn settle_allowed<M: DMonoid>(
     m: &M,
     square: &mut Square<M::Value>,
@@ -26,11 +26,14 @@ pub(crate) fn settle_allowed<M: DMonoid>(
     requires enters { length enters.now ≡ square.old.side }
     requires leaves { length leaves.now ≡ square.old.side }
     requires cells { (r k : ℕ) → r < square.old.side → k < square.old.side
-        → slice_index enters.now r < length steps.now → HasValueAt (M.monoid_of m.now) square.old r k }
+        → slice_index enters.now r < length steps.now
+        → HasValueAt (M.monoid_of m.now) square.old r k }
     ensures tested { let phase = phase_of steps.now enters.now leaves.now in
         IsTrue result ↔ AllowsRows (M.monoid_of m.now) (M.difference m.now) phase square.old }
     ensures settled { let phase = phase_of steps.now enters.now leaves.now in IsTrue result
         → SettlesEntered (M.monoid_of m.now) (M.difference m.now) phase square.old square.new }
+    ensures in_part { let phase = phase_of steps.now enters.now leaves.now in
+        SettlesInPart (M.monoid_of m.now) (M.difference m.now) phase square.old square.new }
     ensures room { length room.new ≡ length room.old }
 {
     for row in 0..square.side() {
@@ -60,10 +63,12 @@ fn settle_allowed_row<M: DMonoid>(
     requires cells { (k : ℕ) → k < square.old.side → slice_index enters.now row < length steps.now
         → HasValueAt (M.monoid_of m.now) square.old row k }
     ensures tested { let enter = slice_index enters.now row in
-        IsTrue result ↔ AllowsRow (M.monoid_of m.now) (M.difference m.now) steps.now enter leaves.now
-        square.old row }
+        IsTrue result ↔ AllowsRow (M.monoid_of m.now) (M.difference m.now) steps.now enter
+        leaves.now square.old row }
     ensures settled { let phase = phase_of steps.now enters.now leaves.now in IsTrue result
-        → SettlesEnteredRow (M.monoid_of m.now) (M.difference m.now) phase square.old square.new row }
+        → SettlesEnteredRow (M.monoid_of m.now) (M.difference m.now) phase square.old square.new
+        row }
+    ensures kept { result ≡ false → square.new ≡ square.old }
     ensures room { length room.new ≡ length room.old }
 {
     let enter = enters[row as usize];

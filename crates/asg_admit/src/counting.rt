@@ -1,5 +1,5 @@
-//! Whether at each step of a phase the rows that have entered and the columns that stay are as many as
-//! a step asks.
+//! Whether at each step of a phase the rows that have entered and the columns that stay are as many
+//! as a step asks.
 
 ghost use Rattle.std.specs.Prelude.{◌≡◌, ◌↔◌, ◌<◌, ◌≤◌, ◌+◌, ◌-◌, ◌==◌, ℕ, if◌then◌else◌, length, IsTrue, slice_index};
 ghost use Rattle.asg_admit.specs.Admission.{AreBalanced, AreCounted, has_mark};
@@ -10,8 +10,8 @@ ghost use Rattle.asg_model.specs.Limits.{most_side};
 // How many steps are counted at a time.
 const WINDOW: usize = 2_000;
 
-// Whether at each step the rows that have entered and the columns that stay are one more than the side.
-// After the first step that is so where as many rows enter as columns leave.
+// Whether at each step the rows that have entered and the columns that stay are one more than the
+// side. After the first step that is so where as many rows enter as columns leave.
 pub(crate) fn are_counted(enters: &[u32], leaves: &[u32], end: usize) -> bool
     requires leaves { length leaves.now ≡ length enters.now }
     requires few { length enters.now ≤ most_side }

@@ -5,8 +5,8 @@ ghost use Rattle.asg_admit.specs.Duals.{dual_values};
 
 use std::marker::Model;
 
-/// The values of a row of a [`DualSquare`](crate::DualSquare), one for each column. Contracts see it
-/// as the list of them.
+/// The values of a row of a [`DualSquare`](crate::DualSquare), one for each column. Contracts see
+/// it as the list of them.
 #[derive(Drop)]
 pub struct DualRow<'a> {
     values: &'a [u128],

@@ -35,10 +35,11 @@ pub enum Replayed {
 }
 
 /// A reduced square of sums, kept as the square that it was when it was made, with a dual variable
-/// for each row and each column [Burkard 2012]: a cell is that of the square with the row's more and
-/// the column's less. So a phase costs the side and its steps, where it would otherwise rewrite the
-/// cells. It serves while no sum reaches the top of its monoid, as [`DualSquare::has_room`] tells; then
-/// it is reduced to the square of its cells. Contracts see it as the [`Reduced`] square of those.
+/// for each row and each column [Burkard 2012]: a cell is that of the square with the row's more
+/// and the column's less. So a phase costs the side and its steps, where it would otherwise rewrite
+/// the cells. It serves while no sum reaches the top of its monoid, as [`DualSquare::has_room`]
+/// tells; then it is reduced to the square of its cells. Contracts see it as the [`Reduced`] square
+/// of those.
 #[derive(Drop)]
 pub struct DualSquare {
     base: Square<u128>,
@@ -57,12 +58,13 @@ impl Model for DualSquare {
 
     ghost view = { λ d. dual_reduced d.base d.rows.items d.columns.items d.index };
 
-    ghost invariant = { λ d. AreDuals (2 ^ 120) d.base d.rows.items d.columns.items d.index d.greatest };
+    ghost invariant = { λ d. AreDuals (2 ^ 120) d.base d.rows.items d.columns.items d.index
+        d.greatest };
 }
 
 impl DualSquare {
-    /// The reduced square, with all dual variables 0. Its cells and its index are sums of the monoid. The
-    /// error is want of memory.
+    /// The reduced square, with all dual variables 0. Its cells and its index are sums of the
+    /// monoid. The error is want of memory.
     pub fn make(alloc: Global, m: &Bounded, reduced: Reduced<u128>) -> Result<DualSquare, NoMemory>
         requires { IsReduced (bounded_sums m.now.top) reduced }
         ensures { IfOk result (λ d. d ≡ reduced) }
@@ -98,15 +100,16 @@ impl DualSquare {
     /// Which cells of a row are present, as [`Square::row_words`] tells it.
     pub fn row_words(&self, r: u32) -> &[u64]
         requires { r < self.now.now.side }
-        ensures { AreWordsOf (λ c. is_some (cell_at self.now.now r c)) self.now.now.side result.now }
+        ensures { AreWordsOf (λ c. is_some (cell_at self.now.now r c)) self.now.now.side
+            result.now }
     {
         self.base.row_words(r)
     }
 
-    /// Whether neither the index nor any present cell reaches the top while steps that add up to this sum
-    /// are applied. It is told from the index and the greatest cell of the square as it was made, and
-    /// so may be false where some present cell reaches the top only with the index twice. It takes the
-    /// same time for each side.
+    /// Whether neither the index nor any present cell reaches the top while steps that add up to
+    /// this sum are applied. It is told from the index and the greatest cell of the square as it
+    /// was made, and so may be false where some present cell reaches the top only with the index
+    /// twice. It takes the same time for each side.
     pub fn has_room(&self, m: &Bounded, sum: u128) -> bool
         ensures room { IsTrue result → HasRoom m.now.top self.now sum }
         ensures short { result ≡ false → IsNearTop m.now.top self.now sum }
@@ -123,10 +126,10 @@ impl DualSquare {
         dual_row(values, self.columns.as_slice(), self.rows[r as usize])
     }
 
-    /// Applies a phase that is admitted, as [`settle`](crate::settle) does to a [`Reduced`] square, where
-    /// there is room for the sum of its steps. `room` has more places than there are steps, and what
-    /// is in it before and afterwards means nothing. The time is that of the side and the steps. It
-    /// takes no memory.
+    /// Applies a phase that is admitted, as [`settle`](crate::settle) does to a [`Reduced`] square,
+    /// where there is room for the sum of its steps. `room` has more places than there are steps,
+    /// and what is in it before and afterwards means nothing. The time is that of the side and the
+    /// steps. It takes no memory.
     pub fn settle(
         &mut self,
         m: &Bounded,
@@ -150,11 +153,12 @@ impl DualSquare {
         raise(&mut self.columns, steps, leaves, room);
     }
 
-    /// Applies a phase where it is admitted, as [`replay`](crate::replay) does to a [`Reduced`] square, and
-    /// tells what became of it. Where sums come near the top with it, it isn't tested: then the square
-    /// is to be reduced first. Nothing is changed unless it is applied. `room` has more places than
-    /// there are steps, and what is in it before and afterwards means nothing. The time is that of the
-    /// steps and of the side times the number of rows that enter. It takes no memory.
+    /// Applies a phase where it is admitted, as [`replay`](crate::replay) does to a [`Reduced`]
+    /// square, and tells what became of it. Where sums come near the top with it, it isn't tested:
+    /// then the square is to be reduced first. Nothing is changed unless it is applied. `room` has
+    /// more places than there are steps, and what is in it before and afterwards means nothing. The
+    /// time is that of the steps and of the side times the number of rows that enter. It takes no
+    /// memory.
     pub fn replay(
         &mut self,
         m: &Bounded,
@@ -189,7 +193,8 @@ impl DualSquare {
         }
     }
 
-    // Applies a phase where it is admitted, and tells whether it is, where there is room for its steps.
+    // Applies a phase where it is admitted, and tells whether it is, where there is room for its
+    // steps.
     fn apply(
         &mut self,
         m: &Bounded,
@@ -232,8 +237,8 @@ impl DualSquare {
         true
     }
 
-    /// The reduced square with its cells written out, for where sums come near the top. The time is that
-    /// of one pass over the cells. It takes no memory.
+    /// The reduced square with its cells written out, for where sums come near the top. The time is
+    /// that of one pass over the cells. It takes no memory.
     pub fn reduce(self) -> Reduced<u128>
         ensures { result ≡ self }
     {

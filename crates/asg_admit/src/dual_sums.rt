@@ -19,7 +19,8 @@ pub(crate) fn sum_up(steps: &[u128], sums: &mut [u128])
     }
 }
 
-// Raises each dual variable by the sum of the steps before its mark, all steps where that is past them.
+// Raises each dual variable by the sum of the steps before its mark, all steps where that is past
+// them.
 pub(crate) fn raise(duals: &mut Vec<u128>, steps: &[u128], marks: &[u32], sums: &[u128])
     requires room { length steps.now < length sums.now }
     requires sums { AreSums steps.now sums.now }

@@ -19,11 +19,12 @@ use asg_square::{BitRows, NoMemory};
 use std::alloc::Global;
 use std::marker::Model;
 
-/// A reduced square of graded values that knows its low cells: those whose grade is at most the greatest
-/// grade of the steps so far. A phase whose steps have no greater grade leaves all other cells as they
-/// are, and is allowed by them. So it costs the low cells of the rows that enter and of the columns that
-/// leave, besides a look at each word of 64 cells. Where the grade of the steps rises, the low cells are found
-/// anew by one pass over the cells. Contracts see it as the [`Reduced`] square.
+/// A reduced square of graded values that knows its low cells: those whose grade is at most the
+/// greatest grade of the steps so far. A phase whose steps have no greater grade leaves all other
+/// cells as they are, and is allowed by them. So it costs the low cells of the rows that enter and
+/// of the columns that leave, besides a look at each word of 64 cells. Where the grade of the steps
+/// rises, the low cells are found anew by one pass over the cells. Contracts see it as the
+/// [`Reduced`] square.
 #[derive(Drop)]
 pub struct GradedSquare {
     reduced: Reduced<(u64, u128)>,
@@ -81,17 +82,19 @@ impl GradedSquare {
         self.reduced.now.row_values(r)
     }
 
-    /// Which cells of a row are present, as [`Square::row_words`](asg_square::Square::row_words) tells it.
+    /// Which cells of a row are present, as [`Square::row_words`](asg_square::Square::row_words)
+    /// tells it.
     pub fn row_words(&self, r: u32) -> &[u64]
         requires { r < self.now.now.side }
-        ensures { AreWordsOf (λ c. is_some (cell_at self.now.now r c)) self.now.now.side result.now }
+        ensures { AreWordsOf (λ c. is_some (cell_at self.now.now r c)) self.now.now.side
+            result.now }
     {
         self.reduced.now.row_words(r)
     }
 
-    /// Applies a phase that is admitted, as [`settle`](crate::settle) does to a [`Reduced`] square. `room`
-    /// has more places than there are steps, and what is in it before and afterwards means nothing. It
-    /// takes no memory.
+    /// Applies a phase that is admitted, as [`settle`](crate::settle) does to a [`Reduced`] square.
+    /// `room` has more places than there are steps, and what is in it before and afterwards means
+    /// nothing. It takes no memory.
     pub fn settle(
         &mut self,
         m: &Graded<Bounded>,
@@ -108,16 +111,17 @@ impl GradedSquare {
         requires room { length steps.now < length room.old }
         ensures phase { let phase = phase_of steps.now enters.now leaves.now in
             let sums = bounded_sums m.now.inner.top in
-            IsPhaseTo (graded sums) (graded_difference sums bounded_difference) phase self.old self.new }
+            IsPhaseTo (graded sums) (graded_difference sums bounded_difference) phase self.old
+            self.new }
         ensures room { length room.new ≡ length room.old }
     {
         self.grade = raise_grade(&self.reduced.now, steps, self.grade, &mut self.low);
         settle_marked(m, &mut self.reduced, &self.low, steps, enters, leaves, room);
     }
 
-    /// Applies a phase where it is admitted, and tells whether it is, as [`replay`](crate::replay) does to
-    /// a [`Reduced`] square. Otherwise nothing is changed. `room` has more places than there are steps,
-    /// and what is in it before and afterwards means nothing. It takes no memory.
+    /// Applies a phase where it is admitted, and tells whether it is, as [`replay`](crate::replay)
+    /// does to a [`Reduced`] square. Otherwise nothing is changed. `room` has more places than
+    /// there are steps, and what is in it before and afterwards means nothing. It takes no memory.
     pub fn replay(
         &mut self,
         m: &Graded<Bounded>,
@@ -130,7 +134,8 @@ impl GradedSquare {
         requires room { length steps.now < length room.old }
         ensures admitted { let phase = phase_of steps.now enters.now leaves.now in
             let sums = bounded_sums m.now.inner.top in
-            IsTrue result ↔ IsAdmittedPhase (graded sums) (graded_difference sums bounded_difference)
+            IsTrue result
+            ↔ IsAdmittedPhase (graded sums) (graded_difference sums bounded_difference)
             self.old.now.side phase (cell_at self.old.now) }
         ensures applied { let phase = phase_of steps.now enters.now leaves.now in
             let sums = bounded_sums m.now.inner.top in

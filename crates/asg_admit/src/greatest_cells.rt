@@ -30,8 +30,8 @@ fn greatest_of_row(square: &Square<u128>, row: u32) -> u128
     greatest
 }
 
-// The cell where it is present and greater than the greatest so far, which otherwise stays. What stands for
-// its value is looked at first, since that is greater for few cells.
+// The cell where it is present and greater than the greatest so far, which otherwise stays. What
+// stands for its value is looked at first, since that is greater for few cells.
 #[inline]
 fn greater(square: &Square<u128>, row: u32, column: u32, value: u128, greatest: u128) -> u128
     requires row { row < square.now.side }

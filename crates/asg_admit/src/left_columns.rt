@@ -4,8 +4,9 @@ ghost use Rattle.std.specs.Prelude.{◌≡◌, ◌<◌, ◌≤◌, length, if◌
 ghost use Rattle.asg_model.specs.Limits.{most_side};
 ghost use Rattle.asg_admit.specs.LeftColumns.{ArePassed};
 
-// Writes down for each column which one, of it and those after it, is the first that leaves before the
-// end, and the number of columns where none does; the last place is for those after all columns.
+// Writes down for each column which one, of it and those after it, is the first that leaves before
+// the end, and the number of columns where none does; the last place is for those after all
+// columns.
 pub(crate) fn find_left(leaves: &[u32], end: usize, next: &mut [u32])
     requires room { length leaves.now < length next.old }
     requires few { length leaves.now ≤ most_side }

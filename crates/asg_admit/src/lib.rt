@@ -4,16 +4,16 @@
 //! both and multiplies each cell of neither by c, so that each perfect assignment has c less. A
 //! phase is a list of steps whose rows grow and whose columns shrink, as an alternating tree does
 //! [Burkard, Hahn and Zimmermann 1977]. A reduced square carries the product of the steps that led
-//! to it, its index. Contracts see a phase as its three lists, and what it makes of a square cell by
-//! cell.
+//! to it, its index. Contracts see a phase as its three lists, and what it makes of a square cell
+//! by cell.
 //!
 //! Where a square holds sums that stay below the top, a phase adds to each cell what its row takes
-//! and subtracts what its column gives: [`DualSquare`] keeps those as dual variables, so that a phase
-//! doesn't go over the cells. [`NarrowSquare`] does so in 64 bits, for sums below 2^62, and compares 64
-//! sums of a row with keys at a time. Where a square holds graded values, a phase leaves the cells of
-//! a greater grade than those of its steps as they are: [`GradedSquare`] knows the others, and visits
-//! those alone.
-//! Making one of the three takes memory; nothing else here does.
+//! and subtracts what its column gives: [`DualSquare`] keeps those as dual variables, so that a
+//! phase doesn't go over the cells. [`NarrowSquare`] does so in 64 bits, for sums below 2^62, and
+//! compares 64 sums of a row with keys at a time. Where a square holds graded values, a phase
+//! leaves the cells of a greater grade than those of its steps as they are: [`GradedSquare`] knows
+//! the others, and visits those alone. Making one of the three takes memory; nothing else here
+//! does.
 #![tactic(auto)]
 
 mod admission;

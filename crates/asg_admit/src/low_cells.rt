@@ -6,8 +6,8 @@ ghost use Rattle.asg_admit.specs.LowCells.{AreLowCells, AreWithinGrade, MarksLow
 
 use asg_square::{BitRows, Square};
 
-// Sees to it that no step has a greater grade: where one has, the marks of the low cells are found anew
-// for the greatest grade of the steps. Gives the grade that the marks are for.
+// Sees to it that no step has a greater grade: where one has, the marks of the low cells are found
+// anew for the greatest grade of the steps. Gives the grade that the marks are for.
 pub(crate) fn raise_grade(
     square: &Square<(u64, u128)>,
     steps: &[(u64, u128)],

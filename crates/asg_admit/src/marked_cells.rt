@@ -28,8 +28,8 @@ const WORDS: usize = (MOST_SIDE as usize + 63) / 64;
 // All columns.
 const ALL: [u64; WORDS] = [u64::MAX; WORDS];
 
-// Applies a phase that is admitted, and multiplies the index by all of its steps. Cells without a mark are
-// those that the phase leaves as they are.
+// Applies a phase that is admitted, and multiplies the index by all of its steps. Cells without a
+// mark are those that the phase leaves as they are.
 pub(crate) fn settle_marked<M: DMonoid>(
     m: &M,
     reduced: &mut Reduced<M::Value>,
@@ -75,7 +75,8 @@ fn settle_waiting<M: DMonoid>(
     requires leaves { length leaves.now ≡ square.old.side }
     requires cells { HasValues (M.monoid_of m.now) square.old.side (cell_at square.old) }
     requires marks { AreMarksOver square.old.side marks.now }
-    requires aside { AreAside (M.monoid_of m.now) (M.difference m.now) steps.now square.old marks.now }
+    requires aside { AreAside (M.monoid_of m.now) (M.difference m.now) steps.now square.old
+        marks.now }
     ensures settled { let phase = phase_of steps.now enters.now leaves.now in
         SettlesWaiting (M.monoid_of m.now) (M.difference m.now) phase square.old square.new }
     ensures room { length room.new ≡ length room.old }
@@ -90,8 +91,8 @@ fn settle_waiting<M: DMonoid>(
     }
 }
 
-// Settles a row, if it never enters, by the products of the steps from each place to the end and by the
-// columns that leave.
+// Settles a row, if it never enters, by the products of the steps from each place to the end and by
+// the columns that leave.
 fn settle_waiting_row<M: DMonoid>(
     m: &M,
     square: &mut Square<M::Value>,
@@ -144,7 +145,8 @@ fn settle_entered<M: DMonoid>(
     requires enters { length enters.now ≡ square.old.side }
     requires leaves { length leaves.now ≡ square.old.side }
     requires cells { (r k : ℕ) → r < square.old.side → k < square.old.side
-        → slice_index enters.now r < length steps.now → HasValueAt (M.monoid_of m.now) square.old r k }
+        → slice_index enters.now r < length steps.now
+        → HasValueAt (M.monoid_of m.now) square.old r k }
     requires marks { AreMarksOver square.old.side marks.now }
     requires aside { (r k : ℕ) → slice_index enters.now r < length steps.now
         → IsAsideAt (M.monoid_of m.now) (M.difference m.now) steps.now square.old marks.now r k }
@@ -192,8 +194,8 @@ fn settle_entered_row<M: DMonoid>(
     settle_words(m, square, marks, &ALL, steps, leaves, room, row, enter);
 }
 
-// Settles a row that enters at this step, by the products of the steps between it and each place: the
-// cells that have a mark of the row and one of the columns.
+// Settles a row that enters at this step, by the products of the steps between it and each place:
+// the cells that have a mark of the row and one of the columns.
 fn settle_words<M: DMonoid>(
     m: &M,
     square: &mut Square<M::Value>,
@@ -217,8 +219,8 @@ fn settle_words<M: DMonoid>(
     requires inside { (k : ℕ) → k < 64 * length marks.now → IsTrue (is_marked marks.now k)
         → k < square.old.side }
     requires columns { length marks.now ≤ length columns.now }
-    requires aside { AreAsideInRow (M.monoid_of m.now) (M.difference m.now) steps.now enter leaves.now
-        (cell_at square.old row) marks.now columns.now }
+    requires aside { AreAsideInRow (M.monoid_of m.now) (M.difference m.now) steps.now enter
+        leaves.now (cell_at square.old row) marks.now columns.now }
     ensures { SettlesRow (M.monoid_of m.now) (M.difference m.now) steps.now enter leaves.now
         square.old square.new row }
 {

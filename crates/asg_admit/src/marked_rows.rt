@@ -28,7 +28,8 @@ pub(crate) fn marked_allow<M: DMonoid>(
     requires leaves { length leaves.now ≡ square.now.side }
     requires cells { HasValues (M.monoid_of m.now) square.now.side (cell_at square.now) }
     requires marks { AreMarksOver square.now.side marks.now }
-    requires aside { AreAside (M.monoid_of m.now) (M.difference m.now) steps.now square.now marks.now }
+    requires aside { AreAside (M.monoid_of m.now) (M.difference m.now) steps.now square.now
+        marks.now }
     ensures { let phase = phase_of steps.now enters.now leaves.now in
         IsTrue result ↔ AllowsRows (M.monoid_of m.now) (M.difference m.now) phase square.now }
 {

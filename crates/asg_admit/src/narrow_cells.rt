@@ -13,7 +13,8 @@ pub(crate) fn write_cells(square: &mut Square<u64>, rows: &[u64], columns: &[u64
     requires rows { length rows.now ≡ square.old.side }
     requires columns { length columns.now ≡ square.old.side }
     requires fits { (r k : ℕ)
-        → FitsDuals (2 ^ 64) (slice_index rows.now r) (slice_index columns.now k) (cell_at square.old r k) }
+        → FitsDuals (2 ^ 64) (slice_index rows.now r) (slice_index columns.now k)
+        (cell_at square.old r k) }
     ensures labels { KeepsLabels square.old square.new }
     ensures cells { (r k : ℕ) → r < square.old.side → k < square.old.side → cell_at square.new r k
         ≡ option_map (dual_value (slice_index rows.now r) (slice_index columns.now k))

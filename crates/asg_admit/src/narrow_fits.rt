@@ -8,9 +8,9 @@ ghost use Rattle.asg_square.specs.Grid.{cell_at};
 use crate::narrow_rows::word_of;
 use asg_square::Square;
 
-// Whether each present cell of the rows that enter allows the steps: with the dual variable of its row and
-// the steps before that enters it is at least the dual variable of its column, which has the steps
-// before it leaves.
+// Whether each present cell of the rows that enter allows the steps: with the dual variable of its
+// row and the steps before that enters it is at least the dual variable of its column, which has
+// the steps before it leaves.
 pub(crate) fn rows_fit(
     square: &Square<u64>,
     rows: &[u64],

@@ -8,8 +8,8 @@ ghost use Rattle.asg_admit.specs.NarrowRows.{AreLesserBits};
 use std::marker::Model;
 use std::simd::prelude::*;
 
-/// The values of a row of a [`NarrowSquare`](crate::NarrowSquare), one for each column. Contracts see
-/// it as the list of them.
+/// The values of a row of a [`NarrowSquare`](crate::NarrowSquare), one for each column. Contracts
+/// see it as the list of them.
 #[derive(Drop)]
 pub struct NarrowRow<'a> {
     values: &'a [u64],
@@ -40,9 +40,9 @@ impl<'a> NarrowRow<'a> {
             .wrapping_sub(self.columns[column as usize])
     }
 
-    /// Of the 64 columns of a word those at which a sum with the value is less than the key: a bit for
-    /// each, the first column's lowest. Values and keys may be any numbers; the sums are taken in 64
-    /// bits. It takes the same time whatever the answer.
+    /// Of the 64 columns of a word those at which a sum with the value is less than the key: a bit
+    /// for each, the first column's lowest. Values and keys may be any numbers; the sums are taken
+    /// in 64 bits. It takes the same time whatever the answer.
     #[inline]
     pub fn lesser(&self, sum: u64, keys: &[u64], number: u32) -> u64
         requires within { 64 * number + 64 ≤ length self.now }
@@ -86,8 +86,8 @@ fn lesser_bits(base: u64, values: &[u64], columns: &[u64], keys: &[u64]) -> u64
     first | second << 16 | third << 32 | fourth << 48
 }
 
-// A bit for each of 16 columns from a first one on, that one lowest: 1 where the value with the base more
-// and the column's dual variable less is less than the key.
+// A bit for each of 16 columns from a first one on, that one lowest: 1 where the value with the
+// base more and the column's dual variable less is less than the key.
 #[inline]
 fn lanes_lesser(base: u64, values: &[u64], columns: &[u64], keys: &[u64], first: usize) -> u64
     requires values { first + 16 ≤ length values.now }

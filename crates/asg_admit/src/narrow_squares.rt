@@ -26,11 +26,11 @@ use std::marker::Model;
 // Where sums in 64 bits stop.
 const TOP: u64 = 1 << 62;
 
-/// A reduced square of sums in 64 bits, those of [`NarrowSums`](asg_monoids::NarrowSums), kept by dual
-/// variables as a [`DualSquare`](crate::DualSquare) is: a phase costs the side and its steps, and a
-/// cell takes 8 bytes. It serves while no sum reaches the top of the monoid, as
-/// [`NarrowSquare::has_room`] tells; then it is reduced to the square of its cells. Contracts see it as
-/// the [`Reduced`] square of those.
+/// A reduced square of sums in 64 bits, those of [`NarrowSums`](asg_monoids::NarrowSums), kept by
+/// dual variables as a [`DualSquare`](crate::DualSquare) is: a phase costs the side and its steps,
+/// and a cell takes 8 bytes. It serves while no sum reaches the top of the monoid, as
+/// [`NarrowSquare::has_room`] tells; then it is reduced to the square of its cells. Contracts see
+/// it as the [`Reduced`] square of those.
 #[derive(Drop)]
 pub struct NarrowSquare {
     base: Square<u64>,
@@ -55,8 +55,8 @@ impl Model for NarrowSquare {
 }
 
 impl NarrowSquare {
-    /// The reduced square, with all dual variables 0. Its cells and its index are sums of the monoid. The
-    /// error is want of memory.
+    /// The reduced square, with all dual variables 0. Its cells and its index are sums of the
+    /// monoid. The error is want of memory.
     pub fn make(alloc: Global, reduced: Reduced<u64>) -> Result<NarrowSquare, NoMemory>
         requires { IsReduced (bounded_sums narrow_top) reduced }
         ensures { IfOk result (λ d. d ≡ reduced) }
@@ -92,13 +92,15 @@ impl NarrowSquare {
     /// Which cells of a row are present, as [`Square::row_words`] tells it.
     pub fn row_words(&self, r: u32) -> &[u64]
         requires { r < self.now.now.side }
-        ensures { AreWordsOf (λ c. is_some (cell_at self.now.now r c)) self.now.now.side result.now }
+        ensures { AreWordsOf (λ c. is_some (cell_at self.now.now r c)) self.now.now.side
+            result.now }
     {
         self.base.row_words(r)
     }
 
-    /// Whether neither the index nor any present cell reaches the top while steps that add up to this sum
-    /// are applied, as [`DualSquare::has_room`](crate::DualSquare::has_room) tells it with the top 2^62.
+    /// Whether neither the index nor any present cell reaches the top while steps that add up to
+    /// this sum are applied, as [`DualSquare::has_room`](crate::DualSquare::has_room) tells it with
+    /// the top 2^62.
     pub fn has_room(&self, sum: u64) -> bool
         ensures room { IsTrue result → HasRoom narrow_top self.now sum }
         ensures short { result ≡ false → IsNearTop narrow_top self.now sum }
@@ -115,10 +117,10 @@ impl NarrowSquare {
         narrow_row(values, self.columns.as_slice(), self.rows[r as usize])
     }
 
-    /// Applies a phase that is admitted, as [`settle`](crate::settle) does to a [`Reduced`] square, where
-    /// there is room for the sum of its steps. `room` has more places than there are steps, and what
-    /// is in it before and afterwards means nothing. The time is that of the side and the steps. It
-    /// takes no memory.
+    /// Applies a phase that is admitted, as [`settle`](crate::settle) does to a [`Reduced`] square,
+    /// where there is room for the sum of its steps. `room` has more places than there are steps,
+    /// and what is in it before and afterwards means nothing. The time is that of the side and the
+    /// steps. It takes no memory.
     pub fn settle(&mut self, steps: &[u64], enters: &[u32], leaves: &[u32], room: &mut [u64])
         requires admitted { let phase = phase_of steps.now enters.now leaves.now in
             IsAdmittedPhase (bounded_sums narrow_top) bounded_difference self.old.now.side phase
@@ -135,11 +137,11 @@ impl NarrowSquare {
         raise(&mut self.columns, steps, leaves, room);
     }
 
-    /// Applies a phase where it is admitted by sums that stop at any top from 2^62 on, and tells what became
-    /// of it. Where sums come near 2^62 with it, it isn't tested: then the square is to be reduced first.
-    /// Nothing is changed unless it is applied. `room` has more places than there are steps, and what
-    /// is in it before and afterwards means nothing. The time is that of the steps and of the side times
-    /// the number of rows that enter. It takes no memory.
+    /// Applies a phase where it is admitted by sums that stop at any top from 2^62 on, and tells
+    /// what became of it. Where sums come near 2^62 with it, it isn't tested: then the square is to
+    /// be reduced first. Nothing is changed unless it is applied. `room` has more places than there
+    /// are steps, and what is in it before and afterwards means nothing. The time is that of the
+    /// steps and of the side times the number of rows that enter. It takes no memory.
     pub fn replay(
         &mut self,
         steps: &[u64],
@@ -173,7 +175,8 @@ impl NarrowSquare {
         }
     }
 
-    // Applies a phase where it is admitted, and tells whether it is, where there is room for its steps.
+    // Applies a phase where it is admitted, and tells whether it is, where there is room for its
+    // steps.
     fn apply(&mut self, steps: &[u64], enters: &[u32], leaves: &[u32], room: &mut [u64]) -> bool
         requires sums { HasRoom narrow_top self.old (fold_of (bounded_sums narrow_top) steps.now) }
         requires room { length steps.now < length room.old }
@@ -210,8 +213,8 @@ impl NarrowSquare {
         true
     }
 
-    /// The reduced square with its cells written out, for where sums come near the top. The time is that
-    /// of one pass over the cells. It takes no memory.
+    /// The reduced square with its cells written out, for where sums come near the top. The time is
+    /// that of one pass over the cells. It takes no memory.
     pub fn reduce(self) -> Reduced<u64>
         ensures { result ≡ self }
     {

@@ -18,7 +18,8 @@ pub(crate) fn sum_up(steps: &[u64], sums: &mut [u64])
     }
 }
 
-// Raises each dual variable by the sum of the steps before its mark, all steps where that is past them.
+// Raises each dual variable by the sum of the steps before its mark, all steps where that is past
+// them.
 pub(crate) fn raise(duals: &mut Vec<u64>, steps: &[u64], marks: &[u32], sums: &[u64])
     requires room { length steps.now < length sums.now }
     requires sums { AreSums steps.now sums.now }

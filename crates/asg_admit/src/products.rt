@@ -26,8 +26,8 @@ pub(crate) fn spread<M: DMonoid>(m: &M, steps: &[M::Value], from: usize, room: &
     }
 }
 
-/// The product of the steps from one place up to and without another, the unit where they are equal.
-/// It takes no memory.
+/// The product of the steps from one place up to and without another, the unit where they are
+/// equal. It takes no memory.
 pub fn range<M: DMonoid>(m: &M, steps: &[M::Value], from: u32, to: u32) -> M::Value
     requires values { All (IsValue (M.monoid_of m.now)) steps.now }
     requires order { from ≤ to }

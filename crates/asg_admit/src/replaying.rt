@@ -1,7 +1,7 @@
 //! Whole phases that are tested first.
 
 ghost use Rattle.std.specs.Prelude.{◌≡◌, ◌↔◌, ◌<◌, ◌≤◌, ℕ, false, length, All, IsTrue, slice_index};
-ghost use Rattle.asg_admit.specs.Reduced.{IsReduced, IsPhaseTo, phase_of};
+ghost use Rattle.asg_admit.specs.Reduced.{IsReduced, IsPhaseTo, IsPhaseInPart, KeepsLabels, phase_of};
 ghost use Rattle.asg_admit.specs.Settled.{IsAcross, between, settled, step_of};
 ghost use Rattle.asg_admit.specs.Settling.{HasValueAt, SettlesColumn, SettlesEntered, SettlesRow, SettlesWaiting};
 ghost use Rattle.asg_order.specs.Monoid.{IsValue};
@@ -19,10 +19,10 @@ use asg_order::laws::differences;
 use asg_order::{DMonoid, fold};
 use asg_square::Square;
 
-/// Applies a phase where it is admitted from the square, and tells whether it is: the lists are over
-/// the rows and the columns, each step is a value, and each step in turn has one more row and column
-/// than the side and is at most each present cell of both. The index is then multiplied by all
-/// steps. Otherwise nothing is changed. It takes no memory.
+/// Applies a phase where it is admitted from the square, and tells whether it is: the lists are
+/// over the rows and the columns, each step is a value, and each step in turn has one more row and
+/// column than the side and is at most each present cell of both. The index is then multiplied by
+/// all steps. Otherwise nothing is changed. It takes no memory.
 pub fn replay<M: DMonoid>(
     m: &M,
     reduced: &mut Reduced<M::Value>,
@@ -47,10 +47,11 @@ pub fn replay<M: DMonoid>(
     true
 }
 
-/// Applies a phase where it is admitted from the square, and tells whether it is, as [`replay`] does,
-/// but in one pass: each row that enters is tested and then settled. So where the phase isn't admitted
-/// the square may be changed in part, and means nothing more. `room` has more places than there are
-/// steps, and what is in it before and afterwards means nothing. It takes no memory.
+/// Applies a phase where it is admitted from the square, and tells whether it is, as [`replay`]
+/// does, but in one pass: each row that enters is tested and then settled. So where the phase isn't
+/// admitted the square may be changed in part: each cell is as it was or as the phase makes it, and
+/// the side, the labels and the index stay. `room` has more places than there are steps, and what
+/// is in it before and afterwards means nothing. It takes no memory.
 pub fn replay_within<M: DMonoid>(
     m: &M,
     reduced: &mut Reduced<M::Value>,
@@ -67,6 +68,11 @@ pub fn replay_within<M: DMonoid>(
     ensures applied { let phase = phase_of steps.now enters.now leaves.now in
         IsTrue result
         → IsPhaseTo (M.monoid_of m.now) (M.difference m.now) phase reduced.old reduced.new }
+    ensures refused { let phase = phase_of steps.now enters.now leaves.now in
+        result ≡ false
+        → IsPhaseInPart (M.monoid_of m.now) (M.difference m.now) phase reduced.old reduced.new }
+    ensures labels { KeepsLabels reduced.old.now reduced.new.now }
+    ensures reduced { IsReduced (M.monoid_of m.now) reduced.new }
     ensures room { length room.new ≡ length room.old }
 {
     if !is_over(m, &reduced.now, steps, enters, leaves) {
@@ -168,7 +174,8 @@ fn replay_entered<M: DMonoid>(
     requires enters { length enters.now ≡ square.old.side }
     requires leaves { length leaves.now ≡ square.old.side }
     requires cells { (r k : ℕ) → r < square.old.side → k < square.old.side
-        → slice_index enters.now r < length steps.now → HasValueAt (M.monoid_of m.now) square.old r k }
+        → slice_index enters.now r < length steps.now
+        → HasValueAt (M.monoid_of m.now) square.old r k }
     ensures { let phase = phase_of steps.now enters.now leaves.now in
         SettlesEntered (M.monoid_of m.now) (M.difference m.now) phase square.old square.new }
 {
@@ -205,7 +212,8 @@ fn replay_row<M: DMonoid>(
     );
 }
 
-// A value of a row that enters at this step after the steps, where their product from there is known.
+// A value of a row that enters at this step after the steps, where their product from there is
+// known.
 #[inline]
 fn replayed_in_row<M: DMonoid>(
     m: &M,

@@ -25,14 +25,14 @@ const PLACES: usize = MOST_SIDE as usize + 1;
 
 /// Applies a phase that is admitted from the square, and multiplies the index by all of its steps.
 /// Step t is on the rows whose enter is at most t and the columns whose leave is greater than t, so
-/// a mark above the number of steps, as of a row that never enters, means just that. `room` has more
-/// places than there are steps, and what is in it before and afterwards means nothing. It takes no
-/// memory.
+/// a mark above the number of steps, as of a row that never enters, means just that. `room` has
+/// more places than there are steps, and what is in it before and afterwards means nothing. It
+/// takes no memory.
 ///
 /// A row that enters and a column that leaves change by the product of the steps between, not step
-/// by step, row by row, and where a row never enters only the cells of columns that leave before the
-/// end are visited: the time is that of the side times the number of rows that enter and columns that
-/// leave before the end.
+/// by step, row by row, and where a row never enters only the cells of columns that leave before
+/// the end are visited: the time is that of the side times the number of rows that enter and
+/// columns that leave before the end.
 pub fn settle<M: DMonoid>(
     m: &M,
     reduced: &mut Reduced<M::Value>,
@@ -89,8 +89,8 @@ pub(crate) fn settle_waiting<M: DMonoid>(
     }
 }
 
-// Settles a row that never enters, by the products of the steps from each place to the end and by the
-// columns that leave.
+// Settles a row that never enters, by the products of the steps from each place to the end and by
+// the columns that leave.
 fn settle_waiting_row<M: DMonoid>(
     m: &M,
     square: &mut Square<M::Value>,
@@ -137,7 +137,8 @@ fn settle_entered<M: DMonoid>(
     requires enters { length enters.now ≡ square.old.side }
     requires leaves { length leaves.now ≡ square.old.side }
     requires cells { (r k : ℕ) → r < square.old.side → k < square.old.side
-        → slice_index enters.now r < length steps.now → HasValueAt (M.monoid_of m.now) square.old r k }
+        → slice_index enters.now r < length steps.now
+        → HasValueAt (M.monoid_of m.now) square.old r k }
     ensures settled { let phase = phase_of steps.now enters.now leaves.now in
         SettlesEntered (M.monoid_of m.now) (M.difference m.now) phase square.old square.new }
     ensures room { length room.new ≡ length room.old }

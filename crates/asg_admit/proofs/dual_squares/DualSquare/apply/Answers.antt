@@ -7,6 +7,7 @@ use Rattle.asg_proof.specs.Phases.{IsAdmittedPhase}
 use Rattle.asg_square.specs.Grid.{cell_at}
 use Rattle.asg_admit.specs.Duals.{dual_grid, dual_reduced, AreDuals, FitsRows, HasRoom}
 use Rattle.asg_admit.specs.Reduced.{IsPhaseTo, phase_of}
+use Rattle.std.proofs.lemmas.Bool.{false≢true, true≢false}
 use Rattle.asg_admit.proofs.AdmissionLemmas.{not_both, never, counted_from, allows_from, admitted_to}
 use Rattle.asg_admit.proofs.SumLemmas.{fold_is}
 use Rattle.asg_admit.proofs.DualPhases.{duals_after, phase_after, fits_allow, allow_fits, steps_are_values, lowered_back}
@@ -155,3 +156,35 @@ returns-clause-applied c = λ _.
     (phase_after s.base rows columns s.index s.greatest c.self.invariant top steps enters leaves room
     (fits_allow s.base rows columns s.index s.greatest c.self.invariant top steps enters leaves room raised c.raise.ensures fits)
     c.args.m.now.small c.raise-2.new.duals.items raised c.raise-2.ensures c.raise.ensures))
+
+pub returns-then-enters-side-clause-admitted : goal.returns-then-enters-side-clause-admitted
+returns-then-enters-side-clause-admitted c =
+    never (λ one. omega (arith, one.rows, ap (λ (R : Reduced ℕ). R.now.side) c.self.view_is, c.side-side.ensures.side, c.if-enters-side.true))
+
+pub returns-then-enters-side-clause-applied : goal.returns-then-enters-side-clause-applied
+returns-then-enters-side-clause-applied c = λ h. absurd (false≢true h)
+
+pub returns-then-enters-side-clause-kept : goal.returns-then-enters-side-clause-kept
+returns-then-enters-side-clause-kept c = λ _. refl
+
+pub returns-then-leaves-side-clause-admitted : goal.returns-then-leaves-side-clause-admitted
+returns-then-leaves-side-clause-admitted c =
+    never (λ one. omega (arith, one.columns, ap (λ (R : Reduced ℕ). R.now.side) c.self.view_is, c.side-side.ensures.side, c.if-leaves-side.true))
+
+pub returns-then-leaves-side-clause-applied : goal.returns-then-leaves-side-clause-applied
+returns-then-leaves-side-clause-applied c = λ h. absurd (false≢true h)
+
+pub returns-then-leaves-side-clause-kept : goal.returns-then-leaves-side-clause-kept
+returns-then-leaves-side-clause-kept c = λ _. refl
+
+pub returns-then-not-are_counted-clause-applied : goal.returns-then-not-are_counted-clause-applied
+returns-then-not-are_counted-clause-applied c = λ h. absurd (false≢true h)
+
+pub returns-then-not-are_counted-clause-kept : goal.returns-then-not-are_counted-clause-kept
+returns-then-not-are_counted-clause-kept c = λ _. refl
+
+pub returns-then-not-rows_fit-clause-applied : goal.returns-then-not-rows_fit-clause-applied
+returns-then-not-rows_fit-clause-applied c = λ h. absurd (false≢true h)
+
+pub returns-clause-kept : goal.returns-clause-kept
+returns-clause-kept c = λ h. absurd (true≢false h)

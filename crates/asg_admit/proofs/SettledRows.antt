@@ -1,0 +1,112 @@
+-- Squares whose rows are settled one after another: those that enter, or those that never do.
+use Rattle.std.proofs.Common.{◌≡◌, ℕ, ◌+◌, ◌<◌, ◌≤◌, length, refl, sym, ◌∙◌, ap, subst, arith, inl, inr, ⊎_elim, below_more}
+use Rattle.std.specs.Prelude.{slice_index}
+use Rattle.std.specs.Option.{option_map}
+use Rattle.std.proofs.lemmas.Bool.{cases_lt}
+use Rattle.asg_order.specs.Monoid.{Monoid}
+use Rattle.asg_proof.specs.Phases.{PhaseOf}
+use Rattle.asg_square.specs.Grid.{Grid, cell_at}
+use Rattle.asg_admit.specs.MarkedCells.{SettlesWaitingRow}
+use Rattle.asg_admit.specs.Reduced.{KeepsLabels}
+use Rattle.asg_admit.specs.Settled.{settled, settled_at}
+use Rattle.asg_admit.specs.Settling.{SettlesEntered, SettlesEnteredRow, SettlesInPart, SettlesRow, SettlesWaiting}
+use Rattle.asg_admit.proofs.SquareLemmas.{same_labels, chained_labels}
+
+-- the rows so far that enter are settled, and the others stand
+pub record SettlesEnteredTo {V : Type 0} (M : Monoid V) (difference : V → V → V) (phase : PhaseOf V) (before now : Grid V) (row : ℕ) : Type 0 where
+  pub labels : KeepsLabels before now
+  pub done : (r k : ℕ) → r < row → k < before.side → slice_index phase.enters r < length phase.steps → cell_at now r k ≡ settled_at M difference phase (cell_at before) r k
+  pub waiting : (r k : ℕ) → length phase.steps ≤ slice_index phase.enters r → cell_at now r k ≡ cell_at before r k
+  pub rest : (r k : ℕ) → row ≤ r → cell_at now r k ≡ cell_at before r k
+
+-- the rows so far that never enter are settled, and the others stand
+pub record SettlesWaitingTo {V : Type 0} (M : Monoid V) (difference : V → V → V) (phase : PhaseOf V) (before now : Grid V) (row : ℕ) : Type 0 where
+  pub labels : KeepsLabels before now
+  pub done : (r k : ℕ) → r < row → k < before.side → length phase.steps ≤ slice_index phase.enters r → cell_at now r k ≡ settled_at M difference phase (cell_at before) r k
+  pub entered : (r k : ℕ) → slice_index phase.enters r < length phase.steps → cell_at now r k ≡ cell_at before r k
+  pub rest : (r k : ℕ) → row ≤ r → cell_at now r k ≡ cell_at before r k
+
+module _ {V : Type 0} (M : Monoid V) (difference : V → V → V) (phase : PhaseOf V) (before : Grid V) where
+  abbrev after_steps : ℕ → ℕ → V → V
+  after_steps r k = settled M difference phase.steps (slice_index phase.enters r) (slice_index phase.leaves k)
+
+  pub none_entered : SettlesEnteredTo M difference phase before before 0
+  none_entered = record { labels = same_labels before; done = λ r k h. absurd (omega (arith, h)); waiting = λ r k h. refl; rest = λ r k h. refl }
+
+  pub one_entered : (now next : Grid V) (row : ℕ) → SettlesEnteredTo M difference phase before now row → SettlesEnteredRow M difference phase now next row → SettlesEnteredTo M difference phase before next (row + 1)
+  one_entered now next row to e =
+      let Done = λ (r : ℕ). ((k : ℕ) → k < before.side → slice_index phase.enters r < length phase.steps → cell_at next r k ≡ settled_at M difference phase (cell_at before) r k) in
+      let done = below_more Done row
+      (λ r h k hk enters. e.stays r k (inl (λ i. omega (arith, i, h))) ∙ to.done r k h hk enters)
+      (λ k hk enters.
+      e.entered k (subst (λ n. k < n) (sym to.labels.side) hk) enters
+      ∙ ap (option_map (after_steps row k)) (to.rest row k (omega arith))) in
+      record {
+        labels = chained_labels before now next to.labels e.labels;
+        done = λ r k h hk enters. done r h k hk enters;
+        waiting = λ r k h. e.stays r k (inr h) ∙ to.waiting r k h;
+        rest = λ r k h. e.stays r k (inl (λ i. omega (arith, i, h))) ∙ to.rest r k (omega (arith, h));
+      }
+
+  pub all_entered : (now : Grid V) (row : ℕ) → before.side ≤ row → SettlesEnteredTo M difference phase before now row → SettlesEntered M difference phase before now
+  all_entered now row past to = record {
+    labels = to.labels;
+    entered = λ r k hr hk enters. to.done r k (omega (arith, hr, past)) hk enters;
+    waiting = to.waiting;
+  }
+
+  pub entered_in_part : (now : Grid V) (row : ℕ) → SettlesEnteredTo M difference phase before now row → SettlesInPart M difference phase before now
+  entered_in_part now row to = record {
+    labels = to.labels;
+    cells = λ r k hr hk.
+        ⊎_elim
+        (λ (done : r < row).
+        ⊎_elim
+        (λ (enters : slice_index phase.enters r < length phase.steps). inr (to.done r k done hk enters))
+        (λ (late : length phase.steps ≤ slice_index phase.enters r). inl (to.waiting r k late))
+        (cases_lt (slice_index phase.enters r) (length phase.steps)))
+        (λ (past : row ≤ r). inl (to.rest r k past))
+        (cases_lt r row);
+    waiting = to.waiting;
+  }
+
+  pub none_waiting : SettlesWaitingTo M difference phase before before 0
+  none_waiting = record { labels = same_labels before; done = λ r k h. absurd (omega (arith, h)); entered = λ r k h. refl; rest = λ r k h. refl }
+
+  pub one_waiting : (now next : Grid V) (row : ℕ) → SettlesWaitingTo M difference phase before now row → SettlesWaitingRow M difference phase now next row → SettlesWaitingTo M difference phase before next (row + 1)
+  one_waiting now next row to e =
+      let Done = λ (r : ℕ). ((k : ℕ) → k < before.side → length phase.steps ≤ slice_index phase.enters r → cell_at next r k ≡ settled_at M difference phase (cell_at before) r k) in
+      let done = below_more Done row
+      (λ r h k hk late. e.stays r k (inl (λ i. omega (arith, i, h))) ∙ to.done r k h hk late)
+      (λ k hk late.
+      e.waiting k (subst (λ n. k < n) (sym to.labels.side) hk) late
+      ∙ ap (option_map (after_steps row k)) (to.rest row k (omega arith))) in
+      record {
+        labels = chained_labels before now next to.labels e.labels;
+        done = λ r k h hk late. done r h k hk late;
+        entered = λ r k h. e.stays r k (inr h) ∙ to.entered r k h;
+        rest = λ r k h. e.stays r k (inl (λ i. omega (arith, i, h))) ∙ to.rest r k (omega (arith, h));
+      }
+
+  pub all_waiting : (now : Grid V) (row : ℕ) → before.side ≤ row → SettlesWaitingTo M difference phase before now row → SettlesWaiting M difference phase before now
+  all_waiting now row past to = record {
+    labels = to.labels;
+    waiting = λ r k hr hk late. to.done r k (omega (arith, hr, past)) hk late;
+    entered = to.entered;
+  }
+
+-- a row that enters was settled
+pub row_settled : {V : Type 0} (M : Monoid V) (difference : V → V → V) (phase : PhaseOf V) (now next : Grid V) (row : ℕ) → slice_index phase.enters row < length phase.steps → SettlesRow M difference phase.steps (slice_index phase.enters row) phase.leaves now next row → SettlesEnteredRow M difference phase now next row
+row_settled M difference phase now next row enters e = record {
+  labels = e.labels;
+  entered = λ k hk _. e.cells k hk;
+  stays = λ r k apart. e.others r k (λ is. ⊎_elim (λ n. n is) (λ (late : length phase.steps ≤ slice_index phase.enters r). (let at : length phase.steps ≤ slice_index phase.enters row = subst (λ i. length phase.steps ≤ slice_index phase.enters i) is late in omega (arith, at, enters))) apart);
+}
+
+-- a row that never enters stays
+pub row_stays : {V : Type 0} (M : Monoid V) (difference : V → V → V) (phase : PhaseOf V) (now : Grid V) (row : ℕ) → length phase.steps ≤ slice_index phase.enters row → SettlesEnteredRow M difference phase now now row
+row_stays M difference phase now row late = record {
+  labels = same_labels now;
+  entered = λ k hk enters. absurd (omega (arith, enters, late));
+  stays = λ r k apart. refl;
+}

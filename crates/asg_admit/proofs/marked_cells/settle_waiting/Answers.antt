@@ -1,0 +1,42 @@
+use Rattle.std.proofs.Common.{sym, ◌∙◌, arith}
+use Rattle.asg_admit.specs.Reduced.{phase_of}
+use Rattle.asg_admit.proofs.SettledRows.{none_waiting, one_waiting, all_waiting}
+use Rattle.asg_admit.proofs.marked_cells.settle_waiting.Goals as goal
+
+pub loop-row-init : goal.loop-row-init
+loop-row-init g c =
+    let phase = phase_of c.args.steps.now c.args.enters.now c.args.leaves.now in
+    record { settled = none_waiting (g.M.Ordered.monoid_of c.args.m.now) (g.M.DMonoid.difference c.args.m.now) phase c.args.square.now }
+
+pub settle_waiting_row-requires-clause-cells : goal.settle_waiting_row-requires-clause-cells
+settle_waiting_row-requires-clause-cells g c k h x is =
+    let l = c.loop-row in
+    let side = l.invariant.settled.labels.side in
+    c.requires.cells l.row k x (omega arith) (omega (arith, h, side)) (sym (l.invariant.settled.rest l.row k (omega arith)) ∙ is)
+
+pub settle_waiting_row-requires-clause-aside : goal.settle_waiting_row-requires-clause-aside
+settle_waiting_row-requires-clause-aside g c k x is =
+    let l = c.loop-row in
+    c.requires.aside l.row k x (sym (l.invariant.settled.rest l.row k (omega arith)) ∙ is)
+
+pub settle_waiting_row-requires-clause-left : goal.settle_waiting_row-requires-clause-left
+settle_waiting_row-requires-clause-left g c k h below = c.mark_left.ensures.marked k h (omega (arith, below))
+
+pub loop-row-preserved : goal.loop-row-preserved
+loop-row-preserved g c =
+    let m = c.args.m.now in
+    let M = g.M.Ordered.monoid_of m in
+    let d = g.M.DMonoid.difference m in
+    let phase = phase_of c.args.steps.now c.args.enters.now c.args.leaves.now in
+    let old = c.args.square.now in
+    let l = c.loop-row in
+    record { settled = one_waiting M d phase old l.square c.settle_waiting_row.new.square l.row l.invariant.settled c.settle_waiting_row.ensures }
+
+pub returns-clause-settled : goal.returns-clause-settled
+returns-clause-settled g c =
+    let m = c.args.m.now in
+    let M = g.M.Ordered.monoid_of m in
+    let d = g.M.DMonoid.difference m in
+    let phase = phase_of c.args.steps.now c.args.enters.now c.args.leaves.now in
+    let old = c.args.square.now in
+    all_waiting M d phase old c.loop-row.square c.loop-row.row (omega arith) c.loop-row.invariant.settled

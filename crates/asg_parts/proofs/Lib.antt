@@ -2,3 +2,4 @@ pub mod SpelledDigits
 pub mod SignedNumbers
 pub mod ListedNumbers
 pub mod ReadLines
+pub mod LongWords

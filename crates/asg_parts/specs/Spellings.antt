@@ -65,6 +65,10 @@ signed_pair_spelling = joined 58 signed_spelling signed_spelling
 abbrev pub graded_spelling : Spelling (ℕ × ℕ)
 graded_spelling = joined 58 long_spelling wide_spelling
 
+-- two numbers of 64 bits with a colon between them
+abbrev pub long_pair_spelling : Spelling (ℕ × ℕ)
+long_pair_spelling = joined 58 long_spelling long_spelling
+
 -- there is a value, and each is spelled
 pub record IsListOf {A : Type 0} (Has : A → Type 0) (values : List A) : Type 0 where
   pub some : 0 < length values

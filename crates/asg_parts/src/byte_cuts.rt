@@ -3,8 +3,8 @@
 ghost use Rattle.std.specs.Prelude.{◌≡◌, ◌++◌, ℕ, List, MatchOption};
 ghost use Rattle.asg_parts.specs.Lines.{Lacks, IsCutAt};
 
-/// Cuts at the first such byte: what stands before it, and the rest from it on. Where there is none,
-/// the rest is empty.
+/// Cuts at the first such byte: what stands before it, and the rest from it on. Where there is
+/// none, the rest is empty.
 pub fn cut(at: u8, bytes: &[u8]) -> (&[u8], &[u8])
     ensures whole { bytes.now ≡ result.0.now ++ result.1.now }
     ensures front { Lacks at result.0.now }

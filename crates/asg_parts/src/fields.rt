@@ -1,7 +1,7 @@
 //! What a line says behind its first word.
 
 ghost use Rattle.std.specs.Prelude.{◌≡◌, ◌∷◌, ◌++◌, ℕ, List, IfSome, MatchOption, IsTrue};
-ghost use Rattle.asg_parts.specs.Spellings.{Spells, SpellsOrFails, ListsFirst, ListsNext, IsPair, pair_text, joined, long_spelling, positive_spelling, pair_spelling, signed_pair_spelling, graded_spelling, list_spelling};
+ghost use Rattle.asg_parts.specs.Spellings.{Spells, SpellsOrFails, ListsFirst, ListsNext, IsPair, pair_text, long_spelling, long_pair_spelling, positive_spelling, pair_spelling, signed_pair_spelling, graded_spelling, list_spelling};
 ghost use Rattle.asg_parts.specs.Lines.{IsCutAt};
 
 use crate::byte_cuts::{after, cut};
@@ -70,9 +70,9 @@ fn is_cut(rest: &[u8]) -> bool
     }
 }
 
-/// The number of at most 18 digits after a space that comes first, and what follows it: some only
-/// where that is nothing or begins with a space. It is read in one pass.
-pub fn next_long(text: &[u8]) -> Option<(u64, &[u8])>
+// The number of at most 18 digits after a space that comes first, and what follows it: some only
+// where that is nothing or begins with a space. It is read in one pass.
+fn short_long(text: &[u8]) -> Option<(u64, &[u8])>
     ensures { IfSome result
         (λ parts. ListsNext long_spelling text.now parts.0 parts.1.now) }
 {
@@ -84,12 +84,46 @@ pub fn next_long(text: &[u8]) -> Option<(u64, &[u8])>
     }
 }
 
-/// The two numbers of at most 18 digits after a space that comes first, with a colon between them,
-/// and what follows them: some only where that is nothing or begins with a space. They are read in
-/// one pass.
-pub fn next_graded(text: &[u8]) -> Option<((u64, u64), &[u8])>
-    ensures { IfSome result (λ parts.
-        ListsNext (joined 58 long_spelling long_spelling) text.now parts.0 parts.1.now) }
+// The number of 64 bits after a space that comes first, by a cut at the next space, and what
+// follows it.
+fn long_cut(text: &[u8]) -> Option<(u64, &[u8])>
+    ensures { MatchOption result
+        ((number : ℕ) (rest : List ℕ) → ListsNext long_spelling text.now number rest → ⊥)
+        (λ parts. ListsNext long_spelling text.now parts.0 parts.1.now) }
+{
+    let (word, rest) = cut(b' ', after(b" ", text)?);
+    Some((long_number(word)?, rest))
+}
+
+/// The number of 64 bits after a space that comes first, and what follows it; none exactly where no
+/// such number stands between a space that comes first and the next space or the end. One of at
+/// most 18 digits is read in one pass.
+pub fn next_long(text: &[u8]) -> Option<(u64, &[u8])>
+    ensures { MatchOption result
+        ((number : ℕ) (rest : List ℕ) → ListsNext long_spelling text.now number rest → ⊥)
+        (λ parts. ListsNext long_spelling text.now parts.0 parts.1.now) }
+{
+    if let Some(parts) = short_long(text) {
+        return Some(parts);
+    }
+    long_cut(text)
+}
+
+// The two numbers of 64 bits that a text spells, with a colon between them.
+fn long_pair(text: &[u8]) -> Option<(u64, u64)>
+    ensures { Spells long_pair_spelling text.now result }
+{
+    let (grade, rest) = cut(b':', text);
+    let amount = long_number(after(b":", rest)?)?;
+    Some((long_number(grade)?, amount))
+}
+
+// The two numbers of at most 18 digits after a space that comes first, with a colon between them,
+// and what follows them: some only where that is nothing or begins with a space. They are read in
+// one pass.
+fn short_graded(text: &[u8]) -> Option<((u64, u64), &[u8])>
+    ensures { IfSome result
+        (λ parts. ListsNext long_pair_spelling text.now parts.0 parts.1.now) }
 {
     let (grade, rest) = leading_number(after(b" ", text)?)?;
     let (amount, rest) = leading_number(after(b":", rest)?)?;
@@ -100,11 +134,36 @@ pub fn next_graded(text: &[u8]) -> Option<((u64, u64), &[u8])>
     }
 }
 
+// The two numbers of 64 bits after a space that comes first, with a colon between them, by cuts at
+// the next space and at the colon, and what follows them.
+fn graded_cut(text: &[u8]) -> Option<((u64, u64), &[u8])>
+    ensures { MatchOption result
+        ((pair : ℕ × ℕ) (rest : List ℕ) → ListsNext long_pair_spelling text.now pair rest → ⊥)
+        (λ parts. ListsNext long_pair_spelling text.now parts.0 parts.1.now) }
+{
+    let (word, rest) = cut(b' ', after(b" ", text)?);
+    Some((long_pair(word)?, rest))
+}
+
+/// The two numbers of 64 bits after a space that comes first, with a colon between them, and what
+/// follows them; none exactly where no two such numbers stand between a space that comes first and
+/// the next space or the end. Those of at most 18 digits are read in one pass.
+pub fn next_graded(text: &[u8]) -> Option<((u64, u64), &[u8])>
+    ensures { MatchOption result
+        ((pair : ℕ × ℕ) (rest : List ℕ) → ListsNext long_pair_spelling text.now pair rest → ⊥)
+        (λ parts. ListsNext long_pair_spelling text.now parts.0 parts.1.now) }
+{
+    if let Some(parts) = short_graded(text) {
+        return Some(parts);
+    }
+    graded_cut(text)
+}
+
 // The number of 32 bits and at most 18 digits after a space that comes first, and what follows it.
 fn next_short(text: &[u8]) -> Option<(u32, &[u8])>
     ensures { IfSome result (λ parts. ListsFirst text.now parts.0 parts.1.now) }
 {
-    let (number, rest) = next_long(text)?;
+    let (number, rest) = short_long(text)?;
     Some((short_of(number)?, rest))
 }
 

@@ -1,11 +1,12 @@
 //! Parts of a text of lines, and what their readers are made of: a cursor over the lines of a file,
 //! cuts of bytes, and numbers in their one spelling.
 //!
-//! Contracts see a file as the list of its whole lines, and a part of a text as the lines of a value.
-//! Parts are made of others by sequence, where the later part may depend on the earlier value, by
-//! counted repetition, and by choice on a first line. A reader of a part gives the value whose lines
-//! stand next, or stops before the line with which no text of the part goes on; what holds of readers
-//! of parts holds of readers of what is made of them. The crate serves the readers of documents.
+//! Contracts see a file as the list of its whole lines, and a part of a text as the lines of a
+//! value. Parts are made of others by sequence, where the later part may depend on the earlier
+//! value, by counted repetition, and by choice on a first line. A reader of a part gives the value
+//! whose lines stand next, or stops before the line with which no text of the part goes on; what
+//! holds of readers of parts holds of readers of what is made of them. The crate serves the readers
+//! of documents.
 #![tactic(auto)]
 
 mod byte_cuts;

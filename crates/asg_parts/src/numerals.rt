@@ -68,6 +68,10 @@ fn long_of(size: u128) -> Option<u64>
 pub(crate) fn long_number(word: &[u8]) -> Option<u64>
     ensures { Spells long_spelling word.now result }
 {
+    // No number of 64 bits has more digits.
+    if word.len() > 20 {
+        return None;
+    }
     long_of(wide_number(word)?)
 }
 

@@ -1,300 +1,236 @@
 //! The worked square of three rows, judged.
 
-ghost use Rattle.std.specs.Prelude.{◌≡◌, ◌≤◌, IfOk, length};
-ghost use Rattle.asg_model.specs.Counts.{placed_by};
-
-use crate::of_model::squares::{NineCosts, PLAIN, squares};
+use crate::of_model::squares::{PLAIN, SMALLER, TWO, WIDE, choice, squares};
 use asg_model::*;
+use asg_samples::{Fault, Sample};
 use std::alloc::Global;
-use std::process::Abort;
 use std::test::Fail;
 
-// The choice of these columns.
-fn choice(alloc: Global, columns: [Option<u32>; 3]) -> Result<Choice, NoMemory>
-    ensures { IfOk result (λ c. length c ≡ 3) }
-{
-    let mut choice = Choice::make(alloc, 3)?;
-    choice.set(0, columns[0]);
-    choice.set(1, columns[1]);
-    choice.set(2, columns[2]);
-    Ok(choice)
-}
+// The columns that the rows choose, by id, and whether that is a valid choice.
+type Chosen = ([u32; 3], bool);
 
-// The plain square with this rule and these capacities, in a map and in a table. `third` tells whether its
-// third row is active and its third column open.
-fn plain(
-    alloc: Global,
-    place: Place,
-    cap: u32,
-    third: bool,
-) -> Result<(Instance, Instance), NoMemory>
-    requires some { 1 ≤ cap }
-    requires few { cap ≤ 1000 }
-    requires least { 1 ≤ placed_by place 1 }
-    requires most { placed_by place 1 ≤ 3 }
-{
-    squares(alloc, PLAIN, place, cap, third, third)
-}
-
-// Which instance a case is of: the plain square as it is, with two places in each column, with two rows to
-// be placed, or without its third row and its third column.
-#[derive(Clone, Copy, Debug)]
-enum Shape {
-    Plain,
-    Wide,
-    Two,
-    Smaller,
-}
-
-// The instance of this shape.
-fn shaped(alloc: Global, shape: Shape) -> Result<(Instance, Instance), NoMemory> {
-    match shape {
-        Shape::Plain => plain(alloc, Place::All, 1, true),
-        Shape::Wide => plain(alloc, Place::All, 2, true),
-        Shape::Two => plain(alloc, Place::Exactly(2), 1, true),
-        Shape::Smaller => plain(alloc, Place::All, 1, false),
-    }
-}
-
-// Choices, and whether they are valid.
-const CHOICES: [(Shape, [Option<u32>; 3], bool); 10] = [
-    (Shape::Plain, [Some(1), Some(0), Some(2)], true),
-    (Shape::Plain, [Some(1), Some(1), Some(2)], false),
-    (Shape::Plain, [Some(1), Some(0), None], false),
-    (Shape::Plain, [Some(3), Some(0), Some(2)], false),
-    (Shape::Wide, [Some(1), Some(1), Some(2)], true),
-    (Shape::Two, [Some(1), Some(0), None], true),
-    (Shape::Two, [Some(1), Some(0), Some(2)], false),
-    (Shape::Smaller, [Some(1), Some(0), None], true),
-    (Shape::Smaller, [Some(2), Some(0), None], false),
-    (Shape::Smaller, [Some(1), None, Some(0)], false),
+const OF_PLAIN: [Chosen; 4] = [
+    ([2, 1, 3], true),
+    ([2, 2, 3], false),
+    ([2, 1, 0], false),
+    ([4, 1, 3], false),
 ];
+
+const OF_WIDE: [Chosen; 1] = [([2, 2, 3], true)];
+
+const OF_TWO: [Chosen; 2] = [([2, 1, 0], true), ([2, 1, 3], false)];
+
+const OF_SMALLER: [Chosen; 3] = [([2, 1, 0], true), ([3, 1, 0], false), ([2, 0, 1], false)];
+
+// Whether each choice is told to be valid or not, of a map and of a table.
+fn tells_choices(alloc: Global, sample: &Sample<'_>, cases: &[Chosen]) -> Result<bool, Fault> {
+    let (map, table) = squares(alloc, sample)?;
+    for (ids, want) in cases {
+        let choice = choice(alloc, ids)?;
+        if is_valid(&map, &choice) != *want || is_valid(&table, &choice) != *want {
+            return Ok(false);
+        }
+    }
+    Ok(true)
+}
 
 #[test]
 fn tells_valid_choices(rt: HostRuntime) -> Result<(), Fail> {
-    for (shape, columns, want) in CHOICES {
-        let (map, table) = shaped(rt.alloc(), shape)?;
-        let choice = choice(rt.alloc(), columns)?;
-        assert_eq!(rt; is_valid(&map, &choice), want, "{shape:?} {columns:?}");
-        assert_eq!(rt; is_valid(&table, &choice), want, "{shape:?} {columns:?}");
-    }
+    assert!(rt; tells_choices(rt.alloc(), &PLAIN, &OF_PLAIN)?);
+    assert!(rt; tells_choices(rt.alloc(), &WIDE, &OF_WIDE)?);
+    assert!(rt; tells_choices(rt.alloc(), &TWO, &OF_TWO)?);
+    assert!(rt; tells_choices(rt.alloc(), &SMALLER, &OF_SMALLER)?);
     Ok(())
 }
 
 // Rows, by id, and whether they are a Hall set under the band.
-const HALL_SETS: [(Shape, Band, &[u32], bool); 20] = [
-    (Shape::Plain, Band::Under(2), &[3], true),
-    (Shape::Plain, Band::Under(2), &[1], false),
-    (Shape::Plain, Band::Under(2), &[3, 3], false),
-    (Shape::Plain, Band::Under(2), &[4], false),
-    (Shape::Plain, Band::Under(2), &[1, 2], true),
-    (Shape::Plain, Band::Over(2), &[1, 2, 3], true),
-    (Shape::Plain, Band::Whole, &[1, 2, 3], false),
-    (Shape::Plain, Band::Between(0, 1), &[1, 2], true),
-    (Shape::Plain, Band::Between(0, 1), &[1], false),
-    (Shape::Plain, Band::Between(4, 5), &[3], true),
-    (Shape::Plain, Band::Between(4, 5), &[1], false),
-    (Shape::Plain, Band::Under(i64::MIN), &[1], true),
-    (Shape::Plain, Band::Over(i64::MAX), &[1], true),
-    (Shape::Two, Band::Under(2), &[1, 2, 3], true),
-    (Shape::Two, Band::Under(2), &[1, 3], false),
-    (Shape::Two, Band::Under(2), &[3], false),
-    (Shape::Wide, Band::Under(2), &[1, 2, 3], true),
-    (Shape::Wide, Band::Under(2), &[1, 2], false),
-    (Shape::Smaller, Band::Under(2), &[1, 2], true),
-    (Shape::Smaller, Band::Under(2), &[3], false),
+type Hall = (Band, &'static [u32], bool);
+
+const HALL_OF_PLAIN: [Hall; 13] = [
+    (Band::Under(2), &[3], true),
+    (Band::Under(2), &[1], false),
+    (Band::Under(2), &[3, 3], false),
+    (Band::Under(2), &[4], false),
+    (Band::Under(2), &[1, 2], true),
+    (Band::Over(2), &[1, 2, 3], true),
+    (Band::Whole, &[1, 2, 3], false),
+    (Band::Between(0, 1), &[1, 2], true),
+    (Band::Between(0, 1), &[1], false),
+    (Band::Between(4, 5), &[3], true),
+    (Band::Between(4, 5), &[1], false),
+    (Band::Under(i64::MIN), &[1], true),
+    (Band::Over(i64::MAX), &[1], true),
 ];
+
+const HALL_OF_TWO: [Hall; 3] = [
+    (Band::Under(2), &[1, 2, 3], true),
+    (Band::Under(2), &[1, 3], false),
+    (Band::Under(2), &[3], false),
+];
+
+const HALL_OF_WIDE: [Hall; 2] = [
+    (Band::Under(2), &[1, 2, 3], true),
+    (Band::Under(2), &[1, 2], false),
+];
+
+const HALL_OF_SMALLER: [Hall; 2] = [
+    (Band::Under(2), &[1, 2], true),
+    (Band::Under(2), &[3], false),
+];
+
+// Whether rows are told to be a Hall set or not, of a map and of a table.
+fn tells_halls(alloc: Global, sample: &Sample<'_>, cases: &[Hall]) -> Result<bool, Fault> {
+    let (map, table) = squares(alloc, sample)?;
+    for (band, rows, want) in cases {
+        if is_hall(&map, *band, rows) != *want || is_hall(&table, *band, rows) != *want {
+            return Ok(false);
+        }
+    }
+    Ok(true)
+}
 
 #[test]
 fn tells_hall_sets(rt: HostRuntime) -> Result<(), Fail> {
-    for (shape, band, rows, want) in HALL_SETS {
-        let (map, table) = shaped(rt.alloc(), shape)?;
-        assert_eq!(rt;
-            is_hall(&map, band, rows),
-            want,
-            "{shape:?} {band:?} {rows:?}"
-        );
-        assert_eq!(rt;
-            is_hall(&table, band, rows),
-            want,
-            "{shape:?} {band:?} {rows:?}"
-        );
-    }
+    assert!(rt; tells_halls(rt.alloc(), &PLAIN, &HALL_OF_PLAIN)?);
+    assert!(rt; tells_halls(rt.alloc(), &WIDE, &HALL_OF_WIDE)?);
+    assert!(rt; tells_halls(rt.alloc(), &TWO, &HALL_OF_TWO)?);
+    assert!(rt; tells_halls(rt.alloc(), &SMALLER, &HALL_OF_SMALLER)?);
     Ok(())
 }
 
-// The plain square without the cell of its second row and third column.
-const WITH_A_HOLE: NineCosts = [
-    (4, 8),
-    (1, 2),
-    (3, 6),
-    (2, 4),
-    (0, 0),
-    (ABSENT, 0),
-    (3, 6),
-    (2, 4),
-    (2, 4),
+// The plain square without the cell of its second row and third column, its third row dropped, of
+// which two rows are placed.
+const WITH_A_HOLE: Sample<'static> = Sample {
+    rows: &[true, true, false],
+    firsts: &[4, 1, 3, 2, 0, ABSENT, 3, 2, 2],
+    seconds: &[8, 2, 6, 4, 0, 0, 6, 4, 4],
+    place: Place::Exactly(2),
+    ..PLAIN
+};
+
+// Cells of it by the places of row and column.
+const LIVE: [(u32, u32, Option<Cost>); 7] = [
+    (0, 1, Some(Cost { a: 1, b: 2 })),
+    (0, 2, Some(Cost { a: 3, b: 6 })),
+    (1, 1, Some(Cost { a: 0, b: 0 })),
+    (1, 2, None),
+    (2, 0, None),
+    (7, 0, None),
+    (0, 3, None),
 ];
 
-// Reads the square with a hole, its third row dropped.
-fn read(rt: &impl Abort, inst: &Instance) {
-    assert_eq!(rt; inst.live(0, 1), Some(Cost { a: 1, b: 2 }));
-    assert_eq!(rt; inst.live(0, 2), Some(Cost { a: 3, b: 6 }));
-    assert_eq!(rt; inst.live(1, 1), Some(Cost { a: 0, b: 0 }));
-    assert_eq!(rt; inst.live(1, 2), None);
-    assert_eq!(rt; inst.live(2, 0), None);
-    assert_eq!(rt; inst.live(7, 0), None);
-    assert_eq!(rt; inst.live(0, 3), None);
-    assert_eq!(rt; inst.row_place(3), Some(2));
-    assert_eq!(rt; inst.row_place(0), None);
-    assert_eq!(rt; inst.column_place(1), Some(0));
-    assert_eq!(rt; inst.column_place(9), None);
-    assert_eq!(rt; inst.rows().len(), 3);
-    assert_eq!(rt; inst.columns().len(), 3);
-    assert_eq!(rt; inst.place(), Place::Exactly(2));
-    assert_eq!(rt; inst.placed(), 2);
-    assert_eq!(rt; inst.slack(), 1);
+// Whether it has these cells.
+fn has_cells(inst: &Instance) -> bool {
+    for (row, column, want) in &LIVE {
+        if inst.live(*row, *column) != *want {
+            return false;
+        }
+    }
+    true
+}
+
+// Whether its rows and columns stand where they do, by id.
+fn has_places(inst: &Instance) -> bool {
+    inst.row_place(3) == Some(2)
+        && inst.row_place(0).is_none()
+        && inst.column_place(1) == Some(0)
+        && inst.column_place(9).is_none()
+}
+
+// Whether it has this shape.
+fn has_shape(inst: &Instance) -> bool {
+    inst.rows().len() == 3
+        && inst.columns().len() == 3
+        && inst.place() == Place::Exactly(2)
+        && inst.placed() == 2
+        && inst.slack() == 1
+}
+
+// Whether it is the square with a hole.
+fn has_a_hole(inst: &Instance) -> bool {
+    has_cells(inst) && has_places(inst) && has_shape(inst)
+}
+
+// Whether its table has these first parts, row by row.
+fn has_costs(table: &Instance) -> bool {
+    table.row_costs(1) == Some([2, 0, ABSENT].as_slice())
+        && table.row_costs(2) == Some([3, 2, 2].as_slice())
+        && table.row_costs(3).is_none()
+}
+
+// Whether its table has these parts in its third row.
+fn has_parts(table: &Instance) -> bool {
+    match table.row_parts(2) {
+        Some(parts) => parts.firsts == [3, 2, 2].as_slice()
+            && parts.seconds == [6, 4, 4].as_slice(),
+        None => false,
+    }
+}
+
+// Whether the plain square without its third row and column places two rows and leaves none out.
+fn places_two(alloc: Global) -> Result<bool, Fault> {
+    let (map, table) = squares(alloc, &SMALLER)?;
+    Ok(map.placed() == 2 && table.slack() == 0)
 }
 
 #[test]
 fn reads_the_square(rt: HostRuntime) -> Result<(), Fail> {
-    let (map, table) = squares(rt.alloc(), WITH_A_HOLE, Place::Exactly(2), 1, false, true)?;
-    read(&rt, &map);
-    read(&rt, &table);
-    assert_eq!(rt; map.row_costs(1), None);
-    assert_eq!(rt;
-        table.row_costs(1).ok_or("a row")?,
-        [2, 0, ABSENT].as_slice()
-    );
-    assert_eq!(rt; table.row_costs(2).ok_or("a row")?, [3, 2, 2].as_slice());
-    assert_eq!(rt; table.row_costs(3), None);
-    assert!(rt; map.row_parts(1).is_none() && table.row_parts(3).is_none());
-    let parts = table.row_parts(2).ok_or("a row")?;
-    assert_eq!(rt; parts.firsts, [3, 2, 2].as_slice());
-    assert_eq!(rt; parts.seconds, [6, 4, 4].as_slice());
-    let all = plain(rt.alloc(), Place::All, 1, false)?;
-    assert_eq!(rt; all.0.placed(), 2);
-    assert_eq!(rt; all.1.slack(), 0);
+    let (map, table) = squares(rt.alloc(), &WITH_A_HOLE)?;
+    assert!(rt; has_a_hole(&map) && has_a_hole(&table));
+    assert!(rt; has_costs(&table) && has_parts(&table) && table.row_parts(3).is_none());
+    assert!(rt; map.row_costs(1).is_none() && map.row_parts(1).is_none());
+    assert!(rt; places_two(rt.alloc())?);
     Ok(())
 }
 
 #[test]
 fn copies_the_square(rt: HostRuntime) -> Result<(), Fail> {
-    let (map, table) = squares(rt.alloc(), WITH_A_HOLE, Place::Exactly(2), 1, false, true)?;
-    read(&rt, &map.copy(rt.alloc())?);
-    read(&rt, &table.copy(rt.alloc())?);
+    let (map, table) = squares(rt.alloc(), &WITH_A_HOLE)?;
+    assert!(rt; has_a_hole(&map.copy(rt.alloc())?));
+    assert!(rt; has_a_hole(&table.copy(rt.alloc())?));
     Ok(())
 }
 
-// Gives the square of which two rows are placed other rules and capacities.
-fn reshape(rt: &impl Abort, inst: &mut Instance) {
-    assert_eq!(rt; inst.side(), 4);
-    assert_eq!(rt; inst.shape(Place::Exactly(4), 1), Err(PlaceRange));
-    assert_eq!(rt; inst.side(), 4);
-    assert_eq!(rt; inst.shape(Place::Exactly(1), 2), Ok(()));
-    assert_eq!(rt; inst.side(), 8);
-    assert_eq!(rt; inst.placed(), 1);
-    assert!(rt; inst.columns().iter().all(|column| column.cap == 2));
-    assert_eq!(rt; inst.shape(Place::All, 1), Ok(()));
-    assert_eq!(rt; inst.side(), 3);
-    assert_eq!(rt; inst.live(0, 1), Some(Cost { a: 1, b: 2 }));
+// Whether the square of which two rows are placed refuses a rule, and takes one row and two places
+// in each column.
+fn widens(inst: &mut Instance) -> bool {
+    inst.side() == 4
+        && inst.shape(Place::Exactly(4), 1) == Err(PlaceRange)
+        && inst.side() == 4
+        && inst.shape(Place::Exactly(1), 2) == Ok(())
+        && inst.side() == 8
+}
+
+// Whether each column has two places.
+fn are_twofold(columns: &[Column]) -> bool {
+    for column in columns {
+        if column.cap != 2 {
+            return false;
+        }
+    }
+    true
+}
+
+// Whether it is wide then, and takes all rows and one place in each column again.
+fn narrows(inst: &mut Instance) -> bool {
+    inst.placed() == 1
+        && are_twofold(inst.columns())
+        && inst.shape(Place::All, 1) == Ok(())
+        && inst.side() == 3
+        && inst.live(0, 1) == Some(Cost { a: 1, b: 2 })
 }
 
 #[test]
 fn reshapes_the_square(rt: HostRuntime) -> Result<(), Fail> {
-    let (mut map, mut table) = squares(rt.alloc(), WITH_A_HOLE, Place::Exactly(2), 1, false, true)?;
-    reshape(&rt, &mut map);
-    reshape(&rt, &mut table);
+    let (mut map, mut table) = squares(rt.alloc(), &WITH_A_HOLE)?;
+    assert!(rt; widens(&mut map) && narrows(&mut map));
+    assert!(rt; widens(&mut table) && narrows(&mut table));
     Ok(())
 }
 
 #[test]
 fn begins_with_no_choice(rt: HostRuntime) -> Result<(), Fail> {
     let choice = Choice::make(rt.alloc(), 2)?;
-    assert_eq!(rt; choice.len(), 2);
-    assert_eq!(rt; choice.get(0), None);
-    assert_eq!(rt; choice.get(1), None);
-    Ok(())
-}
-
-#[test]
-fn tells_better_values(rt: HostRuntime) -> Result<(), Fail> {
-    let low = Value::Many(Costs::from_vec(vec![in rt.alloc(); 2, 2, 1]?));
-    let high = Value::Many(Costs::from_vec(vec![in rt.alloc(); 3, 2, 2]?));
-    for (objective, x, y, want) in [
-        (Objective::Bottleneck, &Value::One(2), &Value::One(3), true),
-        (Objective::Bottleneck, &Value::One(3), &Value::One(2), false),
-        (Objective::Bottleneck, &Value::One(2), &Value::One(2), false),
-        (Objective::SumMax, &Value::One(11), &Value::One(5), true),
-        (Objective::SumMax, &Value::One(5), &Value::One(11), false),
-        (
-            Objective::BottleneckMax,
-            &Value::One(2),
-            &Value::One(2),
-            false,
-        ),
-        (
-            Objective::SumPair,
-            &Value::Two(2, 5),
-            &Value::Two(2, 10),
-            true,
-        ),
-        (
-            Objective::SumPair,
-            &Value::Two(2, 10),
-            &Value::Two(2, 5),
-            false,
-        ),
-        (
-            Objective::TimeCost,
-            &Value::Two(3, 0),
-            &Value::Two(2, 9),
-            false,
-        ),
-        (
-            Objective::TimeCost,
-            &Value::Two(2, 9),
-            &Value::Two(2, 9),
-            false,
-        ),
-        (Objective::Lex, &low, &high, true),
-        (Objective::Lex, &high, &low, false),
-        (Objective::Lex, &low, &low, false),
-    ] {
-        assert_eq!(rt; better(objective, x, y), want, "{objective:?}");
-    }
-    Ok(())
-}
-
-// The square `4:8 1:-2 -3:-6 / -2:4 -5:-1 5:10 / -3:-6 2:4 2:4`, a cost being written `a:b`.
-const SIGNED: NineCosts = [
-    (4, 8),
-    (1, -2),
-    (-3, -6),
-    (-2, 4),
-    (-5, -1),
-    (5, 10),
-    (-3, -6),
-    (2, 4),
-    (2, 4),
-];
-
-// Objectives, and the first cell of the signed square that each refuses.
-const NEGATIVES: [(Objective, Option<(u32, u32)>); 3] = [
-    (Objective::Capped(9), Some((2, 1))),
-    (Objective::TimeCost, Some((1, 2))),
-    (Objective::SumPair, None),
-];
-
-#[test]
-fn finds_the_first_negative(rt: HostRuntime) -> Result<(), Fail> {
-    let signed = squares(rt.alloc(), SIGNED, Place::All, 1, false, false)?;
-    let whole = plain(rt.alloc(), Place::All, 1, true)?;
-    for (objective, want) in NEGATIVES {
-        assert_eq!(rt; negative(objective, &signed.0), want, "{objective:?}");
-        assert_eq!(rt; negative(objective, &signed.1), want, "{objective:?}");
-        assert_eq!(rt; negative(objective, &whole.0), None, "{objective:?}");
-        assert_eq!(rt; negative(objective, &whole.1), None, "{objective:?}");
-    }
+    assert!(rt; choice.len() == 2 && choice.get(0).is_none() && choice.get(1).is_none());
     Ok(())
 }

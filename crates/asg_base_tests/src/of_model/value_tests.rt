@@ -1,14 +1,13 @@
 //! The values that the nine objectives give, worked out by hand.
 
-ghost use Rattle.std.specs.Prelude.{◌≡◌, IfOk, length};
-
-use crate::of_model::squares::{NineCosts, squares};
+use crate::of_model::squares::{PLAIN, SMALLER, TWOFOLD, choice, squares};
 use asg_model::*;
+use asg_samples::{Fault, Sample};
 use std::alloc::Global;
 use std::test::Fail;
 
 // A value that is wanted.
-#[derive(Clone, Copy, Debug)]
+#[derive(Clone, Copy)]
 enum Want<'a> {
     One(i128),
     Two(i128, i128),
@@ -25,45 +24,46 @@ fn is_wanted(value: &Value, want: Want<'_>) -> bool {
     }
 }
 
-// The choice of the columns with these ids, 0 for none.
-fn choice(alloc: Global, ids: [u32; 3]) -> Result<Choice, NoMemory>
-    ensures { IfOk result (λ c. length c ≡ 3) }
-{
-    let mut choice = Choice::make(alloc, 3)?;
-    choice.set(0, ids[0].checked_sub(1));
-    choice.set(1, ids[1].checked_sub(1));
-    choice.set(2, ids[2].checked_sub(1));
-    Ok(choice)
-}
-
 // The square `4:1 1:7 3:2 / 2:5 0:3 5:6 / 3:4 2:8 2:9`, a cost being written `a:b`.
-const PAIRED: NineCosts = [
-    (4, 1),
-    (1, 7),
-    (3, 2),
-    (2, 5),
-    (0, 3),
-    (5, 6),
-    (3, 4),
-    (2, 8),
-    (2, 9),
-];
+const PAIRED: Sample<'static> = Sample {
+    firsts: &[4, 1, 3, 2, 0, 5, 3, 2, 2],
+    seconds: &[1, 7, 2, 5, 3, 6, 4, 8, 9],
+    ..PLAIN
+};
+
+// The same with its third row dropped.
+const DROPPED: Sample<'static> = Sample {
+    rows: &[true, true, false],
+    ..PAIRED
+};
+
+// The same with its third column closed and two places in each.
+const CLOSED: Sample<'static> = Sample {
+    columns: &[(2, true), (2, true), (2, false)],
+    ..PAIRED
+};
+
+// The same with two places in each column.
+const PAIRED_WIDE: Sample<'static> = Sample {
+    columns: TWOFOLD,
+    ..PAIRED
+};
+
+// The same with two rows to be placed.
+const PAIRED_TWO: Sample<'static> = Sample {
+    place: Place::Exactly(2),
+    ..PAIRED
+};
 
 // The same with the sign of each cost turned.
-const TURNED: NineCosts = [
-    (-4, -1),
-    (-1, -7),
-    (-3, -2),
-    (-2, -5),
-    (0, -3),
-    (-5, -6),
-    (-3, -4),
-    (-2, -8),
-    (-2, -9),
-];
+const TURNED: Sample<'static> = Sample {
+    firsts: &[-4, -1, -3, -2, 0, -5, -3, -2, -2],
+    seconds: &[-1, -7, -2, -5, -3, -6, -4, -8, -9],
+    ..PLAIN
+};
 
-// Values of the nine objectives: `sum`, `sum-max`, `pair`, `capped` at 7, `bottleneck`, `bottleneck-max`,
-// `time-cost`, `balanced` and `lex`.
+// Values of the nine objectives: `sum`, `sum-max`, `pair`, `capped` at 7, `bottleneck`,
+// `bottleneck-max`, `time-cost`, `balanced` and `lex`.
 type Nine<'a> = (
     i128,
     i128,
@@ -76,8 +76,11 @@ type Nine<'a> = (
     &'a [i64],
 );
 
+// The columns that the rows choose, by id, and the values.
+type Case = ([u32; 3], Nine<'static>);
+
 // The value that is wanted of each objective.
-fn wanted<'a>(nine: Nine<'a>) -> [(Objective, Want<'a>); 9] {
+fn wanted<'a>(nine: &Nine<'a>) -> [(Objective, Want<'a>); 9] {
     [
         (Objective::Sum, Want::One(nine.0)),
         (Objective::SumMax, Want::One(nine.1)),
@@ -91,122 +94,164 @@ fn wanted<'a>(nine: Nine<'a>) -> [(Objective, Want<'a>); 9] {
     ]
 }
 
-// Which instance a choice is of: the square of paired costs as it is, with its third row dropped, with its
-// third column closed and two places in each, with two places in each column, with two rows to be placed,
-// or with the signs turned.
-#[derive(Clone, Copy)]
-enum Shape {
-    Plain,
-    Dropped,
-    Closed,
-    Wide,
-    Two,
-    Turned,
-}
-
-// The instance of this shape, in a map and in a table.
-fn shaped(alloc: Global, shape: Shape) -> Result<(Instance, Instance), NoMemory> {
-    match shape {
-        Shape::Plain => squares(alloc, PAIRED, Place::All, 1, true, true),
-        Shape::Dropped => squares(alloc, PAIRED, Place::All, 1, false, true),
-        Shape::Closed => squares(alloc, PAIRED, Place::All, 2, true, false),
-        Shape::Wide => squares(alloc, PAIRED, Place::All, 2, true, true),
-        Shape::Two => squares(alloc, PAIRED, Place::Exactly(2), 1, true, true),
-        Shape::Turned => squares(alloc, TURNED, Place::All, 1, true, true),
-    }
-}
-
-// All six assignments of the square, and a choice each of the other shapes: in the closed one two rows
-// share a column.
-const TABLE: [(Shape, [u32; 3], Nine<'static>); 11] = [
+// All six assignments of the square.
+const OF_SQUARE: [Case; 6] = [
+    ([1, 2, 3], (6, 6, (6, 13), 6, 4, 0, (4, 1), 4, &[4, 2, 0])),
     (
-        Shape::Plain,
-        [1, 2, 3],
-        (6, 6, (6, 13), 6, 4, 0, (4, 1), 4, &[4, 2, 0]),
-    ),
-    (
-        Shape::Plain,
         [1, 3, 2],
         (11, 11, (11, 15), 7, 5, 2, (5, 6), 3, &[5, 4, 2]),
     ),
-    (
-        Shape::Plain,
-        [2, 1, 3],
-        (5, 5, (5, 21), 5, 2, 1, (2, 14), 1, &[2, 2, 1]),
-    ),
-    (
-        Shape::Plain,
-        [2, 3, 1],
-        (9, 9, (9, 17), 7, 5, 1, (5, 6), 4, &[5, 3, 1]),
-    ),
-    (
-        Shape::Plain,
-        [3, 1, 2],
-        (7, 7, (7, 15), 7, 3, 2, (3, 2), 1, &[3, 2, 2]),
-    ),
-    (
-        Shape::Plain,
-        [3, 2, 1],
-        (6, 6, (6, 9), 6, 3, 0, (3, 6), 3, &[3, 3, 0]),
-    ),
-    (
-        Shape::Dropped,
-        [3, 1, 0],
-        (5, 5, (5, 7), 5, 3, 2, (3, 2), 1, &[3, 2]),
-    ),
-    (
-        Shape::Closed,
-        [2, 1, 2],
-        (5, 5, (5, 20), 5, 2, 1, (2, 13), 1, &[2, 2, 1]),
-    ),
-    (
-        Shape::Wide,
-        [2, 2, 3],
-        (3, 3, (3, 19), 3, 2, 0, (2, 9), 2, &[2, 1, 0]),
-    ),
-    (
-        Shape::Two,
-        [0, 2, 3],
-        (2, 2, (2, 12), 2, 2, 0, (2, 9), 2, &[2, 0]),
-    ),
-    (
-        Shape::Turned,
-        [2, 1, 3],
-        (-5, -5, (-5, -21), -5, -1, -2, (-1, -7), 1, &[-1, -2, -2]),
-    ),
+    ([2, 1, 3], (5, 5, (5, 21), 5, 2, 1, (2, 14), 1, &[2, 2, 1])),
+    ([2, 3, 1], (9, 9, (9, 17), 7, 5, 1, (5, 6), 4, &[5, 3, 1])),
+    ([3, 1, 2], (7, 7, (7, 15), 7, 3, 2, (3, 2), 1, &[3, 2, 2])),
+    ([3, 2, 1], (6, 6, (6, 9), 6, 3, 0, (3, 6), 3, &[3, 3, 0])),
 ];
+
+// A choice each of the other squares: in the closed one two rows share a column.
+const OF_DROPPED: [Case; 1] = [([3, 1, 0], (5, 5, (5, 7), 5, 3, 2, (3, 2), 1, &[3, 2]))];
+
+const OF_CLOSED: [Case; 1] = [([2, 1, 2], (5, 5, (5, 20), 5, 2, 1, (2, 13), 1, &[2, 2, 1]))];
+
+const OF_WIDE: [Case; 1] = [([2, 2, 3], (3, 3, (3, 19), 3, 2, 0, (2, 9), 2, &[2, 1, 0]))];
+
+const OF_TWO: [Case; 1] = [([0, 2, 3], (2, 2, (2, 12), 2, 2, 0, (2, 9), 2, &[2, 0]))];
+
+const OF_TURNED: [Case; 1] = [(
+    [2, 1, 3],
+    (-5, -5, (-5, -21), -5, -1, -2, (-1, -7), 1, &[-1, -2, -2]),
+)];
 
 // Whether the choice is valid, and its values are those that are wanted.
 fn has_values(
     alloc: Global,
     inst: &Instance,
     choice: &Choice,
-    nine: Nine<'_>,
+    nine: &Nine<'_>,
 ) -> Result<bool, NoMemory> {
     if !is_valid(inst, choice) {
         return Ok(false);
     }
-    for (objective, want) in wanted(nine) {
-        let value = value(alloc, objective, inst, choice)?;
-        if !is_wanted(&value, want) {
+    for (objective, want) in &wanted(nine) {
+        let value = value(alloc, *objective, inst, choice)?;
+        if !is_wanted(&value, *want) {
             return Ok(false);
         }
     }
     Ok(true)
 }
 
-// The values of the choices in the table.
+// Whether each choice has the values that are wanted, of a map and of a table.
+fn have_values(alloc: Global, sample: &Sample<'_>, cases: &[Case]) -> Result<bool, Fault> {
+    let (map, table) = squares(alloc, sample)?;
+    for (ids, nine) in cases {
+        let choice = choice(alloc, ids)?;
+        if !has_values(alloc, &map, &choice, nine)? || !has_values(alloc, &table, &choice, nine)? {
+            return Ok(false);
+        }
+    }
+    Ok(true)
+}
+
 #[test]
 fn values_by_hand(rt: HostRuntime) -> Result<(), Fail> {
-    let alloc = rt.alloc();
-    for (shape, ids, nine) in TABLE {
-        let (map, table) = shaped(alloc, shape)?;
-        let choice = choice(alloc, ids)?;
-        assert!(rt; has_values(alloc, &map, &choice, nine)?, "{ids:?} of a map");
-        assert!(rt;
-            has_values(alloc, &table, &choice, nine)?,
-            "{ids:?} of a table"
-        );
+    assert!(rt; have_values(rt.alloc(), &PAIRED, &OF_SQUARE)?);
+    assert!(rt; have_values(rt.alloc(), &TURNED, &OF_TURNED)?);
+    Ok(())
+}
+
+#[test]
+fn values_of_other_shapes(rt: HostRuntime) -> Result<(), Fail> {
+    assert!(rt; have_values(rt.alloc(), &DROPPED, &OF_DROPPED)?);
+    assert!(rt; have_values(rt.alloc(), &CLOSED, &OF_CLOSED)?);
+    assert!(rt; have_values(rt.alloc(), &PAIRED_WIDE, &OF_WIDE)?);
+    assert!(rt; have_values(rt.alloc(), &PAIRED_TWO, &OF_TWO)?);
+    Ok(())
+}
+
+// Two values, and whether the first is better for the objective.
+const BETTER: [(Objective, Want<'static>, Want<'static>, bool); 13] = [
+    (Objective::Bottleneck, Want::One(2), Want::One(3), true),
+    (Objective::Bottleneck, Want::One(3), Want::One(2), false),
+    (Objective::Bottleneck, Want::One(2), Want::One(2), false),
+    (Objective::SumMax, Want::One(11), Want::One(5), true),
+    (Objective::SumMax, Want::One(5), Want::One(11), false),
+    (Objective::BottleneckMax, Want::One(2), Want::One(2), false),
+    (Objective::SumPair, Want::Two(2, 5), Want::Two(2, 10), true),
+    (Objective::SumPair, Want::Two(2, 10), Want::Two(2, 5), false),
+    (Objective::TimeCost, Want::Two(3, 0), Want::Two(2, 9), false),
+    (Objective::TimeCost, Want::Two(2, 9), Want::Two(2, 9), false),
+    (Objective::Lex, LOW, HIGH, true),
+    (Objective::Lex, HIGH, LOW, false),
+    (Objective::Lex, LOW, LOW, false),
+];
+
+const LOW: Want<'static> = Want::Many(&[2, 2, 1]);
+
+const HIGH: Want<'static> = Want::Many(&[3, 2, 2]);
+
+// The value that is told.
+fn value_of(alloc: Global, told: Want<'_>) -> Result<Value, NoMemory> {
+    Ok(match told {
+        Want::One(x) => Value::One(x),
+        Want::Two(x, s) => Value::Two(x, s),
+        Want::Many(list) => Value::Many(Costs::from_vec(Vec::from_slice(alloc, list)?)),
+    })
+}
+
+// Whether the better values are told.
+fn tells_better(alloc: Global) -> Result<bool, NoMemory> {
+    for (objective, x, y, want) in &BETTER {
+        let (x, y) = (value_of(alloc, *x)?, value_of(alloc, *y)?);
+        if better(*objective, &x, &y) != *want {
+            return Ok(false);
+        }
     }
+    Ok(true)
+}
+
+#[test]
+fn tells_better_values(rt: HostRuntime) -> Result<(), Fail> {
+    assert!(rt; tells_better(rt.alloc())?);
+    Ok(())
+}
+
+// The square `4:8 1:-2 -3:-6 / -2:4 -5:-1 5:10 / -3:-6 2:4 2:4`, a cost being written `a:b`,
+// without its third row and its third column.
+const SIGNED: Sample<'static> = Sample {
+    firsts: &[4, 1, -3, -2, -5, 5, -3, 2, 2],
+    seconds: &[8, -2, -6, 4, -1, 10, -6, 4, 4],
+    ..SMALLER
+};
+
+// Objectives, and the first cell that each refuses.
+type Refused = [(Objective, Option<(u32, u32)>); 3];
+
+const OF_SIGNED: Refused = [
+    (Objective::Capped(9), Some((2, 1))),
+    (Objective::TimeCost, Some((1, 2))),
+    (Objective::SumPair, None),
+];
+
+const NONE_REFUSED: Refused = [
+    (Objective::Capped(9), None),
+    (Objective::TimeCost, None),
+    (Objective::SumPair, None),
+];
+
+// Whether these cells are refused, of a map and of a table.
+fn refuses(alloc: Global, sample: &Sample<'_>, cases: &Refused) -> Result<bool, Fault> {
+    let (map, table) = squares(alloc, sample)?;
+    for (objective, want) in cases {
+        if negative(*objective, &map) != *want || negative(*objective, &table) != *want {
+            return Ok(false);
+        }
+    }
+    Ok(true)
+}
+
+#[test]
+fn finds_the_first_negative(rt: HostRuntime) -> Result<(), Fail> {
+    assert!(rt; refuses(rt.alloc(), &SIGNED, &OF_SIGNED)?);
+    assert!(rt; refuses(rt.alloc(), &PLAIN, &NONE_REFUSED)?);
     Ok(())
 }

@@ -3,7 +3,7 @@ use Rattle.std.proofs.Common.{◌≡◌, ◌≢◌, ℕ, List, ◌∷◌, ◌++�
 use Rattle.std.specs.Prelude.{ℤ}
 use Rattle.std.proofs.lemmas.List.Elements.{All-cons, All-append}
 use Rattle.asg_parts.specs.Lines.{Lacks, IsCutAt}
-use Rattle.asg_parts.specs.Spellings.{Spelling, joined, long_spelling, wide_spelling, signed_spelling, signed_pair_spelling, graded_spelling}
+use Rattle.asg_parts.specs.Spellings.{Spelling, joined, long_spelling, wide_spelling, signed_spelling, signed_pair_spelling, graded_spelling, long_pair_spelling}
 use Rattle.asg_parts.specs.laws.LineCuts.{cut_unique, tails_same}
 use Rattle.asg_parts.specs.laws.SpellingLaws.{IsLegible, IsLegible-long, IsLegible-wide, IsLegible-signed, Lacks-decimal_above, Lacks-signed_above}
 
@@ -41,11 +41,18 @@ pub graded_cut : (text word rest : List ℕ) (both : ℕ × ℕ) → text ≡ wo
     → text ≡ graded_spelling.bytes both → (word ≡ long_spelling.bytes both.0) × (rest ≡ 58 ∷ wide_spelling.bytes both.1)
 graded_cut = joined_cut long_spelling wide_spelling 58 no_colon-long
 
+pub long_pair_cut : (text word rest : List ℕ) (both : ℕ × ℕ) → text ≡ word ++ rest → Lacks 58 word → IsCutAt 58 rest → long_spelling.Has both.0
+    → text ≡ long_pair_spelling.bytes both → (word ≡ long_spelling.bytes both.0) × (rest ≡ 58 ∷ long_spelling.bytes both.1)
+long_pair_cut = joined_cut long_spelling long_spelling 58 no_colon-long
+
 pub IsLegible-signed_pair : IsLegible signed_pair_spelling
 IsLegible-signed_pair = IsLegible-joined signed_spelling signed_spelling 58 no_colon-signed (λ is. absurd (omega arith)) IsLegible-signed IsLegible-signed
 
 pub IsLegible-graded : IsLegible graded_spelling
 IsLegible-graded = IsLegible-joined long_spelling wide_spelling 58 no_colon-long (λ is. absurd (omega arith)) IsLegible-long IsLegible-wide
+
+pub IsLegible-long_pair : IsLegible long_pair_spelling
+IsLegible-long_pair = IsLegible-joined long_spelling long_spelling 58 no_colon-long (λ is. absurd (omega arith)) IsLegible-long IsLegible-long
 
 -- what follows the byte between
 pub after_cut : (at : ℕ) (rest second back : List ℕ) → rest ≡ at ∷ second → rest ≡ at ∷ back → second ≡ back

@@ -1,4 +1,5 @@
-use Rattle.std.proofs.Common.{arith}
+use Rattle.std.proofs.Common.{length, ap, arith}
+use Rattle.std.proofs.lemmas.Fmt.{length-decimal-le_wide}
 use Rattle.asg_parts.proofs.SignedNumbers.{long_gives}
 use Rattle.asg_parts.proofs.numerals.long_number.Goals as goal
 
@@ -7,3 +8,6 @@ returns-in_err-wide_number c = rw c.from_residual.ensures (λ n fits is. c.in_er
 
 pub returns : goal.returns
 returns c = long_gives c.args.word.now c.in_ok-wide_number.field-0 c.long_of.result c.in_ok-wide_number.ensures.0 c.in_ok-wide_number.ensures.1 c.long_of.ensures
+
+pub returns-then-word-gt20 : goal.returns-then-word-gt20
+returns-then-word-gt20 c = λ n fits is. omega (arith, ap length is, length-decimal-le_wide 20 n (omega arith) (omega arith) (omega arith))

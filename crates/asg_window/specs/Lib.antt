@@ -8,6 +8,7 @@ pub mod Assignments
 pub mod Extremes
 pub mod Seekers
 pub mod Gaps
+pub mod Ascents
 pub mod CostWindows
 pub mod Costs
 pub mod WindowProofs

@@ -8,5 +8,6 @@ pub mod Assignments
 pub mod Extremes
 pub mod Seekers
 pub mod Gaps
+pub mod Ascents
 pub mod CostWindows
 pub mod Refusals

@@ -1,9 +1,10 @@
 //! The least spread of an assignment, with the gaps that show it.
 
-ghost use Rattle.std.specs.Prelude.{◌≡◌, ℕ, ◌≤◌, IfOk};
+ghost use Rattle.std.specs.Prelude.{◌≡◌, ℕ, ◌+◌, ◌<◌, ◌≤◌, IfOk};
 ghost use Rattle.std.specs.Bool.{OnTrue, OnFalse};
 ghost use Rattle.asg_match.specs.Deficient.{IsDeficient};
 ghost use Rattle.asg_window.specs.Assignments.{IsAssignmentWithin, IsSpread};
+ghost use Rattle.asg_window.specs.Ascents.{IsAscent, AddsGap};
 ghost use Rattle.asg_window.specs.Bands.{IsWithin};
 ghost use Rattle.asg_window.specs.Gaps.{IsLeast, IsSwept};
 ghost use Rattle.asg_window.specs.Grades.{no_bound};
@@ -23,6 +24,14 @@ pub(crate) struct Gap {
     pub(crate) low: u32,
     pub(crate) high: u32,
     pub(crate) rows: Vec<u32>,
+}
+
+/// How far a sweep has come: the least spread so far, the lower end of the band, and the gaps below it.
+#[derive(Drop)]
+pub(crate) struct Ascent {
+    pub(crate) spread: u32,
+    pub(crate) low: u32,
+    pub(crate) gaps: Vec<Gap>,
 }
 
 /// An assignment of the least spread, and gaps that show it.
@@ -64,6 +73,49 @@ fn rise(cells: &LiveCells<'_>, seeker: &mut Seeker) -> Result<bool, NoMemory>
     Ok(true)
 }
 
+// Adds the gap from the lower end of the band on and below a grade. The band moves up until it holds that
+// grade.
+fn add_gap(alloc: Global, ascent: &mut Ascent, next: u32, rows: &[u32]) -> Result<(), NoMemory>
+    requires some { 0 < ascent.old.spread }
+    requires above { ascent.old.low + ascent.old.spread ≤ next }
+    ensures { IfOk result (λ _. AddsGap ascent.old ascent.new next rows.now) }
+{
+    let rows = Vec::from_slice(alloc, rows)?;
+    ascent.gaps.push(Gap {
+        low: ascent.low,
+        high: next,
+        rows,
+    })?;
+    ascent.low = next - ascent.spread + 1;
+    Ok(())
+}
+
+// Looks for an assignment of a less spread in the band of as many grades as the least so far. One is
+// the seeker's from then on; where there is none, that is one gap more, and the band moves up.
+fn ascend(
+    alloc: Global,
+    cells: &LiveCells<'_>,
+    seeker: &mut Seeker,
+    ascent: &mut Ascent,
+) -> Result<(), NoMemory>
+    requires ascent { IsAscent cells.now.square.now cells.now.entries.now seeker.old ascent.old }
+    requires some { 0 < ascent.old.spread }
+    requires fits { ascent.old.low + ascent.old.spread ≤ no_bound }
+    ensures ascent { IfOk result (λ _.
+        IsAscent cells.now.square.now cells.now.entries.now seeker.new ascent.new) }
+    ensures nearer { IfOk result (λ _.
+        ascent.new.spread + ascent.old.low < ascent.old.spread + ascent.new.low) }
+{
+    match seeker.test(cells, ascent.low, ascent.low + ascent.spread)? {
+        None => {
+            let spread = spread_of(cells.square, seeker.perm.as_slice());
+            ascent.spread = spread;
+            Ok(())
+        }
+        Some(next) => add_gap(alloc, ascent, next, seeker.rows.as_slice()),
+    }
+}
+
 // Lessens the spread of the seeker's assignment to the least, with the gaps that show it.
 fn lessen(
     alloc: Global,
@@ -76,27 +128,18 @@ fn lessen(
     requires spread { IsSpread cells.now.square.now seeker.perm.items first }
     ensures { IfOk result (IsLeast cells.now.square.now) }
 {
-    let mut spread = first;
-    let mut low = 1;
-    let mut gaps = Vec::new(alloc);
-    'bands: while spread > 0 && low <= NO_BOUND - spread {
-        match seeker.test(cells, low, low + spread)? {
-            None => spread = spread_of(cells.square, seeker.perm.as_slice()),
-            Some(next) => {
-                let rows = Vec::from_slice(alloc, seeker.rows.as_slice())?;
-                gaps.push(Gap {
-                    low,
-                    high: next,
-                    rows,
-                })?;
-                low = next - spread + 1;
-            }
-        }
+    let mut ascent = Ascent {
+        spread: first,
+        low: 1,
+        gaps: Vec::new(alloc),
+    };
+    'bands: while ascent.spread > 0 && ascent.low <= NO_BOUND - ascent.spread {
+        ascend(alloc, cells, &mut seeker, &mut ascent)?;
     }
     Ok(Least {
-        spread,
+        spread: ascent.spread,
         perm: seeker.perm,
-        gaps,
+        gaps: ascent.gaps,
     })
 }
 

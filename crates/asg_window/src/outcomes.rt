@@ -144,6 +144,40 @@ fn outcome(
     }
 }
 
+// The square of an instance whose live costs enter as grades.
+fn graded_square(alloc: Global, inst: &Instance) -> Result<Square<u32>, NoMemory>
+    requires { square_side inst.now ≤ most_side }
+    ensures { IfOk result (IsSquareOf inst.now free_grade grade_of) }
+{
+    let _rows = inst.rows();
+    let enter = |cost: Cost| -> u32
+        requires { unsigned_abs cost.a ≤ most_cost }
+        ensures { result ≡ grade_of cost }
+    { grade(cost) };
+    Square::of(alloc, inst, FREE_GRADE, &enter)
+}
+
+// The outcome of a square's live cells, where they have few different costs.
+fn graded_outcome(
+    alloc: Global,
+    inst: &Instance,
+    cells: &LiveCells<'_>,
+) -> Result<Outcome, BalancedRefusal>
+    requires square { IsSquareOf inst.now free_grade grade_of cells.now.square.now }
+    requires entries { AreEntries cells.now.square.now cells.now.entries.now }
+    ensures outcome { IfOk result (IsOutcome Balanced inst.now) }
+    ensures windows { IfOk result (HasFewWindows most_costs) }
+    ensures few { IfOk result (λ _. HasFewCosts inst.now) }
+    ensures refusal { IfErr result (IsRefusal inst.now) }
+{
+    let _rows = inst.rows();
+    let grades = distinct_grades(alloc, cells.entries)?;
+    if grades.len() > MOST_COSTS as usize {
+        return Err(BalancedRefusal::TooManyCosts(grades.len() as u32));
+    }
+    Ok(outcome(alloc, inst, cells, grades.as_slice())?)
+}
+
 /// A best choice for the balanced objective, the least difference between the greatest and the least
 /// chosen cost, with at most 20,000 windows that prove it: where the value d is above 0, each cost v of a
 /// live cell has a window that holds the costs from v to v + d - 1 and whose rows are a Hall set of the
@@ -158,20 +192,11 @@ pub fn balanced(alloc: Global, inst: &Instance) -> Result<Outcome, BalancedRefus
     ensures few { IfOk result (λ _. HasFewCosts inst.now) }
     ensures refusal { IfErr result (IsRefusal inst.now) }
 {
-    let _rows = inst.rows();
-    let enter = |cost: Cost| -> u32
-        requires { unsigned_abs cost.a ≤ most_cost }
-        ensures { result ≡ grade_of cost }
-    { grade(cost) };
-    let square = Square::of(alloc, inst, FREE_GRADE, &enter)?;
+    let square = graded_square(alloc, inst)?;
     let entries = in_order(alloc, &square)?;
-    let grades = distinct_grades(alloc, entries.as_slice())?;
-    if grades.len() > MOST_COSTS as usize {
-        return Err(BalancedRefusal::TooManyCosts(grades.len() as u32));
-    }
     let cells = LiveCells {
         square: &square,
         entries: entries.as_slice(),
     };
-    Ok(outcome(alloc, inst, &cells, grades.as_slice())?)
+    graded_outcome(alloc, inst, &cells)
 }

@@ -30,6 +30,43 @@ pub(crate) struct Seeker {
     pub(crate) rows: Vec<u32>,
 }
 
+// A matching, and the tree that lengthens it.
+#[derive(Drop)]
+struct Pairing {
+    matching: Matching,
+    tree: Tree,
+}
+
+impl Pairing {
+    // An empty matching.
+    fn make(alloc: Global, side: u32) -> Result<Pairing, NoMemory>
+        ensures matching { IfOk result (λ it. length it.matching ≡ side) }
+        ensures tree { IfOk result (λ it. it.tree.side ≡ side) }
+    {
+        let matching = Matching::make(alloc, side)?;
+        let tree = Tree::make(alloc, side)?;
+        Ok(Pairing { matching, tree })
+    }
+}
+
+// The column of each row, and some rows.
+#[derive(Drop)]
+struct Lists {
+    perm: Vec<u32>,
+    rows: Vec<u32>,
+}
+
+impl Lists {
+    // Some column for each row, and no rows, with room for all.
+    fn make(alloc: Global, side: u32) -> Result<Lists, NoMemory>
+        ensures { IfOk result (λ it. length it.perm.items ≡ side) }
+    {
+        let perm = vec![in alloc; 0; side as usize]?;
+        let rows = Vec::with_capacity(alloc, side as usize)?;
+        Ok(Lists { perm, rows })
+    }
+}
+
 impl Seeker {
     /// With an empty matching and an empty band. The error is want of memory.
     pub(crate) fn make(alloc: Global, cells: &LiveCells<'_>) -> Result<Seeker, NoMemory>
@@ -37,14 +74,17 @@ impl Seeker {
         ensures seeker { IfOk result (IsSeeker cells.now.square.now cells.now.entries.now) }
         ensures low { IfOk result (λ s. s.band.low ≡ 1) }
     {
-        let side = cells.square.side();
+        let band = BandCells::make(alloc, cells)?;
+        let Pairing { matching, tree } = Pairing::make(alloc, band.side)?;
+        let reached = Reached::make(alloc, band.side)?;
+        let Lists { perm, rows } = Lists::make(alloc, band.side)?;
         Ok(Seeker {
-            band: BandCells::make(alloc, cells)?,
-            matching: Matching::make(alloc, side)?,
-            tree: Tree::make(alloc, side)?,
-            reached: Reached::make(alloc, side)?,
-            perm: vec![in alloc; 0; side as usize]?,
-            rows: Vec::with_capacity(alloc, side as usize)?,
+            band,
+            matching,
+            tree,
+            reached,
+            perm,
+            rows,
         })
     }
 

@@ -1,4 +1,5 @@
-// The answer of a run to what was asked.
+//! The answer of a run to what was asked.
+
 ghost use Rattle.std.specs.Prelude.{IfSome};
 ghost use Rattle.asg_app.specs.Due.{DueForAsked};
 ghost use Rattle.asg_app.specs.Ends.{Ends};

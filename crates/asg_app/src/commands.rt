@@ -1,3 +1,4 @@
-// The commands: each makes a reply of a job, its instance and the contents of its other files.
+//! The commands: each makes a reply of a job, its instance and the contents of its other files.
+
 pub(crate) mod check;
 pub(crate) mod solve;

@@ -1,4 +1,5 @@
-// The documents of a job's outcome.
+//! The documents of a job's outcome.
+
 ghost use Rattle.std.specs.Prelude.{◌≡◌, ◌<◌, ◌≤◌, IfOk, length};
 ghost use Rattle.asg_check.specs.declared.verdicts.Form.TheVariants.{Solve};
 ghost use Rattle.asg_doc.specs.ChosenCells.{cells_by_id, column_id};
@@ -90,8 +91,8 @@ fn tell_ranges(proof: &Proof)
     };
 }
 
-// The document that claims a choice as best, with its proof, which is one that is promised. The error
-// is want of memory.
+// The document that claims a choice as best, with its proof, which is one that is promised. The
+// error is want of memory.
 pub(crate) fn best_document(
     alloc: Global,
     objective: Objective,

@@ -1,4 +1,5 @@
-// Fetches the files that a job names.
+//! Fetches the files that a job names.
+
 ghost use Rattle.std.specs.Prelude.{◌≡◌, true, ◌<◌, Some, IfOk, IfSome, length, map, string_bytes};
 ghost use Rattle.std.specs.Result.{IfErr};
 ghost use Rattle.asg_app.specs.Fetches.{AreGiven, StopsAt, status_of};

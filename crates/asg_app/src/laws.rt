@@ -46,9 +46,9 @@ pub fn due_law()
     unique_reading();
 }
 
-/// Whatever bytes the instance's file of a request has, what they hold is an instance: it keeps what
-/// each instance keeps, the request's objective refuses none of its live costs, and its square isn't
-/// too large.
+/// Whatever bytes the instance's file of a request has, what they hold is an instance: it keeps
+/// what each instance keeps, the request's objective refuses none of its live costs, and its square
+/// isn't too large.
 pub fn instance_law()
     ensures instance { (words : List (List ℕ)) (bytes : List ℕ) (job : Job) (X : Problem) →
         job_of words ≡ Some job → instance_in job bytes ≡ Holds X → IsInstance X }
@@ -88,8 +88,8 @@ pub fn too_long_law()
 
 /// The refusal of an instance is due only where the words are a request whose instance's file is
 /// refused, by its text, by the request's options or by a cost that its objective doesn't take, or
-/// for a request to solve `balanced` holds an instance with too many different costs, with the numbers
-/// of the refusal.
+/// for a request to solve `balanced` holds an instance with too many different costs, with the
+/// numbers of the refusal.
 pub fn refused_law()
     ensures { (words : List (List ℕ)) (told : List ℕ → Option (List ℕ)) (text : List ℕ) →
         Due words told Instance text →

@@ -1,8 +1,8 @@
 //! The program's top call: from the words of a command line to the bytes written.
 //!
 //! A run reads the words, fetches the files that they name, makes a reply and puts it. A command is
-//! a function from a job, its instance and the contents of its other files to a reply, in a module of
-//! its own. Contracts see the words, what the shelf tells of the files, the bytes that the sink
+//! a function from a job, its instance and the contents of its other files to a reply, in a module
+//! of its own. Contracts see the words, what the shelf tells of the files, the bytes that the sink
 //! tells, and the status: `Due` says which status and which text are due, and laws say what that
 //! means. It serves the program alone.
 #![tactic(auto)]

@@ -1,4 +1,5 @@
-// The refusal of an instance.
+//! The refusal of an instance.
+
 ghost use Rattle.std.specs.Prelude.{IfOk};
 ghost use Rattle.asg_app.specs.Replies.{IsReply};
 ghost use Rattle.asg_app.specs.Texts.{refused_instance_text};

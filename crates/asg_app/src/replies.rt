@@ -1,4 +1,5 @@
-// What a run answers, and how it is put.
+//! What a run answers, and how it is put.
+
 ghost use Rattle.std.specs.Prelude.{◌≡◌, IfOk, OnOk, OnErr};
 ghost use Rattle.asg_io.specs.Shelf.{Rose};
 ghost use Rattle.asg_io.specs.Sink.{Puts, PutsPrefix};

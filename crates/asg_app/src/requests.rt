@@ -1,4 +1,5 @@
-// The jobs that the program does.
+//! The jobs that the program does.
+
 ghost use Rattle.std.specs.Prelude.{◌≡◌, map, string_bytes, IfOk, IfSome};
 ghost use Rattle.asg_app.specs.Readiness.{IsReady};
 ghost use Rattle.asg_app.specs.Requests.{is_built, is_built_objective, is_built_task, job_of};

@@ -1,4 +1,5 @@
-// Documents with the page over which they are written.
+//! Documents with the page over which they are written.
+
 ghost use Rattle.std.specs.Prelude.{◌≡◌, IfOk, OnOk, OnErr};
 ghost use Rattle.asg_doc.specs.HasText.{HasText};
 ghost use Rattle.asg_doc.specs.Text.{text_of};

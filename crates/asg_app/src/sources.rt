@@ -1,4 +1,5 @@
-// The contents of the files of a job.
+//! The contents of the files of a job.
+
 ghost use Rattle.std.specs.Prelude.{◌≡◌, ◌<◌, ◌≤◌, ◌++◌, ◌∷◌, [], IfOk, IfSome, length, slice_get};
 ghost use Rattle.asg_model.specs.Limits.{longest_file};
 ghost use Rattle.asg_app.specs.Sources.{AreShort, content_at};

@@ -1,4 +1,5 @@
-// The stages of a request that all commands share, up to its command.
+//! The stages of a request that all commands share, up to its command.
+
 ghost use Rattle.std.specs.Prelude.{◌≡◌, ◌≤◌, IfOk, IfSome, IsErr, MatchOption};
 ghost use Rattle.asg_model.specs.Limits.{most_side};
 ghost use Rattle.asg_model.specs.Refused.{PassesNegative};
@@ -98,8 +99,8 @@ fn sided_reply(
     task_reply(alloc, job, inst, sources)
 }
 
-// The reply to a job for an instance with the job's options: the objective is to refuse no live cost
-// of it. The error is want of memory.
+// The reply to a job for an instance with the job's options: the objective is to refuse no live
+// cost of it. The error is want of memory.
 fn passed_reply(
     alloc: Global,
     job: &Job,

@@ -21,18 +21,17 @@ use std::alloc::Global;
 /// Whether the document certifies for the objective, the instance and the form: `Yes` exactly where
 /// it does, and then what it claims of the instance is true. Else `No`, with the number of the
 /// first reason of these, tested in this order: 1, the document is of another objective; 2, its
-/// command isn't that of the form, or its proof is of a kind that the objective doesn't take; 3, its
-/// cells aren't those of a valid choice, in the order of the rows; 4, its value isn't that of the
-/// cells; 5, its rows aren't a Hall set, of the instance, of the costs that are strictly better
+/// command isn't that of the form, or its proof is of a kind that the objective doesn't take; 3,
+/// its cells aren't those of a valid choice, in the order of the rows; 4, its value isn't that of
+/// the cells; 5, its rows aren't a Hall set, of the instance, of the costs that are strictly better
 /// than the value, or of the band of a window, which is tested also where the value is 0; 8, the
 /// value d is above 0, and for the cost v of a live cell no window holds the costs from v to
-/// v + d - 1; 6, a phase is bad: a list hasn't the length of the side of the instance's square,
-/// a step is no value of the objective's monoid, or it isn't admitted after the phases before it; 7,
-/// the product of all steps isn't that of the entered costs of the cells. The place is the number of
-/// the first bad phase, from 1, for 6, that of the first window which is no Hall set for 5, the least
-/// such v for 8, and 0 else. The side of the square is at
-/// most 2,000, and the objective refuses no cost of the instance ([`asg_model::negative`]). The
-/// error is want of memory.
+/// v + d - 1; 6, a phase is bad: a list hasn't the length of the side of the instance's square, a
+/// step is no value of the objective's monoid, or it isn't admitted after the phases before it; 7, the
+/// product of all steps isn't that of the entered costs of the cells. The place is the number of
+/// the first bad phase, from 1, for 6, that of the first window which is no Hall set for 5, the
+/// least such v for 8, and 0 else. The side of the square is at most 2,000, and the objective
+/// refuses no cost of the instance ([`asg_model::negative`]). The error is want of memory.
 pub fn check(
     alloc: Global,
     objective: Objective,

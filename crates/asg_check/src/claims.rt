@@ -71,8 +71,8 @@ fn answer_verdict(
     proof_verdict(alloc, objective, inst, answer, &choice, proof)
 }
 
-// The verdict on the proof of an answer, whose choice this is, by its reasons in order. The error is
-// want of memory.
+// The verdict on the proof of an answer, whose choice this is, by its reasons in order. The error
+// is want of memory.
 fn proof_verdict(
     alloc: Global,
     objective: Objective,

@@ -16,8 +16,8 @@ use asg_order::Word;
 use asg_proof::Phase;
 use std::alloc::Global;
 
-// Applies a phase where it is admitted, and tells whether it is. Its steps are read into the list of
-// values. The error is want of memory.
+// Applies a phase where it is admitted, and tells whether it is. Its steps are read into the list
+// of values. The error is want of memory.
 fn replay_grades(
     m: &Graded<Bounded>,
     square: &mut GradedSquare,
@@ -47,8 +47,8 @@ fn replay_grades(
     ))
 }
 
-// Applies the phases in turn, up to the first that isn't admitted after those before it, and gives its
-// place. Where all are admitted there is none. The error is want of memory.
+// Applies the phases in turn, up to the first that isn't admitted after those before it, and gives
+// its place. Where all are admitted there is none. The error is want of memory.
 pub(crate) fn first_bad_grade(
     alloc: Global,
     m: &Graded<Bounded>,

@@ -2,11 +2,11 @@
 //! doesn't, the first reason against it.
 //!
 //! It trusts nothing that the document says: it reads the cells as a choice, tests that the choice
-//! is valid and has the written value, and tests the proof by the definition of its kind: phases are
-//! replayed on a square of the instance, and their index compared with the choice's fold; the rows of
-//! windows are tested as Hall sets, and the windows for gaps. Contracts
-//! see a document by what it claims, and an instance by its rows, columns and costs; a law says
-//! that what certifies is true. It stands on no solver: a user can trust an answer without one.
+//! is valid and has the written value, and tests the proof by the definition of its kind: phases
+//! are replayed on a square of the instance, and their index compared with the choice's fold; the
+//! rows of windows are tested as Hall sets, and the windows for gaps. Contracts see a document by
+//! what it claims, and an instance by its rows, columns and costs; a law says that what certifies
+//! is true. It stands on no solver: a user can trust an answer without one.
 #![tactic(auto)]
 
 mod checker;

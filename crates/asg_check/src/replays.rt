@@ -52,8 +52,8 @@ pub(crate) fn make_room<M: Ordered>(
 }
 
 // Applies a phase where it is admitted, and tells whether it is; where it isn't, the square means
-// nothing more. Its steps are read into the list of values, which keeps its room from phase to phase, as
-// the other list does. The error is want of memory.
+// nothing more. Its steps are read into the list of values, which keeps its room from phase to
+// phase, as the other list does. The error is want of memory.
 fn replay_words<M: Written>(
     m: &M,
     reduced: &mut Reduced<M::Value>,
@@ -82,8 +82,9 @@ fn replay_words<M: Written>(
     ))
 }
 
-// Applies the phases from a place on in turn, up to the first that isn't admitted after those before
-// it, and gives its place. Where all are admitted there is none. The error is want of memory.
+// Applies the phases from a place on in turn, up to the first that isn't admitted after those
+// before it, and gives its place. Where all are admitted there is none. The error is want of
+// memory.
 pub(crate) fn first_bad<M: Written>(
     alloc: Global,
     m: &M,

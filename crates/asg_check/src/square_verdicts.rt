@@ -13,8 +13,8 @@ use asg_order::{Ordered, Word, Written};
 use asg_proof::Phase;
 use std::alloc::Global;
 
-// The verdict on phases that are to have the value as their index, of which those before a place led
-// to the reduced square. The error is want of memory.
+// The verdict on phases that are to have the value as their index, of which those before a place
+// led to the reduced square. The error is want of memory.
 pub(crate) fn square_verdict<M: Written>(
     alloc: Global,
     m: &M,

@@ -24,8 +24,8 @@ pub(crate) enum Stop {
     Full(usize),
 }
 
-// Applies the phases in turn, up to the first that isn't admitted after those before it, or for which
-// there isn't room. The error is want of memory.
+// Applies the phases in turn, up to the first that isn't admitted after those before it, or for
+// which there isn't room. The error is want of memory.
 pub(crate) fn first_stop<S: SumSquare>(
     alloc: Global,
     m: &Bounded,

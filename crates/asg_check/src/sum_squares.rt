@@ -25,9 +25,9 @@ pub(crate) trait SumSquare {
     // The least top of the sums for which phases are replayed on it.
     ghost least_top: { ℕ };
 
-    // Applies a phase where it is admitted and there is room for its sums, and tells what came of it.
-    // Its steps are read into the list of values, which keeps its room from phase to phase, as the
-    // other list does. The error is want of memory.
+    // Applies a phase where it is admitted and there is room for its sums, and tells what came of
+    // it. Its steps are read into the list of values, which keeps its room from phase to phase, as
+    // the other list does. The error is want of memory.
     fn replay_phase(
         &mut self,
         m: &Bounded,

@@ -19,8 +19,8 @@ use asg_proof::Phase;
 use std::alloc::Global;
 
 // The verdict on phases that are to be admitted in turn from the square, of which no step was taken
-// yet, and to have the value as their index. Dual variables serve while no sum comes near the top; from
-// there on the cells are rewritten. The error is want of memory.
+// yet, and to have the value as their index. Dual variables serve while no sum comes near the top;
+// from there on the cells are rewritten. The error is want of memory.
 pub(crate) fn sum_verdict(
     alloc: Global,
     m: &Bounded,

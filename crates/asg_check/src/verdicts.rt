@@ -22,11 +22,11 @@ pub enum Reason {
     NotValid,
     /// The value isn't that of the cells.
     WrongValue,
-    /// The rows aren't a Hall set: of the instance, of the costs strictly better than the value, or of
-    /// the band of a window.
+    /// The rows aren't a Hall set: of the instance, of the costs strictly better than the value, or
+    /// of the band of a window.
     NotHall,
-    /// The value d is above 0, and for the cost v of a live cell no window holds the costs from v to
-    /// v + d - 1.
+    /// The value d is above 0, and for the cost v of a live cell no window holds the costs from v
+    /// to v + d - 1.
     WindowGap,
     /// A phase isn't admitted after those before it.
     BadPhase,
@@ -77,8 +77,8 @@ impl Reason {
 pub enum Verdict {
     /// The document certifies.
     Yes,
-    /// It doesn't: the number of the first reason, and the place where it stands. The place of a bad
-    /// phase is its number from 1, as is that of a window whose rows aren't a Hall set; the place of a
-    /// gap is its cost. That of each other reason is 0: the whole document.
+    /// It doesn't: the number of the first reason, and the place where it stands. The place of a
+    /// bad phase is its number from 1, as is that of a window whose rows aren't a Hall set; the
+    /// place of a gap is its cost. That of each other reason is 0: the whole document.
     No { reason: u8, place: i64 },
 }

@@ -134,8 +134,8 @@ fn first_outside(costs: &[i64], spans: &[Span]) -> Option<i64>
     cost_at(costs, place)
 }
 
-// The least cost of a live cell from which no window holds as many costs as the spread. The error is
-// want of memory.
+// The least cost of a live cell from which no window holds as many costs as the spread. The error
+// is want of memory.
 pub(crate) fn first_gap(
     alloc: Global,
     inst: &Instance,

@@ -16,8 +16,8 @@ use asg_model::{Band, Instance, Value, is_hall};
 use asg_proof::Window;
 use std::alloc::Global;
 
-// The verdict on windows for a value of `balanced`, by the reasons against windows in order. The error
-// is want of memory.
+// The verdict on windows for a value of `balanced`, by the reasons against windows in order. The
+// error is want of memory.
 pub(crate) fn windows_verdict(
     alloc: Global,
     inst: &Instance,

@@ -1,5 +1,5 @@
 -- The parts of proofs, of claims and of documents.
-use Rattle.std.proofs.Common.{◌≡◌, ℕ, List, ◌∷◌, length, map, codes, refl, sym, ap, ◌∙◌, arith}
+use Rattle.std.proofs.Common.{◌≡◌, ℕ, List, [], ◌∷◌, length, map, codes, refl, sym, ap, ◌∙◌, append_assoc, arith}
 use Rattle.std.specs.List.{flat_map}
 use Rattle.std.specs.Fmt.{decimal}
 use Rattle.std.specs.Prelude.{◌++◌}
@@ -20,9 +20,9 @@ use Rattle.asg_doc.specs.declared.documents.ProofHead.{ProofHead}
 use Rattle.asg_doc.specs.declared.documents.ProofHead.TheVariants as heads
 use Rattle.asg_doc.specs.declared.documents.Status.{Status}
 use Rattle.asg_doc.specs.declared.documents.Status.TheVariants as statuses
-use Rattle.asg_doc.specs.DocumentParts.{answer_part, claim_part, command_part, objective_part, status_part, value_part, count_part, cell_part, hall_part, proof_head_part, HasProofHead, phase_part, window_part, proof_part, document_part}
+use Rattle.asg_doc.specs.DocumentParts.{answer_part, claim_part, command_part, objective_part, status_part, value_part, count_part, cell_part, hall_part, proof_head_part, HasProofHead, phase_part, window_part, proof_part, proved_part, document_part}
 use Rattle.asg_doc.specs.HasText.{HasProofText, HasClaimText}
-use Rattle.asg_doc.specs.Text.{cell_line, value_line, phase_lines, window_line}
+use Rattle.asg_doc.specs.Text.{answer_lines, cell_line, value_line, phase_lines, proof_lines, window_line}
 use Rattle.asg_doc.specs.Words.{has_grades}
 use Rattle.asg_doc.proofs.PhaseParts.{phase_law}
 use Rattle.asg_doc.proofs.WindowParts.{window_law}
@@ -103,46 +103,47 @@ answer_law o = IsReadable-shape (answer_shape o) (IsReadable-chain (value_cells 
 abbrev end_part : Part (Unit {0})
 end_part = the_line (codes "end")
 
-pub proof_end : (o : Objective) → Chain (proof_part o) (λ _. end_part)
-proof_end o = record { first_law = proof_law o; second_law = λ _ _. end_law }
+pub answer_proof : (o : Objective) → Chain (answer_part o) (λ _. proof_part o)
+answer_proof o = record { first_law = answer_law o; second_law = λ _ _. proof_law o }
 
-pub answer_proof : (o : Objective) → Chain (answer_part o) (λ _. and_then (proof_part o) (λ _. end_part))
-answer_proof o = record { first_law = answer_law o; second_law = λ _ _. IsReadable-chain (proof_end o) }
+pub proved_end : (o : Objective) → Chain (proved_part o) (λ _. end_part)
+proved_end o = record { first_law = IsReadable-chain (answer_proof o); second_law = λ _ _. end_law }
 
 pub hall_end : Chain hall_part (λ _. end_part)
 hall_end = record { first_law = hall_law; second_law = λ _ _. end_law }
 
 abbrev Claimed : Status → Type 0
-Claimed statuses.Best = (answer : Answer) × ((proof : Proof) × Unit {0})
+Claimed statuses.Best = (proved : (answer : Answer) × Proof) × Unit {0}
 Claimed statuses.Nothing = (rows : List ℕ) × Unit {0}
 
 abbrev claimed_part : Objective → (status : Status) → Part (Claimed status)
-claimed_part o statuses.Best = and_then (answer_part o) (λ _. and_then (proof_part o) (λ _. end_part))
+claimed_part o statuses.Best = and_then (proved_part o) (λ _. end_part)
 claimed_part o statuses.Nothing = and_then hall_part (λ _. end_part)
 
 claimed_law : (o : Objective) (status : Status) → IsReadable (claimed_part o status)
-claimed_law o statuses.Best = IsReadable-chain (answer_proof o)
+claimed_law o statuses.Best = IsReadable-chain (proved_end o)
 claimed_law o statuses.Nothing = IsReadable-chain hall_end
 
 pub status_claimed : (o : Objective) → Chain status_part (claimed_part o)
 status_claimed o = record { first_law = status_law; second_law = λ status _. claimed_law o status }
 
 abbrev claim_of : (status : Status) → Claimed status → Claim
-claim_of statuses.Best rest = Best rest.0 rest.1.0
+claim_of statuses.Best rest = Best rest.0.0 rest.0.1
 claim_of statuses.Nothing rest = Nothing rest.0
 
 unfoldable pub claim_shape : (o : Objective) → Shape (and_then status_part (claimed_part o)) (claim_part o)
 claim_shape o = record { make = λ t. claim_of t.0 t.1; has = λ t. has t.0 t.1; lines = λ t. lines t.0 t.1; back = back } where
   has : (s : Status) (r : Claimed s) → (and_then status_part (claimed_part o)).Has (s, r) → HasClaimText o (claim_of s r)
-  has statuses.Best r h = (h.1.0, h.1.1.0)
+  has statuses.Best r h = (h.1.0.0, h.1.0.1)
   has statuses.Nothing r h = h.1.0
 
   lines : (s : Status) (r : Claimed s) → (and_then status_part (claimed_part o)).Has (s, r) → (claim_part o).lines (claim_of s r) ≡ (and_then status_part (claimed_part o)).lines (s, r)
-  lines statuses.Best r h = refl
+  lines statuses.Best r h =
+      ap (λ ls. codes "status best" ∷ ls) (sym (append_assoc (answer_lines r.0.0) (proof_lines o r.0.1) (codes "end" ∷ [])))
   lines statuses.Nothing r h = refl
 
   back : (c : Claim) → HasClaimText o c → (t : (s : Status) × Claimed s) × (and_then status_part (claimed_part o)).Has t × (c ≡ claim_of t.0 t.1)
-  back (Best answer proof) h = ((statuses.Best, (answer, (proof, tt))), (tt, (h.0, (h.1, tt))), refl)
+  back (Best answer proof) h = ((statuses.Best, ((answer, proof), tt)), (tt, ((h.0, h.1), tt)), refl)
   back (Nothing rows) h = ((statuses.Nothing, (rows, tt)), (tt, (h, tt)), refl)
 
 pub claim_law : (o : Objective) → IsReadable (claim_part o)

@@ -22,10 +22,11 @@ cells_more cells i cell within =
     ∙ ap ended (sym (map-append cell_line (take i cells) (last ∷ [])) ∙ ap (map cell_line) (sym (take_more cells i cell within)))
 
 -- the line of a window, piece by piece
-pub window_whole : (window : Window) → codes "window " ++ (signed_decimal window.lo ++ (32 ∷ (signed_decimal window.hi ++ (spaced window.rows ++ 10 ∷ [])))) ≡ window_line window ++ 10 ∷ []
+pub window_whole : (window : Window) → codes "window " ++ ((signed_decimal window.lo ++ 32 ∷ signed_decimal window.hi) ++ (spaced window.rows ++ 10 ∷ [])) ≡ window_line window ++ 10 ∷ []
 window_whole window =
-    ap (λ rest. codes "window " ++ (signed_decimal window.lo ++ 32 ∷ rest)) (sym (append_assoc (signed_decimal window.hi) (spaced window.rows) (10 ∷ [])))
-    ∙ ap (λ rest. codes "window " ++ rest) (sym (append_assoc (signed_decimal window.lo) (32 ∷ (signed_decimal window.hi ++ spaced window.rows)) (10 ∷ [])))
+    ap (λ rest. codes "window " ++ rest) (append_assoc (signed_decimal window.lo) (32 ∷ signed_decimal window.hi) (spaced window.rows ++ 10 ∷ [])
+    ∙ ap (λ rest. signed_decimal window.lo ++ 32 ∷ rest) (sym (append_assoc (signed_decimal window.hi) (spaced window.rows) (10 ∷ [])))
+    ∙ sym (append_assoc (signed_decimal window.lo) (32 ∷ (signed_decimal window.hi ++ spaced window.rows)) (10 ∷ [])))
 
 pub windows_more : (windows : List Window) (i : ℕ) (window : Window) → i < length windows
     → ended (map window_line (take i windows)) ++ (window_line (get_or windows i window) ++ 10 ∷ []) ≡ ended (map window_line (take (i + 1) windows))

@@ -9,7 +9,7 @@ use Rattle.asg_proof.specs.declared.outcomes.Proof.{Proof}
 use Rattle.asg_proof.specs.declared.windows.Window.{Window}
 use Rattle.asg_proof.specs.Phases.{PhaseOf}
 use Rattle.asg_parts.specs.Lines.{IsCutAt}
-use Rattle.asg_parts.specs.Parts.{Part, one_line}
+use Rattle.asg_parts.specs.Parts.{Part, and_then, one_line}
 use Rattle.asg_parts.specs.Spellings.{Spelling, behind, signed_spelling, signed_pair_spelling, positive_spelling, list_spelling, listed, spaced}
 use Rattle.asg_doc.specs.declared.documents.Answer.{Answer}
 use Rattle.asg_doc.specs.declared.documents.Claim.{Claim}
@@ -113,6 +113,10 @@ phase_part graded = record { lines = phase_lines graded; Has = HasPhaseText grad
 
 abbrev pub proof_part : Objective → Part Proof
 proof_part objective = record { lines = proof_lines objective; Has = HasProofText objective }
+
+-- an answer and its proof
+abbrev pub proved_part : Objective → Part ((answer : Answer) × Proof)
+proved_part objective = and_then (answer_part objective) (λ _. proof_part objective)
 
 abbrev pub claim_part : Objective → Part Claim
 claim_part objective = record { lines = claim_lines objective; Has = HasClaimText objective }

@@ -4,7 +4,7 @@ ghost use Rattle.std.specs.Prelude.{true, false};
 ghost use Rattle.asg_parts.specs.Parts.{counted};
 ghost use Rattle.asg_parts.specs.Reading.{Reads, ReadsOrFails};
 ghost use Rattle.asg_parts.specs.Spellings.{SpellsOrFails};
-ghost use Rattle.asg_doc.specs.DocumentParts.{status_part, formed_part, value_part, cell_part, answer_part, proof_head_spelling, proof_head_part, proof_part, hall_part, claim_part};
+ghost use Rattle.asg_doc.specs.DocumentParts.{status_part, formed_part, value_part, cell_part, answer_part, proof_head_spelling, proof_head_part, proof_part, proved_part, hall_part, claim_part};
 
 use crate::documents::{Answer, Cells, Claim, ProofHead, Status};
 use crate::phase_reader::phases;
@@ -120,6 +120,15 @@ fn proof(alloc: Global, objective: Objective, lines: &mut Lines) -> Result<Proof
     }
 }
 
+// An answer and its proof.
+fn proved(alloc: Global, objective: Objective, lines: &mut Lines) -> Result<(Answer, Proof), Fault>
+    ensures { ReadsOrFails (proved_part objective) lines.old lines.new result }
+{
+    let answer = answer(alloc, objective, lines)?;
+    let proof = proof(alloc, objective, lines)?;
+    Ok((answer, proof))
+}
+
 // The rows of a Hall set.
 fn hall(alloc: Global, lines: &mut Lines) -> Result<Ids, Fault>
     ensures { ReadsOrFails hall_part lines.old lines.new result }
@@ -133,8 +142,7 @@ pub(crate) fn claim(alloc: Global, objective: Objective, lines: &mut Lines) -> R
 {
     match status(lines)? {
         Status::Best => {
-            let answer = answer(alloc, objective, lines)?;
-            let proof = proof(alloc, objective, lines)?;
+            let (answer, proof) = proved(alloc, objective, lines)?;
             lines.pass(b"end")?;
             Ok(Claim::Best { answer, proof })
         }

@@ -102,8 +102,8 @@ fn read_lines(alloc: Global, file: &[u8]) -> Result<Vec<Document>, DocRefusal>
 /// empty file is the text of no document.
 ///
 /// `Line` comes exactly where the file is the text of no list of documents. Its number is 1 plus
-/// the number of LF in the longest prefix of the file that is also a prefix of the text of some list
-/// of documents. `NoMemory` is want of memory: only the members that were read take some.
+/// the number of LF in the longest prefix of the file that is also a prefix of the text of some
+/// list of documents. `NoMemory` is want of memory: only the members that were read take some.
 pub fn read(alloc: Global, bytes: &[u8]) -> Result<Vec<Document>, DocRefusal>
     requires { length bytes.now ≤ longest_file }
     // What is read is the text, each byte of it.

@@ -83,7 +83,8 @@ fn emit_number<K: Sink>(number: u32, page: &mut Page, out: &mut K)
     emit(buffer.format(number).as_bytes(), page, out);
 }
 
-// Appends a number after a space. One of two digits at most goes right into a page with room for it.
+// Appends a number after a space. One of two digits at most goes right into a page with room for
+// it.
 fn emit_next<K: Sink>(number: u32, page: &mut Page, out: &mut K)
     ensures { Wrote K.written K.faults out.old out.new page.old page.new (32 ∷ decimal number) }
 {

@@ -64,8 +64,8 @@ fn short_plain_step(text: &[u8]) -> Option<(Word, &[u8])>
     Some((step, rest))
 }
 
-// The step with a grade after a space that comes first, and what follows it: some only where each of
-// its numbers has at most 18 digits. It is read in one pass.
+// The step with a grade after a space that comes first, and what follows it: some only where each
+// of its numbers has at most 18 digits. It is read in one pass.
 fn short_graded_step(text: &[u8]) -> Option<(Word, &[u8])>
     ensures { IfSome result
         (λ parts. ListsNext (step_spelling true) text.now parts.0 parts.1.now) }

@@ -21,6 +21,17 @@ fn emit_bound<K: Sink>(bound: i64, page: &mut Page, out: &mut K)
     emit(buffer.format(bound).as_bytes(), page, out);
 }
 
+// Appends the bounds of a window, with a space between them.
+fn emit_bounds<K: Sink>(window: &Window, page: &mut Page, out: &mut K)
+    requires { HasWindowText window.now }
+    ensures { Wrote K.written K.faults out.old out.new page.old page.new
+        (signed_decimal window.now.lo ++ 32 ∷ signed_decimal window.now.hi) }
+{
+    emit_bound(window.lo, page, out);
+    emit(b" ", page, out);
+    emit_bound(window.hi, page, out);
+}
+
 // Appends the line of a window.
 fn emit_window<K: Sink>(window: &Window, page: &mut Page, out: &mut K)
     requires { HasWindowText window.now }
@@ -28,9 +39,7 @@ fn emit_window<K: Sink>(window: &Window, page: &mut Page, out: &mut K)
         (window_line window.now ++ 10 ∷ []) }
 {
     emit(b"window ", page, out);
-    emit_bound(window.lo, page, out);
-    emit(b" ", page, out);
-    emit_bound(window.hi, page, out);
+    emit_bounds(window, page, out);
     emit_spaced(window.rows.as_slice(), page, out);
     emit(b"\n", page, out);
 }

@@ -1,4 +1,5 @@
-// Requests to check.
+//! Requests to check.
+
 ghost use Rattle.std.specs.Prelude.{◌≤◌, IfOk, length};
 ghost use Rattle.asg_doc.specs.HasText.{HasText};
 ghost use Rattle.asg_doc.specs.RefusedLine.{AllHaveText};

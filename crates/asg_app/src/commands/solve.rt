@@ -1,4 +1,5 @@
-// Requests to solve.
+//! Requests to solve.
+
 ghost use Rattle.std.specs.Prelude.{◌≡◌, ◌≤◌, true, IfErr, IfOk};
 ghost use Rattle.asg_model.specs.Limits.{most_side};
 ghost use Rattle.asg_model.specs.Refused.{PassesNegative};
@@ -29,8 +30,8 @@ use asg_words::Job;
 use std::alloc::{AllocError, Global};
 
 // The outcome of an objective that is built: thresholds solve the two bottleneck ones, windows of
-// costs `balanced`, and phases of steps the other algebraic ones. The errors: the live cells have too
-// many different costs for `balanced`, or want of memory.
+// costs `balanced`, and phases of steps the other algebraic ones. The errors: the live cells have
+// too many different costs for `balanced`, or want of memory.
 fn outcome(alloc: Global, objective: Objective, inst: &Instance) -> Result<Outcome, BalancedRefusal>
     requires built { is_built_objective objective ≡ true }
     requires side { square_side inst.now ≤ most_side }

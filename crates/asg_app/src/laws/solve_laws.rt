@@ -21,9 +21,9 @@ use super::instance_law;
 use asg_model::laws::hall_rows_law;
 
 /// A request to solve ends with the status 0, 1, 3 or 10, unless a fault or want of memory cuts it
-/// short. Where the file is told, isn't too long and holds an instance, it is 3 where the live cells
-/// have more different costs than the objective's solver takes, with their number; else 0 where a
-/// choice is valid, and 1 where none is.
+/// short. Where the file is told, isn't too long and holds an instance, it is 3 where the live
+/// cells have more different costs than the objective's solver takes, with their number; else 0
+/// where a choice is valid, and 1 where none is.
 pub fn solve_law()
     ensures statuses { (words : List (List ℕ)) (told : List ℕ → Option (List ℕ))
         (status : Ended) (text : List ℕ) (job : Job) →
@@ -52,12 +52,12 @@ pub fn solve_law()
 {}
 
 /// For a request to solve, status 0 is due only with the text of a document that solves the file's
-/// instance: it certifies, it claims a best choice with its value and cells, and its proof is a Hall
-/// set of the cells strictly better for the two bottleneck objectives, windows of costs for
-/// `balanced`, and for the others at most as many phases as the side of the instance's square, each of
-/// at most as many steps. Status 1 is due only with the text of a document that certifies with a Hall
-/// set of the instance, so that no choice is valid. This text, and that for a bottleneck objective, is
-/// no longer than the longest file that is read.
+/// instance: it certifies, it claims a best choice with its value and cells, and its proof is a
+/// Hall set of the cells strictly better for the two bottleneck objectives, windows of costs for
+/// `balanced`, and for the others at most as many phases as the side of the instance's square, each
+/// of at most as many steps. Status 1 is due only with the text of a document that certifies with a
+/// Hall set of the instance, so that no choice is valid. This text, and that for a bottleneck
+/// objective, is no longer than the longest file that is read.
 pub fn solved_law()
     ensures solved { (words : List (List ℕ)) (told : List ℕ → Option (List ℕ))
         (text : List ℕ) (job : Job) →

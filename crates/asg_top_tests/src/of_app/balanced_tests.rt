@@ -1,6 +1,6 @@
 //! Requests with the objective `balanced`, as runs over memory.
 
-use crate::of_app::memory_runs::{Case, THREE, held, run_over};
+use crate::of_app::memory_runs::{Case, THREE, ends, held};
 use crate::of_app::solve_tests::is_answered;
 use std::alloc::{AllocError, Global};
 use std::test::Fail;
@@ -54,8 +54,8 @@ const BALANCED: [Case; 6] = [
 
 #[test]
 fn balanced_documents(rt: HostRuntime) -> Result<(), Fail> {
-    for case in BALANCED {
-        assert!(rt; is_answered(rt.alloc(), case)?, "{case:?}");
+    for case in &BALANCED {
+        assert!(rt; is_answered(rt.alloc(), case)?, "{}", case.2);
     }
     Ok(())
 }
@@ -84,9 +84,16 @@ fn windows_that_are_checked(rt: HostRuntime) -> Result<(), Fail> {
     for (proof, code, text) in PROOFS {
         let answer = format!(in rt.alloc(); "{HEAD}{proof}")?;
         let words = ["check", "balanced", "f", "g"];
-        let ran = run_over(rt.alloc(), &words, &[], held(THREE, answer.as_bytes()))?;
-        assert_eq!(rt; ran.code, code, "{proof}");
-        assert_eq!(rt; ran.written.as_slice(), text.as_bytes(), "{proof}");
+        let want = (code, text.as_bytes());
+        assert!(rt;
+            ends(
+                rt.alloc(),
+                &words,
+                &[],
+                held(THREE, answer.as_bytes()),
+                want
+            )?
+        );
     }
     Ok(())
 }
@@ -134,9 +141,11 @@ const MANY: [(&[&str], &[&str], u8, &str); 4] = [
 fn too_many_costs(rt: HostRuntime) -> Result<(), Fail> {
     let file = many_costs(rt.alloc())?;
     for (words, options, code, text) in MANY {
-        let ran = run_over(rt.alloc(), words, options, held(file.as_bytes(), b""))?;
-        assert_eq!(rt; ran.code, code, "{text}");
-        assert_eq!(rt; ran.written.as_slice(), text.as_bytes(), "{text}");
+        let want = (code, text.as_bytes());
+        assert!(rt;
+            ends(rt.alloc(), words, options, held(file.as_bytes(), b""), want)?,
+            "{text}"
+        );
     }
     Ok(())
 }

@@ -1,6 +1,7 @@
 //! Requests to check, as runs over memory.
 
-use crate::of_app::memory_runs::{Files, THREE, held, run_over};
+use crate::of_app::memory_runs::{Files, THREE, ends, held};
+use std::alloc::{AllocError, Global};
 use std::test::Fail;
 
 const CHECK: &[&str] = &["check", "bottleneck", "f", "g"];
@@ -33,9 +34,11 @@ const CERTIFYING: [(&[u8], &str); 4] = [
 #[test]
 fn answers_that_certify(rt: HostRuntime) -> Result<(), Fail> {
     for (file, answer) in CERTIFYING {
-        let done = run_over(rt.alloc(), CHECK, &[], held(file, answer.as_bytes()))?;
-        assert_eq!(rt; done.code, 0, "{answer}");
-        assert_eq!(rt; done.written.as_slice(), b"yes 1\n".as_slice(), "{answer}");
+        let files = held(file, answer.as_bytes());
+        assert!(rt;
+            ends(rt.alloc(), CHECK, &[], files, (0, b"yes 1\n"))?,
+            "{answer}"
+        );
     }
     Ok(())
 }
@@ -102,13 +105,17 @@ const BENT: [(&str, &str); 14] = [
     ),
 ];
 
+// Whether the document of this text for the square `THREE` has this status, and this is told of it.
+fn is_told(alloc: Global, answer: &str, code: u8, text: &str) -> Result<bool, AllocError> {
+    let files = held(THREE, answer.as_bytes());
+    ends(alloc, CHECK, &[], files, (code, text.as_bytes()))
+}
+
 #[test]
 fn best_answers_that_do_not_certify(rt: HostRuntime) -> Result<(), Fail> {
     for (rest, text) in BENT {
         let answer = format!(in rt.alloc(); "{HEAD}{rest}")?;
-        let done = run_over(rt.alloc(), CHECK, &[], held(THREE, answer.as_bytes()))?;
-        assert_eq!(rt; done.code, 6, "{rest}");
-        assert_eq!(rt; done.written.as_slice(), text.as_bytes(), "{rest}");
+        assert!(rt; is_told(rt.alloc(), &answer, 6, text)?, "{rest}");
     }
     Ok(())
 }
@@ -132,70 +139,90 @@ const OTHERS: [(&str, &str); 3] = [
 #[test]
 fn other_answers_that_do_not_certify(rt: HostRuntime) -> Result<(), Fail> {
     for (answer, text) in OTHERS {
-        let done = run_over(rt.alloc(), CHECK, &[], held(THREE, answer.as_bytes()))?;
-        assert_eq!(rt; done.code, 6, "{answer}");
-        assert_eq!(rt; done.written.as_slice(), text.as_bytes(), "{answer}");
+        assert!(rt; is_told(rt.alloc(), answer, 6, text)?, "{answer}");
     }
     Ok(())
 }
 
+// Texts that are refused, and how.
+const NO_DOCUMENTS: [(&str, &str); 5] = [
+    ("", "refused document 0\n"),
+    ("assign", "refused document 1\n"),
+    ("assignment 1\n", "refused document 2\n"),
+    ("\n", "refused document 1\n"),
+    (
+        "assignment 1\ncommand solve\nobjective bottleneck\nstatus best\nvalue 02\n",
+        "refused document 5\n",
+    ),
+];
+
+// What stands behind a document, and how the text is refused.
+const BEHIND: [(&str, &str); 2] = [
+    (SOLVED, "refused document 0\n"),
+    ("assignment 2\n", "refused document 12\n"),
+];
+
 #[test]
 fn answers_that_are_refused(rt: HostRuntime) -> Result<(), Fail> {
-    let twice = format!(in rt.alloc(); "{SOLVED}{SOLVED}")?;
-    let more = format!(in rt.alloc(); "{SOLVED}assignment 2\n")?;
-    let table: [(&str, &str); 7] = [
-        ("", "refused document 0\n"),
-        (twice.as_str(), "refused document 0\n"),
-        (more.as_str(), "refused document 12\n"),
-        ("assign", "refused document 1\n"),
-        ("assignment 1\n", "refused document 2\n"),
-        ("\n", "refused document 1\n"),
-        (
-            "assignment 1\ncommand solve\nobjective bottleneck\nstatus best\nvalue 02\n",
-            "refused document 5\n",
-        ),
-    ];
-    for (answer, text) in table {
-        let done = run_over(rt.alloc(), CHECK, &[], held(THREE, answer.as_bytes()))?;
-        assert_eq!(rt; done.code, 5, "{answer}");
-        assert_eq!(rt; done.written.as_slice(), text.as_bytes(), "{answer}");
+    for (answer, text) in NO_DOCUMENTS {
+        assert!(rt; is_told(rt.alloc(), answer, 5, text)?, "{answer}");
     }
-    // The instance's file is refused before the answer's file.
-    let unread = run_over(rt.alloc(), CHECK, &[], held(b"2\n1 2\n3 x\n", b""))?;
-    assert_eq!(rt; unread.code, 3);
-    assert_eq!(rt;
-        unread.written.as_slice(),
-        b"refused instance 12 5\n".as_slice()
+    for (more, text) in BEHIND {
+        let answer = format!(in rt.alloc(); "{SOLVED}{more}")?;
+        assert!(rt; is_told(rt.alloc(), &answer, 5, text)?, "{more}");
+    }
+    Ok(())
+}
+
+// The instance's file is refused before the answer's file.
+#[test]
+fn an_instance_that_is_refused_first(rt: HostRuntime) -> Result<(), Fail> {
+    let files = held(b"2\n1 2\n3 x\n", b"");
+    assert!(rt;
+        ends(
+            rt.alloc(),
+            CHECK,
+            &[],
+            files,
+            (3, b"refused instance 12 5\n")
+        )?
     );
     Ok(())
 }
 
+// Words, the numbers of the fetches that fail, those of the puts that fail with how many bytes they
+// still take, the status and what is written.
+pub(crate) type Faulty = (
+    &'static [&'static str],
+    &'static [u32],
+    &'static [(u32, u32)],
+    u8,
+    &'static [u8],
+);
+
+// Whether a run over the square `THREE` and its document ends as the case says.
+pub(crate) fn is_stopped(alloc: Global, case: &Faulty) -> Result<bool, AllocError> {
+    let files = Files {
+        f: THREE,
+        g: SOLVED.as_bytes(),
+        fetch_fails: case.1,
+        put_fails: case.2,
+    };
+    ends(alloc, case.0, &[], files, (case.3, case.4))
+}
+
+const FAULTS: [Faulty; 5] = [
+    (CHECK, &[1], &[], 7, b""),
+    (CHECK, &[2], &[], 7, b""),
+    (&["check", "bottleneck", "f", "h"], &[], &[], 7, b""),
+    (&["check", "bottleneck", "h", "g"], &[], &[], 7, b""),
+    (CHECK, &[], &[(1, 2)], 8, b"ye"),
+];
+
 #[test]
 fn faults_while_checking(rt: HostRuntime) -> Result<(), Fail> {
-    let whole = held(THREE, SOLVED.as_bytes());
-    for fetch_fails in [[1], [2]] {
-        let unread = Files {
-            fetch_fails: &fetch_fails,
-            ..whole
-        };
-        let ran = run_over(rt.alloc(), CHECK, &[], unread)?;
-        assert_eq!(rt; ran.code, 7);
-        assert_eq!(rt; ran.written.as_slice(), b"".as_slice());
+    for case in &FAULTS {
+        assert!(rt; is_stopped(rt.alloc(), case)?);
     }
-    for words in [
-        ["check", "bottleneck", "f", "h"],
-        ["check", "bottleneck", "h", "g"],
-    ] {
-        let ran = run_over(rt.alloc(), &words, &[], whole)?;
-        assert_eq!(rt; ran.code, 7);
-        assert_eq!(rt; ran.written.as_slice(), b"".as_slice());
-    }
-    let cut = Files {
-        put_fails: &[(1, 2)],
-        ..whole
-    };
-    let ran = run_over(rt.alloc(), CHECK, &[], cut)?;
-    assert_eq!(rt; ran.code, 8);
-    assert_eq!(rt; ran.written.as_slice(), b"ye".as_slice());
     Ok(())
 }

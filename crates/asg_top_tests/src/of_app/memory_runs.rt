@@ -30,6 +30,59 @@ pub(crate) fn held<'a>(f: &'a [u8], g: &'a [u8]) -> Files<'a> {
     }
 }
 
+// The two files under their names.
+fn contents_of(alloc: Global, files: &Files<'_>) -> Result<Vec<(String, Vec<u8>)>, AllocError> {
+    let mut contents = Vec::new(alloc);
+    contents.push((String::from_str(alloc, "f")?, files.f.to_vec(alloc)?))?;
+    contents.push((String::from_str(alloc, "g")?, files.g.to_vec(alloc)?))?;
+    Ok(contents)
+}
+
+// Adds words to a line.
+fn add_words(alloc: Global, line: &mut Vec<String>, words: &[&str]) -> Result<(), AllocError> {
+    for word in words {
+        line.push(String::from_str(alloc, word)?)?;
+    }
+    Ok(())
+}
+
+// The words of a line, and then its options.
+fn line_of(alloc: Global, words: &[&str], options: &[&str]) -> Result<Vec<String>, AllocError> {
+    let mut line = Vec::new(alloc);
+    add_words(alloc, &mut line, words)?;
+    add_words(alloc, &mut line, options)?;
+    Ok(line)
+}
+
+// A run over what is already made.
+fn run_made(
+    alloc: Global,
+    line: &[String],
+    shelf: &mut MemoryShelf,
+    out: &mut MemorySink,
+) -> Result<Ran, AllocError> {
+    let status = run(alloc, line, shelf, out);
+    Ok(Ran {
+        code: status.code(),
+        written: out.bytes().to_vec(alloc)?,
+    })
+}
+
+// A run with these words, and then these options, over a sink with this room.
+fn run_within(
+    alloc: Global,
+    room: u32,
+    words: &[&str],
+    options: &[&str],
+    files: Files<'_>,
+) -> Result<Ran, AllocError> {
+    let line = line_of(alloc, words, options)?;
+    let contents = contents_of(alloc, &files)?;
+    let mut shelf = MemoryShelf::with(alloc, contents, files.fetch_fails.to_vec(alloc)?);
+    let mut out = MemorySink::with(alloc, room, files.put_fails.to_vec(alloc)?)?;
+    run_made(alloc, &line, &mut shelf, &mut out)
+}
+
 // A run with these words, and then these options.
 pub(crate) fn run_over(
     alloc: Global,
@@ -37,23 +90,24 @@ pub(crate) fn run_over(
     options: &[&str],
     files: Files<'_>,
 ) -> Result<Ran, AllocError> {
-    let mut contents = Vec::new(alloc);
-    contents.push((String::from_str(alloc, "f")?, files.f.to_vec(alloc)?))?;
-    contents.push((String::from_str(alloc, "g")?, files.g.to_vec(alloc)?))?;
-    let mut shelf = MemoryShelf::with(alloc, contents, files.fetch_fails.to_vec(alloc)?);
-    let mut out = MemorySink::with(alloc, 100_000, files.put_fails.to_vec(alloc)?)?;
-    let mut line = Vec::new(alloc);
-    for word in words {
-        line.push(String::from_str(alloc, word)?)?;
-    }
-    for option in options {
-        line.push(String::from_str(alloc, option)?)?;
-    }
-    let status = run(alloc, &line, &mut shelf, &mut out);
-    Ok(Ran {
-        code: status.code(),
-        written: out.bytes().to_vec(alloc)?,
-    })
+    run_within(alloc, 100_000, words, options, files)
+}
+
+// Whether a run ended with this status, and wrote exactly this text.
+pub(crate) fn is_ended(ran: &Ran, code: u8, text: &[u8]) -> bool {
+    ran.code == code && ran.written.as_slice() == text
+}
+
+// Whether a run with these words and options answers this status, and writes exactly this text.
+pub(crate) fn ends(
+    alloc: Global,
+    words: &[&str],
+    options: &[&str],
+    files: Files<'_>,
+    want: (u8, &[u8]),
+) -> Result<bool, AllocError> {
+    let ran = run_over(alloc, words, options, files)?;
+    Ok(is_ended(&ran, want.0, want.1))
 }
 
 // The square of the costs 4 1 3, 2 0 5 and 3 2 2.

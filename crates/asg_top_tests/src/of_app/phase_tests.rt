@@ -1,6 +1,7 @@
 //! Requests to check documents with phases, as runs over memory.
 
-use crate::of_app::memory_runs::{THREE, held, run_over};
+use crate::of_app::memory_runs::{THREE, ends, held};
+use std::alloc::{AllocError, Global};
 use std::test::Fail;
 
 // An objective, a square file, what comes behind the objective of a document, the status, and what is
@@ -180,34 +181,40 @@ const CASES: [Case; 22] = [
     ),
 ];
 
+// Whether the document of a case is told what the case says.
+fn is_told(alloc: Global, case: &Case) -> Result<bool, AllocError> {
+    let (objective, rest) = (case.0, case.2);
+    let answer = format!(in alloc; "assignment 1\ncommand solve\nobjective {objective}\n{rest}")?;
+    let words = ["check", objective, "f", "g"];
+    let files = held(case.1, answer.as_bytes());
+    ends(alloc, &words, &[], files, (case.3, case.4.as_bytes()))
+}
+
 #[test]
 fn documents_with_phases(rt: HostRuntime) -> Result<(), Fail> {
-    for (objective, file, rest, code, text) in CASES {
-        let answer = format!(in rt.alloc();
-            "assignment 1\ncommand solve\nobjective {objective}\n{rest}"
-        )?;
-        let words = ["check", objective, "f", "g"];
-        let ran = run_over(rt.alloc(), &words, &[], held(file, answer.as_bytes()))?;
-        assert_eq!(rt; ran.code, code, "{rest}");
-        assert_eq!(rt; ran.written.as_slice(), text.as_bytes(), "{rest}");
+    for case in &CASES {
+        assert!(rt; is_told(rt.alloc(), case)?, "{}", case.2);
     }
     Ok(())
 }
 
 // A document of one sum isn't one of another.
+const SEVEN: &[u8] =
+    b"assignment 1\ncommand solve\nobjective sum\nstatus best\nvalue 7\ncells 1\n1 1\nproof phases 1\nsteps 1000000007\nenters 0\nleaves 1\nend\n";
+
+// The objective, the status, and what is told of the document.
+const OBJECTIVES: [(&str, u8, &str); 3] = [
+    ("sum", 0, "yes 1\n"),
+    ("sum-max", 6, "no 1 1 0\n"),
+    ("capped=7", 6, "no 1 1 0\n"),
+];
+
 #[test]
 fn phases_of_another_objective(rt: HostRuntime) -> Result<(), Fail> {
-    let answer =
-        "assignment 1\ncommand solve\nobjective sum\nstatus best\nvalue 7\ncells 1\n1 1\nproof phases 1\nsteps 1000000007\nenters 0\nleaves 1\nend\n";
-    for (objective, code, text) in [
-        ("sum", 0, "yes 1\n"),
-        ("sum-max", 6, "no 1 1 0\n"),
-        ("capped=7", 6, "no 1 1 0\n"),
-    ] {
+    for (objective, code, text) in OBJECTIVES {
         let words = ["check", objective, "f", "g"];
-        let ran = run_over(rt.alloc(), &words, &[], held(b"1\n7\n", answer.as_bytes()))?;
-        assert_eq!(rt; ran.code, code, "{objective}");
-        assert_eq!(rt; ran.written.as_slice(), text.as_bytes(), "{objective}");
+        let want = (code, text.as_bytes());
+        assert!(rt; ends(rt.alloc(), &words, &[], held(b"1\n7\n", SEVEN), want)?);
     }
     Ok(())
 }

@@ -1,7 +1,8 @@
 //! Requests to solve, and words that are no request, as runs over memory.
 
 use crate::of_app::algebraic_runs::ALGEBRAIC;
-use crate::of_app::memory_runs::{CASES, Case, Files, THREE, held, run_over};
+use crate::of_app::check_tests::{Faulty, is_stopped};
+use crate::of_app::memory_runs::{CASES, Case, Ran, THREE, ends, held, run_over};
 use asg_app::Status;
 use std::alloc::{AllocError, Global};
 use std::test::Fail;
@@ -9,52 +10,67 @@ use std::test::Fail;
 const USAGE: &str =
     "usage: asg solve OBJECTIVE INSTANCE | rank OBJECTIVE INSTANCE --count K | edit OBJECTIVE INSTANCE SCRIPT | check OBJECTIVE INSTANCE ANSWER | make SEED SIDE\n";
 
-const SOLVE: &[&str] = &["solve", "bottleneck", "f"];
+// Whether a run has the status of a case, and its document begins as the case says.
+fn is_written(alloc: Global, case: &Case, ran: &Ran) -> Result<bool, AllocError> {
+    let (objective, lines) = (case.0, case.4);
+    let text = format!(in alloc; "assignment 1\ncommand solve\nobjective {objective}\n{lines}")?;
+    Ok(ran.code == case.3 && ran.written.starts_with(text.as_bytes()))
+}
+
+// Whether what a run wrote is accepted.
+fn is_accepted(alloc: Global, case: &Case, ran: &Ran) -> Result<bool, AllocError> {
+    let words = ["check", case.0, "f", "g"];
+    let files = held(case.2.as_bytes(), &ran.written);
+    ends(alloc, &words, case.1, files, (0, b"yes 1\n"))
+}
+
+// The run that solves a case.
+fn solved(alloc: Global, case: &Case) -> Result<Ran, AllocError> {
+    let words = ["solve", case.0, "f"];
+    run_over(alloc, &words, case.1, held(case.2.as_bytes(), b""))
+}
 
 // Whether a request has its status and its document, and the document is accepted.
-pub(crate) fn is_answered(alloc: Global, case: Case) -> Result<bool, AllocError> {
-    let (objective, options, file, code, lines) = case;
-    let words = ["solve", objective, "f"];
-    let solved = run_over(alloc, &words, options, held(file.as_bytes(), b""))?;
-    let text = format!(in alloc; "assignment 1\ncommand solve\nobjective {objective}\n{lines}")?;
-    let words = ["check", objective, "f", "g"];
-    let again = held(file.as_bytes(), &solved.written);
-    let checked = run_over(alloc, &words, options, again)?;
-    Ok(
-        solved.code == code
-            && solved.written.starts_with(text.as_bytes())
-            && checked.code == 0
-            && checked.written.as_slice() == b"yes 1\n".as_slice(),
-    )
+pub(crate) fn is_answered(alloc: Global, case: &Case) -> Result<bool, AllocError> {
+    let ran = solved(alloc, case)?;
+    if is_written(alloc, case, &ran)? {
+        is_accepted(alloc, case, &ran)
+    } else {
+        Ok(false)
+    }
 }
 
 #[test]
 fn bottleneck_documents(rt: HostRuntime) -> Result<(), Fail> {
-    for case in CASES {
-        assert!(rt; is_answered(rt.alloc(), case)?, "{case:?}");
+    for case in &CASES {
+        assert!(rt; is_answered(rt.alloc(), case)?, "{}", case.2);
     }
     Ok(())
 }
 
 #[test]
 fn algebraic_documents(rt: HostRuntime) -> Result<(), Fail> {
-    for case in ALGEBRAIC {
-        assert!(rt; is_answered(rt.alloc(), case)?, "{case:?}");
+    for case in &ALGEBRAIC {
+        assert!(rt; is_answered(rt.alloc(), case)?, "{}", case.2);
     }
     Ok(())
 }
 
-// Two rows with one column between them: the Hall set is both, in either order.
+// Whether a run found no valid choice, and wrote a Hall set of the rows 1 and 2, in either order.
+fn has_both_rows(ran: &Ran) -> bool {
+    ran.code == 1
+        && (ran.written.ends_with(b"\nhall 1 2\nend\n")
+            || ran.written.ends_with(b"\nhall 2 1\nend\n"))
+}
+
+// Two rows with one column between them.
 #[test]
 fn a_hall_set_of_two_rows(rt: HostRuntime) -> Result<(), Fail> {
     let file = b"p asn 4 2\nn 1\nn 2\na 1 3 5\na 2 3 6\n";
     for objective in ["bottleneck", "sum"] {
         let words = ["solve", objective, "f"];
         let ran = run_over(rt.alloc(), &words, &["--format", "asn"], held(file, b""))?;
-        assert_eq!(rt; ran.code, 1);
-        let both = ran.written.ends_with(b"\nhall 1 2\nend\n")
-            || ran.written.ends_with(b"\nhall 2 1\nend\n");
-        assert!(rt; both);
+        assert!(rt; has_both_rows(&ran));
     }
     Ok(())
 }
@@ -110,9 +126,10 @@ const REFUSED: [(&[&str], &str, &str); 16] = [
 #[test]
 fn files_that_are_refused(rt: HostRuntime) -> Result<(), Fail> {
     for (options, file, text) in REFUSED {
-        let ran = run_over(rt.alloc(), SOLVE, options, held(file.as_bytes(), b""))?;
-        assert_eq!(rt; ran.code, 3, "{file}");
-        assert_eq!(rt; ran.written.as_slice(), text.as_bytes(), "{file}");
+        let files = held(file.as_bytes(), b"");
+        let words = ["solve", "bottleneck", "f"];
+        let want = (3, text.as_bytes());
+        assert!(rt; ends(rt.alloc(), &words, options, files, want)?, "{file}");
     }
     Ok(())
 }
@@ -120,7 +137,14 @@ fn files_that_are_refused(rt: HostRuntime) -> Result<(), Fail> {
 // Objectives, options and files, and how the files are refused by the objective: no objective but
 // `capped` and `time-cost` refuses a negative cost, and the refusal comes behind that of the options'
 // place and before that of the side.
-const REFUSED_COSTS: [(&str, &[&str], &str, &str); 12] = [
+type RefusedCost = (
+    &'static str,
+    &'static [&'static str],
+    &'static str,
+    &'static str,
+);
+
+const REFUSED_COSTS: [RefusedCost; 12] = [
     ("capped=5", &[], "1\n-1\n", "refused instance 14 1 1\n"),
     (
         "capped=5",
@@ -190,23 +214,33 @@ const REFUSED_COSTS: [(&str, &[&str], &str, &str); 12] = [
     ),
 ];
 
-// A request to check refuses an instance as one to solve does.
+// Whether a request with these words and the options of a case refuses its file as it says.
+fn refuses(alloc: Global, words: &[&str], case: &RefusedCost) -> Result<bool, AllocError> {
+    let files = held(case.2.as_bytes(), b"");
+    ends(alloc, words, case.1, files, (3, case.3.as_bytes()))
+}
+
 #[test]
 fn costs_that_are_refused(rt: HostRuntime) -> Result<(), Fail> {
-    for (objective, options, file, text) in REFUSED_COSTS {
-        let files = held(file.as_bytes(), b"");
-        for words in [
-            ["solve", objective, "f"].as_slice(),
-            ["check", objective, "f", "g"].as_slice(),
-        ] {
-            let ran = run_over(rt.alloc(), words, options, files)?;
-            assert_eq!(rt; ran.code, 3, "{objective} {file}");
-            assert_eq!(rt;
-                ran.written.as_slice(),
-                text.as_bytes(),
-                "{objective} {file}"
-            );
-        }
+    for case in &REFUSED_COSTS {
+        assert!(rt;
+            refuses(rt.alloc(), &["solve", case.0, "f"], case)?,
+            "{}",
+            case.2
+        );
+    }
+    Ok(())
+}
+
+// A request to check refuses an instance as one to solve does.
+#[test]
+fn costs_that_are_refused_while_checking(rt: HostRuntime) -> Result<(), Fail> {
+    for case in &REFUSED_COSTS {
+        assert!(rt;
+            refuses(rt.alloc(), &["check", case.0, "f", "g"], case)?,
+            "{}",
+            case.2
+        );
     }
     Ok(())
 }
@@ -236,42 +270,32 @@ const NO_REQUESTS: [&[&str]; 18] = [
 #[test]
 fn words_that_are_no_request(rt: HostRuntime) -> Result<(), Fail> {
     for words in NO_REQUESTS {
-        let ran = run_over(rt.alloc(), words, &[], held(b"1 1", b""))?;
-        assert_eq!(rt; ran.code, 2);
-        assert_eq!(rt; ran.written.as_slice(), USAGE.as_bytes());
+        let want = (2, USAGE.as_bytes());
+        assert!(rt; ends(rt.alloc(), words, &[], held(b"1 1", b""), want)?);
     }
     Ok(())
 }
 
+const FAULTS: [Faulty; 6] = [
+    (
+        &["solve", "bottleneck", "f"],
+        &[],
+        &[(1, 10)],
+        8,
+        b"assignment",
+    ),
+    (&["solve", "sum", "f"], &[], &[(1, 10)], 8, b"assignment"),
+    (&["solve", "bottleneck", "f"], &[1], &[], 7, b""),
+    (&["solve", "sum", "f"], &[1], &[], 7, b""),
+    (&["solve", "bottleneck", "h"], &[], &[], 7, b""),
+    (&["solve"], &[], &[(1, 3)], 8, b"usa"),
+];
+
 #[test]
 fn faults_of_shelf_and_sink(rt: HostRuntime) -> Result<(), Fail> {
-    let whole = held(THREE, b"");
-    let cut = Files {
-        put_fails: &[(1, 10)],
-        ..whole
-    };
-    let unread = Files {
-        fetch_fails: &[1],
-        ..whole
-    };
-    for objective in ["bottleneck", "sum"] {
-        let words = ["solve", objective, "f"];
-        let ran = run_over(rt.alloc(), &words, &[], cut)?;
-        assert_eq!(rt; ran.code, 8);
-        assert_eq!(rt; ran.written.as_slice(), b"assignment".as_slice());
-        let ran = run_over(rt.alloc(), &words, &[], unread)?;
-        assert_eq!(rt; ran.code, 7);
-        assert_eq!(rt; ran.written.as_slice(), b"".as_slice());
+    for case in &FAULTS {
+        assert!(rt; is_stopped(rt.alloc(), case)?);
     }
-    let ran = run_over(rt.alloc(), &["solve", "bottleneck", "h"], &[], whole)?;
-    assert_eq!(rt; ran.code, 7);
-    let unsaid = Files {
-        put_fails: &[(1, 3)],
-        ..whole
-    };
-    let ran = run_over(rt.alloc(), &["solve"], &[], unsaid)?;
-    assert_eq!(rt; ran.code, 8);
-    assert_eq!(rt; ran.written.as_slice(), b"usa".as_slice());
     assert_eq!(rt; Status::TooLong.code(), 10);
     Ok(())
 }

@@ -1,5 +1,5 @@
 use Rattle.std.proofs.Common.{arith}
-use Rattle.asg_parts.specs.laws.PartLaws.{Halts-counted, ReadsOrFails-err}
+use Rattle.asg_parts.specs.laws.PartLaws.{Halts-counted, IsRead-more, ReadsOrFails-err}
 use Rattle.asg_doc.proofs.PhaseParts.{phase_law, ArePhases-from_text}
 use Rattle.asg_doc.proofs.phase_reader.phases.Goals as goal
 
@@ -9,3 +9,6 @@ returns-in_err-phase c = ReadsOrFails-err c.from_residual.result c.from_residual
 
 pub from_vec-requires : goal.from_vec-requires
 from_vec-requires c = ArePhases-from_text c.args.has_grades c.loop.phases.items c.loop.invariant.has.1
+
+pub loop-preserved : goal.loop-preserved
+loop-preserved c = rw c.in_ok-push.ensures.items (IsRead-more c.loop.invariant c.in_ok-phase.ensures)

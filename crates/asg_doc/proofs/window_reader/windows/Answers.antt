@@ -1,5 +1,5 @@
 use Rattle.std.proofs.Common.{arith}
-use Rattle.asg_parts.specs.laws.PartLaws.{Halts-counted, ReadsOrFails-err}
+use Rattle.asg_parts.specs.laws.PartLaws.{Halts-counted, IsRead-more, ReadsOrFails-err}
 use Rattle.asg_doc.proofs.WindowParts.{window_law, AreWindows-from_text}
 use Rattle.asg_doc.proofs.window_reader.windows.Goals as goal
 
@@ -9,3 +9,6 @@ returns-in_err-window c = ReadsOrFails-err c.from_residual.result c.from_residua
 
 pub from_vec-requires : goal.from_vec-requires
 from_vec-requires c = AreWindows-from_text c.loop.windows.items c.loop.invariant.has.1
+
+pub loop-preserved : goal.loop-preserved
+loop-preserved c = rw c.in_ok-push.ensures.items (IsRead-more c.loop.invariant c.in_ok-window.ensures)

@@ -1,7 +1,4 @@
 use Rattle.std.proofs.Common.{ap}
-use Rattle.std.specs.Fmt.{signed_decimal}
-use Rattle.std.specs.Int.{w64}
-use Rattle.std.proofs.lemmas.Int.{to_z-of_z}
 use Rattle.asg_doc.specs.Text.{spaced}
 use Rattle.asg_doc.proofs.Flows.{Wrote-append, Wrote-as}
 use Rattle.asg_doc.proofs.ListTexts.{window_whole}
@@ -9,10 +6,7 @@ use Rattle.asg_doc.proofs.window_writer.emit_window.Goals as goal
 
 pub returns : goal.returns
 returns g c =
-    let window = c.args.window.now in
-    Wrote-as (window_whole window)
+    Wrote-as (window_whole c.args.window.now)
     (Wrote-append c.emit.ensures
-    (Wrote-append (Wrote-as (ap signed_decimal (to_z-of_z w64 window.lo c.requires.lo_fits)) c.emit_bound.ensures)
-    (Wrote-append c.emit-2.ensures
-    (Wrote-append (Wrote-as (ap signed_decimal (to_z-of_z w64 window.hi c.requires.hi_fits)) c.emit_bound-2.ensures)
-    (Wrote-append (Wrote-as (ap spaced c.as_slice.ensures.items) c.emit_spaced.ensures) c.emit-3.ensures)))))
+    (Wrote-append c.emit_bounds.ensures
+    (Wrote-append (Wrote-as (ap spaced c.as_slice.ensures.items) c.emit_spaced.ensures) c.emit-2.ensures)))

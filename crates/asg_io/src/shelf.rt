@@ -6,6 +6,7 @@ ghost use Rattle.asg_io.specs.declared.shelf.FetchFault.TheVariants.{NoMemory};
 ghost use Rattle.asg_io.specs.Shelf.{Rose, most_faults, asked_after};
 
 use std::alloc::{AllocError, AllocFailed, Global};
+use std::fmt;
 
 /// Why a fetch gave no contents.
 #[derive(Debug, Clone, Copy, PartialEq, Eq)]
@@ -16,6 +17,16 @@ pub enum FetchFault {
     Failed,
     /// The contents are longer than the limit.
     TooLong,
+}
+
+impl fmt::Display for FetchFault {
+    fn fmt<W: fmt::Write>(&self, f: &mut fmt::Formatter<W>) -> fmt::Result {
+        match self {
+            FetchFault::NoMemory => write!(f, "out of memory"),
+            FetchFault::Failed => write!(f, "the file can't be opened or read"),
+            FetchFault::TooLong => write!(f, "the file is longer than the limit"),
+        }
+    }
 }
 
 impl From<AllocError> for FetchFault {

@@ -4,9 +4,17 @@ ghost use Rattle.std.specs.Prelude.{◌≡◌, ◌≤◌, ℕ, List, [], Option,
 ghost use Rattle.asg_io.specs.Shelf.{Rose, most_faults};
 ghost use Rattle.asg_io.specs.Sink.{Puts, PutsPrefix};
 
+use std::fmt;
+
 /// A put failed: the sink had a fault, which is counted.
 #[derive(Debug, Clone, Copy, PartialEq, Eq)]
 pub struct PutFault;
+
+impl fmt::Display for PutFault {
+    fn fmt<W: fmt::Write>(&self, f: &mut fmt::Formatter<W>) -> fmt::Result {
+        write!(f, "the bytes can't be written")
+    }
+}
 
 /// Takes bytes, piece by piece.
 pub trait Sink {

@@ -3,7 +3,8 @@
 ghost use Rattle.std.specs.Prelude.{◌≡◌};
 ghost use Rattle.asg_model.specs.Bands.{in_band};
 
-/// A band of costs: any cost, the costs below or above a bound, or those between two, both included.
+/// A band of costs: any cost, the costs below or above a bound, or those between two, both
+/// included.
 #[derive(Clone, Copy, Debug, PartialEq, Eq)]
 pub enum Band {
     Whole,

@@ -9,8 +9,8 @@ ghost use Rattle.asg_model.specs.Table.{absent, table_cost, table_cells, AreTabl
 use crate::parts::{ABSENT, Cost, RowParts};
 use std::collections::BTreeMap;
 
-// The costs of cells: in a map by their places, or in a table row by row, the first parts apart from
-// the second. Past the end of the second parts a second part is 0.
+// The costs of cells: in a map by their places, or in a table row by row, the first parts apart
+// from the second. Past the end of the second parts a second part is 0.
 #[derive(Debug, Drop)]
 pub(crate) enum CellStore {
     Map(BTreeMap<(u32, u32), Cost>),

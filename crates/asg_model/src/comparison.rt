@@ -6,8 +6,8 @@ ghost use Rattle.asg_model.specs.Better.{IsBetter, IsBetterNumber, IsLessList};
 use crate::objectives::{Objective, Value};
 
 /// Whether the first value is better than the second, for this objective: greater for the two that
-/// seek the greatest, else less; pairs and lists by their first difference. Values of different forms
-/// are never better than one another. It takes no memory.
+/// seek the greatest, else less; pairs and lists by their first difference. Values of different
+/// forms are never better than one another. It takes no memory.
 pub fn better(objective: Objective, x: &Value, y: &Value) -> bool
     ensures { IsTrue result ↔ IsBetter objective x.now y.now }
 {

@@ -8,8 +8,8 @@ use crate::parts::{Column, Cost, Place, Row, RowParts};
 use std::collections::BTreeMap;
 use std::marker::Model;
 
-/// An instance: rows, columns, the costs of cells by the places of their row and column, and a place
-/// rule. A place counts from 0.
+/// An instance: rows, columns, the costs of cells by the places of their row and column, and a
+/// place rule. A place counts from 0.
 #[derive(Debug, Drop)]
 pub struct Instance {
     pub(crate) rows: Vec<Row>,
@@ -58,9 +58,9 @@ impl Instance {
         }
     }
 
-    /// The instance of these rows and columns and of a whole table of costs, row by row: the first parts,
-    /// [`ABSENT`] where there is no cell, and the second parts, each 0 past the last that is given. It
-    /// takes no memory.
+    /// The instance of these rows and columns and of a whole table of costs, row by row: the first
+    /// parts, [`ABSENT`] where there is no cell, and the second parts, each 0 past the last that is
+    /// given. It takes no memory.
     ///
     /// [`ABSENT`]: crate::ABSENT
     pub fn of_table(
@@ -110,8 +110,8 @@ impl Instance {
         self.place
     }
 
-    /// The cost of the cell at the places of a row and a column; `None` exactly where the cell isn't
-    /// live, as past the end of the rows or the columns.
+    /// The cost of the cell at the places of a row and a column; `None` exactly where the cell
+    /// isn't live, as past the end of the rows or the columns.
     pub fn live(&self, row: u32, col: u32) -> Option<Cost>
         ensures cost { result ≡ live_at self.now row col }
         ensures in_range { IfSome result IsCostInRange }
@@ -181,8 +181,9 @@ impl Instance {
         }
     }
 
-    /// The first parts of the costs of the cells of a row, column by column, live or not, [`ABSENT`]
-    /// exactly where there is no cell; `None` where they don't stand side by side, or past the last row.
+    /// The first parts of the costs of the cells of a row, column by column, live or not,
+    /// [`ABSENT`] exactly where there is no cell; `None` where they don't stand side by side, or
+    /// past the last row.
     ///
     /// [`ABSENT`]: crate::ABSENT
     pub fn row_costs(&self, row: u32) -> Option<&[i64]>
@@ -201,8 +202,8 @@ impl Instance {
         }
     }
 
-    /// Both parts of the costs of the cells of a row, column by column, live or not; `None` where they
-    /// don't stand side by side, or past the last row. So a loop over a row needs no look-up.
+    /// Both parts of the costs of the cells of a row, column by column, live or not; `None` where
+    /// they don't stand side by side, or past the last row. So a loop over a row needs no look-up.
     pub fn row_parts(&self, row: u32) -> Option<RowParts<'_>>
         ensures { IfSome result (λ parts.
             AreRowParts self.now row parts.firsts.now parts.seconds.now) }

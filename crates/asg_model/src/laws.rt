@@ -31,16 +31,16 @@ pub fn pigeonhole_law()
     ensures { (xs ys : List ℕ) → AllPairs ◌≢◌ xs → All (Contains ys) xs → length xs ≤ length ys }
 {}
 
-/// The law of sorted lists: `descending` rearranges the numbers of a list so that none is above one that
-/// stands before it, and no other rearrangement does.
+/// The law of sorted lists: `descending` rearranges the numbers of a list so that none is above one
+/// that stands before it, and no other rearrangement does.
 pub fn descending_law()
     ensures rearranged { (xs : List ℤ) → IsPermutation xs (descending xs) }
     ensures down { (xs : List ℤ) → IsDescending (descending xs) }
     ensures only { (xs ys : List ℤ) → IsPermutation xs ys → IsDescending ys → ys ≡ descending xs }
 {}
 
-/// What a map of cells keeps: cells of so many rows and columns, with costs in range, stay so where such
-/// a cell is inserted.
+/// What a map of cells keeps: cells of so many rows and columns, with costs in range, stay so where
+/// such a cell is inserted.
 pub fn insert_law()
     ensures { (rows columns : ℕ) (cells : List ((ℕ × ℕ) × Cost)) (place : ℕ × ℕ) (cost : Cost) →
         AreCellsOf rows columns cells → place.0 < rows → place.1 < columns → IsCostInRange cost →
@@ -57,8 +57,8 @@ pub fn well_formed_law()
 {}
 
 /// The law of Hall sets of rows: different counted rows are a Hall set where they are more than the
-/// columns which they reach can hold and as many rows as may stay out; and the rows of a Hall set are
-/// counted and different.
+/// columns which they reach can hold and as many rows as may stay out; and the rows of a Hall set
+/// are counted and different.
 pub fn hall_rows_law()
     ensures made { (X : Problem) (band : Band) (ids : List ℕ) →
         AllPairs ◌≢◌ ids → All (λ id. IsTrue (is_counted_id X id)) ids →
@@ -71,15 +71,15 @@ pub fn hall_rows_law()
         IsHall X band ids → reached_capacity X band ids + slack X < length ids }
 {}
 
-/// Whether a choice is valid, and whether rows are a Hall set under a band, is decided: each holds or
-/// it doesn't.
+/// Whether a choice is valid, and whether rows are a Hall set under a band, is decided: each holds
+/// or it doesn't.
 pub fn decision_law()
     ensures valid { (X : Problem) (f : List (Option ℕ)) → Dec (IsValid X f) }
     ensures hall { (X : Problem) (band : Band) (ids : List ℕ) → Dec (IsHall X band ids) }
 {}
 
-/// The Hall law: an instance with a Hall set under a band has no valid choice whose cells all lie in the
-/// band.
+/// The Hall law: an instance with a Hall set under a band has no valid choice whose cells all lie
+/// in the band.
 pub fn hall_law()
     ensures { (X : Problem) (band : Band) (ids : List ℕ) (f : List (Option ℕ)) →
         IsHall X band ids → IsValid X f → LiesIn X band f → ⊥ }
@@ -91,23 +91,24 @@ pub fn infeasible_law()
         IsHall X Whole ids → IsValid X f → ⊥ }
 {}
 
-/// Where the cells below a cost have a Hall set, no valid choice has a better bottleneck value than it.
+/// Where the cells below a cost have a Hall set, no valid choice has a better bottleneck value than
+/// it.
 pub fn bottleneck_law()
     ensures { (X : Problem) (b : ℤ) (ids : List ℕ) (f : List (Option ℕ)) →
         IsHall X (Under b) ids → IsValid X f →
         ¬ IsBetter Bottleneck (choice_value Bottleneck X f) (One b) }
 {}
 
-/// Where the cells above a cost have a Hall set, no valid choice has a better greatest bottleneck value
-/// than it.
+/// Where the cells above a cost have a Hall set, no valid choice has a better greatest bottleneck
+/// value than it.
 pub fn bottleneck_max_law()
     ensures { (X : Problem) (b : ℤ) (ids : List ℕ) (f : List (Option ℕ)) →
         IsHall X (Over b) ids → IsValid X f →
         ¬ IsBetter BottleneckMax (choice_value BottleneckMax X f) (One b) }
 {}
 
-/// The spread law: the costs of a valid choice of an instance lie between that of a cell which it chooses
-/// and as much more as its value for `balanced`.
+/// The spread law: the costs of a valid choice of an instance lie between that of a cell which it
+/// chooses and as much more as its value for `balanced`.
 pub fn spread_law()
     ensures { (X : Problem) (f : List (Option ℕ)) (d : ℤ) →
         IsInstance X → IsValid X f → choice_value Balanced X f ≡ One d → HasSpread X f d }
@@ -120,8 +121,8 @@ pub fn best_bottleneck_law()
         IsBest Bottleneck X f }
 {}
 
-/// A valid choice whose least cost is `b` is best for the greatest bottleneck where the cells above `b`
-/// have a Hall set.
+/// A valid choice whose least cost is `b` is best for the greatest bottleneck where the cells above
+/// `b` have a Hall set.
 pub fn best_bottleneck_max_law()
     ensures { (X : Problem) (b : ℤ) (ids : List ℕ) (f : List (Option ℕ)) →
         IsValid X f → choice_value BottleneckMax X f ≡ One b → IsHall X (Over b) ids →
@@ -136,8 +137,8 @@ pub fn table_law()
         (slice_get firsts (r * columns + c)) }
 {}
 
-/// The law of whole tables: well-formed parts whose ids are below 2^32 are an instance with the cells of
-/// a table of costs that is whole for them.
+/// The law of whole tables: well-formed parts whose ids are below 2^32 are an instance with the
+/// cells of a table of costs that is whole for them.
 pub fn whole_table_law()
     ensures { (rows : List Row) (columns : List Column) (firsts seconds : List ℤ) (place : Place) →
         IsWellFormed (problem_of rows columns [] place) →
@@ -146,8 +147,8 @@ pub fn whole_table_law()
         IsInstance (problem_of rows columns (table_cells (length columns) firsts seconds) place) }
 {}
 
-/// The law of shapes: an instance stays one with another place rule that is in range then, and with one
-/// capacity in range for all columns; and a place rule that passes the test is in range.
+/// The law of shapes: an instance stays one with another place rule that is in range then, and with
+/// one capacity in range for all columns; and a place rule that passes the test is in range.
 pub fn shape_law()
     ensures shaped { (X : Problem) (place : Place) (each : ℕ) → IsInstance X → 1 ≤ each →
         each ≤ most_capacity → IsPlaceInRange (shaped X place each) place →

@@ -1,10 +1,11 @@
 //! The assignment problem: instances, choices of cells, their values, and Hall sets.
 //!
-//! An instance has rows, columns with capacities, the costs of its cells and a place rule; it keeps the
-//! costs in a map or in a table. A choice gives each row one column or none. Contracts see an instance as
-//! a `Problem`, which has its rows, its columns and its cells as lists however they are kept, and a choice
-//! as the list of what its rows choose. Everything here is a definition of the subject, a test of one, or
-//! a law over them: no solver stands in this crate. All crates that speak of instances stand on it.
+//! An instance has rows, columns with capacities, the costs of its cells and a place rule; it keeps
+//! the costs in a map or in a table. A choice gives each row one column or none. Contracts see an
+//! instance as a `Problem`, which has its rows, its columns and its cells as lists however they are
+//! kept, and a choice as the list of what its rows choose. Everything here is a definition of the
+//! subject, a test of one, or a law over them: no solver stands in this crate. All crates that
+//! speak of instances stand on it.
 #![tactic(auto)]
 
 mod bands;

@@ -9,9 +9,10 @@ use crate::instances::Instance;
 use crate::objectives::Objective;
 use crate::parts::Cost;
 
-/// The ids of the row and the column of the first live cell that the objective refuses, row by row and
-/// in each row column by column: `Capped` refuses a negative `a`, `TimeCost` a negative `b`, and no other
-/// objective refuses any. `None` exactly where it refuses no live cell. It takes no memory.
+/// The ids of the row and the column of the first live cell that the objective refuses, row by row
+/// and in each row column by column: `Capped` refuses a negative `a`, `TimeCost` a negative `b`,
+/// and no other objective refuses any. `None` exactly where it refuses no live cell. It takes no
+/// memory.
 pub fn negative(objective: Objective, inst: &Instance) -> Option<(u32, u32)>
     ensures none { IsNone result ↔ PassesNegative objective inst.now }
     ensures found { IfSome result (IsFirstRefused objective inst.now) }

@@ -4,6 +4,7 @@ ghost use Rattle.std.specs.Prelude.{◌≡◌, ◌≢◌, ◌<◌, pos, Some, le
 ghost use Rattle.asg_model.specs.Table.{absent, table_cost};
 
 use crate::cell_store::{present_cost, second_part};
+use std::fmt;
 
 /// What stands in a table of costs where there is no cell.
 pub const ABSENT: i64 = i64::MIN;
@@ -25,7 +26,8 @@ pub struct RowParts<'a> {
 }
 
 impl RowParts<'_> {
-    /// The cost in the column at this place; `None` exactly where there is no cell, as past the last.
+    /// The cost in the column at this place; `None` exactly where there is no cell, as past the
+    /// last.
     #[inline]
     pub fn cost(&self, d: u32) -> Option<Cost>
         ensures { result ≡ table_cost self.now.seconds.now d
@@ -94,3 +96,12 @@ pub enum Place {
 /// The place rule asks for no row, for more rows than there are, or for more than the columns hold.
 #[derive(Clone, Copy, Debug, PartialEq, Eq)]
 pub struct PlaceRange;
+
+impl fmt::Display for PlaceRange {
+    fn fmt<W: fmt::Write>(&self, f: &mut fmt::Formatter<W>) -> fmt::Result {
+        write!(
+            f,
+            "the rows to be placed are none, or more than there are or the columns hold"
+        )
+    }
+}

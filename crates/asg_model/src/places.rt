@@ -9,8 +9,8 @@ use crate::instances::Instance;
 use crate::parts::{Column, Row};
 
 impl Instance {
-    /// The place of the row that has this id; `None` exactly where no row has it. The place before the
-    /// id is looked at first, so that ids which count from 1 cost no search.
+    /// The place of the row that has this id; `None` exactly where no row has it. The place before
+    /// the id is looked at first, so that ids which count from 1 cost no search.
     pub fn row_place(&self, id: u32) -> Option<u32>
         ensures place { result ≡ row_place_of self.now id }
         ensures there { IfSome result (λ row. row < length self.now.rows) }
@@ -27,8 +27,8 @@ impl Instance {
         }
     }
 
-    /// The place of the column that has this id; `None` exactly where no column has it. The place before
-    /// the id is looked at first, so that ids which count from 1 cost no search.
+    /// The place of the column that has this id; `None` exactly where no column has it. The place
+    /// before the id is looked at first, so that ids which count from 1 cost no search.
     pub fn column_place(&self, id: u32) -> Option<u32>
         ensures place { result ≡ column_place_of self.now id }
         ensures there { IfSome result (λ col. col < length self.now.columns) }

@@ -1,5 +1,5 @@
-//! The columns that a row reaches: marks for them, kept in an array of as many places as an instance may
-//! have columns.
+//! The columns that a row reaches: marks for them, kept in an array of as many places as an
+//! instance may have columns.
 
 ghost use Rattle.std.specs.Prelude.{◌≡◌, ◌≤◌, ◌<◌, ℕ, ℤ, ◌+◌, unsigned_abs, false, ◌||◌, ◌&&◌, int_le, IsTrue, All, length, slice_index_or};
 ghost use Rattle.asg_model.specs.Limits.{most_cost, most_columns};
@@ -13,8 +13,8 @@ use crate::bands::Band;
 use crate::instances::Instance;
 use crate::limits::{MOST_COLUMNS, MOST_COST};
 
-// Marks the open columns in which the row that has the id has a live cell of the band; what becomes of the
-// marks of closed ones is left open.
+// Marks the open columns in which the row that has the id has a live cell of the band; what becomes
+// of the marks of closed ones is left open.
 pub(crate) fn reach_id(inst: &Instance, band: Band, id: u32, reached: &mut [bool; MOST_COLUMNS])
     ensures { (c : ℕ) → IsTrue (is_open inst.now c) →
         slice_index_or reached.new c false

@@ -14,9 +14,9 @@ use crate::parts::{Column, Place, PlaceRange};
 use std::alloc::Global;
 
 impl Instance {
-    /// The side of the square to whose perfect assignments the valid choices belong. With n rows and a
-    /// total capacity S, closed columns included: the greater of n and S for `All`, S + n - k for
-    /// `Exactly(k)`. It takes no memory.
+    /// The side of the square to whose perfect assignments the valid choices belong. With n rows
+    /// and a total capacity S, closed columns included: the greater of n and S for `All`, S + n - k
+    /// for `Exactly(k)`. It takes no memory.
     pub fn side(&self) -> u32
         ensures side { result ≡ square_side self.now }
         ensures bound { result ≤ 1001000 }
@@ -42,9 +42,9 @@ impl Instance {
         total
     }
 
-    /// Sets the place rule, and the capacity of each column, 1 to 1,000. The error comes exactly where
-    /// the rule is `Exactly(k)` with k = 0, k above the number of rows, or k above the new total
-    /// capacity; the instance then stays as it was. It takes no memory.
+    /// Sets the place rule, and the capacity of each column, 1 to 1,000. The error comes exactly
+    /// where the rule is `Exactly(k)` with k = 0, k above the number of rows, or k above the new
+    /// total capacity; the instance then stays as it was. It takes no memory.
     pub fn shape(&mut self, place: Place, each: u32) -> Result<(), PlaceRange>
         requires some { 1 ≤ each }
         requires few { each ≤ most_capacity }

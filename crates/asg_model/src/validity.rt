@@ -10,9 +10,9 @@ use crate::choices::Choice;
 use crate::instances::Instance;
 use crate::limits::MOST_COLUMNS;
 
-/// Whether the choice is valid: it is over all rows, each chosen cell is live, no column is chosen more
-/// often than its capacity, and as many rows choose as the place rule says. It takes no memory, and time
-/// in proportion to the rows and columns.
+/// Whether the choice is valid: it is over all rows, each chosen cell is live, no column is chosen
+/// more often than its capacity, and as many rows choose as the place rule says. It takes no
+/// memory, and time in proportion to the rows and columns.
 pub fn is_valid(inst: &Instance, choice: &Choice) -> bool
     ensures { IsTrue result ↔ IsValid inst.now choice.now }
 {

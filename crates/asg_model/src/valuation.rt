@@ -19,9 +19,9 @@ use crate::parts::Cost;
 use crate::sums::{total_a, total_b, total_b_at};
 use std::alloc::Global;
 
-/// The value that the objective gives the choice, in the objective's form: one number, two, or a list.
-/// Its numbers lie in the range of the costs, or in that of the sums of at most 1,000 costs. The error
-/// is want of memory.
+/// The value that the objective gives the choice, in the objective's form: one number, two, or a
+/// list. Its numbers lie in the range of the costs, or in that of the sums of at most 1,000 costs.
+/// The error is want of memory.
 pub fn value(
     alloc: Global,
     objective: Objective,

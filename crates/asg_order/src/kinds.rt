@@ -57,6 +57,7 @@ pub trait Kind {
 
     // The bridge between better choices and lesser folds.
     ghost bridge: { (k : Self) →
-        Bridges (Self.M.monoid_of (monoid k)) (entered k) (objective k) (reach k) } = { λ k. Bridges-from_KeepsOrder (Self.M.monoid_of (monoid k)) (entered k) (objective k)
+        Bridges (Self.M.monoid_of (monoid k)) (entered k) (objective k) (reach k) } = { λ k.
+            Bridges-from_KeepsOrder (Self.M.monoid_of (monoid k)) (entered k) (objective k)
             (reach k) (keeps_order k) };
 }

@@ -33,9 +33,9 @@ pub const TWO_COLUMNS: Fours = [
     1, 5, ABSENT, ABSENT, 2, 6, ABSENT, ABSENT, 3, 7, ABSENT, ABSENT, 4, 8, ABSENT, ABSENT,
 ];
 
-/// The instance of four rows and four columns with these costs, row by row. The second column has the
-/// capacity 3 where `wide` says so, each other 1. `last` tells whether the last row is active and the
-/// last column open.
+/// The instance of four rows and four columns with these costs, row by row. The second column has
+/// the capacity 3 where `wide` says so, each other 1. `last` tells whether the last row is active
+/// and the last column open.
 pub fn four_by_four(
     alloc: Global,
     place: Place,

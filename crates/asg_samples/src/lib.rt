@@ -1,7 +1,7 @@
 //! Instances of small tables, for the tests of other crates.
 //!
-//! A test lists which rows are active, the columns and the costs; an instance is made of them where they
-//! are well-formed. No program stands on this crate.
+//! A test lists which rows are active, the columns and the costs; an instance is made of them where
+//! they are well-formed. No program stands on this crate.
 #![tactic(auto)]
 
 mod faults;

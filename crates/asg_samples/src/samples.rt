@@ -32,9 +32,9 @@ pub struct Sample<'a> {
 
 impl Sample<'_> {
     /// The instance of the sample; its rows and columns have the ids from 1 on. The sample is
-    /// ill-formed exactly where it has no active row, more than 1,000 rows or columns, another number
-    /// of first parts than of cells, a cost or a capacity out of range, or a rule that places no row or
-    /// more rows than there are rows or columns.
+    /// ill-formed exactly where it has no active row, more than 1,000 rows or columns, another
+    /// number of first parts than of cells, a cost or a capacity out of range, or a rule that
+    /// places no row or more rows than there are rows or columns.
     pub fn instance(&self, alloc: Global) -> Result<Instance, Fault>
         ensures rows { IfOk result (λ X. AreRowsOf self.now.rows.now X.rows) }
         ensures columns { IfOk result (λ X. AreColumnsOf self.now.columns.now X.columns) }

@@ -15,6 +15,23 @@ positional name action = record (new_rule name) { action = Some action }
 abbrev pub option : Text → ArgAction → Rule
 option name action = record (new_rule name) { long = Some name; action = Some action }
 
+-- the command without options: a name, and the words after it; the program's own name isn't among
+-- the words
+unfoldable pub words_alone : App
+words_alone = fold with_rule
+    (on_top (λ shape. record shape { no_binary_name = true }) (new_app (codes "asg")))
+    (positional (codes "command") Set ∷ positional (codes "words") Append ∷ [])
+
+-- the options that say how an instance is read
+unfoldable pub reading_options : List Rule
+reading_options =
+    option (codes "format") Set ∷ option (codes "place") Set ∷ option (codes "each") Set ∷ []
+
+-- the options that say what is to be done, and the flag
+unfoldable pub doing_options : List Rule
+doing_options =
+    option (codes "count") Set ∷ option (codes "script") Set ∷ option (codes "brief") SetTrue ∷ []
+
 -- the command: a name, the words after it, five options that take a value each, and a flag; the
 -- program's own name isn't among the words
 unfoldable pub command_line : App

@@ -7,6 +7,7 @@ use crate::FileName;
 use asg_model::{Objective, Place};
 use asg_text::Format;
 use std::alloc::AllocError;
+use std::fmt;
 
 /// What is to be done with an instance.
 #[derive(Debug, Drop)]
@@ -56,6 +57,15 @@ pub enum WordsRefusal {
     Usage,
     /// Memory was wanting.
     NoMemory,
+}
+
+impl fmt::Display for WordsRefusal {
+    fn fmt<W: fmt::Write>(&self, f: &mut fmt::Formatter<W>) -> fmt::Result {
+        match self {
+            WordsRefusal::Usage => write!(f, "the words ask for nothing that can be done"),
+            WordsRefusal::NoMemory => write!(f, "out of memory"),
+        }
+    }
 }
 
 impl From<AllocError> for WordsRefusal {

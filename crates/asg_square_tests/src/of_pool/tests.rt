@@ -17,7 +17,8 @@ const R: ([u64; 1], [u32; 2], [u32; 2]) = ([9], [1, 1], [0, 1]);
 
 const S: ([u64; 2], [u32; 2], [u32; 2]) = ([3, 4], [2, 0], [1, 2]);
 
-// Pushes a phase: the new trail is live and no parent, and each live trail is another one and stays.
+// Pushes a phase: the new trail is live and no parent, and each live trail is another one and
+// stays.
 fn grow(
     region: &mut Region<u64>,
     parent: Option<Trail>,
@@ -126,13 +127,21 @@ fn reserved(alloc: Global, records: u32) -> Result<Region<u64>, NoMemory>
     Ok(region)
 }
 
+// Whether the two trails of a fork are Q and R, each after P.
+fn are_both_shown(region: &Region<u64>, fork: Fork) -> bool
+    requires first { IsLive region.now fork.first }
+    requires second { IsLive region.now fork.second }
+{
+    let (stem, same) = (Some(fork.stem), Some(fork.stem));
+    is_shown(region, fork.first, stem, 2, &Q.0, &Q.1, &Q.2)
+        && is_shown(region, fork.second, same, 2, &R.0, &R.1, &R.2)
+}
+
 #[test]
 fn two_trails_grow_on_one(rt: HostRuntime) -> Result<(), Fail> {
     let mut region = reserved(rt.alloc(), 3)?;
     let fork = forked(&mut region);
-    let stem = Some(fork.stem);
-    assert!(rt; is_shown(&region, fork.first, stem, 2, &Q.0, &Q.1, &Q.2));
-    assert!(rt; is_shown(&region, fork.second, stem, 2, &R.0, &R.1, &R.2));
+    assert!(rt; are_both_shown(&region, fork));
     Ok(())
 }
 

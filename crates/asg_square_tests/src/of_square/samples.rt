@@ -5,8 +5,8 @@ use asg_model::{ABSENT, Instance, Place};
 use asg_samples::{Fault, Sample};
 use std::alloc::Global;
 
-// Three rows and two columns, of capacities 1 and 3, with the costs `4 1 / 2 - / - 3`. `second` tells
-// whether the second row is active and the second column open.
+// Three rows and two columns, of capacities 1 and 3, with the costs `4 1 / 2 - / - 3`. `second`
+// tells whether the second row is active and the second column open.
 pub(crate) fn sample(alloc: Global, place: Place, second: bool) -> Result<Instance, Fault> {
     let sample = Sample {
         rows: &[true, second, true],
@@ -18,8 +18,8 @@ pub(crate) fn sample(alloc: Global, place: Place, second: bool) -> Result<Instan
     sample.instance(alloc)
 }
 
-// Two rows and two columns of capacity 2, with the costs `3 1 / - 5`. `second` tells whether the second
-// column is open.
+// Two rows and two columns of capacity 2, with the costs `3 1 / - 5`. `second` tells whether the
+// second column is open.
 pub(crate) fn table(alloc: Global, second: bool) -> Result<Instance, Fault> {
     let sample = Sample {
         rows: &[true, true],

@@ -133,8 +133,8 @@ fn fills_the_square_of_an_instance(rt: HostRuntime) -> Result<(), Fail> {
     Ok(())
 }
 
-// Whether the second row is active and the second column open, and the cells of the square where three
-// rows are placed and each column holds three.
+// Whether the second row is active and the second column open, and the cells of the square where
+// three rows are placed and each column holds three.
 const SHAPED: [(bool, Cells); 2] = [
     (
         true,

@@ -15,8 +15,8 @@ use asg_square::Square;
 /// Writes a Hall set from rows of a square that together have fewer allowed columns than they are:
 /// the ids of the rows that they stand for, into the first places of `out`. The answer is how many
 /// there are. They are a Hall set of each instance that has these rows, columns and place rule and
-/// whose square has exactly the allowed cells; so where the allowed cells are those of a band, a Hall
-/// set under that band. `out` has at least 1,001 places. It takes no memory.
+/// whose square has exactly the allowed cells; so where the allowed cells are those of a band, a
+/// Hall set under that band. `out` has at least 1,001 places. It takes no memory.
 pub fn hall_of<V: Copy, A: Allowed>(
     square: &Square<V>,
     inst: &Instance,

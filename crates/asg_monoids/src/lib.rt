@@ -1,15 +1,16 @@
 //! The monoids and kinds of the algebraic objectives.
 //!
-//! `sum`, `sum-max`, `pair` and `capped` enter bounded sums, `bottleneck` and `bottleneck-max` enter
-//! maxima, and `time-cost` enters bounded sums with a grade before them. A part of a cost that may
-//! be negative is shifted by the cost limit, or turned round and shifted where greater is better, so
-//! that it enters as a number from 0 on. That keeps the order of values, since valid choices have
-//! equally many cells. The first part for `capped` and the second part for `time-cost`, which aren't
-//! negative, enter as they are.
+//! `sum`, `sum-max`, `pair` and `capped` enter bounded sums, `bottleneck` and `bottleneck-max`
+//! enter maxima, and `time-cost` enters bounded sums with a grade before them. A part of a cost
+//! that may be negative is shifted by the cost limit, or turned round and shifted where greater is
+//! better, so that it enters as a number from 0 on. That keeps the order of values, since valid
+//! choices have equally many cells. The first part for `capped` and the second part for
+//! `time-cost`, which aren't negative, enter as they are.
 //!
-//! Contracts see each monoid by its unit, product and order over numbers, and each kind by the number
-//! as which a cost enters; that the laws hold and that entering keeps the order of values are ghost
-//! members of the impls. The crates that solve, rank and check algebraic objectives stand on it.
+//! Contracts see each monoid by its unit, product and order over numbers, and each kind by the
+//! number as which a cost enters; that the laws hold and that entering keeps the order of values
+//! are ghost members of the impls. The crates that solve, rank and check algebraic objectives stand
+//! on it.
 #![tactic(auto)]
 
 mod grades;

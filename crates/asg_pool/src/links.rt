@@ -9,7 +9,8 @@ use crate::NoMemory;
 use std::alloc::Global;
 use std::marker::Model;
 
-// The record that a record grew on, if any, and how many phases lead to the record, its own among them.
+// The record that a record grew on, if any, and how many phases lead to the record, its own among
+// them.
 #[derive(Clone, Copy)]
 pub(crate) struct Link {
     pub(crate) parent: Option<u32>,

@@ -32,7 +32,8 @@ impl<V: Copy> Records<V> {
         Phase::of(self.steps.take(k), self.enters.take(k), self.leaves.take(k))
     }
 
-    // The phases on the way to a record, if there is one. The error is want of memory for their list alone.
+    // The phases on the way to a record, if there is one. The error is want of memory for their
+    // list alone.
     pub(crate) fn phases_to(
         mut self,
         alloc: Global,

@@ -14,12 +14,13 @@ use asg_proof::Phase;
 use std::alloc::{AllocError, Global};
 use std::marker::Model;
 
-/// A forest of trails over a side. Each trail is a list of phases: that of its parent, if it has one, and
-/// then one more. A phase is stored once, in a record of its own, and serves every trail that grows on it.
+/// A forest of trails over a side. Each trail is a list of phases: that of its parent, if it has
+/// one, and then one more. A phase is stored once, in a record of its own, and serves every trail
+/// that grows on it.
 ///
-/// Only `reserve` takes memory: for each record three lists with room for as many entries as the side (the
-/// size of a step and 8 bytes each), and about 100 bytes more. What no phase is written into isn't
-/// touched. `into_phases` gives the lists of a trail away again.
+/// Only `reserve` takes memory: for each record three lists with room for as many entries as the
+/// side (the size of a step and 8 bytes each), and about 100 bytes more. What no phase is written
+/// into isn't touched. `into_phases` gives the lists of a trail away again.
 #[derive(Drop)]
 pub struct Region<V: Copy> {
     side: u32,
@@ -41,8 +42,8 @@ impl<V: Copy> Model for Region<V> {
 }
 
 impl<V: Copy> Region<V> {
-    /// A region for phases over `side` rows and columns, with no trail and none spare. The error is want
-    /// of memory.
+    /// A region for phases over `side` rows and columns, with no trail and none spare. The error is
+    /// want of memory.
     pub fn make(alloc: Global, side: u32) -> Result<Region<V>, NoMemory>
         ensures { IfOk result (λ r. r ≡ record { side = side; spare = 0; trails = [] }) }
     {
@@ -55,8 +56,8 @@ impl<V: Copy> Region<V> {
         })
     }
 
-    /// Takes memory so that at least so many records are spare. Trails and their lists stay. The error is
-    /// want of memory, and then all is as before.
+    /// Takes memory so that at least so many records are spare. Trails and their lists stay. The
+    /// error is want of memory, and then all is as before.
     pub fn reserve(&mut self, records: u32) -> Result<(), NoMemory>
         ensures ok { OnOk result (self.new ≡ record self.old { spare = max self.old.spare records }) }
         ensures err { OnErr result (self.new ≡ self.old) }
@@ -72,9 +73,9 @@ impl<V: Copy> Region<V> {
         self.links.reserve(room)
     }
 
-    /// Pushes a phase on a trail, or on none, and gives the trail of both. `steps` are 1 to side values,
-    /// `enters` and `leaves` a step for each row and each column. A record must be spare, and one fewer is
-    /// then. Every other trail keeps its list and its parent. It takes no memory.
+    /// Pushes a phase on a trail, or on none, and gives the trail of both. `steps` are 1 to side
+    /// values, `enters` and `leaves` a step for each row and each column. A record must be spare,
+    /// and one fewer is then. Every other trail keeps its list and its parent. It takes no memory.
     pub fn push(
         &mut self,
         parent: Option<Trail>,
@@ -103,8 +104,8 @@ impl<V: Copy> Region<V> {
         Trail::at(number)
     }
 
-    /// Frees the record of a trail that is no live trail's parent. It is live no more, every other trail
-    /// keeps its list and its parent, and one more record is spare. It takes no memory.
+    /// Frees the record of a trail that is no live trail's parent. It is live no more, every other
+    /// trail keeps its list and its parent, and one more record is spare. It takes no memory.
     pub fn release(&mut self, trail: Trail)
         requires live { IsLive self.old trail }
         requires leaf { IsLeaf self.old trail }
@@ -160,9 +161,9 @@ impl<V: Copy> Region<V> {
         self.leaves.row(trail.number())
     }
 
-    /// The phases that lead to a trail, in order; none where there is no trail. The region is given away:
-    /// the lists of these phases are moved out of it, and all else is let go of. The error is want of
-    /// memory for the list of the phases alone.
+    /// The phases that lead to a trail, in order; none where there is no trail. The region is given
+    /// away: the lists of these phases are moved out of it, and all else is let go of. The error is
+    /// want of memory for the list of the phases alone.
     pub fn into_phases(self, alloc: Global, last: Option<Trail>) -> Result<Vec<Phase<V>>, NoMemory>
         requires { IfSome last (IsLive self) }
         ensures { IfOk result (λ phases. phases.items ≡ phases_to self last) }

@@ -8,8 +8,8 @@ use std::alloc::Global;
 use std::marker::Model;
 use std::mem;
 
-// Rows of at most so many values: the first `used` of the lists. Memory is taken by `reserve` alone, and
-// what no row was written into isn't touched.
+// Rows of at most so many values: the first `used` of the lists. Memory is taken by `reserve`
+// alone, and what no row was written into isn't touched.
 #[derive(Drop)]
 pub(crate) struct Strips<T: Copy> {
     alloc: Global,

@@ -28,8 +28,8 @@ use asg_order::DMonoid;
 use asg_order::laws::differences;
 use asg_square::laws::square_law;
 
-/// A valid choice of an instance that a proof proves is best, where the objective refuses no cost of
-/// the instance: `capped` and `time-cost` refuse negative parts, the others nothing.
+/// A valid choice of an instance that a proof proves is best, where the objective refuses no cost
+/// of the instance: `capped` and `time-cost` refuse negative parts, the others nothing.
 pub fn best_law()
     ensures { (objective : Objective) (X : Problem) (choice : List (Option ℕ)) (proof : Proof) →
         IsInstance X → PassesNegative objective X →
@@ -43,8 +43,8 @@ pub fn best_law()
     square_law::<(u64, u128)>();
 }
 
-/// An outcome tells the truth: its choice is best, where the objective refuses no cost of the instance,
-/// or no choice is valid.
+/// An outcome tells the truth: its choice is best, where the objective refuses no cost of the
+/// instance, or no choice is valid.
 pub fn outcome_law()
     ensures best { (objective : Objective) (X : Problem) (choice : List (Option ℕ))
         (proof : Proof) → IsInstance X → PassesNegative objective X →
@@ -125,7 +125,8 @@ pub fn phases_law<M: DMonoid>(m: &M)
 {}
 
 /// The lower-bound law: the index that phases prove for an instance is at most the product of the
-/// entered costs of each valid choice. So of a choice whose product is the index none has a lesser one.
+/// entered costs of each valid choice. So of a choice whose product is the index none has a lesser
+/// one.
 pub fn lower_bound_law<M: DMonoid>(m: &M)
     ensures bound { let monoid = M.monoid_of m.now in
         (enter : Cost → M.Value) (X : Problem) (phases : List (PhaseOf M.Value)) (z : M.Value)
@@ -148,9 +149,9 @@ pub fn lower_bound_law<M: DMonoid>(m: &M)
     square_law::<M::Value>();
 }
 
-/// The raised-cells law: phases that are admitted from a square are admitted from it also where cells
-/// were raised or removed, and then the cells after them are raised or removed. So where live cells of
-/// an instance were raised or removed, phases prove what they proved.
+/// The raised-cells law: phases that are admitted from a square are admitted from it also where
+/// cells were raised or removed, and then the cells after them are raised or removed. So where live
+/// cells of an instance were raised or removed, phases prove what they proved.
 pub fn raised_law<M: DMonoid>(m: &M)
     ensures admitted { let monoid = M.monoid_of m.now in
         (side : ℕ) (phases : List (PhaseOf M.Value)) (before after : ℕ → ℕ → Option M.Value)
@@ -184,9 +185,9 @@ pub fn raised_law<M: DMonoid>(m: &M)
     differences(m);
 }
 
-/// The tops law: phases that are admitted in turn where sums stop at a top are admitted where they stop
-/// at a greater one, from the same square; and an index below the lesser top stays. So what they prove
-/// of an instance by the lesser top they prove by the greater one.
+/// The tops law: phases that are admitted in turn where sums stop at a top are admitted where they
+/// stop at a greater one, from the same square; and an index below the lesser top stays. So what
+/// they prove of an instance by the lesser top they prove by the greater one.
 pub fn tops_law()
     ensures admitted { (low high side : ℕ) (phases : List (PhaseOf ℕ)) (square : ℕ → ℕ → Option ℕ)
         → low ≤ high

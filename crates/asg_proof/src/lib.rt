@@ -6,8 +6,8 @@
 //! list of numbers, and a proof and an outcome by their variants. The solving crates give outcomes,
 //! documents write them, and the checker tests them; nothing here solves or tests.
 //!
-//! Phases of steps on a square prove lower bounds for algebraic objectives: an admitted step takes its
-//! value from the product of each perfect assignment, whatever d-monoid the values are of.
+//! Phases of steps on a square prove lower bounds for algebraic objectives: an admitted step takes
+//! its value from the product of each perfect assignment, whatever d-monoid the values are of.
 #![tactic(auto)]
 
 pub mod laws;

@@ -14,8 +14,8 @@ pub enum Proof {
     /// For the two bottleneck objectives: rows that are a Hall set of the cells whose costs are
     /// strictly better than the value.
     Below(Ids),
-    /// For `balanced`: windows whose rows are Hall sets of their bands, and of which, where the value d
-    /// is above 0, for each cost v of a live cell one holds the costs from v to v + d - 1.
+    /// For `balanced`: windows whose rows are Hall sets of their bands, and of which, where the
+    /// value d is above 0, for each cost v of a live cell one holds the costs from v to v + d - 1.
     Windows(Windows),
 }
 

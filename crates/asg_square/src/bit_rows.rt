@@ -67,8 +67,8 @@ impl BitRows {
         self.words[place] = word;
     }
 
-    /// Sets or clears the 64 bits of a word of a row at once, those of the columns from `64 * number`
-    /// on. The word has no bit past the last column. It takes no memory.
+    /// Sets or clears the 64 bits of a word of a row at once, those of the columns from `64 *
+    /// number` on. The word has no bit past the last column. It takes no memory.
     pub fn put_word(&mut self, r: u32, number: u32, word: u64)
         requires row_below { r < self.old.rows }
         requires number_below { number < word_count self.old.columns }
@@ -79,8 +79,8 @@ impl BitRows {
         self.words[(r * self.width + number) as usize] = word;
     }
 
-    /// The words of a row: bit `c % 64` of word `c / 64` says whether column `c` is set, and no bit past
-    /// the last column is. It takes no memory.
+    /// The words of a row: bit `c % 64` of word `c / 64` says whether column `c` is set, and no bit
+    /// past the last column is. It takes no memory.
     pub fn row(&self, r: u32) -> &[u64]
         requires { r < self.now.rows }
         ensures words { AreWordsOf (has_bit self.now r) self.now.columns result.now }

@@ -1,4 +1,5 @@
-//! Square tables of optional values: plain values row by row, and rows of bits that say which are there.
+//! Square tables of optional values: plain values row by row, and rows of bits that say which are
+//! there.
 
 ghost use Rattle.std.specs.Prelude.{◌≡◌, ◌<◌, ◌≤◌, ◌+◌, ◌*◌, length, Some, is_some, IsSome, IfOk, IfSome, slice_set};
 ghost use Rattle.asg_model.specs.declared.bands.Band.TheVariants.{Whole};
@@ -112,8 +113,8 @@ impl<V: Copy> CellTable<V> {
         change_row(&mut self.values, start, side, words, change);
     }
 
-    // Writes 64 cells of a row, fewer at its end: those of a row with this label, by its parts where it
-    // is counted.
+    // Writes 64 cells of a row, fewer at its end: those of a row with this label, by its parts
+    // where it is counted.
     pub(crate) fn fill_piece<E: Fn(Cost) -> V>(
         &mut self,
         inst: &Instance,

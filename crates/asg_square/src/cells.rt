@@ -54,8 +54,8 @@ pub(crate) fn fill_cells<V: Copy, E: Fn(Cost) -> V>(
     }
 }
 
-// Writes the cells of one row of the square: of a row that isn't counted and of one that is live as a
-// whole 64 at a time, of each other one by one.
+// Writes the cells of one row of the square: of a row that isn't counted and of one that is live as
+// a whole 64 at a time, of each other one by one.
 fn fill_row<V: Copy, E: Fn(Cost) -> V>(
     inst: &Instance,
     free: V,

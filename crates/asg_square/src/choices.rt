@@ -10,9 +10,9 @@ use asg_model::{Choice, Instance};
 use std::alloc::Global;
 
 impl<V: Copy> Square<V> {
-    /// The choice of a perfect assignment: a row that stands for an instance row gives it the column
-    /// whose copy it takes, or none. It is valid in each instance whose square has these labels and at
-    /// least these cells. The error is want of memory.
+    /// The choice of a perfect assignment: a row that stands for an instance row gives it the
+    /// column whose copy it takes, or none. It is valid in each instance whose square has these
+    /// labels and at least these cells. The error is want of memory.
     pub fn choice_of(&self, alloc: Global, perm: &[u32]) -> Result<Choice, NoMemory>
         requires perm { IsPerm self.now perm.now }
         ensures choice { IfOk result (λ f. f ≡ grid_choice self.now perm.now) }
@@ -23,8 +23,8 @@ impl<V: Copy> Square<V> {
         Ok(out)
     }
 
-    /// Writes the choice of a perfect assignment, as [`Square::choice_of`] gives it, into a choice over
-    /// the rows of the instance. It takes no memory.
+    /// Writes the choice of a perfect assignment, as [`Square::choice_of`] gives it, into a choice
+    /// over the rows of the instance. It takes no memory.
     pub fn choice_into(&self, perm: &[u32], out: &mut Choice)
         requires perm { IsPerm self.now perm.now }
         requires out { length out.old ≡ self.now.rows }
@@ -50,9 +50,9 @@ impl<V: Copy> Square<V> {
         }
     }
 
-    /// A perfect assignment with this choice, which is valid for the instance whose square this is. A
-    /// row that chooses takes the first copy of its column that no row before it took; the other rows
-    /// take the columns that are left, the last ones first. The error is want of memory.
+    /// A perfect assignment with this choice, which is valid for the instance whose square this is.
+    /// A row that chooses takes the first copy of its column that no row before it took; the other
+    /// rows take the columns that are left, the last ones first. The error is want of memory.
     pub fn perm_of(
         &self,
         alloc: Global,

@@ -15,9 +15,10 @@ ghost use Rattle.asg_square.specs.Cells.{square_cell, IsAssignment, IsSquareChoi
 ghost use Rattle.asg_square.specs.Grid.{Grid, IsSquareOf, IsWithinSquareOf, CoversSquareOf, IsPerm, grid_choice};
 ghost use Rattle.asg_square.specs.Presence.{has_cell};
 
-/// The square law: the choices of the perfect assignments of an instance's square are exactly the valid
-/// choices. The values of such an assignment are, row by row, the entered costs of the rows that choose
-/// and the free value of all others, so that both folds are equal where the free value is the unit.
+/// The square law: the choices of the perfect assignments of an instance's square are exactly the
+/// valid choices. The values of such an assignment are, row by row, the entered costs of the rows
+/// that choose and the free value of all others, so that both folds are equal where the free value
+/// is the unit.
 pub fn square_law<V: Copy>()
     ensures choices { (X : Problem) (free : V) (enter : Cost → V) (f : List (Option ℕ)) → IsInstance X →
         IsValid X f ↔ IsSquareChoice X free enter f }
@@ -33,8 +34,8 @@ pub fn square_law<V: Copy>()
         is_some (square_cell X free enter r c) ≡ has_cell X Whole r c }
 {}
 
-/// A square that is that of an instance has cells exactly where the instance's has some, so its perfect
-/// assignments are those of the definition, with the same choices.
+/// A square that is that of an instance has cells exactly where the instance's has some, so its
+/// perfect assignments are those of the definition, with the same choices.
 pub fn grid_law<V: Copy>()
     ensures within { (X : Problem) (free : V) (enter : Cost → V) (Q : Grid V) →
         IsSquareOf X free enter Q → IsWithinSquareOf X Q }

@@ -1,5 +1,5 @@
-//! Cells of a row of the square, up to 64 of them at a time: their values, and a word whose bits say which
-//! are present.
+//! Cells of a row of the square, up to 64 of them at a time: their values, and a word whose bits
+//! say which are present.
 
 ghost use Rattle.std.specs.Prelude.{◌≡◌, ◌≢◌, ℕ, ◌<◌, ◌≤◌, ◌+◌, ◌||◌, IsTrue, IfSome, Some, None, is_some, length, slice_get, slice_index_or};
 ghost use Rattle.std.specs.Option.{option_map};
@@ -114,7 +114,8 @@ fn are_present(firsts: &[i64]) -> bool
     is_whole
 }
 
-// The values of a counted row's cells in the columns from the place `first` on, all of them present.
+// The values of a counted row's cells in the columns from the place `first` on, all of them
+// present.
 #[inline]
 fn enter_present<V: Copy, E: Fn(Cost) -> V>(
     inst: &Instance,
@@ -144,8 +145,8 @@ fn enter_present<V: Copy, E: Fn(Cost) -> V>(
     }
 }
 
-// The cells of a counted row in columns with these labels, by the parts of the row. `is_plain` tells
-// that the columns are the only copies of 64 columns from the place `first` on.
+// The cells of a counted row in columns with these labels, by the parts of the row. `is_plain`
+// tells that the columns are the only copies of 64 columns from the place `first` on.
 #[inline]
 fn counted_piece<V: Copy, E: Fn(Cost) -> V>(
     inst: &Instance,
@@ -252,8 +253,9 @@ fn has_corner(place: Place) -> bool
     }
 }
 
-// The cells of a row with this label in columns with these labels, by the parts of the row where it is
-// counted. `is_plain` tells that the columns are the only copies of 64 columns from the place `first` on.
+// The cells of a row with this label in columns with these labels, by the parts of the row where it
+// is counted. `is_plain` tells that the columns are the only copies of 64 columns from the place
+// `first` on.
 #[inline]
 pub(crate) fn row_piece<V: Copy, E: Fn(Cost) -> V>(
     inst: &Instance,

@@ -5,8 +5,8 @@ ghost use Rattle.asg_square.specs.BitTable.{is_bit_set, word_count};
 ghost use Rattle.asg_square.specs.Changes.{MayChange, ChangesValues};
 ghost use Rattle.asg_model.specs.Limits.{most_side};
 
-// Changes the values of a row of cells that stands in a list from a place on, where the words say that the
-// cells are present.
+// Changes the values of a row of cells that stands in a list from a place on, where the words say
+// that the cells are present.
 #[inline]
 pub(crate) fn change_row<V: Copy, F: Fn(u32, V) -> V>(
     values: &mut Vec<V>,

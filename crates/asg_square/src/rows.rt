@@ -16,8 +16,8 @@ use crate::labels::is_active;
 use crate::pieces::row_piece;
 use asg_model::{Cost, Instance, Place, RowParts};
 
-// What the columns of the square are copies of. The first `plain` of them are the only copies of the
-// columns at their places.
+// What the columns of the square are copies of. The first `plain` of them are the only copies of
+// the columns at their places.
 #[derive(Clone, Copy)]
 pub(crate) struct ColumnLabels<'a> {
     pub(crate) labels: &'a [Option<u32>],
@@ -83,8 +83,8 @@ fn live_row(inst: &Instance, i: u32) -> Option<RowParts<'_>>
     }
 }
 
-// What the cells of a row with this label are made of, 64 at a time: nothing where it isn't counted, else
-// the parts of its costs, where they stand side by side and all its cells are live.
+// What the cells of a row with this label are made of, 64 at a time: nothing where it isn't
+// counted, else the parts of its costs, where they stand side by side and all its cells are live.
 pub(crate) fn row_parts(inst: &Instance, row: Option<u32>, are_open: bool) -> Option<RowParts<'_>>
     requires { IsTrue are_open → AreAllOpen inst.now }
     ensures { IfSome result (λ parts.

@@ -18,8 +18,8 @@ use asg_model::{Cost, Instance};
 use std::alloc::Global;
 use std::marker::Model;
 
-/// A square of optional values, with the instance row that each of its rows stands for and the instance
-/// column that each of its columns is a copy of.
+/// A square of optional values, with the instance row that each of its rows stands for and the
+/// instance column that each of its columns is a copy of.
 #[derive(Drop)]
 pub struct Square<V: Copy> {
     rows: u32,
@@ -39,8 +39,8 @@ impl<V: Copy> Model for Square<V> {
 }
 
 impl<V: Copy> Square<V> {
-    /// The square of the instance: a live cell holds what its cost enters as, and each free cell `free`.
-    /// The error is want of memory.
+    /// The square of the instance: a live cell holds what its cost enters as, and each free cell
+    /// `free`. The error is want of memory.
     pub fn of<E: Fn(Cost) -> V>(
         alloc: Global,
         inst: &Instance,
@@ -67,8 +67,8 @@ impl<V: Copy> Square<V> {
         Ok(square)
     }
 
-    /// Makes this square that of the instance, as [`Square::of`] gives it. The side stays, so it is the
-    /// side of the instance's square. It takes no memory.
+    /// Makes this square that of the instance, as [`Square::of`] gives it. The side stays, so it is
+    /// the side of the instance's square. It takes no memory.
     pub fn fill<E: Fn(Cost) -> V>(&mut self, inst: &Instance, free: V, enter: &E)
         requires side { self.old.side ≡ square_side inst.now }
         requires enters { MayEnterEach inst.now (E.pre enter.now) }
@@ -100,8 +100,8 @@ impl<V: Copy> Square<V> {
         self.rows
     }
 
-    /// The place of the instance row that this row stands for: of an active row where all are placed, of
-    /// any row where the rule says how many are.
+    /// The place of the instance row that this row stands for: of an active row where all are
+    /// placed, of any row where the rule says how many are.
     pub fn row_label(&self, r: u32) -> Option<u32>
         requires { r < self.now.side }
         ensures { slice_get self.now.row_labels r ≡ Some result }
@@ -136,8 +136,8 @@ impl<V: Copy> Square<V> {
         self.cells.set(r, c, cell);
     }
 
-    /// Gives a present cell another value. All other cells, the side and the labels stay. It takes no
-    /// memory.
+    /// Gives a present cell another value. All other cells, the side and the labels stay. It takes
+    /// no memory.
     pub fn replace(&mut self, r: u32, c: u32, value: V)
         requires row_below { r < self.old.side }
         requires column_below { c < self.old.side }
@@ -148,8 +148,8 @@ impl<V: Copy> Square<V> {
         self.cells.replace(r, c, value);
     }
 
-    /// Gives each present cell of a row the value that `change` makes of its column and its value. All
-    /// other cells, the side and the labels stay. It takes no memory.
+    /// Gives each present cell of a row the value that `change` makes of its column and its value.
+    /// All other cells, the side and the labels stay. It takes no memory.
     pub fn map_row<F: Fn(u32, V) -> V>(&mut self, r: u32, change: &F)
         requires row { r < self.old.side }
         requires changes { MayMapRow (cell_at self.old r) (F.pre change.now) }
@@ -173,8 +173,8 @@ impl<V: Copy> Square<V> {
         self.cells.values()
     }
 
-    /// Which cells of a row are present: bit `c % 64` of word `c / 64` says it of column `c`, and no
-    /// bit past the last column is set.
+    /// Which cells of a row are present: bit `c % 64` of word `c / 64` says it of column `c`, and
+    /// no bit past the last column is set.
     pub fn row_words(&self, r: u32) -> &[u64]
         requires { r < self.now.side }
         ensures { AreWordsOf (λ c. is_some (cell_at self.now r c)) self.now.side result.now }

@@ -1,4 +1,3 @@
 //! Tests of `asg_proof`.
 
-mod samples;
 mod tests;

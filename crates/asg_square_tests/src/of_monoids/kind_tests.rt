@@ -8,57 +8,62 @@ use asg_model::{Cost, Objective};
 use asg_monoids::{PeakKind, SumKind, TimeKind};
 use asg_order::{Kind, Ordered};
 
+const COST: Cost = Cost { a: 4, b: 7 };
+
+const LEAST: Cost = Cost {
+    a: -1_000_000_000,
+    b: -1_000_000_000,
+};
+
+const GREATEST: Cost = Cost {
+    a: 1_000_000_000,
+    b: 1_000_000_000,
+};
+
+// Whether costs enter as these sums.
+fn are_sums() -> bool {
+    let sum = SumKind::of(Objective::Sum);
+    let sum_max = SumKind::of(Objective::SumMax);
+    let sums = [sum.enter(COST), sum.enter(LEAST), sum.enter(GREATEST)];
+    let turned = [
+        sum_max.enter(COST),
+        sum_max.enter(LEAST),
+        sum_max.enter(GREATEST),
+    ];
+    sums == [1_000_000_004, 0, 2_000_000_000] && turned == [999_999_996, 2_000_000_000, 0]
+}
+
+// Whether costs enter as these pairs and capped sums.
+fn are_paired_and_capped() -> bool {
+    let pairs = SumKind::of(Objective::SumPair);
+    let three = SumKind::of(Objective::Capped(3));
+    let many = SumKind::of(Objective::Capped(3_000_000_000));
+    let entered = [
+        pairs.enter(COST),
+        pairs.enter(LEAST),
+        three.enter(COST),
+        many.enter(GREATEST),
+    ];
+    entered == [4_398_046_528_697_186_044_423, 0, 3, 1_000_000_000]
+        && three.objective() == Objective::Capped(3)
+        && three.monoid().top == 3
+}
+
+// Whether costs enter as these peaks, and as this pair of a time and a cost.
+fn are_peaks_and_times() -> bool {
+    let peak = PeakKind::of(Objective::Bottleneck);
+    let turned = PeakKind::of(Objective::BottleneckMax);
+    [peak.enter(COST), turned.enter(COST)] == [1_000_000_004, 999_999_996]
+        && peak.objective() == Objective::Bottleneck
+        && TimeKind::new().enter(COST) == (1_000_000_004, 7)
+        && TimeKind::new().objective() == Objective::TimeCost
+}
+
 #[test]
 fn entered_costs(rt: HostRuntime) {
-    let cost = Cost { a: 4, b: 7 };
-    let least = Cost {
-        a: -1_000_000_000,
-        b: -1_000_000_000,
-    };
-    let greatest = Cost {
-        a: 1_000_000_000,
-        b: 1_000_000_000,
-    };
-    let cases = [
-        (SumKind::of(Objective::Sum).enter(cost), 1_000_000_004),
-        (SumKind::of(Objective::SumMax).enter(cost), 999_999_996),
-        (
-            SumKind::of(Objective::SumPair).enter(cost),
-            4_398_046_528_697_186_044_423,
-        ),
-        (SumKind::of(Objective::Capped(3)).enter(cost), 3),
-        (SumKind::of(Objective::Sum).enter(least), 0),
-        (SumKind::of(Objective::SumMax).enter(least), 2_000_000_000),
-        (SumKind::of(Objective::SumPair).enter(least), 0),
-        (SumKind::of(Objective::Sum).enter(greatest), 2_000_000_000),
-        (SumKind::of(Objective::SumMax).enter(greatest), 0),
-        (
-            SumKind::of(Objective::Capped(3_000_000_000)).enter(greatest),
-            1_000_000_000,
-        ),
-        (
-            PeakKind::of(Objective::Bottleneck).enter(cost) as u128,
-            1_000_000_004,
-        ),
-        (
-            PeakKind::of(Objective::BottleneckMax).enter(cost) as u128,
-            999_999_996,
-        ),
-    ];
-    for (got, want) in cases {
-        assert_eq!(rt; got, want);
-    }
-    assert_eq!(rt; TimeKind::new().enter(cost), (1_000_000_004, 7));
-    assert_eq!(rt;
-        SumKind::of(Objective::Capped(3)).objective(),
-        Objective::Capped(3)
-    );
-    assert_eq!(rt; SumKind::of(Objective::Capped(3)).monoid().top, 3);
-    assert_eq!(rt;
-        PeakKind::of(Objective::Bottleneck).objective(),
-        Objective::Bottleneck
-    );
-    assert_eq!(rt; TimeKind::new().objective(), Objective::TimeCost);
+    assert!(rt; are_sums());
+    assert!(rt; are_paired_and_capped());
+    assert!(rt; are_peaks_and_times());
 }
 
 // A cost of parts from 0 on, which may enter for every objective.
@@ -163,23 +168,29 @@ const ASSIGNMENTS: [Products; 6] = [
     ),
 ];
 
+// Whether the products of the entered values are these.
+fn are_products(products: &Products) -> bool {
+    let (parts, sum, sum_max, pair, capped, bottleneck, bottleneck_max, time) = *products;
+    let costs = (cost(parts[0]), cost(parts[1]), cost(parts[2]));
+    let joined = u128::from(pair.0) * (1 << 42) + u128::from(pair.1);
+    let sums = [
+        entered(&SumKind::of(Objective::Sum), costs),
+        entered(&SumKind::of(Objective::SumMax), costs),
+        entered(&SumKind::of(Objective::SumPair), costs),
+        entered(&SumKind::of(Objective::Capped(7)), costs),
+    ];
+    let peaks = [
+        entered(&PeakKind::of(Objective::Bottleneck), costs),
+        entered(&PeakKind::of(Objective::BottleneckMax), costs),
+    ];
+    sums == [sum, sum_max, joined, capped]
+        && peaks == [bottleneck, bottleneck_max]
+        && entered(&TimeKind::new(), costs) == time
+}
+
 #[test]
 fn products_of_assignments(rt: HostRuntime) {
-    for (parts, sum, sum_max, pair, capped, bottleneck, bottleneck_max, time) in ASSIGNMENTS {
-        let costs = (cost(parts[0]), cost(parts[1]), cost(parts[2]));
-        assert_eq!(rt; entered(&SumKind::of(Objective::Sum), costs), sum);
-        assert_eq!(rt; entered(&SumKind::of(Objective::SumMax), costs), sum_max);
-        let joined = u128::from(pair.0) * (1 << 42) + u128::from(pair.1);
-        assert_eq!(rt; entered(&SumKind::of(Objective::SumPair), costs), joined);
-        assert_eq!(rt; entered(&SumKind::of(Objective::Capped(7)), costs), capped);
-        assert_eq!(rt;
-            entered(&PeakKind::of(Objective::Bottleneck), costs),
-            bottleneck
-        );
-        assert_eq!(rt;
-            entered(&PeakKind::of(Objective::BottleneckMax), costs),
-            bottleneck_max
-        );
-        assert_eq!(rt; entered(&TimeKind::new(), costs), time);
+    for products in &ASSIGNMENTS {
+        assert!(rt; are_products(products));
     }
 }

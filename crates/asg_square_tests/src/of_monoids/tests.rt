@@ -41,80 +41,104 @@ fn read_back<M: Written>(m: &M, x: M::Value) -> Option<M::Value> {
     }
 }
 
+// Whether sums that stop at 10 answer so.
+fn are_bounded() -> bool {
+    let ten = Bounded { top: 10 };
+    let products = [
+        product(&ten, 7, 5),
+        product(&ten, 2, 5),
+        product(&ten, 11, 5),
+    ];
+    let others = [
+        difference(&ten, 10, 7),
+        difference(&ten, 3, 7),
+        read_back(&ten, 7),
+        Some(ten.unit()),
+        Some(fold(&ten, &[1, 2, 3])),
+    ];
+    products == [Some(10), Some(7), None]
+        && others == [Some(3), Some(0), Some(7), Some(0), Some(6)]
+        && is_at_most(&ten, 7, 5) == Some(false)
+}
+
+// Whether the greater of two numbers is answered so.
+fn are_greatest() -> bool {
+    let word = Word {
+        grade: 1,
+        amount: 0,
+    };
+    let values = [
+        product(&Greatest, 3, 5),
+        difference(&Greatest, 5, 3),
+        difference(&Greatest, 5, 5),
+        read_back(&Greatest, 5),
+        Some(Greatest.unit()),
+        Greatest.from_word(word),
+    ];
+    values == [Some(5), Some(5), Some(0), Some(5), Some(0), None]
+        && is_at_most(&Greatest, 5, 5) == Some(true)
+}
+
 #[test]
 fn bounded_and_greatest(rt: HostRuntime) {
-    let ten = Bounded { top: 10 };
-    let cases = [
-        (product(&ten, 7, 5), Some(10)),
-        (product(&ten, 2, 5), Some(7)),
-        (product(&ten, 11, 5), None),
-        (difference(&ten, 10, 7), Some(3)),
-        (difference(&ten, 3, 7), Some(0)),
-        (read_back(&ten, 7), Some(7)),
-        (Some(ten.unit()), Some(0)),
-        (Some(fold(&ten, &[1, 2, 3])), Some(6)),
+    assert!(rt; are_bounded());
+    assert!(rt; are_greatest());
+}
+
+// Whether sums that stop at 100 answer so in grades.
+fn are_graded() -> bool {
+    let pairs = Graded {
+        inner: Bounded { top: 100 },
+    };
+    let word = Word {
+        grade: 1,
+        amount: 101,
+    };
+    let products = [
+        product(&pairs, (3, 5), (3, 2)),
+        product(&pairs, (3, 5), (1, 9)),
+        product(&pairs, (1, 5), (3, 0)),
     ];
-    for (got, want) in cases {
-        assert_eq!(rt; got, want);
-    }
-    let cases = [
-        (product(&Greatest, 3, 5), Some(5)),
-        (difference(&Greatest, 5, 3), Some(5)),
-        (difference(&Greatest, 5, 5), Some(0)),
-        (read_back(&Greatest, 5), Some(5)),
-        (Some(Greatest.unit()), Some(0)),
-        (
-            Greatest.from_word(Word {
-                grade: 1,
-                amount: 0,
-            }),
-            None,
-        ),
+    let differences = [
+        difference(&pairs, (3, 7), (3, 5)),
+        difference(&pairs, (3, 7), (1, 9)),
+        difference(&pairs, (1, 0), (3, 5)),
     ];
-    for (got, want) in cases {
-        assert_eq!(rt; got, want);
-    }
-    assert_eq!(rt; is_at_most(&ten, 7, 5), Some(false));
-    assert_eq!(rt; is_at_most(&Greatest, 5, 5), Some(true));
+    let others = [
+        read_back(&pairs, (3, 7)),
+        Some(pairs.unit()),
+        pairs.from_word(word),
+    ];
+    products == [Some((3, 7)), Some((3, 5)), Some((3, 0))]
+        && differences == [Some((3, 2)), Some((3, 7)), Some((0, 0))]
+        && others == [Some((3, 7)), Some((0, 0)), None]
+        && is_at_most(&pairs, (1, 9), (3, 5)) == Some(true)
+}
+
+// Whether the greater of two numbers is answered so in grades.
+fn are_graded_peaks() -> bool {
+    let peaks = Graded { inner: Greatest };
+    let values = [
+        product(&peaks, (3, 5), (3, 2)),
+        product(&peaks, (3, 5), (1, 9)),
+        difference(&peaks, (3, 7), (3, 5)),
+        difference(&peaks, (3, 7), (3, 7)),
+        difference(&peaks, (3, 7), (1, 9)),
+    ];
+    values
+        == [
+            Some((3, 5)),
+            Some((3, 5)),
+            Some((3, 7)),
+            Some((0, 0)),
+            Some((3, 7)),
+        ]
 }
 
 #[test]
 fn graded(rt: HostRuntime) {
-    let pairs = Graded {
-        inner: Bounded { top: 100 },
-    };
-    let cases = [
-        (product(&pairs, (3, 5), (3, 2)), Some((3, 7))),
-        (product(&pairs, (3, 5), (1, 9)), Some((3, 5))),
-        (product(&pairs, (1, 5), (3, 0)), Some((3, 0))),
-        (difference(&pairs, (3, 7), (3, 5)), Some((3, 2))),
-        (difference(&pairs, (3, 7), (1, 9)), Some((3, 7))),
-        (difference(&pairs, (1, 0), (3, 5)), Some((0, 0))),
-        (read_back(&pairs, (3, 7)), Some((3, 7))),
-        (Some(pairs.unit()), Some((0, 0))),
-        (
-            pairs.from_word(Word {
-                grade: 1,
-                amount: 101,
-            }),
-            None,
-        ),
-    ];
-    for (got, want) in cases {
-        assert_eq!(rt; got, want);
-    }
-    assert_eq!(rt; is_at_most(&pairs, (1, 9), (3, 5)), Some(true));
-    let peaks = Graded { inner: Greatest };
-    let cases = [
-        (product(&peaks, (3, 5), (3, 2)), Some((3, 5))),
-        (product(&peaks, (3, 5), (1, 9)), Some((3, 5))),
-        (difference(&peaks, (3, 7), (3, 5)), Some((3, 7))),
-        (difference(&peaks, (3, 7), (3, 7)), Some((0, 0))),
-        (difference(&peaks, (3, 7), (1, 9)), Some((3, 7))),
-    ];
-    for (got, want) in cases {
-        assert_eq!(rt; got, want);
-    }
+    assert!(rt; are_graded());
+    assert!(rt; are_graded_peaks());
 }
 
 // Each law can be called for a monoid of grades.
@@ -134,7 +158,10 @@ fn laws_at_a_monoid() {
 
 #[test]
 fn ranks(rt: HostRuntime) {
-    assert_eq!(rt; compare_ranks(&[2, 2, 1], &[3, 2, 2]), Ordering::Less);
-    assert_eq!(rt; compare_ranks(&[3, 2], &[3]), Ordering::Greater);
-    assert_eq!(rt; compare_ranks(&[3, 2], &[3, 2]), Ordering::Equal);
+    let found = [
+        compare_ranks(&[2, 2, 1], &[3, 2, 2]),
+        compare_ranks(&[3, 2], &[3]),
+        compare_ranks(&[3, 2], &[3, 2]),
+    ];
+    assert!(rt; found == [Ordering::Less, Ordering::Greater, Ordering::Equal]);
 }

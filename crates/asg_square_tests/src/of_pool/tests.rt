@@ -1,10 +1,11 @@
 //! Regions of side 2, step by step.
 
-ghost use Rattle.std.specs.Prelude.{◌≡◌, ◌≢◌, ◌≤◌, ◌+◌, ℕ, length, IfSome};
+ghost use Rattle.std.specs.Prelude.{◌≡◌, ◌≢◌, ◌≤◌, ◌+◌, ℕ, length, IfSome, IfOk};
 ghost use Rattle.asg_pool.specs.Forest.{IsLive, IsLeaf};
 
 use asg_pool::{Region, Trail};
 use asg_proof::Phase;
+use std::alloc::{AllocError as NoMemory, Global};
 use std::test::Fail;
 
 // The steps of four phases, and for each the steps at which rows enter and columns leave.
@@ -16,7 +17,8 @@ const R: ([u64; 1], [u32; 2], [u32; 2]) = ([9], [1, 1], [0, 1]);
 
 const S: ([u64; 2], [u32; 2], [u32; 2]) = ([3, 4], [2, 0], [1, 2]);
 
-// Pushes a phase: the new trail is live and no parent, and each live trail is another one and stays.
+// Pushes a phase: the new trail is live and no parent, and each live trail is another one and
+// stays.
 fn grow(
     region: &mut Region<u64>,
     parent: Option<Trail>,
@@ -41,17 +43,23 @@ fn grow(
     region.push(parent, steps, enters, leaves)
 }
 
-// What a region gives of a trail: its parent, its length, and its last phase.
-fn shown(region: &Region<u64>, trail: Trail) -> (Option<Trail>, u32, &[u64], &[u32], &[u32])
+// Whether a trail has this parent, this length, and this last phase.
+fn is_shown(
+    region: &Region<u64>,
+    trail: Trail,
+    parent: Option<Trail>,
+    len: u32,
+    steps: &[u64],
+    enters: &[u32; 2],
+    leaves: &[u32; 2],
+) -> bool
     requires { IsLive region.now trail }
 {
-    (
-        region.parent(trail),
-        region.len(trail),
-        region.steps(trail),
-        region.enters(trail),
-        region.leaves(trail),
-    )
+    region.parent(trail) == parent
+        && region.len(trail) == len
+        && region.steps(trail) == steps
+        && region.enters(trail) == enters.as_slice()
+        && region.leaves(trail) == leaves.as_slice()
 }
 
 // A trail, and two that grew on it.
@@ -96,95 +104,99 @@ fn cut(region: &mut Region<u64>, trail: Trail)
     region.release(trail);
 }
 
+// How many records are reserved, and how many are spare then.
+const RESERVED: [(u32, u32); 3] = [(3, 3), (2, 3), (5, 5)];
+
 #[test]
 fn records_reserved_are_spare(rt: HostRuntime) -> Result<(), Fail> {
     let mut region: Region<u64> = Region::make(rt.alloc(), 2)?;
     assert_eq!(rt; region.spare(), 0);
-    region.reserve(3)?;
-    assert_eq!(rt; region.spare(), 3);
-    region.reserve(2)?;
-    assert_eq!(rt; region.spare(), 3);
-    region.reserve(5)?;
-    assert_eq!(rt; region.spare(), 5);
+    for (records, spare) in RESERVED {
+        region.reserve(records)?;
+        assert_eq!(rt; region.spare(), spare);
+    }
     Ok(())
+}
+
+// A region of side 2 with so many records.
+fn reserved(alloc: Global, records: u32) -> Result<Region<u64>, NoMemory>
+    ensures { IfOk result (λ r. (r.side ≡ 2) × (r.spare ≡ records)) }
+{
+    let mut region = Region::make(alloc, 2)?;
+    region.reserve(records)?;
+    Ok(region)
+}
+
+// Whether the two trails of a fork are Q and R, each after P.
+fn are_both_shown(region: &Region<u64>, fork: Fork) -> bool
+    requires first { IsLive region.now fork.first }
+    requires second { IsLive region.now fork.second }
+{
+    let (stem, same) = (Some(fork.stem), Some(fork.stem));
+    is_shown(region, fork.first, stem, 2, &Q.0, &Q.1, &Q.2)
+        && is_shown(region, fork.second, same, 2, &R.0, &R.1, &R.2)
 }
 
 #[test]
 fn two_trails_grow_on_one(rt: HostRuntime) -> Result<(), Fail> {
-    let mut region = Region::make(rt.alloc(), 2)?;
-    region.reserve(3)?;
+    let mut region = reserved(rt.alloc(), 3)?;
     let fork = forked(&mut region);
-    assert_eq!(rt;
-        shown(&region, fork.first),
-        (Some(fork.stem), 2, &Q.0[..], &Q.1[..], &Q.2[..])
-    );
-    assert_eq!(rt;
-        shown(&region, fork.second),
-        (Some(fork.stem), 2, &R.0[..], &R.1[..], &R.2[..])
-    );
+    assert!(rt; are_both_shown(&region, fork));
     Ok(())
 }
 
 #[test]
 fn a_trail_released_leaves_the_others(rt: HostRuntime) -> Result<(), Fail> {
-    let mut region = Region::make(rt.alloc(), 2)?;
-    region.reserve(3)?;
+    let mut region = reserved(rt.alloc(), 3)?;
     let fork = forked(&mut region);
     cut(&mut region, fork.first);
     let stem = Some(fork.stem);
     assert_eq!(rt; region.spare(), 1);
-    assert_eq!(rt;
-        shown(&region, fork.stem),
-        (None, 1, &P.0[..], &P.1[..], &P.2[..])
-    );
-    assert_eq!(rt;
-        shown(&region, fork.second),
-        (stem, 2, &R.0[..], &R.1[..], &R.2[..])
-    );
+    assert!(rt; is_shown(&region, fork.stem, None, 1, &P.0, &P.1, &P.2));
+    assert!(rt; is_shown(&region, fork.second, stem, 2, &R.0, &R.1, &R.2));
     Ok(())
 }
 
 #[test]
 fn a_freed_record_serves_another_trail(rt: HostRuntime) -> Result<(), Fail> {
-    let mut region = Region::make(rt.alloc(), 2)?;
-    region.reserve(3)?;
+    let mut region = reserved(rt.alloc(), 3)?;
     let fork = forked(&mut region);
     cut(&mut region, fork.first);
     let last = grow(&mut region, Some(fork.second), &S.0, &S.1, &S.2);
     let (stem, second) = (Some(fork.stem), Some(fork.second));
     assert_eq!(rt; region.spare(), 0);
-    assert_eq!(rt;
-        shown(&region, last),
-        (second, 3, &S.0[..], &S.1[..], &S.2[..])
-    );
-    assert_eq!(rt;
-        shown(&region, fork.second),
-        (stem, 2, &R.0[..], &R.1[..], &R.2[..])
-    );
+    assert!(rt; is_shown(&region, last, second, 3, &S.0, &S.1, &S.2));
+    assert!(rt; is_shown(&region, fork.second, stem, 2, &R.0, &R.1, &R.2));
     Ok(())
 }
 
-// The lists of a phase.
-fn lists(phase: &Phase<u64>) -> (&[u64], &[u32], &[u32]) {
-    (phase.steps(), phase.enters(), phase.leaves())
+// Whether a phase has these steps.
+fn is_phase(phase: &Phase<u64>, steps: &[u64], enters: &[u32; 2], leaves: &[u32; 2]) -> bool {
+    phase.steps() == steps
+        && phase.enters() == enters.as_slice()
+        && phase.leaves() == leaves.as_slice()
+}
+
+// Whether the phases are P and R.
+fn are_moved_out(phases: &[Phase<u64>]) -> bool {
+    if phases.len() != 2 {
+        return false;
+    }
+    is_phase(&phases[0], &P.0, &P.1, &P.2) && is_phase(&phases[1], &R.0, &R.1, &R.2)
 }
 
 #[test]
 fn the_phases_of_a_trail_are_moved_out(rt: HostRuntime) -> Result<(), Fail> {
-    let mut region = Region::make(rt.alloc(), 2)?;
-    region.reserve(4)?;
+    let mut region = reserved(rt.alloc(), 4)?;
     let fork = forked(&mut region);
     let phases = region.into_phases(rt.alloc(), Some(fork.second))?;
-    assert_eq!(rt; phases.len(), 2);
-    assert_eq!(rt; lists(&phases[0]), (&P.0[..], &P.1[..], &P.2[..]));
-    assert_eq!(rt; lists(&phases[1]), (&R.0[..], &R.1[..], &R.2[..]));
+    assert!(rt; are_moved_out(phases.as_slice()));
     Ok(())
 }
 
 #[test]
 fn no_trail_has_no_phase(rt: HostRuntime) -> Result<(), Fail> {
-    let mut region: Region<u64> = Region::make(rt.alloc(), 2)?;
-    region.reserve(1)?;
-    assert_eq!(rt; region.into_phases(rt.alloc(), None)?.len(), 0);
+    let region = reserved(rt.alloc(), 1)?;
+    assert!(rt; region.into_phases(rt.alloc(), None)?.is_empty());
     Ok(())
 }

@@ -1,99 +1,114 @@
 //! Lists of ids, phases and lists of phases and of windows, made, read and written.
 
-use crate::of_proof::samples::Larger;
+ghost use Rattle.std.specs.Prelude.{◌≡◌, [], ◌∷◌, IfOk};
+
+use asg_monoids::Greatest;
 use asg_order::Word;
 use asg_proof::{Ids, Phase, Phases, Window, Windows, into_words, words};
+use std::alloc::{AllocError as NoMemory, Global};
 use std::test::Fail;
+
+// Whether the list has these ids, and is empty only where there are none.
+fn are_ids(ids: Ids, want: &[u32]) -> bool {
+    if ids.as_slice() != want || ids.len() != want.len() || ids.is_empty() != want.is_empty() {
+        return false;
+    }
+    ids.into_vec().as_slice() == want
+}
 
 #[test]
 fn lists_of_ids(rt: HostRuntime) -> Result<(), Fail> {
     let some = Ids::from_vec(vec![in rt.alloc(); 3, 1, 2]?);
-    assert_eq!(rt; some.as_slice(), [3, 1, 2].as_slice());
-    assert_eq!(rt; some.len(), 3);
-    assert!(rt; !some.is_empty());
-    assert_eq!(rt; some.into_vec().as_slice(), [3, 1, 2].as_slice());
-    let none = Ids::from_vec(Vec::new(rt.alloc()));
-    assert_eq!(rt; none.len(), 0);
-    assert!(rt; none.is_empty());
+    assert!(rt; are_ids(some, &[3, 1, 2]));
+    assert!(rt; are_ids(Ids::from_vec(Vec::new(rt.alloc())), &[]));
     Ok(())
+}
+
+// A phase of the steps 5 and 3.
+fn phase(alloc: Global) -> Result<Phase<u64>, NoMemory>
+    ensures { IfOk result (λ p. p.steps ≡ 5 ∷ 3 ∷ []) }
+{
+    let steps = vec![in alloc; 5u64, 3]?;
+    let enters = vec![in alloc; 1, 0, 2]?;
+    let leaves = vec![in alloc; 2, 1, 4]?;
+    Ok(Phase::of(steps, enters, leaves))
+}
+
+// Whether the rows enter and the columns leave at the steps of that phase.
+fn has_turns<V: Copy>(phase: &Phase<V>) -> bool {
+    phase.enters() == [1, 0, 2].as_slice() && phase.leaves() == [2, 1, 4].as_slice()
 }
 
 #[test]
 fn a_phase(rt: HostRuntime) -> Result<(), Fail> {
-    let steps = vec![in rt.alloc(); 5u64, 3]?;
-    let enters = vec![in rt.alloc(); 1, 0, 2]?;
-    let leaves = vec![in rt.alloc(); 2, 1, 4]?;
-    let phase = Phase::of(steps, enters, leaves);
-    assert_eq!(rt; phase.steps(), [5, 3].as_slice());
-    assert_eq!(rt; phase.enters(), [1, 0, 2].as_slice());
-    assert_eq!(rt; phase.leaves(), [2, 1, 4].as_slice());
+    let phase = phase(rt.alloc())?;
+    assert!(rt; phase.steps() == [5, 3].as_slice() && has_turns(&phase));
     Ok(())
+}
+
+// The word of a number.
+const fn word(amount: u128) -> Word {
+    Word { grade: 0, amount }
+}
+
+// Whether it is that phase in words.
+fn is_in_words(phase: &Phase<Word>) -> bool {
+    phase.steps() == [word(5), word(3)].as_slice() && has_turns(phase)
 }
 
 #[test]
 fn a_phase_in_words(rt: HostRuntime) -> Result<(), Fail> {
-    let steps = vec![in rt.alloc(); 5u64, 3]?;
-    let enters = vec![in rt.alloc(); 1, 0, 2]?;
-    let leaves = vec![in rt.alloc(); 2, 1, 4]?;
-    let phase = Phase::of(steps, enters, leaves);
-    let written = words(rt.alloc(), &Larger, &phase)?;
-    let five = Word {
-        grade: 7,
-        amount: 5,
-    };
-    let three = Word {
-        grade: 7,
-        amount: 3,
-    };
-    assert_eq!(rt; written.steps(), [five, three].as_slice());
-    assert_eq!(rt; written.enters(), [1, 0, 2].as_slice());
-    assert_eq!(rt; written.leaves(), [2, 1, 4].as_slice());
-    let moved = into_words(rt.alloc(), &Larger, phase)?;
-    assert_eq!(rt; moved.steps(), [five, three].as_slice());
-    assert_eq!(rt; moved.enters(), [1, 0, 2].as_slice());
-    assert_eq!(rt; moved.leaves(), [2, 1, 4].as_slice());
+    let phase = phase(rt.alloc())?;
+    let written = words(rt.alloc(), &Greatest, &phase)?;
+    assert!(rt; is_in_words(&written));
+    let moved = into_words(rt.alloc(), &Greatest, phase)?;
+    assert!(rt; is_in_words(&moved));
     Ok(())
+}
+
+// Whether there are so many phases, each of one step.
+fn are_phases(phases: Phases, count: usize) -> bool {
+    for phase in phases.as_slice() {
+        if !is_one_step(phase) {
+            return false;
+        }
+    }
+    let is_right = phases.len() == count && phases.is_empty() == (count == 0);
+    is_right && phases.into_vec().len() == count
+}
+
+// Whether the phase is of one step, at which the column leaves.
+fn is_one_step(phase: &Phase<Word>) -> bool {
+    phase.steps() == [word(5)].as_slice()
+        && phase.enters() == [0].as_slice()
+        && phase.leaves() == [1].as_slice()
 }
 
 #[test]
 fn lists_of_phases(rt: HostRuntime) -> Result<(), Fail> {
-    let step = Word {
-        grade: 7,
-        amount: 5,
-    };
-    let enters = vec![in rt.alloc(); 0u32]?;
-    let leaves = vec![in rt.alloc(); 1u32]?;
-    let phase = Phase::of(vec![in rt.alloc(); step]?, enters, leaves);
-    let some = Phases::from_vec(vec![in rt.alloc(); phase]?);
-    assert_eq!(rt; some.len(), 1);
-    assert!(rt; !some.is_empty());
-    for phase in some.as_slice() {
-        assert_eq!(rt; phase.steps(), [step].as_slice());
-        assert_eq!(rt; phase.enters(), [0].as_slice());
-        assert_eq!(rt; phase.leaves(), [1].as_slice());
-    }
-    assert_eq!(rt; some.into_vec().len(), 1);
-    let none = Phases::from_vec(Vec::new(rt.alloc()));
-    assert_eq!(rt; none.len(), 0);
-    assert!(rt; none.is_empty());
+    let steps = vec![in rt.alloc(); word(5)]?;
+    let phase = Phase::of(steps, vec![in rt.alloc(); 0]?, vec![in rt.alloc(); 1]?);
+    assert!(rt; are_phases(Phases::from_vec(vec![in rt.alloc(); phase]?), 1));
+    assert!(rt; are_phases(Phases::from_vec(Vec::new(rt.alloc())), 0));
     Ok(())
+}
+
+// Whether there are so many windows, each of the values 0 and 1 with the row 3.
+fn are_windows(windows: Windows, count: usize) -> bool {
+    for window in windows.as_slice() {
+        if (window.lo, window.hi) != (0, 1) || window.rows.as_slice() != [3].as_slice() {
+            return false;
+        }
+    }
+    let is_right = windows.len() == count && windows.is_empty() == (count == 0);
+    is_right && windows.into_vec().len() == count
 }
 
 #[test]
 fn lists_of_windows(rt: HostRuntime) -> Result<(), Fail> {
-    let rows = Ids::from_vec(vec![in rt.alloc(); 3u32]?);
-    let (lo, hi) = (0, 1);
-    let window = Window { lo, hi, rows };
-    let some = Windows::from_vec(vec![in rt.alloc(); window]?);
-    assert_eq!(rt; some.len(), 1);
-    assert!(rt; !some.is_empty());
-    for window in some.as_slice() {
-        assert_eq!(rt; (window.lo, window.hi), (0, 1));
-        assert_eq!(rt; window.rows.as_slice(), [3].as_slice());
-    }
-    assert_eq!(rt; some.into_vec().len(), 1);
-    let none = Windows::from_vec(Vec::new(rt.alloc()));
-    assert_eq!(rt; none.len(), 0);
-    assert!(rt; none.is_empty());
+    let rows = Ids::from_vec(vec![in rt.alloc(); 3]?);
+    let window = Window { lo: 0, hi: 1, rows };
+    assert!(rt; are_windows(Windows::from_vec(vec![in rt.alloc(); window]?), 1));
+    assert!(rt; are_windows(Windows::from_vec(Vec::new(rt.alloc())), 0));
     Ok(())
 }

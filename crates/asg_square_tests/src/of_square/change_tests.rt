@@ -1,8 +1,12 @@
 //! Squares whose values change.
 
+ghost use Rattle.std.specs.Prelude.{◌≡◌, IsTrue};
+ghost use Rattle.asg_model.specs.Shapes.{square_side};
+
 use crate::of_square::samples::sample;
+use asg_model::Place::{All, Exactly};
 use asg_model::limits::MOST_SIDE;
-use asg_model::{Cost, Place};
+use asg_model::{Cost, Instance, Place};
 use asg_square::*;
 use std::test::Fail;
 
@@ -11,42 +15,90 @@ fn two(_cost: Cost) -> u8 {
     2
 }
 
-#[test]
-fn changes_values_alone(rt: HostRuntime) -> Result<(), Fail> {
-    let inst = sample(rt.alloc(), 0, true)?;
-    assert_eq!(rt; inst.side(), 4);
-    let mut square = Square::of(rt.alloc(), &inst, 1, &two)?;
-    square.map_row(2, &|k: u32, x: u8| if k == 2 { x / 2 + 6 } else { x });
-    assert_eq!(rt; square.at(2, 0), None);
-    assert_eq!(rt; (square.at(2, 1), square.at(2, 2)), (Some(2), Some(7)));
-    assert_eq!(rt; (square.at(1, 0), square.at(3, 2)), (Some(2), Some(1)));
-    assert_eq!(rt; square.row_words(2)[0], 0b1110);
-    assert_eq!(rt; square.at(3, 1), Some(1));
-    square.replace(3, 1, 8);
-    assert_eq!(rt; (square.at(3, 1), square.at(3, 0)), (Some(8), Some(1)));
-    assert_eq!(rt; square.at(0, 1), Some(2));
-    Ok(())
+// Whether the row was changed in its third column alone.
+fn is_row_changed(square: &Square<u8>) -> bool {
+    if square.side() != 4 {
+        return false;
+    }
+    let row = [
+        square.at(2, 0),
+        square.at(2, 1),
+        square.at(2, 2),
+        square.at(1, 0),
+        square.at(3, 2),
+        square.at(3, 1),
+    ];
+    row == [None, Some(2), Some(7), Some(2), Some(1), Some(1)] && square.row_words(2)[0] == 0b1110
+}
+
+// Whether one cell was replaced.
+fn is_replaced(square: &Square<u8>) -> bool {
+    if square.side() != 4 {
+        return false;
+    }
+    [square.at(3, 1), square.at(3, 0), square.at(0, 1)] == [Some(8), Some(1), Some(2)]
 }
 
 #[test]
-fn changes_rows_that_are_present_as_a_whole(rt: HostRuntime) -> Result<(), Fail> {
-    let mut inst = sample(rt.alloc(), 0, true)?;
-    assert_eq!(rt; inst.shape(Place::All, 1000), Ok(()));
-    assert_eq!(rt; inst.side(), MOST_SIDE);
+fn changes_values_alone(rt: HostRuntime) -> Result<(), Fail> {
+    let inst = sample(rt.alloc(), All, true)?;
+    assert_eq!(rt; inst.side(), 4);
     let mut square = Square::of(rt.alloc(), &inst, 1, &two)?;
+    square.map_row(2, &|k: u32, x: u8| if k == 2 { x / 2 + 6 } else { x });
+    assert!(rt; is_row_changed(&square));
+    assert_eq!(rt; square.at(3, 1), Some(1));
+    square.replace(3, 1, 8);
+    assert!(rt; is_replaced(&square));
+    Ok(())
+}
+
+// Whether a rule can be set with columns of 1,000 copies, and the side is then this one.
+fn has_side(inst: &mut Instance, place: Place, side: u32) -> bool
+    ensures { IsTrue result → square_side inst.new ≡ side }
+{
+    let shaped = inst.shape(place, 1000);
+    inst.side() == side && shaped.is_ok()
+}
+
+// Whether these are cells of the greatest square.
+fn is_greatest(square: &Square<u8>) -> bool {
+    if square.side() != MOST_SIDE {
+        return false;
+    }
+    [
+        square.at(0, 1999),
+        square.at(1, 1000),
+        square.at(1999, 1999),
+    ] == [Some(2), None, Some(1)]
+}
+
+// Whether the last row of the greatest square was changed in the second column of each word.
+fn is_last_row_changed(square: &Square<u8>) -> bool {
+    if square.side() != MOST_SIDE {
+        return false;
+    }
+    let sevens = [
+        square.at(1999, 1),
+        square.at(1999, 65),
+        square.at(1999, 1985),
+    ];
+    let ones = [
+        square.at(1999, 63),
+        square.at(1999, 64),
+        square.at(1999, 1999),
+        square.at(1998, 1),
+    ];
+    sevens == [Some(7); 3] && ones == [Some(1); 4]
+}
+
+#[test]
+fn fills_and_changes_the_greatest_square(rt: HostRuntime) -> Result<(), Fail> {
+    let mut inst = sample(rt.alloc(), All, true)?;
+    assert!(rt; has_side(&mut inst, Exactly(2), MOST_SIDE + 1));
+    assert!(rt; has_side(&mut inst, All, MOST_SIDE));
+    let mut square = Square::of(rt.alloc(), &inst, 1, &two)?;
+    assert!(rt; is_greatest(&square));
     square.map_row(1999, &|k: u32, x: u8| if k % 64 == 1 { 7 } else { x });
-    assert_eq!(rt;
-        (square.at(1999, 63), square.at(1999, 64)),
-        (Some(1), Some(1))
-    );
-    assert_eq!(rt;
-        (square.at(1999, 1), square.at(1999, 65)),
-        (Some(7), Some(7))
-    );
-    assert_eq!(rt;
-        (square.at(1999, 1985), square.at(1999, 1999)),
-        (Some(7), Some(1))
-    );
-    assert_eq!(rt; square.at(1998, 1), Some(1));
+    assert!(rt; is_last_row_changed(&square));
     Ok(())
 }

@@ -1,22 +1,25 @@
-//! Squares of a small instance, cell by cell, and its choices.
+//! Squares of small instances, cell by cell, and their choices.
 
 ghost use Rattle.std.specs.Prelude.{◌≡◌, ◌<◌, ◌≤◌, IfOk};
 ghost use Rattle.asg_model.specs.Shapes.{square_side};
 ghost use Rattle.asg_square.specs.Grid.{CoversSquareOf};
 
 use crate::of_square::samples::{sample, table};
-use asg_model::limits::MOST_SIDE;
+use asg_model::Place::{All, Exactly};
 use asg_model::{Choice, Cost, Instance, Place, PlaceRange, is_valid};
 use asg_square::laws::grid_law;
 use asg_square::*;
 use std::alloc::Global;
 use std::test::Fail;
 
-// How many rows are placed (0: all), whether the second row is active and the second column open, the
+// The cells of a square of a side of at most 6: -1 for an absent one, 9 for a free one.
+type Cells = [[i64; 6]; 6];
+
+// The place rule, whether the second row is active and the second column open, the
 // side, and the cells of the square: -1 for an absent one, 9 for a free one.
-const SQUARES: [(u32, bool, u32, [[i64; 6]; 6]); 6] = [
+const SQUARES: [(Place, bool, u32, Cells); 4] = [
     (
-        0,
+        All,
         true,
         4,
         [
@@ -29,7 +32,7 @@ const SQUARES: [(u32, bool, u32, [[i64; 6]; 6]); 6] = [
         ],
     ),
     (
-        0,
+        All,
         false,
         4,
         [
@@ -42,7 +45,7 @@ const SQUARES: [(u32, bool, u32, [[i64; 6]; 6]); 6] = [
         ],
     ),
     (
-        1,
+        Exactly(1),
         true,
         6,
         [
@@ -55,7 +58,7 @@ const SQUARES: [(u32, bool, u32, [[i64; 6]; 6]); 6] = [
         ],
     ),
     (
-        1,
+        Exactly(1),
         false,
         6,
         [
@@ -65,32 +68,6 @@ const SQUARES: [(u32, bool, u32, [[i64; 6]; 6]); 6] = [
             [9, 9, 9, 9, -1, -1],
             [9, 9, 9, 9, -1, -1],
             [9, 9, 9, 9, -1, -1],
-        ],
-    ),
-    (
-        3,
-        true,
-        4,
-        [
-            [4, 1, 1, 1, 0, 0],
-            [2, -1, -1, -1, 0, 0],
-            [-1, 3, 3, 3, 0, 0],
-            [9, 9, 9, 9, 0, 0],
-            [0; 6],
-            [0; 6],
-        ],
-    ),
-    (
-        3,
-        false,
-        4,
-        [
-            [4, -1, -1, -1, 0, 0],
-            [-1, -1, -1, -1, 0, 0],
-            [-1, -1, -1, -1, 0, 0],
-            [9, 9, 9, 9, 0, 0],
-            [0; 6],
-            [0; 6],
         ],
     ),
 ];
@@ -127,7 +104,7 @@ fn has_row(square: &Square<i64>, r: u32, want: &[i64; 6]) -> bool
 }
 
 // Whether the square has these cells.
-fn has_rows(square: &Square<i64>, want: &[[i64; 6]; 6]) -> bool
+fn has_rows(square: &Square<i64>, want: &Cells) -> bool
     requires { square.now.side ≤ 6 }
 {
     for r in 0..square.side() {
@@ -138,20 +115,63 @@ fn has_rows(square: &Square<i64>, want: &[[i64; 6]; 6]) -> bool
     true
 }
 
+// Whether the square of the instance has this side and these cells.
+fn is_square_of(alloc: Global, inst: &Instance, side: u32, want: &Cells) -> Result<bool, NoMemory> {
+    if inst.side() != side || side > 6 {
+        return Ok(false);
+    }
+    let square = filled(alloc, inst)?;
+    Ok(has_rows(&square, want))
+}
+
 #[test]
 fn fills_the_square_of_an_instance(rt: HostRuntime) -> Result<(), Fail> {
-    for (count, second, side, want) in SQUARES {
-        let inst = sample(rt.alloc(), count, second)?;
-        assert_eq!(rt; inst.side(), side);
-        assert!(rt; inst.side() <= 6);
-        let square = filled(rt.alloc(), &inst)?;
-        assert!(rt; has_rows(&square, &want), "{count} {second}");
+    for (place, second, side, want) in SQUARES {
+        let inst = sample(rt.alloc(), place, second)?;
+        assert!(rt; is_square_of(rt.alloc(), &inst, side, &want)?);
+    }
+    Ok(())
+}
+
+// Whether the second row is active and the second column open, and the cells of the square where
+// three rows are placed and each column holds three.
+const SHAPED: [(bool, Cells); 2] = [
+    (
+        true,
+        [
+            [4, 4, 4, 1, 1, 1],
+            [2, 2, 2, -1, -1, -1],
+            [-1, -1, -1, 3, 3, 3],
+            [9; 6],
+            [9; 6],
+            [9; 6],
+        ],
+    ),
+    (
+        false,
+        [
+            [4, 4, 4, -1, -1, -1],
+            [-1; 6],
+            [-1; 6],
+            [9; 6],
+            [9; 6],
+            [9; 6],
+        ],
+    ),
+];
+
+#[test]
+fn fills_the_square_of_a_shaped_instance(rt: HostRuntime) -> Result<(), Fail> {
+    for (second, want) in SHAPED {
+        let mut inst = sample(rt.alloc(), All, second)?;
+        assert_eq!(rt; inst.shape(Exactly(3), 3), Ok(()));
+        assert!(rt; is_square_of(rt.alloc(), &inst, 6, &want)?);
     }
     Ok(())
 }
 
 // Whether the second column of the table is open, and the cells of its square.
-const TABLES: [(bool, [[i64; 6]; 6]); 2] = [
+const TABLES: [(bool, Cells); 2] = [
     (
         true,
         [
@@ -176,15 +196,22 @@ const TABLES: [(bool, [[i64; 6]; 6]); 2] = [
     ),
 ];
 
+// Whether the values of the square of a table are 16, of which the second is 3.
+fn has_values(alloc: Global, inst: &Instance) -> Result<bool, NoMemory> {
+    if inst.side() != 4 {
+        return Ok(false);
+    }
+    let square = filled(alloc, inst)?;
+    let values = square.values();
+    Ok(values.len() == 16 && values[1] == 3)
+}
+
 #[test]
 fn fills_the_square_of_a_table(rt: HostRuntime) -> Result<(), Fail> {
     for (second, want) in TABLES {
         let inst = table(rt.alloc(), second)?;
-        assert_eq!(rt; inst.side(), 4);
-        let square = filled(rt.alloc(), &inst)?;
-        assert!(rt; has_rows(&square, &want), "{second}");
-        assert_eq!(rt; square.values().len(), 16);
-        assert_eq!(rt; square.values()[1], 3);
+        assert!(rt; is_square_of(rt.alloc(), &inst, 4, &want)?);
+        assert!(rt; has_values(rt.alloc(), &inst)?);
     }
     Ok(())
 }
@@ -198,97 +225,129 @@ fn choice(alloc: Global, columns: [Option<u32>; 3]) -> Result<Choice, NoMemory> 
     Ok(choice)
 }
 
-// How many rows are placed (0: all), a choice, and the perfect assignment that it gives.
-const CHOICES: [(u32, [Option<u32>; 3], &[u32]); 3] = [
-    (0, [Some(1), Some(0), Some(1)], &[1, 0, 2, 3]),
-    (1, [None, Some(0), None], &[5, 0, 4, 3, 2, 1]),
-    (3, [Some(1), Some(0), Some(1)], &[1, 0, 2, 3]),
+// Whether the choice is that of these columns.
+fn are_chosen(choice: &Choice, columns: [Option<u32>; 3]) -> bool {
+    if choice.len() != 3 {
+        return false;
+    }
+    [choice.get(0), choice.get(1), choice.get(2)] == columns
+}
+
+// Whether the choice of these columns gives this perfect assignment, and the assignment the choice.
+fn is_perfect_with(
+    alloc: Global,
+    inst: &Instance,
+    columns: [Option<u32>; 3],
+    want: &[u32],
+) -> Result<bool, NoMemory> {
+    let choice = choice(alloc, columns)?;
+    if inst.side() > 6 || !is_valid(inst, &choice) {
+        return Ok(false);
+    }
+    let square = filled(alloc, inst)?;
+    let perm = square.perm_of(alloc, inst, &choice)?;
+    let back = square.choice_of(alloc, perm.as_slice())?;
+    Ok(perm.as_slice() == want && are_chosen(&back, columns))
+}
+
+// A place rule, a choice, and the perfect assignment that it gives.
+const CHOICES: [(Place, [Option<u32>; 3], &[u32]); 2] = [
+    (All, [Some(1), Some(0), Some(1)], &[1, 0, 2, 3]),
+    (Exactly(1), [None, Some(0), None], &[5, 0, 4, 3, 2, 1]),
 ];
 
 #[test]
 fn gives_a_perfect_assignment_and_its_choice(rt: HostRuntime) -> Result<(), Fail> {
-    for (count, columns, want) in CHOICES {
-        let inst = sample(rt.alloc(), count, true)?;
-        let choice = choice(rt.alloc(), columns)?;
-        assert!(rt; is_valid(&inst, &choice));
-        assert!(rt; inst.side() <= 6);
-        let square = filled(rt.alloc(), &inst)?;
-        let perm = square.perm_of(rt.alloc(), &inst, &choice)?;
-        assert_eq!(rt; perm.as_slice(), want);
-        let back = square.choice_of(rt.alloc(), perm.as_slice())?;
-        assert_eq!(rt; back.len(), 3);
-        assert_eq!(rt; [back.get(0), back.get(1), back.get(2)], columns);
+    for (place, columns, want) in CHOICES {
+        let inst = sample(rt.alloc(), place, true)?;
+        assert!(rt; is_perfect_with(rt.alloc(), &inst, columns, want)?);
     }
     Ok(())
 }
 
 #[test]
+fn gives_a_perfect_assignment_of_a_shaped_instance(rt: HostRuntime) -> Result<(), Fail> {
+    let mut inst = sample(rt.alloc(), All, true)?;
+    assert_eq!(rt; inst.shape(Exactly(3), 3), Ok(()));
+    let (columns, want) = ([Some(1), Some(0), Some(1)], [3, 0, 4, 5, 2, 1]);
+    assert!(rt; is_perfect_with(rt.alloc(), &inst, columns, &want)?);
+    Ok(())
+}
+
+// Whether two cells were set.
+fn is_changed(square: &Square<i64>) -> bool {
+    if square.side() != 4 {
+        return false;
+    }
+    [square.at(1, 2), square.at(0, 0), square.at(0, 1)] == [Some(7), None, Some(1)]
+        && square.row_words(1)[0] == 0b0101
+        && square.row_values(1)[2] == 7
+}
+
+// Whether the square is as it was, with its labels.
+fn is_restored(square: &Square<i64>) -> bool {
+    if square.side() != 4 {
+        return false;
+    }
+    let labels = [
+        square.row_label(2),
+        square.row_label(3),
+        square.column_label(0),
+        square.column_label(3),
+    ];
+    has_row(square, 0, &[4, 1, 1, 1, 0, 0])
+        && square.row_words(1)[0] == 0b0001
+        && labels == [Some(2), None, Some(0), Some(1)]
+}
+
+#[test]
 fn copies_and_changes_squares(rt: HostRuntime) -> Result<(), Fail> {
-    let inst = sample(rt.alloc(), 0, true)?;
+    let inst = sample(rt.alloc(), All, true)?;
     assert_eq!(rt; inst.side(), 4);
     let mut square = filled(rt.alloc(), &inst)?;
     let other = square.copy(rt.alloc())?;
     square.set(1, 2, Some(7));
     square.set(0, 0, None);
-    assert_eq!(rt; square.at(1, 2), Some(7));
-    assert_eq!(rt; square.at(0, 0), None);
-    assert_eq!(rt; square.at(0, 1), Some(1));
-    assert_eq!(rt; square.row_words(1)[0], 0b0101);
-    assert_eq!(rt; square.row_values(1)[2], 7);
+    assert!(rt; is_changed(&square));
     square.take(&other);
-    assert!(rt; has_row(&square, 0, &[4, 1, 1, 1, 0, 0]));
-    assert_eq!(rt; square.row_words(1)[0], 0b0001);
-    assert_eq!(rt; (square.row_label(2), square.row_label(3)), (Some(2), None));
-    assert_eq!(rt;
-        (square.column_label(0), square.column_label(3)),
-        (Some(0), Some(1))
-    );
+    assert!(rt; is_restored(&square));
     Ok(())
 }
 
-#[test]
-fn fills_the_greatest_square(rt: HostRuntime) -> Result<(), Fail> {
-    let mut inst = sample(rt.alloc(), 0, true)?;
-    assert_eq!(rt; inst.shape(Place::Exactly(2), 1000), Ok(()));
-    assert_eq!(rt; inst.side(), MOST_SIDE + 1);
-    assert_eq!(rt; inst.shape(Place::All, 1000), Ok(()));
-    assert_eq!(rt; inst.side(), MOST_SIDE);
-    let square = Square::of(rt.alloc(), &inst, 1, &one)?;
-    assert_eq!(rt; square.at(0, 1999), Some(2));
-    assert_eq!(rt; square.at(1, 1000), None);
-    assert_eq!(rt; square.at(1999, 1999), Some(1));
-    Ok(())
+// How many rows are to be placed, the capacity of each column, and the answer.
+const RULES: [(u32, u32, Result<(), PlaceRange>); 6] = [
+    (0, 1, Err(PlaceRange)),
+    (4, 3, Err(PlaceRange)),
+    (3, 1, Err(PlaceRange)),
+    (1, 1, Ok(())),
+    (2, 1, Ok(())),
+    (3, 2, Ok(())),
+];
+
+// Whether two instances have the same columns, the same count of placed rows and the same side.
+fn is_alike(inst: &Instance, before: &Instance) -> bool {
+    inst.columns() == before.columns()
+        && inst.placed() == before.placed()
+        && inst.side() == before.side()
 }
 
-// What each cost enters as in the greatest square.
-fn one(_cost: Cost) -> u8 {
-    2
+// Whether so many rows are placed, and the second column has this capacity.
+fn is_shaped(inst: &Instance, count: u32, each: u32) -> bool {
+    let cap = inst.columns().get(1).map(|column| column.cap);
+    inst.placed() == count && cap == Some(each)
 }
 
 #[test]
 fn refuses_place_rules_out_of_range(rt: HostRuntime) -> Result<(), Fail> {
-    let mut inst = sample(rt.alloc(), 2, true)?;
-    for (count, each, want) in [
-        (0, 1, Err(PlaceRange)),
-        (4, 3, Err(PlaceRange)),
-        (3, 1, Err(PlaceRange)),
-        (1, 1, Ok(())),
-        (2, 1, Ok(())),
-        (3, 2, Ok(())),
-    ] {
+    let mut inst = sample(rt.alloc(), Exactly(2), true)?;
+    for (count, each, want) in RULES {
         let before = inst.copy(rt.alloc())?;
-        let shaped = inst.shape(Place::Exactly(count), each);
-        assert_eq!(rt; shaped, want, "{count} {each}");
-        if shaped.is_err() {
-            assert_eq!(rt; inst.columns(), before.columns());
-            assert_eq!(rt;
-                (inst.placed(), inst.side()),
-                (before.placed(), before.side())
-            );
-        } else {
-            let cap = inst.columns().get(1).map(|column| column.cap);
-            assert_eq!(rt; (inst.placed(), cap), (count, Some(each)));
-        }
+        assert_eq!(rt; inst.shape(Exactly(count), each), want);
+        let is_right = match want {
+            Ok(()) => is_shaped(&inst, count, each),
+            Err(PlaceRange) => is_alike(&inst, &before),
+        };
+        assert!(rt; is_right);
     }
     Ok(())
 }

@@ -5,7 +5,7 @@ use Rattle.std.specs.Option.{option_map}
 use Rattle.std.proofs.lemmas.Bool.{cases_lt}
 use Rattle.asg_order.specs.Monoid.{Monoid, IsValue, IsOrderedMonoid}
 use Rattle.asg_order.specs.Differences.{HasDifferences}
-use Rattle.asg_proof.specs.Phases.{PhaseOf, after_phase}
+use Rattle.asg_proof.specs.Phases.{PhaseOf}
 use Rattle.asg_proof.specs.laws.Stepped.{moved_is_value, option_map_cases}
 use Rattle.asg_square.specs.Grid.{Grid, cell_at}
 use Rattle.asg_admit.specs.declared.reduced.Reduced.{Reduced}

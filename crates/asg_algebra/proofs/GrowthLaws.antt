@@ -2,7 +2,7 @@
 use Rattle.std.proofs.Common.{◌≡◌, ℕ, suc, ◌+◌, ◌/◌, ◌%◌, ◌<◌, ◌≤◌, ◌&&◌, List, length, Option, Some, None, get_or, refl, sym, ◌∙◌, ap, subst, arith, ⊎_elim, cond, eqb, ltb, is_some}
 use Rattle.std.specs.Prelude.{vec_len, vec_capacity, IsSome}
 use Rattle.std.specs.Int.{bit_at}
-use Rattle.std.proofs.lemmas.Bool.{eqb-true, false≢true, cases_Bool}
+use Rattle.std.proofs.lemmas.Bool.{false≢true, cases_Bool}
 use Rattle.std.proofs.lemmas.List.{get_or_read, length_push}
 use Rattle.std.proofs.lemmas.Option.{none-some, same_Some, get_or_from_slice_get}
 use Rattle.asg_match.specs.Alternating.{parent_of}
@@ -14,7 +14,6 @@ use Rattle.asg_match.specs.laws.Matchings.{Some-from_test}
 use Rattle.asg_order.specs.Monoid.{Monoid, IsValue, IsLe, IsOrderedMonoid, fold_of}
 use Rattle.asg_order.specs.Differences.{HasDifferences}
 use Rattle.asg_proof.specs.Phases.{phase_of, square_after}
-use Rattle.asg_square.specs.BitTable.{AreWordsOf}
 use Rattle.asg_square.specs.CellTable.{AreValuesOf}
 use Rattle.asg_square.specs.Grid.{Grid, cell_at}
 use Rattle.asg_algebra.specs.declared.growth.Growth.{Growth}

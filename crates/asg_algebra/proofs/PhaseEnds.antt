@@ -13,8 +13,11 @@ use Rattle.asg_match.specs.Flipped.{Flips}
 use Rattle.asg_order.specs.Monoid.{Monoid, IsValue, IsOrderedMonoid, fold_of}
 use Rattle.asg_order.specs.Differences.{HasDifferences}
 use Rattle.asg_order.specs.laws.Products.{neutral_right}
-use Rattle.asg_proof.specs.Phases.{phase_of, entered_at, staying_at, square_after, IsAdmittedPhase}
+use Rattle.asg_proof.specs.Phases.{phase_of, entered_at, staying_at, square_after, IsAdmittedPhase, PhaseOf}
+use Rattle.asg_admit.specs.declared.reduced.Reduced.{Reduced}
+use Rattle.asg_admit.specs.Reduced.{IsReduced, IsPhaseTo}
 use Rattle.asg_admit.specs.Settled.{step_of, between}
+use Rattle.asg_square.specs.Grid.{cell_at}
 use Rattle.asg_algebra.specs.Rest.{IsRest, cut}
 use Rattle.asg_algebra.specs.Underway.{IsUnderway}
 use Rattle.asg_match.specs.laws.Trees.{IsTree-root}
@@ -151,3 +154,12 @@ module _ {V : Type 0} (M : Monoid V) (laws : IsOrderedMonoid M) (difference : V 
         least = λ i x l e. absurd (omega (arith, l));
       };
     }
+
+-- a phase without steps leaves a reduced square as it is
+pub no_steps : {V : Type 0} (M : Monoid V) → IsOrderedMonoid M → (difference : V → V → V) (phase : PhaseOf V) (reduced : Reduced V) → IsReduced M reduced → phase.steps ≡ [] → IsPhaseTo M difference phase reduced reduced
+no_steps {V} M laws difference phase reduced is none = record {
+  cells = λ r k. ap (λ (xs : List V). square_after M difference phase (cell_at reduced.now) (length xs) r k) (sym none);
+  index = sym (neutral_right M laws reduced.index is.index) ∙ ap (λ (xs : List V). M.product reduced.index (fold_of M xs)) (sym none);
+  labels = record { side = refl; rows = refl; row_labels = refl; column_labels = refl };
+  reduced = is;
+}

@@ -1,6 +1,7 @@
 //! The memory of a solver.
 
-ghost use Rattle.std.specs.Prelude.{◌≡◌, ◌≢◌, ◌<◌, [], IfOk, All, AllPairs};
+ghost use Rattle.std.specs.Prelude.{◌≡◌, ◌≢◌, ◌<◌, ◌≤◌, ◌^◌, [], IfOk, All, AllPairs, vec_len, vec_capacity};
+ghost use Rattle.asg_match.specs.ColumnSet.{word_count};
 
 use crate::NoMemory;
 use crate::growth::Growth;
@@ -29,6 +30,21 @@ impl<V: Copy> Model for Bench<V> {
     ghost invariant = { λ b. IsBench (vec_len b.growth.enters) b.growth };
 }
 
+// A tree without rows, with the memory for so many columns.
+fn tree_for(alloc: Global, columns: usize) -> Result<Branches, NoMemory>
+    requires { columns < 2 ^ 32 }
+    ensures rows { IfOk result (λ t. t.rows.items ≡ []) }
+    ensures rows_room { IfOk result (λ t. columns ≤ vec_capacity t.rows) }
+    ensures parents { IfOk result (λ t. vec_len t.parents ≡ columns) }
+    ensures unseen { IfOk result (λ t. vec_len t.unseen ≡ word_count columns) }
+{
+    Ok(Branches {
+        rows: Vec::with_capacity(alloc, columns)?,
+        parents: vec![in alloc; 0; columns]?,
+        unseen: vec![in alloc; 0; columns.div_ceil(64)]?,
+    })
+}
+
 impl<V: Copy> Bench<V> {
     /// A bench for a side, with no rows yet. The error is want of memory.
     pub fn make(alloc: Global, side: u32) -> Result<Bench<V>, NoMemory>
@@ -36,11 +52,7 @@ impl<V: Copy> Bench<V> {
         ensures rows { IfOk result (λ b. b.rows ≡ []) }
     {
         let columns = side as usize;
-        let tree = Branches {
-            rows: Vec::with_capacity(alloc, columns)?,
-            parents: vec![in alloc; 0; columns]?,
-            unseen: vec![in alloc; 0; columns.div_ceil(64)]?,
-        };
+        let tree = tree_for(alloc, columns)?;
         Ok(Bench {
             growth: Growth {
                 tree,
@@ -56,8 +68,8 @@ impl<V: Copy> Bench<V> {
         })
     }
 
-    /// The rows of the last tree that was grown, without repeats and all below the side: after a search
-    /// that ended short, rows with fewer columns than they are.
+    /// The rows of the last tree that was grown, without repeats and all below the side: after a
+    /// search that ended short, rows with fewer columns than they are.
     pub fn violator(&self) -> &[u32]
         ensures rows { result.now ≡ self.now.rows }
         ensures below { All (λ r. r < self.now.side) self.now.rows }

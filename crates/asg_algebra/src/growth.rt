@@ -14,8 +14,8 @@ use crate::reduced_squares::ReducedSquare;
 use asg_match::{Branches, Matching, remove, start};
 use asg_order::DMonoid;
 
-/// A tree, the keys of the columns that it didn't reach, of each word of columns the nearest one, and the
-/// phase so far.
+/// A tree, the keys of the columns that it didn't reach, of each word of columns the nearest one,
+/// and the phase so far.
 #[derive(Drop)]
 pub(crate) struct Growth<V: Copy> {
     pub(crate) tree: Branches,
@@ -108,8 +108,8 @@ fn climb<M: DMonoid>(m: &M, growth: &mut Growth<M::Value>, sum: &mut M::Value, c
     *sum = advance(m, &mut growth.steps, *sum, key);
 }
 
-// Looks at each column that wasn't reached from the row that entered last. The column with the least key of
-// those that weren't reached, if one has a key.
+// Looks at each column that wasn't reached from the row that entered last. The column with the
+// least key of those that weren't reached, if one has a key.
 fn look<M: DMonoid, S: ReducedSquare<M>>(
     m: &M,
     reduced: &S,
@@ -144,8 +144,8 @@ fn look<M: DMonoid, S: ReducedSquare<M>>(
     )
 }
 
-// Looks from the row that entered last, and takes the sum up to the least key of a column that wasn't
-// reached. None where no such column has a key.
+// Looks from the row that entered last, and takes the sum up to the least key of a column that
+// wasn't reached. None where no such column has a key.
 fn reach<M: DMonoid, S: ReducedSquare<M>>(
     m: &M,
     reduced: &S,
@@ -201,7 +201,8 @@ fn advance_round<M: DMonoid, S: ReducedSquare<M>>(
     }
 }
 
-// Grows the tree up to the first column that no row has. `None` where its rows have too few columns.
+// Grows the tree up to the first column that no row has. `None` where its rows have too few
+// columns.
 pub(crate) fn grow<M: DMonoid, S: ReducedSquare<M>>(
     m: &M,
     reduced: &S,

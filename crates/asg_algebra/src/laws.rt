@@ -10,9 +10,10 @@ ghost use Rattle.asg_algebra.specs.Growing.{IsAbsorbed};
 use asg_order::DMonoid;
 use asg_proof::laws::phases_law;
 
-/// The fold law: where admitted phases lead from a square to one in which a matching gives every row a
-/// cell that their index absorbs, the matching's columns are a perfect assignment of the square at
-/// first, and its product there is the index. By the phases law no assignment has a lesser one.
+/// The fold law: where admitted phases lead from a square to one in which a matching gives every
+/// row a cell that their index absorbs, the matching's columns are a perfect assignment of the
+/// square at first, and its product there is the index. By the phases law no assignment has a
+/// lesser one.
 pub fn fold_law<M: DMonoid>(m: &M)
     ensures { let monoid = M.monoid_of m.now in
         (side : ℕ) (phases : List (PhaseOf M.Value)) (square after : ℕ → ℕ → Option M.Value)

@@ -1,5 +1,5 @@
-//! The leads of columns: of each column that wasn't reached the least key by the rows that were seen,
-//! and the place of the row that it comes from.
+//! The leads of columns: of each column that wasn't reached the least key by the rows that were
+//! seen, and the place of the row that it comes from.
 
 ghost use Rattle.std.specs.Prelude.{◌≡◌, ◌<◌, false, length, slice_index_or, IsTrue};
 ghost use Rattle.asg_order.specs.Monoid.{IsValue, IsLe};
@@ -27,8 +27,8 @@ fn is_lower<M: DMonoid>(m: &M, keys: &[M::Value], column: u32, has_key: bool, ke
     !m.le(keys[column as usize], key)
 }
 
-// Offers a column the product of a sum and its value, from the row at a place. Whether the column took it as
-// its key.
+// Offers a column the product of a sum and its value, from the row at a place. Whether the column
+// took it as its key.
 #[inline]
 pub(crate) fn offer_key<M: DMonoid, R: RowValues<M>>(
     m: &M,

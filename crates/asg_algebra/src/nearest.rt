@@ -1,5 +1,5 @@
-//! The nearest column of a word of 64 columns: of those that weren't reached the one with the least key,
-//! and of equal ones one that no row has.
+//! The nearest column of a word of 64 columns: of those that weren't reached the one with the least
+//! key, and of equal ones one that no row has.
 
 ghost use Rattle.std.specs.Prelude.{◌≡◌, ℕ, [], ◌+◌, ◌*◌, ◌/◌, ◌<◌, ◌≤◌, false, None, Some, length, slice_index_or, IsTrue};
 ghost use Rattle.asg_model.specs.Limits.{most_side};
@@ -12,8 +12,8 @@ ghost use Rattle.asg_algebra.specs.Scanned.{AreValued};
 use asg_match::Matching;
 use asg_order::DMonoid;
 
-// Whether a column that is looked at after another with this key is to be taken in its place: where its
-// key is less, or is the same and no row has it, so that the path ends there.
+// Whether a column that is looked at after another with this key is to be taken in its place: where
+// its key is less, or is the same and no row has it, so that the path ends there.
 #[inline]
 fn takes_place<M: DMonoid>(
     m: &M,
@@ -84,8 +84,8 @@ pub(crate) fn nearest_of<M: DMonoid>(
     }
 }
 
-// The column with the least key of a word all of whose columns have keys; of equal ones one that no row
-// has.
+// The column with the least key of a word all of whose columns have keys; of equal ones one that no
+// row has.
 #[inline]
 pub(crate) fn nearest_of_whole<M: DMonoid>(
     m: &M,
@@ -113,8 +113,8 @@ pub(crate) fn nearest_of_whole<M: DMonoid>(
     nearest
 }
 
-// The column with the least key of those of a word that weren't reached, if one has a key; of equal ones
-// one that no row has.
+// The column with the least key of those of a word that weren't reached, if one has a key; of equal
+// ones one that no row has.
 pub(crate) fn nearest_in_word<M: DMonoid>(
     m: &M,
     matching: &Matching,
@@ -129,8 +129,9 @@ pub(crate) fn nearest_in_word<M: DMonoid>(
     requires matching { length matching.now ≡ length keys.now }
     requires word { number < length unseen.now }
     requires keyed { length keyed.now ≡ length unseen.now }
-    ensures { Picks (M.monoid_of m.now) (lead_at (M.monoid_of m.now) (leads_of keys.now keyed.now []))
-        (IsWithin number unseen.now) result }
+    ensures { let leads = leads_of keys.now keyed.now [] in
+        Picks (M.monoid_of m.now) (lead_at (M.monoid_of m.now) leads) (IsWithin number unseen.now)
+        result }
 {
     let mut rest = unseen[number as usize] & keyed[number as usize];
     if rest == u64::MAX {

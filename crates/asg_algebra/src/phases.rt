@@ -83,7 +83,8 @@ fn keep<M: DMonoid, S: ReducedSquare<M>>(
     Some(region.push(trail, &growth.steps, &growth.enters, &growth.leaves))
 }
 
-// After the last row of a phase: the path is flipped, and the square, the index and the trail follow.
+// After the last row of a phase: the path is flipped, and the square, the index and the trail
+// follow.
 // `Full` where the square can't take the phase; then all is as it was.
 fn finish<M: DMonoid, S: ReducedSquare<M>>(
     m: &M,
@@ -118,8 +119,8 @@ fn finish<M: DMonoid, S: ReducedSquare<M>>(
     Served::Has(keep(m, reduced, growth, region, trail))
 }
 
-// Gives a row that has no column one, by at most one phase. `Lacks` where the rows of its tree have too
-// few columns, and `Full` where the square can't take its phase; then all is as it was.
+// Gives a row that has no column one, by at most one phase. `Lacks` where the rows of its tree have
+// too few columns, and `Full` where the square can't take its phase; then all is as it was.
 pub(crate) fn augment<M: DMonoid, S: ReducedSquare<M>>(
     m: &M,
     reduced: &mut S,

@@ -34,9 +34,9 @@ pub(crate) trait ReducedSquare<M: DMonoid> {
         ensures side { result ≡ (as_reduced self.now).now.side }
         ensures grid { IsGrid (as_reduced self.now).now };
 
-    /// Offers each column of a set at which the row has a cell the product of a sum and this cell, from
-    /// the row at a place. The column of the set with the least key, if one has a key; of equal ones one
-    /// that no row has.
+    /// Offers each column of a set at which the row has a cell the product of a sum and this cell,
+    /// from the row at a place. The column of the set with the least key, if one has a key; of
+    /// equal ones one that no row has.
     fn offer_row(
         &self,
         m: &M,

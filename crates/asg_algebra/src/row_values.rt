@@ -16,9 +16,10 @@ pub(crate) trait RowValues<M: DMonoid> {
         requires { column < length (values_of self.now) }
         ensures { slice_get (values_of self.now) column ≡ Some result };
 
-    /// Columns of a word of 64 at which the product of a sum and the value may be less than the key: a bit
-    /// for each. At each other column the key is at most the product, where the value and the key are
-    /// values of the monoid. Where telling would cost more than it gains all bits are set.
+    /// Columns of a word of 64 at which the product of a sum and the value may be less than the
+    /// key: a bit for each. At each other column the key is at most the product, where the value
+    /// and the key are values of the monoid. Where telling would cost more than it gains all bits
+    /// are set.
     fn lesser(&self, m: &M, sum: M::Value, keys: &[M::Value], number: u32) -> u64
         requires sum { IsValue (M.monoid_of m.now) sum }
         requires within { 64 * number + 64 ≤ length (values_of self.now) }

@@ -15,8 +15,8 @@ use crate::whole_words::take_word;
 use asg_match::Matching;
 use asg_order::DMonoid;
 
-// Offers a column its key, from the row at a place. The nearest column of its word then, where it was the
-// given one before.
+// Offers a column its key, from the row at a place. The nearest column of its word then, where it
+// was the given one before.
 #[inline]
 fn offer<M: DMonoid, R: RowValues<M>>(
     m: &M,
@@ -51,11 +51,12 @@ fn offer<M: DMonoid, R: RowValues<M>>(
     nearer(m, matching, keys, nearest, column)
 }
 
-// As many columns of a word at most are offered their keys one by one, without a pass over the whole word.
+// As many columns of a word at most are offered their keys one by one, without a pass over the
+// whole word.
 const FEW: u32 = 12;
 
-// Columns of a word that are to be offered a key: those that are present and weren't reached, without some
-// whose key is at most the product of the sum and their value.
+// Columns of a word that are to be offered a key: those that are present and weren't reached,
+// without some whose key is at most the product of the sum and their value.
 #[inline]
 fn candidates<M: DMonoid, R: RowValues<M>>(
     m: &M,
@@ -94,8 +95,8 @@ fn candidates<M: DMonoid, R: RowValues<M>>(
     offered & (values.lesser(m, sum, keys, number) | !known)
 }
 
-// Offers each column of a word that is present and wasn't reached its key, from the row at a place. The
-// nearest column of the word then, where it was the given one before.
+// Offers each column of a word that is present and wasn't reached its key, from the row at a place.
+// The nearest column of the word then, where it was the given one before.
 #[inline]
 fn scan_word<M: DMonoid, R: RowValues<M>>(
     m: &M,
@@ -166,8 +167,9 @@ fn scan_word<M: DMonoid, R: RowValues<M>>(
     nearest
 }
 
-// Offers each column that is present and wasn't reached its key, from the row at a place. The column with
-// the least key of those that weren't reached, if one has a key; of equal ones one that no row has.
+// Offers each column that is present and wasn't reached its key, from the row at a place. The
+// column with the least key of those that weren't reached, if one has a key; of equal ones one that
+// no row has.
 pub(crate) fn scan<M: DMonoid, R: RowValues<M>>(
     m: &M,
     matching: &Matching,

@@ -68,7 +68,8 @@ fn serve<M: DMonoid, S: ReducedSquare<M>>(
     }
 }
 
-// Gives each row a column, up to the first whose tree has too few or whose phase the square can't take.
+// Gives each row a column, up to the first whose tree has too few or whose phase the square can't
+// take.
 pub(crate) fn serve_all<M: DMonoid, S: ReducedSquare<M>>(
     m: &M,
     reduced: &mut S,
@@ -104,17 +105,17 @@ pub(crate) fn serve_all<M: DMonoid, S: ReducedSquare<M>>(
 }
 
 /// Gives every row a column by an absorbed cell, by shortest augmenting paths over a d-monoid
-/// [Burkard, Hahn and Zimmermann 1977], each followed by at most one phase that is pushed on the trail
-/// before it.
+/// [Burkard, Hahn and Zimmermann 1977], each followed by at most one phase that is pushed on the
+/// trail before it.
 ///
-/// Each present cell and the index of the reduced square are values, each matched cell is absorbed by
-/// the index, at least as many records are spare as rows have no column, and the trail is live. The
-/// phases are admitted in turn from the old reduced square and lead to the new one; they are at most as
-/// many as rows had no column, and each has 1 to side steps. Every other live trail keeps its list and
-/// its parent. `Perfect`: every row has an absorbed cell, so that the product of the assignment is the
-/// index where the index was the unit at first. `Short`: the bench's violator has rows with fewer
-/// columns with present cells than they are. It takes no memory. The time grows with the cube of the
-/// side at most.
+/// Each present cell and the index of the reduced square are values, each matched cell is absorbed
+/// by the index, at least as many records are spare as rows have no column, and the trail is live.
+/// The phases are admitted in turn from the old reduced square and lead to the new one; they are at
+/// most as many as rows had no column, and each has 1 to side steps. Every other live trail keeps
+/// its list and its parent. `Perfect`: every row has an absorbed cell, so that the product of the
+/// assignment is the index where the index was the unit at first. `Short`: the bench's violator has
+/// rows with fewer columns with present cells than they are. It takes no memory. The time grows
+/// with the cube of the side at most.
 pub fn solve<M: DMonoid>(
     m: &M,
     reduced: &mut Reduced<M::Value>,

@@ -1,6 +1,6 @@
 //! The solver of each monoid.
 
-ghost use Rattle.std.specs.Prelude.{◌≡◌, ◌≤◌, ℕ, length, IfOk, IfSome};
+ghost use Rattle.std.specs.Prelude.{◌≡◌, ◌≤◌, ℕ, length, IfOk, IfSome, OnErr};
 ghost use Rattle.asg_admit.specs.Reduced.{IsReduced};
 ghost use Rattle.asg_match.specs.Matching.{AllAllowed};
 ghost use Rattle.asg_monoids.specs.BoundedSums.{bounded_sums, bounded_difference, narrow_top};
@@ -32,12 +32,13 @@ pub struct SolvedSquare<V: Copy> {
     pub ended: Solved,
 }
 
-/// The monoids of the objectives, each with the way to solve its squares that is fastest: sums by dual
-/// variables while none comes near the top, so that a phase costs the rows that it looked at and not
-/// the cells of the whole square; graded values by their low cells.
+/// The monoids of the objectives, each with the way to solve its squares that is fastest: sums by
+/// dual variables while none comes near the top, so that a phase costs the rows that it looked at
+/// and not the cells of the whole square; graded values by their low cells.
 pub trait SquareSolver: Written {
-    /// Does what [`solve`] does to a reduced square, under the same conditions. The error is want of
-    /// memory. The time grows with the cube of the side at most.
+    /// Does what [`solve`] does to a reduced square, under the same conditions. The error is want
+    /// of memory; then the matching, the region and the bench are as they were. The time grows with
+    /// the cube of the side at most.
     fn solve_square(
         &self,
         alloc: Global,
@@ -61,7 +62,10 @@ pub trait SquareSolver: Written {
             region.new trail (last_of s.ended)) }
         ensures ends { IfOk result (λ s. EndsIn (Self.monoid_of self.now) s.reduced matching.new
             bench.new.rows s.ended) }
-        ensures bench_side { bench.new.side ≡ bench.old.side };
+        ensures bench_side { bench.new.side ≡ bench.old.side }
+        ensures kept_matching { OnErr result (matching.new ≡ matching.old) }
+        ensures kept_region { OnErr result (region.new ≡ region.old) }
+        ensures kept_bench { OnErr result (bench.new ≡ bench.old) };
 }
 
 // Solves a square whose cells are rewritten after each phase.
@@ -92,8 +96,8 @@ fn solve_rewriting<M: DMonoid>(
     SolvedSquare { reduced, ended }
 }
 
-// Solves a square as it is kept, so long as it takes the phases. From the first that it doesn't take on, its
-// cells are written out and rewritten after each phase.
+// Solves a square as it is kept, so long as it takes the phases. From the first that it doesn't
+// take on, its cells are written out and rewritten after each phase.
 fn solve_kept<M: DMonoid, S: ReducedSquare<M> + Drop>(
     m: &M,
     square: S,
@@ -155,6 +159,9 @@ impl SquareSolver for Bounded {
         ensures ends { IfOk result (λ s. EndsIn (bounded_sums self.now.top) s.reduced
             matching.new bench.new.rows s.ended) }
         ensures bench_side { bench.new.side ≡ bench.old.side }
+        ensures kept_matching { OnErr result (matching.new ≡ matching.old) }
+        ensures kept_region { OnErr result (region.new ≡ region.old) }
+        ensures kept_bench { OnErr result (bench.new ≡ bench.old) }
     {
         let square = DualSquare::make(alloc, self, reduced)?;
         Ok(solve_kept(self, square, matching, bench, region, trail))
@@ -185,6 +192,9 @@ impl SquareSolver for NarrowSums {
         ensures ends { IfOk result (λ s. EndsIn (bounded_sums narrow_top) s.reduced
             matching.new bench.new.rows s.ended) }
         ensures bench_side { bench.new.side ≡ bench.old.side }
+        ensures kept_matching { OnErr result (matching.new ≡ matching.old) }
+        ensures kept_region { OnErr result (region.new ≡ region.old) }
+        ensures kept_bench { OnErr result (bench.new ≡ bench.old) }
     {
         let square = NarrowSquare::make(alloc, reduced)?;
         Ok(solve_kept(self, square, matching, bench, region, trail))
@@ -215,6 +225,9 @@ impl SquareSolver for Greatest {
         ensures ends { IfOk result (λ s. EndsIn maxima s.reduced
             matching.new bench.new.rows s.ended) }
         ensures bench_side { bench.new.side ≡ bench.old.side }
+        ensures kept_matching { OnErr result (matching.new ≡ matching.old) }
+        ensures kept_region { OnErr result (region.new ≡ region.old) }
+        ensures kept_bench { OnErr result (bench.new ≡ bench.old) }
     {
         let _ = alloc;
         Ok(solve_rewriting(self, reduced, matching, bench, region, trail))
@@ -247,6 +260,9 @@ impl SquareSolver for Graded<Bounded> {
         ensures ends { IfOk result (λ s. EndsIn (graded (bounded_sums self.now.inner.top)) s.reduced
             matching.new bench.new.rows s.ended) }
         ensures bench_side { bench.new.side ≡ bench.old.side }
+        ensures kept_matching { OnErr result (matching.new ≡ matching.old) }
+        ensures kept_region { OnErr result (region.new ≡ region.old) }
+        ensures kept_bench { OnErr result (bench.new ≡ bench.old) }
     {
         let square = GradedSquare::make(alloc, reduced)?;
         Ok(solve_kept(self, square, matching, bench, region, trail))

@@ -47,7 +47,8 @@ fn offer_word<M: DMonoid, R: RowValues<M>>(
     keyed[number as usize] = u64::MAX;
 }
 
-// Offers each column of a word its key, from the row at a place. The nearest column of the word then.
+// Offers each column of a word its key, from the row at a place. The nearest column of the word
+// then.
 #[inline]
 pub(crate) fn take_word<M: DMonoid, R: RowValues<M>>(
     m: &M,

@@ -1,4 +1,3 @@
-use Rattle.std.proofs.Common.{◌≡◌, length}
 use Rattle.asg_admit.specs.Reduced.{phase_of}
 use Rattle.asg_admit.proofs.SettledRows.{SettlesWaitingTo}
 use Rattle.asg_admit.proofs.marked_cells.settle_waiting.Given as goal

@@ -1,4 +1,3 @@
-use Rattle.std.proofs.Common.{◌≡◌}
 use Rattle.asg_admit.specs.Reduced.{phase_of}
 use Rattle.asg_admit.proofs.SettledRows.{SettlesEnteredTo}
 use Rattle.asg_admit.proofs.replaying.replay_entered.Given as goal

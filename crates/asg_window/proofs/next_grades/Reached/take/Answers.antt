@@ -1,4 +1,4 @@
-use Rattle.std.proofs.Common.{ℕ, below_more, get_or, ⊎_elim}
+use Rattle.std.proofs.Common.{below_more, get_or, ⊎_elim, rules}
 use Rattle.asg_window.specs.Reaching.{IsRowMarked}
 use Rattle.asg_window.proofs.next_grades.Reached.take.Goals as goal
 

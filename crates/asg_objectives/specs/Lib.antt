@@ -1,3 +1,4 @@
 pub mod FoldOutcomes
 pub mod SolvedSquares
 pub mod Workspaces
+pub mod SolvedFrom

@@ -16,7 +16,6 @@ ghost use Rattle.asg_monoids.specs.NarrowObjectives.{is_narrow_objective};
 
 use crate::NoMemory;
 use crate::solved_squares::outcome;
-use crate::workspaces::Workspace;
 use asg_algebra::SquareSolver;
 use asg_model::{Cost, Instance, Objective};
 use asg_monoids::laws::narrow_sums;
@@ -44,7 +43,6 @@ where
         (K.entered kind.now) inst.now) }
     ensures phases { IfOk result (GivesFewPhases (square_side inst.now)) }
 {
-    let workspace = Workspace::make(alloc, inst.side())?;
     let m = kind.monoid();
     let _rows = inst.rows();
     let enter = |cost: Cost| -> <K::M as Ordered>::Value
@@ -52,7 +50,7 @@ where
         ensures { result ≡ K.entered kind.entry.now cost }
     { kind.enter(cost) };
     let square = Square::of(alloc, inst, m.unit(), &enter)?;
-    outcome(alloc, m, inst, square, workspace)
+    outcome(alloc, m, inst, square)
 }
 
 // The square of an instance whose live costs enter for `sum` or `sum-max`, in 64 bits.
@@ -84,10 +82,9 @@ fn by_narrow_sums(alloc: Global, objective: Objective, inst: &Instance) -> Resul
 {
     narrow_sums();
     tops_law();
-    let workspace = Workspace::make(alloc, inst.side())?;
     let _rows = inst.rows();
     let square = narrow_square(alloc, objective, inst)?;
-    outcome(alloc, &NarrowSums, inst, square, workspace)
+    outcome(alloc, &NarrowSums, inst, square)
 }
 
 // The outcome of an objective whose costs enter sums, by sums in 128 bits.

@@ -11,6 +11,7 @@ ghost use Rattle.asg_square.specs.Cells.{IsPresent};
 ghost use Rattle.asg_square.specs.Grid.{cell_at, HasLabelsOf};
 ghost use Rattle.asg_proof.specs.PromisedProofs.{GivesFewPhases};
 ghost use Rattle.asg_objectives.specs.SolvedSquares.{AreOfValues, IsChoiceBy, IsBestBy, IsNothingBy, IsSquareOutcome};
+ghost use Rattle.asg_objectives.specs.SolvedFrom.{IsSolvedFrom};
 ghost use Rattle.asg_objectives.specs.Workspaces.{IsReady};
 
 use crate::NoMemory;
@@ -71,7 +72,7 @@ fn choice_by<V: Copy>(
 
 // The best choice and the phases that led to it. The square is let go of before they are written, and
 // their marks are moved out of the region.
-fn best<M: Written>(
+fn best_by<M: Written>(
     alloc: Global,
     m: &M,
     square: Square<M::Value>,
@@ -91,6 +92,28 @@ fn best<M: Written>(
         choice,
         proof: Proof::Phases(phases),
     })
+}
+
+// The same of a workspace.
+fn best<M: Written>(
+    alloc: Global,
+    m: &M,
+    square: Square<M::Value>,
+    workspace: Workspace<M::Value>,
+    last: Option<Trail>,
+) -> Result<Outcome, NoMemory>
+    requires perfect { IsPerfect (IsPresent (cell_at square)) square.side workspace.matching }
+    requires live { IfSome last (IsLive workspace.region) }
+    requires values { AreOfValues (M.monoid_of m.now) (phases_to workspace.region last) }
+    ensures { let words = map (worded (M.word_of m.now)) (phases_to workspace.region last) in
+        IfOk result (IsBestBy square workspace.matching words) }
+{
+    let Workspace {
+        matching,
+        bench: _bench,
+        region,
+    } = workspace;
+    best_by(alloc, m, square, &matching, region, last)
 }
 
 // The Hall set of rows that have fewer present cells than they are.
@@ -115,10 +138,34 @@ fn nothing<V: Copy>(
     })
 }
 
-/// Solves the square of an instance, whose present cells are values and whose free cells are units: a
-/// valid choice with phases that prove its fold, or a Hall set of the whole instance. The error is want
-/// of memory.
-pub(crate) fn outcome<M: SquareSolver>(
+// Solves a square in a workspace. It has the square from then on.
+fn solve_in<M: SquareSolver>(
+    alloc: Global,
+    m: &M,
+    square: Square<M::Value>,
+    workspace: &mut Workspace<M::Value>,
+) -> Result<SolvedSquare<M::Value>, NoMemory>
+    requires values { HasValues (M.monoid_of m.now) square.side (cell_at square) }
+    requires ready { IsReady square.side workspace.old }
+    ensures { IfOk result (λ found. IsSolvedFrom (M.monoid_of m.now) (M.difference m.now) square
+        found workspace.new) }
+{
+    let reduced = Reduced {
+        now: square,
+        index: m.unit(),
+    };
+    m.solve_square(
+        alloc,
+        reduced,
+        &mut workspace.matching,
+        &mut workspace.bench,
+        &mut workspace.region,
+        None,
+    )
+}
+
+// The outcome of the square of an instance that is solved in a workspace.
+fn outcome_in<M: SquareSolver>(
     alloc: Global,
     m: &M,
     inst: &Instance,
@@ -136,19 +183,30 @@ pub(crate) fn outcome<M: SquareSolver>(
     square_law::<M::Value>();
     grid_law::<M::Value>();
     let _rows = inst.rows();
-    let Workspace {
-        mut matching,
-        mut bench,
-        mut region,
-    } = workspace;
-    let reduced = Reduced {
-        now: square,
-        index: m.unit(),
-    };
-    let solved = m.solve_square(alloc, reduced, &mut matching, &mut bench, &mut region, None)?;
-    let SolvedSquare { reduced, ended } = solved;
+    let mut workspace = workspace;
+    let found = solve_in(alloc, m, square, &mut workspace)?;
+    let SolvedSquare { reduced, ended } = found;
     match ended {
-        Solved::Perfect(last) => best(alloc, m, reduced.now, &matching, region, last),
-        Solved::Short(_) => nothing(alloc, inst, &reduced.now, bench.violator()),
+        Solved::Perfect(last) => best(alloc, m, reduced.now, workspace, last),
+        Solved::Short(_) => nothing(alloc, inst, &reduced.now, workspace.bench.violator()),
     }
+}
+
+/// Solves the square of an instance, whose present cells are values and whose free cells are units: a
+/// valid choice with phases that prove its fold, or a Hall set of the whole instance. The error is want
+/// of memory.
+pub(crate) fn outcome<M: SquareSolver>(
+    alloc: Global,
+    m: &M,
+    inst: &Instance,
+    square: Square<M::Value>,
+) -> Result<Outcome, NoMemory>
+    requires labels { HasLabelsOf inst.now square }
+    requires values { HasValues (M.monoid_of m.now) square.side (cell_at square) }
+    ensures outcome { IfOk result (IsSquareOutcome (M.monoid_of m.now) (M.difference m.now)
+        (M.word_of m.now) inst.now square) }
+    ensures phases { IfOk result (GivesFewPhases square.side) }
+{
+    let workspace = Workspace::make(alloc, square.side())?;
+    outcome_in(alloc, m, inst, square, workspace)
 }

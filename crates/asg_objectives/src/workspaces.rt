@@ -1,6 +1,6 @@
 //! The memory of a solve.
 
-ghost use Rattle.std.specs.Prelude.{IfOk};
+ghost use Rattle.std.specs.Prelude.{◌≡◌, [], IfOk};
 ghost use Rattle.asg_objectives.specs.Workspaces.{IsReady};
 
 use crate::NoMemory;
@@ -17,6 +17,15 @@ pub(crate) struct Workspace<V: Copy> {
     pub(crate) region: Region<V>,
 }
 
+// A region without trails, with a record spare for each row.
+fn spare_region<V: Copy>(alloc: Global, side: u32) -> Result<Region<V>, NoMemory>
+    ensures { IfOk result (λ r. r ≡ record { side = side; spare = side; trails = [] }) }
+{
+    let mut region = Region::make(alloc, side)?;
+    region.reserve(side)?;
+    Ok(region)
+}
+
 impl<V: Copy> Workspace<V> {
     /// A workspace for a side: no row has a column, no phase was pushed, and there is a record spare for
     /// each row. The error is want of memory.
@@ -24,9 +33,8 @@ impl<V: Copy> Workspace<V> {
         ensures { IfOk result (IsReady side) }
     {
         let matching = Matching::make(alloc, side)?;
+        let region = spare_region(alloc, side)?;
         let bench = Bench::make(alloc, side)?;
-        let mut region = Region::make(alloc, side)?;
-        region.reserve(side)?;
         Ok(Workspace {
             matching,
             bench,

@@ -8,7 +8,7 @@ side=${1:-1000}
 seed=${2:-1}
 echo "# asg solve of the algebraic objectives, and asg check of what it wrote: side $side, seed $seed"
 echo "# An objective, an instance and its options, then a line for solve and one for check:"
-echo "# exit status, the line of the answer, seconds of the wall clock (s), peak memory (MB of 2^20 bytes)"
+echo "# exit status, the line of the answer, seconds of the wall clock (s), peak memory (MB of 2^20 bytes; about 10 at least, of the process before it starts the program)"
 folder=$(mktemp -d)
 trap 'rm -rf "$folder"' EXIT
 "$here/asg" solve sum "$here/examples/three.square" > /dev/null

@@ -9,7 +9,7 @@ here=$(cd "$(dirname "$(readlink -f "$0")")/.." && pwd)
 mib=${1:-256}
 echo "# asg check of an answer's file of about $mib MiB of documents, and of the same with one byte changed near its end"
 echo "# The size of the file and the number of documents, then a line for each of the two:"
-echo "# exit status, the line of the answer, seconds of the wall clock (s), peak memory (MB of 2^20 bytes)"
+echo "# exit status, the line of the answer, seconds of the wall clock (s), peak memory (MB of 2^20 bytes; about 10 at least, of the process before it starts the program)"
 folder=$(mktemp -d)
 trap 'rm -rf "$folder"' EXIT
 python3 - "$mib" "$folder" <<'PY'

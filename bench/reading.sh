@@ -8,7 +8,7 @@ here=$(cd "$(dirname "$(readlink -f "$0")")/.." && pwd)
 mib=${1:-64}
 echo "# asg solve of an asn file of about $mib MiB, and of a square file of four times as many (at most 256), both refused at their end"
 echo "# A line for each of the two:"
-echo "# exit status, the line of the answer, seconds of the wall clock (s), peak memory (MB of 2^20 bytes)"
+echo "# exit status, the line of the answer, seconds of the wall clock (s), peak memory (MB of 2^20 bytes; about 10 at least, of the process before it starts the program)"
 folder=$(mktemp -d)
 trap 'rm -rf "$folder"' EXIT
 python3 - "$mib" "$folder" <<'PY'

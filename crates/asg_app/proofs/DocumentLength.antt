@@ -32,7 +32,7 @@ use Rattle.asg_doc.specs.declared.documents.Command.TheVariants.{Solve as SolveC
 use Rattle.asg_doc.specs.declared.documents.Document.{Document}
 use Rattle.asg_doc.specs.HasText.{HasAnswerText, HasClaimText, IsWrittenValue, AreRows}
 use Rattle.asg_doc.specs.Text.{spaced, cell_line, ended, text_of, value_line}
-use Rattle.asg_doc.specs.Words.{HasWord, command_word, has_pairs, objective_word}
+use Rattle.asg_doc.specs.Words.{HasWord, command_word, has_pairs}
 use Rattle.asg_proof.specs.declared.outcomes.Proof.{Proof}
 use Rattle.asg_proof.specs.declared.outcomes.Proof.TheVariants.{Below, Phases, Windows}
 use Rattle.asg_proof.specs.Threshold.{ProvesBelow}
@@ -40,7 +40,7 @@ use Rattle.asg_check.specs.declared.verdicts.Form.{Form}
 use Rattle.asg_check.specs.declared.verdicts.Form.TheVariants.{Solve}
 use Rattle.asg_check.specs.Certifies.{CertifiesClaim}
 use Rattle.asg_check.specs.TrueClaim.{IsTrueClaim}
-use Rattle.asg_model.specs.Objectives.{IsBottleneck}
+use Rattle.asg_model.specs.Objectives.{IsBottleneck, objective_word}
 use Rattle.asg_words.specs.declared.requests.Job.{Job}
 use Rattle.asg_app.specs.Promised.{IsSolved, IsUnsolvable}
 use Rattle.asg_app.specs.WrittenDocument.{IsBestDocument, IsNoneDocument, IsPromisedClaim, IsPromisedProof}
@@ -216,14 +216,14 @@ length-best laws objective X form document bottleneck few best = by_proof best.a
         by_objective : (o : Objective) → IsBottleneck o → IsPromisedProof o X (Phases words) → length (text_of document) ≤ longest_file
         by_objective Bottleneck is promised = absurd promised
         by_objective BottleneckMax is promised = absurd promised
-        by_objective _ is promised = absurd is
+        by_objective _ is promised = absurd (cc)
     by_proof answer (Windows windows) claims =
         by_objective objective bottleneck (subst (IsPromisedClaim objective X) claims best.written.promised)
       where
         by_objective : (o : Objective) → IsBottleneck o → IsPromisedProof o X (Windows windows) → length (text_of document) ≤ longest_file
         by_objective Bottleneck is promised = absurd promised
         by_objective BottleneckMax is promised = absurd promised
-        by_objective _ is promised = absurd is
+        by_objective _ is promised = absurd (cc)
     by_proof answer (Below rows) claims =
         let has_text = subst (HasClaimText document.objective) claims best.written.has_text.claim in
         let truly = subst (IsTrueClaim objective X) claims best.written.truly in

@@ -7,7 +7,7 @@ use Rattle.asg_model.specs.declared.objectives.Objective.{Objective}
 use Rattle.asg_model.specs.declared.objectives.Objective.TheVariants.{Sum, SumMax, SumPair, Capped, Bottleneck, BottleneckMax, TimeCost, Balanced, Lex}
 use Rattle.asg_doc.specs.Words.{HasWord}
 use Rattle.asg_words.specs.Bounds.{IsJob, IsWithin, cap_of}
-use Rattle.asg_words.specs.Limits.{most_cap}
+use Rattle.asg_model.specs.Objectives.{most_cap}
 use Rattle.asg_words.specs.declared.requests.Job.{Job}
 use Rattle.asg_words.specs.declared.requests.Request.{Request}
 use Rattle.asg_words.specs.declared.requests.Request.TheVariants.{Work, Make}

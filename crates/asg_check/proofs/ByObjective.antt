@@ -22,7 +22,7 @@ use Rattle.asg_monoids.specs.laws.Maxima.{maxima_word_laws}
 use Rattle.asg_square.specs.Cells.{square_cell}
 use Rattle.asg_proof.specs.FoldProofs.{ProvesFold, ProvesPhases}
 use Rattle.asg_proof.specs.Phases.{PhaseOf, index_of}
-use Rattle.asg_proof.specs.Proves.{is_algebraic}
+use Rattle.asg_model.specs.Objectives.{is_algebraic}
 use Rattle.asg_check.specs.PhaseReasons.{AreAdmitted, AreAdmittedFor, AreAdmittedFrom, Fact, HaveIndexBut, HaveOtherIndex, HaveOtherIndexFor, InMonoidOf}
 use Rattle.asg_check.proofs.PhaseWords.{admitted-take, dec_admitted, phases-once}
 

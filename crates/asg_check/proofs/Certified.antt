@@ -24,7 +24,8 @@ use Rattle.asg_proof.specs.declared.outcomes.Proof.{Proof}
 use Rattle.asg_proof.specs.declared.outcomes.Proof.TheVariants.{Below, Phases, Windows}
 use Rattle.asg_proof.specs.declared.windows.Window.{Window}
 use Rattle.asg_proof.specs.Phases.{PhaseOf}
-use Rattle.asg_proof.specs.Proves.{Proves, is_algebraic, takes}
+use Rattle.asg_proof.specs.Proves.{Proves, takes}
+use Rattle.asg_model.specs.Objectives.{is_algebraic}
 use Rattle.asg_proof.specs.Threshold.{ProvesBelow}
 use Rattle.asg_proof.specs.Windows.{IsHallWindow, ProvesWindows}
 use Rattle.asg_doc.specs.ChosenCells.{cells_by_id}

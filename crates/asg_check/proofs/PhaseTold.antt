@@ -12,7 +12,8 @@ use Rattle.asg_order.specs.Bridge.{choice_fold}
 use Rattle.asg_order.specs.Monoid.{Monoid, IsValue, IsOrderedMonoid}
 use Rattle.asg_order.specs.Words.{HasWords}
 use Rattle.asg_monoids.specs.BoundedSums.{bounded_sums, bounded_difference, plain_word}
-use Rattle.asg_monoids.specs.Entered.{is_peak_objective, is_sum_objective, top_of, sum_entered, peak_entered, time_entered}
+use Rattle.asg_monoids.specs.Entered.{is_sum_objective, top_of, sum_entered, peak_entered, time_entered}
+use Rattle.asg_model.specs.Objectives.{is_bottleneck}
 use Rattle.asg_monoids.specs.Grades.{graded, graded_difference, graded_word}
 use Rattle.asg_monoids.specs.Maxima.{maxima, maxima_difference}
 use Rattle.asg_square.specs.Cells.{square_cell}
@@ -116,7 +117,7 @@ module _ (X : Problem) (choice : List (Option ℕ)) (words : List (PhaseOf Word)
   sums_of (Capped cap) is told = told
   sums_of _ is told = absurd (cc)
 
-  peaks_of : (objective : Objective) → is_peak_objective objective ≡ true
+  peaks_of : (objective : Objective) → is_bottleneck objective ≡ true
       → Tells (StandsOver maxima maxima_difference plain_word (peak_entered objective) X choice words) phase_reasons verdict → Tells (StandsFor objective X choice words) phase_reasons verdict
   peaks_of Bottleneck is told = told
   peaks_of BottleneckMax is told = told
@@ -129,10 +130,10 @@ module _ (X : Problem) (choice : List (Option ℕ)) (words : List (PhaseOf Word)
       (subst (λ t. Tells (StandsOver (bounded_sums t) bounded_difference plain_word (sum_entered objective) X choice words) phase_reasons verdict) stops
       (subst (λ o. Tells (StandsOver (bounded_sums top) bounded_difference plain_word (sum_entered o) X choice words) phase_reasons verdict) same told))
 
-  pub told_peaks : (objective own : Objective) → is_peak_objective own ≡ true → own ≡ objective
+  pub told_peaks : (objective own : Objective) → is_bottleneck own ≡ true → own ≡ objective
       → Tells (StandsOver maxima maxima_difference plain_word (peak_entered own) X choice words) phase_reasons verdict → Tells (StandsFor objective X choice words) phase_reasons verdict
   told_peaks objective own is same told =
-      peaks_of objective (ap is_peak_objective (sym same) ∙ is)
+      peaks_of objective (ap is_bottleneck (sym same) ∙ is)
       (subst (λ o. Tells (StandsOver maxima maxima_difference plain_word (peak_entered o) X choice words) phase_reasons verdict) same told)
 
   pub told_times : (objective : Objective) (top : ℕ) → objective ≡ TimeCost → top ≡ 2 ^ 120

@@ -11,7 +11,7 @@ ghost use Rattle.asg_monoids.specs.Entered.{is_sum_objective};
 ghost use Rattle.asg_order.specs.Bridge.{choice_fold};
 ghost use Rattle.asg_order.specs.Entering.{LiesWithin, MayEnter};
 ghost use Rattle.asg_order.specs.Monoid.{IsValue};
-ghost use Rattle.asg_proof.specs.Proves.{is_algebraic};
+ghost use Rattle.asg_model.specs.Objectives.{is_algebraic};
 ghost use Rattle.asg_check.specs.Reasons.{Tells, phase_reasons};
 ghost use Rattle.asg_check.specs.Replays.{IsStart, StandsFor, StandsOver};
 

@@ -28,7 +28,8 @@ use Rattle.asg_doc.specs.declared.documents.Status.{Status}
 use Rattle.asg_doc.specs.declared.documents.Status.TheVariants.{Best, Nothing}
 use Rattle.asg_doc.specs.DocumentParts.{command_part, objective_part, status_part, number_part, number_pair_part, formed_part, value_part, step_spelling, steps_part, enters_part, leaves_part, count_part, cell_part, hall_part, proof_head_part, proof_head_spelling, proof_head_text, HasProofHead}
 use Rattle.asg_doc.specs.HasText.{IsWrittenValue}
-use Rattle.asg_doc.specs.Words.{HasWord, has_pairs, cap_spelling, command_word, objective_word, status_word, command_spelling, objective_spelling, status_spelling}
+use Rattle.asg_doc.specs.Words.{HasWord, has_pairs, cap_spelling, command_word, status_word, command_spelling, objective_spelling, status_spelling}
+use Rattle.asg_model.specs.Objectives.{objective_word}
 
 pub title_law : IsReadable (the_line (codes "assignment 1"))
 title_law = IsReadable-this (codes "assignment 1") refl

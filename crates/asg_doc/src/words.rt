@@ -5,7 +5,8 @@ ghost use Rattle.asg_parts.specs.Spellings.{Spells};
 ghost use Rattle.asg_doc.specs.Words.{command_word, status_word, has_pairs, has_grades, command_spelling, cap_spelling, named_spelling, objective_spelling, status_spelling};
 
 use crate::documents::{Command, Status};
-use asg_model::Objective;
+use asg_model::limits::MOST_CAP;
+use asg_model::{Objective, uncapped_named};
 use asg_parts::{after, wide_number};
 
 // The word of a command.
@@ -35,38 +36,20 @@ fn cap_of(word: &[u8]) -> Option<u64>
     if cap == 0 {
         return None;
     }
-    if cap > 1_000_000_000_000 {
+    if cap > u128::from(MOST_CAP) {
         return None;
     }
     Some(cap as u64)
 }
 
-// The objective without a cap that has this word; none where none has.
+// The objective without a cap that has this word, `lex` aside; none where none has.
 fn named_objective(word: &[u8]) -> Option<Objective>
     ensures { Spells named_spelling word.now result }
 {
-    if word == b"sum".as_slice() {
-        return Some(Objective::Sum);
+    match uncapped_named(word) {
+        Some(Objective::Lex) => None,
+        named => named,
     }
-    if word == b"sum-max".as_slice() {
-        return Some(Objective::SumMax);
-    }
-    if word == b"pair".as_slice() {
-        return Some(Objective::SumPair);
-    }
-    if word == b"bottleneck".as_slice() {
-        return Some(Objective::Bottleneck);
-    }
-    if word == b"bottleneck-max".as_slice() {
-        return Some(Objective::BottleneckMax);
-    }
-    if word == b"time-cost".as_slice() {
-        return Some(Objective::TimeCost);
-    }
-    if word == b"balanced".as_slice() {
-        return Some(Objective::Balanced);
-    }
-    None
 }
 
 // The objective that has this word; none where none has.

@@ -17,3 +17,6 @@ pub const MOST_SIDE: u32 = 2_000;
 
 /// The greatest length of a file, in bytes.
 pub const LONGEST_FILE: usize = 268_435_456;
+
+/// The greatest cap of a capped sum.
+pub const MOST_CAP: u64 = 1_000_000_000_000;

@@ -37,12 +37,6 @@ sum_entered SumPair cost = shifted cost.a * 2 ^ 42 + shifted cost.b
 sum_entered (Capped cap) cost = min (unsigned_abs cost.a) cap
 sum_entered _ cost = 0
 
--- the objectives whose costs enter maxima: `bottleneck` and `bottleneck-max`
-abbrev pub is_peak_objective : Objective → Bool
-is_peak_objective Bottleneck = true
-is_peak_objective BottleneckMax = true
-is_peak_objective _ = false
-
 -- the number as which a cost enters maxima
 abbrev pub peak_entered : Objective → Cost → ℕ
 peak_entered Bottleneck cost = shifted cost.a

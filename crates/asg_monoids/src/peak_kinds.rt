@@ -1,7 +1,7 @@
 //! The kind of the objectives whose costs enter maxima.
 
 ghost use Rattle.std.specs.Prelude.{◌≡◌, IsTrue};
-ghost use Rattle.asg_monoids.specs.Entered.{is_peak_objective};
+ghost use Rattle.asg_model.specs.Objectives.{is_bottleneck};
 
 use crate::maxima::Greatest;
 use crate::shifts::{shifted, turned};
@@ -13,13 +13,13 @@ use asg_order::Kind;
 pub struct PeakKind {
     objective: Objective,
     monoid: Greatest,
-    ghost is_peak: { IsTrue (is_peak_objective objective) },
+    ghost is_peak: { IsTrue (is_bottleneck objective) },
 }
 
 impl PeakKind {
     /// The kind of the objective, which is `bottleneck` or `bottleneck-max`.
     pub fn of(objective: Objective) -> PeakKind
-        requires { IsTrue (is_peak_objective objective) }
+        requires { IsTrue (is_bottleneck objective) }
         ensures { ⟦<PeakKind as Kind>⟧.objective result ≡ objective }
     {
         PeakKind {

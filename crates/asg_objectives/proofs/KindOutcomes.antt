@@ -8,7 +8,8 @@ use Rattle.asg_model.specs.declared.parts.Cost.{Cost}
 use Rattle.asg_model.specs.Problem.{Problem}
 use Rattle.asg_model.specs.ValidChoice.{IsValid}
 use Rattle.asg_monoids.specs.BoundedSums.{bounded_sums, bounded_difference, plain_word}
-use Rattle.asg_monoids.specs.Entered.{is_sum_objective, is_peak_objective, top_of, sum_entered, peak_entered, time_entered}
+use Rattle.asg_monoids.specs.Entered.{is_sum_objective, top_of, sum_entered, peak_entered, time_entered}
+use Rattle.asg_model.specs.Objectives.{is_bottleneck}
 use Rattle.asg_monoids.specs.Grades.{graded, graded_difference, graded_word}
 use Rattle.asg_monoids.specs.Maxima.{maxima, maxima_difference}
 use Rattle.asg_order.specs.declared.words.Word.{Word}
@@ -39,7 +40,7 @@ from_sum TimeCost is X choice words proof = absurd (false≢true is)
 from_sum Balanced is X choice words proof = absurd (false≢true is)
 from_sum Lex is X choice words proof = absurd (false≢true is)
 
-from_peak : (objective : Objective) → is_peak_objective objective ≡ true → (X : Problem) (choice : List (Option ℕ)) (words : List (PhaseOf Word)) → ProvesPeak objective X choice words → ProvesPhases objective X choice words
+from_peak : (objective : Objective) → is_bottleneck objective ≡ true → (X : Problem) (choice : List (Option ℕ)) (words : List (PhaseOf Word)) → ProvesPeak objective X choice words → ProvesPhases objective X choice words
 from_peak Bottleneck is X choice words proof = proof
 from_peak BottleneckMax is X choice words proof = proof
 from_peak Sum is X choice words proof = absurd (false≢true is)
@@ -58,7 +59,7 @@ IsOutcome-sums kind objective top same stops is X outcome by =
     (subst (λ o. IsFoldOutcome (bounded_sums top) bounded_difference plain_word (sum_entered o) X outcome) same by))
 
 -- the kind of maxima
-pub IsOutcome-maxima : (kind objective : Objective) → kind ≡ objective → IsTrue (is_peak_objective objective) → (X : Problem) (outcome : Outcome) → IsFoldOutcome maxima maxima_difference plain_word (peak_entered kind) X outcome → IsOutcome objective X outcome
+pub IsOutcome-maxima : (kind objective : Objective) → kind ≡ objective → IsTrue (is_bottleneck objective) → (X : Problem) (outcome : Outcome) → IsFoldOutcome maxima maxima_difference plain_word (peak_entered kind) X outcome → IsOutcome objective X outcome
 IsOutcome-maxima kind objective same is X outcome by =
     IsOutcome-from_fold maxima maxima_difference plain_word (peak_entered objective) objective X (λ choice words valid. from_peak objective is X choice words) outcome
     (subst (λ o. IsFoldOutcome maxima maxima_difference plain_word (peak_entered o) X outcome) same by)

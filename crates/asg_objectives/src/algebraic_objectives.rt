@@ -5,10 +5,10 @@ ghost use Rattle.asg_model.specs.declared.objectives.Objective.TheVariants.{Time
 ghost use Rattle.asg_model.specs.Limits.{most_cost, most_side};
 ghost use Rattle.asg_model.specs.Refused.{PassesNegative};
 ghost use Rattle.asg_model.specs.Shapes.{square_side};
-ghost use Rattle.asg_monoids.specs.Entered.{is_sum_objective, is_peak_objective, cost_reach, sum_entered};
+ghost use Rattle.asg_monoids.specs.Entered.{is_sum_objective, cost_reach, sum_entered};
 ghost use Rattle.asg_order.specs.Entering.{MayEnter};
 ghost use Rattle.asg_proof.specs.Outcomes.{IsOutcome};
-ghost use Rattle.asg_proof.specs.Proves.{is_algebraic};
+ghost use Rattle.asg_model.specs.Objectives.{is_algebraic, is_bottleneck};
 ghost use Rattle.asg_square.specs.Grid.{IsSquareOf};
 ghost use Rattle.asg_objectives.specs.FoldOutcomes.{IsFoldOutcome};
 ghost use Rattle.asg_proof.specs.PromisedProofs.{GivesFewPhases};
@@ -113,7 +113,7 @@ fn by_sums(alloc: Global, objective: Objective, inst: &Instance) -> Result<Outco
 
 // The outcome of an objective whose costs enter maxima.
 fn by_maxima(alloc: Global, objective: Objective, inst: &Instance) -> Result<Outcome, NoMemory>
-    requires objective { IsTrue (is_peak_objective objective) }
+    requires objective { IsTrue (is_bottleneck objective) }
     requires side { square_side inst.now ≤ most_side }
     requires passes { PassesNegative objective inst.now }
     ensures outcome { IfOk result (IsOutcome objective inst.now) }

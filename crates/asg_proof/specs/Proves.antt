@@ -1,21 +1,15 @@
 -- What a proof of each kind must hold for a choice, and which objectives take the kind.
 use Rattle.std.specs.Prelude.{ℕ, Bool, true, false, List, Option}
 use Rattle.asg_model.specs.declared.objectives.Objective.{Objective}
-use Rattle.asg_model.specs.declared.objectives.Objective.TheVariants.{Balanced, Lex}
+use Rattle.asg_model.specs.declared.objectives.Objective.TheVariants.{Balanced}
 use Rattle.asg_model.specs.Problem.{Problem}
 use Rattle.asg_model.specs.Values.{choice_value}
-use Rattle.asg_monoids.specs.Entered.{is_peak_objective}
+use Rattle.asg_model.specs.Objectives.{is_algebraic, is_bottleneck}
 use Rattle.asg_proof.specs.declared.outcomes.Proof.{Proof}
 use Rattle.asg_proof.specs.declared.outcomes.Proof.TheVariants.{Below, Phases, Windows}
 use Rattle.asg_proof.specs.FoldProofs.{ProvesPhases}
 use Rattle.asg_proof.specs.Threshold.{ProvesBelow}
 use Rattle.asg_proof.specs.Windows.{ProvesWindows}
-
--- the objectives whose costs enter a monoid with differences: all but `balanced` and `lex`
-abbrev pub is_algebraic : Objective → Bool
-is_algebraic Balanced = false
-is_algebraic Lex = false
-is_algebraic _ = true
 
 -- the objective whose values are spreads
 abbrev pub is_spread_objective : Objective → Bool
@@ -26,7 +20,7 @@ is_spread_objective _ = false
 -- bottleneck objectives, windows for `balanced`
 abbrev pub takes : Objective → Proof → Bool
 takes objective (Phases words) = is_algebraic objective
-takes objective (Below rows) = is_peak_objective objective
+takes objective (Below rows) = is_bottleneck objective
 takes objective (Windows windows) = is_spread_objective objective
 
 -- the proof proves that no valid choice is better than this one: phases prove its fold, `below` is a

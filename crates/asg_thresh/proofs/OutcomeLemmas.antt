@@ -138,10 +138,10 @@ GreatestLaw X f ids = (b : ℤ) → IsHall X (Over b) ids → b <ℤ least (firs
 pub ProvesBelow-least : (objective : Objective) (X : Problem) (Q : Grid ℕ) (grades perm : List ℕ) (limit : ℕ) (f : List (Option ℕ)) (ids : List ℕ) → IsBottleneck objective → IsInstance X → IsSquareOf X free_grade (grade_of objective) Q → AreGradesOf Q grades → limit < no_grade → IsAssignmentUpTo grades Q.side limit perm → IsValid X f → length X.rows ≤ square_side X → ((r : ℕ) → r < square_side X → square_cell X free_grade (grade_of objective) r (slice_index perm r) ≡ Some (entered_or_free X free_grade (grade_of objective) f r)) → GivesHallSets X (IsUnder grades Q.side limit) ids → LeastLaw X f ids → GreatestLaw X f ids → ProvesBelow objective X (choice_value objective X f) ids
 ProvesBelow-least Bottleneck X Q grades perm limit f ids word i square made within a valid rows values gives low high = proves_least X Q grades perm limit f ids i square made within a valid rows values gives low
 ProvesBelow-least BottleneckMax X Q grades perm limit f ids word i square made within a valid rows values gives low high = proves_greatest X Q grades perm limit f ids i square made within a valid rows values gives high
-ProvesBelow-least Sum X Q grades perm limit f ids word i square made within a valid rows values gives low high = absurd word
-ProvesBelow-least SumMax X Q grades perm limit f ids word i square made within a valid rows values gives low high = absurd word
-ProvesBelow-least SumPair X Q grades perm limit f ids word i square made within a valid rows values gives low high = absurd word
-ProvesBelow-least (Capped cap) X Q grades perm limit f ids word i square made within a valid rows values gives low high = absurd word
-ProvesBelow-least TimeCost X Q grades perm limit f ids word i square made within a valid rows values gives low high = absurd word
-ProvesBelow-least Balanced X Q grades perm limit f ids word i square made within a valid rows values gives low high = absurd word
-ProvesBelow-least Lex X Q grades perm limit f ids word i square made within a valid rows values gives low high = absurd word
+ProvesBelow-least Sum X Q grades perm limit f ids word i square made within a valid rows values gives low high = absurd (cc)
+ProvesBelow-least SumMax X Q grades perm limit f ids word i square made within a valid rows values gives low high = absurd (cc)
+ProvesBelow-least SumPair X Q grades perm limit f ids word i square made within a valid rows values gives low high = absurd (cc)
+ProvesBelow-least (Capped cap) X Q grades perm limit f ids word i square made within a valid rows values gives low high = absurd (cc)
+ProvesBelow-least TimeCost X Q grades perm limit f ids word i square made within a valid rows values gives low high = absurd (cc)
+ProvesBelow-least Balanced X Q grades perm limit f ids word i square made within a valid rows values gives low high = absurd (cc)
+ProvesBelow-least Lex X Q grades perm limit f ids word i square made within a valid rows values gives low high = absurd (cc)

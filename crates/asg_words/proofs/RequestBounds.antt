@@ -1,6 +1,6 @@
 -- Each request that words make has its numbers within their bounds, and options that go together.
 use Rattle.std.proofs.Common.{◌≡◌, ◌&&◌, ◌||◌, ℕ, Bool, true, false, not, if◌then◌else◌, List, length, Option, Some, None, IfSome, IsSome, is_some, is_none, option_map, option_and_then, slice_get, codes, bytes_eq, drop, subst, ap, sym, ◌∙◌, refl, arith, nat_le, ◌==◌}
-use Rattle.std.specs.Option.{option_map_or}
+use Rattle.std.specs.Option.{option_map_or, option_or}
 use Rattle.std.proofs.lemmas.Bool.Decides.{nat_tests}
 use Rattle.asg_model.specs.declared.objectives.Objective.{Objective}
 use Rattle.asg_model.specs.declared.objectives.Objective.TheVariants.{Sum, SumMax, SumPair, Capped, Bottleneck, BottleneckMax, TimeCost, Balanced, Lex}
@@ -16,9 +16,10 @@ use Rattle.asg_words.specs.declared.requests.Job.{Job}
 use Rattle.asg_words.specs.declared.requests.Request.{Request}
 use Rattle.asg_words.specs.declared.requests.Request.TheVariants.{Work, Make as Made}
 use Rattle.asg_words.specs.CommandLine.{Found}
-use Rattle.asg_words.specs.Limits.{most_cap, most_ranked, most_seed}
+use Rattle.asg_words.specs.Limits.{most_ranked, most_seed}
 use Rattle.asg_words.specs.Numbers.{number_of, number_within}
-use Rattle.asg_words.specs.Named.{capped_named, command_named, is_algebraic, objective_named}
+use Rattle.asg_words.specs.Named.{capped_named, command_named, objective_named}
+use Rattle.asg_model.specs.Objectives.{is_algebraic, most_cap, uncapped_named}
 use Rattle.asg_words.specs.Requests.{asked_by, count_of, each_of, job_of, job_with, made_by, objective_of, place_of, request_found, takes_options, task_of, wants_algebraic, words_after}
 use Rattle.asg_words.proofs.Conjunctions.{both}
 use Rattle.asg_words.specs.Bounds.{IsJob, IsRequest, IsWithin, cap_of, choices_ranked, rows_placed, script_edited}
@@ -65,15 +66,19 @@ cap_named name o is =
     subst P cap.2 (within 1 most_cap (drop 7 name) cap.0 cap.1)
 
 objective_capped : (name : List ℕ) (o : Objective) → objective_named name ≡ Some o → IfSome (cap_of o) (IsWithin 1 most_cap)
-objective_capped name o is =
-    either_named (bytes_eq name (codes "sum")) Sum o _ refl (
-    either_named (bytes_eq name (codes "sum-max")) SumMax o _ refl (
-    either_named (bytes_eq name (codes "pair")) SumPair o _ refl (
-    either_named (bytes_eq name (codes "bottleneck")) Bottleneck o _ refl (
-    either_named (bytes_eq name (codes "bottleneck-max")) BottleneckMax o _ refl (
-    either_named (bytes_eq name (codes "time-cost")) TimeCost o _ refl (
-    either_named (bytes_eq name (codes "balanced")) Balanced o _ refl (
-    either_named (bytes_eq name (codes "lex")) Lex o _ refl (cap_named name o)))))))) is
+objective_capped name o is = by_word (uncapped_named name) refl is
+  where
+    by_word : (found : Option Objective) → uncapped_named name ≡ found → option_or found (capped_named name) ≡ Some o → IfSome (cap_of o) (IsWithin 1 most_cap)
+    by_word None none is = cap_named name o is
+    by_word (Some x) found is =
+        either_named (bytes_eq name (codes "sum")) Sum o _ refl (
+        either_named (bytes_eq name (codes "sum-max")) SumMax o _ refl (
+        either_named (bytes_eq name (codes "pair")) SumPair o _ refl (
+        either_named (bytes_eq name (codes "bottleneck")) Bottleneck o _ refl (
+        either_named (bytes_eq name (codes "bottleneck-max")) BottleneckMax o _ refl (
+        either_named (bytes_eq name (codes "time-cost")) TimeCost o _ refl (
+        either_named (bytes_eq name (codes "balanced")) Balanced o _ refl (
+        either_named (bytes_eq name (codes "lex")) Lex o _ refl (λ none. cc)))))))) (found ∙ is)
 
 -- the objective of a command, which the command takes
 objective_facts : (command : Command) (found : Found) (o : Objective) → objective_of command found ≡ Some o

@@ -10,8 +10,8 @@ use Rattle.asg_words.specs.declared.requests.Task.TheVariants.{Rank, Edit, Check
 use Rattle.asg_words.specs.declared.requests.Job.{Job}
 use Rattle.asg_words.specs.declared.requests.Request.{Request}
 use Rattle.asg_words.specs.declared.requests.Request.TheVariants.{Work, Make}
-use Rattle.asg_words.specs.Limits.{most_cap, most_ranked, most_seed}
-use Rattle.asg_words.specs.Named.{is_algebraic}
+use Rattle.asg_words.specs.Limits.{most_ranked, most_seed}
+use Rattle.asg_model.specs.Objectives.{is_algebraic, most_cap}
 
 -- the number is one from `least` to `most`
 abbrev pub IsWithin : ℕ → ℕ → ℕ → Type 0

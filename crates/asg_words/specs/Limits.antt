@@ -5,10 +5,6 @@ use Rattle.std.specs.Prelude.{ℕ}
 abbrev pub most_ranked : ℕ
 most_ranked = 4000000
 
--- the greatest cap of a capped sum
-abbrev pub most_cap : ℕ
-most_cap = 1000000000000
-
 -- the greatest seed of a generated instance
 abbrev pub most_seed : ℕ
 most_seed = 1000000

@@ -1,15 +1,14 @@
 -- What single words name: commands, objectives, formats.
-use Rattle.std.specs.Prelude.{ℕ, Bool, true, false, if◌then◌else◌, List, take, drop, Option, Some}
+use Rattle.std.specs.Prelude.{ℕ, if◌then◌else◌, List, take, drop, Option, Some}
 use Rattle.std.specs.Prelude.{None, option_map, codes, bytes_eq}
+use Rattle.std.specs.Option.{option_or}
 use Rattle.asg_model.specs.declared.objectives.Objective.{Objective}
-use Rattle.asg_model.specs.declared.objectives.Objective.TheVariants.{Sum, SumMax, SumPair, Capped}
-use Rattle.asg_model.specs.declared.objectives.Objective.TheVariants.{Bottleneck, BottleneckMax}
-use Rattle.asg_model.specs.declared.objectives.Objective.TheVariants.{TimeCost, Balanced, Lex}
+use Rattle.asg_model.specs.declared.objectives.Objective.TheVariants.{Capped}
+use Rattle.asg_model.specs.Objectives.{most_cap, uncapped_named}
 use Rattle.asg_text.specs.declared.formats.Format.{Format}
 use Rattle.asg_text.specs.declared.formats.Format.TheVariants.{Asn, Square, Rect}
 use Rattle.asg_words.specs.declared.named.Command.{Command}
 use Rattle.asg_words.specs.declared.named.Command.TheVariants.{Solve, Rank, Edit, Check, Make}
-use Rattle.asg_words.specs.Limits.{most_cap}
 use Rattle.asg_words.specs.Numbers.{number_within}
 
 -- the command of a name
@@ -31,21 +30,7 @@ capped_named name =
 -- the objective of a name
 abbrev pub objective_named : List ℕ → Option Objective
 objective_named name =
-    if bytes_eq name (codes "sum") then Some Sum
-    else if bytes_eq name (codes "sum-max") then Some SumMax
-    else if bytes_eq name (codes "pair") then Some SumPair
-    else if bytes_eq name (codes "bottleneck") then Some Bottleneck
-    else if bytes_eq name (codes "bottleneck-max") then Some BottleneckMax
-    else if bytes_eq name (codes "time-cost") then Some TimeCost
-    else if bytes_eq name (codes "balanced") then Some Balanced
-    else if bytes_eq name (codes "lex") then Some Lex
-    else capped_named name
-
--- the objective's values are those of an ordered monoid
-abbrev pub is_algebraic : Objective → Bool
-is_algebraic Balanced = false
-is_algebraic Lex = false
-is_algebraic _ = true
+    option_or (uncapped_named name) (capped_named name)
 
 -- the format of a name
 abbrev pub format_named : List ℕ → Option Format

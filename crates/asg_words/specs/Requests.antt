@@ -24,7 +24,8 @@ use Rattle.asg_words.specs.declared.requests.WordsRefusal.TheVariants.{Usage, No
 use Rattle.asg_words.specs.CommandLine.{Found, command_line, found_in}
 use Rattle.asg_words.specs.Limits.{most_ranked, most_seed}
 use Rattle.asg_words.specs.Numbers.{number_within}
-use Rattle.asg_words.specs.Named.{command_named, objective_named, is_algebraic, format_named}
+use Rattle.asg_words.specs.Named.{command_named, objective_named, format_named}
+use Rattle.asg_model.specs.Objectives.{is_algebraic}
 
 -- how many words follow the command's name
 abbrev pub words_after : Command → ℕ

@@ -3,8 +3,5 @@
 // The greatest number of choices that are ranked.
 pub const MOST_RANKED: u32 = 4_000_000;
 
-// The greatest cap of a capped sum.
-pub const MOST_CAP: u64 = 1_000_000_000_000;
-
 // The greatest seed of a generated instance.
 pub const MOST_SEED: u32 = 1_000_000;

@@ -1,12 +1,13 @@
 //! What single words name.
 
 ghost use Rattle.std.specs.Prelude.{◌≡◌};
-ghost use Rattle.asg_words.specs.Named.{capped_named, command_named, format_named, is_algebraic};
+ghost use Rattle.asg_words.specs.Named.{capped_named, command_named, format_named};
+ghost use Rattle.asg_model.specs.Objectives.{is_algebraic};
 ghost use Rattle.asg_words.specs.Named.{objective_named};
 
-use crate::limits::MOST_CAP;
 use crate::numbers::number_within;
-use asg_model::Objective;
+use asg_model::limits::MOST_CAP;
+use asg_model::{Objective, uncapped_named};
 use asg_text::Format;
 
 // The commands of the program.
@@ -37,16 +38,9 @@ pub fn command_named(name: &str) -> Option<Command>
 pub fn objective_named(name: &str) -> Option<Objective>
     ensures { result ≡ objective_named name.now }
 {
-    match name {
-        "sum" => Some(Objective::Sum),
-        "sum-max" => Some(Objective::SumMax),
-        "pair" => Some(Objective::SumPair),
-        "bottleneck" => Some(Objective::Bottleneck),
-        "bottleneck-max" => Some(Objective::BottleneckMax),
-        "time-cost" => Some(Objective::TimeCost),
-        "balanced" => Some(Objective::Balanced),
-        "lex" => Some(Objective::Lex),
-        _ => capped_named(name),
+    match uncapped_named(name.as_bytes()) {
+        Some(objective) => Some(objective),
+        None => capped_named(name),
     }
 }
 

@@ -14,7 +14,8 @@ use Rattle.asg_order.specs.Monoid.{IsLess, IsValue}
 use Rattle.asg_order.specs.Entering.{MayEnter}
 use Rattle.asg_order.specs.Bridge.{KeepsOrder, costs_fold}
 use Rattle.asg_monoids.specs.Maxima.{maxima}
-use Rattle.asg_monoids.specs.Entered.{cost_reach, shifted, turned, peak_entered, is_peak_objective}
+use Rattle.asg_monoids.specs.Entered.{cost_reach, shifted, turned, peak_entered}
+use Rattle.asg_model.specs.Objectives.{is_bottleneck}
 
 Near : Cost → Type 0
 Near cost = unsigned_abs cost.a ≤ cost_reach
@@ -78,13 +79,13 @@ bottleneck_max_order (c ∷ u) (d ∷ v) same few may_u may_v =
     (λ h. (less_is x y).1 (omega (arith, ints, ex, ey, h)), λ h. let lt = (less_is x y).0 h in omega (arith, ints, ex, ey, lt))
 
 -- entering maxima keeps the order of values
-pub peaks_keep_order : (objective : Objective) → is_peak_objective objective ≡ true → KeepsOrder maxima (peak_entered objective) objective cost_reach
+pub peaks_keep_order : (objective : Objective) → is_bottleneck objective ≡ true → KeepsOrder maxima (peak_entered objective) objective cost_reach
 peaks_keep_order Bottleneck is = bottleneck_order
 peaks_keep_order BottleneckMax is = bottleneck_max_order
 peaks_keep_order _ is = absurd (cc)
 
 -- a cost that may enter does so as a number below 2^64
-pub peaks_enter_values : (objective : Objective) (cost : Cost) → is_peak_objective objective ≡ true → MayEnter objective cost_reach cost → IsValue maxima (peak_entered objective cost)
+pub peaks_enter_values : (objective : Objective) (cost : Cost) → is_bottleneck objective ≡ true → MayEnter objective cost_reach cost → IsValue maxima (peak_entered objective cost)
 peaks_enter_values Bottleneck cost is may = let a = may.within.a_within in grind (arith, ints, nat_tests)
 peaks_enter_values BottleneckMax cost is may = let a = may.within.a_within in grind (arith, ints, nat_tests)
 peaks_enter_values _ cost is may = absurd (cc)

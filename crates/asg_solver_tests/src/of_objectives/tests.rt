@@ -2,7 +2,7 @@
 
 ghost use Rattle.std.specs.Prelude.{◌≤◌, IsTrue};
 ghost use Rattle.asg_model.specs.Limits.{most_cost};
-ghost use Rattle.asg_proof.specs.Proves.{is_algebraic};
+ghost use Rattle.asg_model.specs.Objectives.{is_algebraic};
 
 use crate::of_objectives::samples::{NineCosts, square};
 use asg_algebra::SquareSolver;

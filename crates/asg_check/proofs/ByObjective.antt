@@ -16,14 +16,15 @@ use Rattle.asg_monoids.specs.BoundedSums.{bounded_sums, bounded_value, plain_wor
 use Rattle.asg_monoids.specs.Entered.{top_of}
 use Rattle.asg_monoids.specs.Grades.{graded, graded_value, graded_word}
 use Rattle.asg_monoids.specs.Maxima.{maxima, maxima_value}
+use Rattle.asg_monoids.specs.ObjectiveMonoids.{Fact, InMonoidOf}
 use Rattle.asg_monoids.specs.laws.Bounded.{bounded_word_laws}
 use Rattle.asg_monoids.specs.laws.Graded.{graded_word_laws}
 use Rattle.asg_monoids.specs.laws.Maxima.{maxima_word_laws}
 use Rattle.asg_square.specs.Cells.{square_cell}
-use Rattle.asg_proof.specs.FoldProofs.{ProvesFold, ProvesPhases}
+use Rattle.asg_proof.specs.FoldProofs.{FoldFact, ProvesFold, ProvesPhases}
 use Rattle.asg_proof.specs.Phases.{PhaseOf, index_of}
 use Rattle.asg_model.specs.Objectives.{is_algebraic}
-use Rattle.asg_check.specs.PhaseReasons.{AreAdmitted, AreAdmittedFor, AreAdmittedFrom, Fact, HaveIndexBut, HaveOtherIndex, HaveOtherIndexFor, InMonoidOf}
+use Rattle.asg_check.specs.PhaseReasons.{AreAdmitted, AreAdmittedFor, AreAdmittedFrom, HaveIndexBut, HaveOtherIndex, HaveOtherIndexFor}
 use Rattle.asg_check.proofs.PhaseWords.{admitted-take, dec_admitted, phases-once}
 
 -- the values have words, and are decided to be the same or not
@@ -138,21 +139,6 @@ nothing P each TimeCost p = each _ _ _ _ _ times_spelled p
 nothing P each Balanced p = p
 nothing P each Lex p = p
 
--- what phases prove is a fact of the objective's monoid
-abbrev FoldFact : Problem → List (Option ℕ) → List (PhaseOf Word) → Fact
-FoldFact X choice words V M difference word_of enter = ProvesFold M difference word_of enter X choice words
-
-to_fact : (objective : Objective) (X : Problem) (choice : List (Option ℕ)) (words : List (PhaseOf Word)) → ProvesPhases objective X choice words → InMonoidOf objective (FoldFact X choice words)
-to_fact Sum X choice words p = p
-to_fact SumMax X choice words p = p
-to_fact SumPair X choice words p = p
-to_fact (Capped cap) X choice words p = p
-to_fact Bottleneck X choice words p = p
-to_fact BottleneckMax X choice words p = p
-to_fact TimeCost X choice words p = p
-to_fact Balanced X choice words p = p
-to_fact Lex X choice words p = p
-
 module _ (objective : Objective) (X : Problem) (words : List (PhaseOf Word)) where
   pub dec_admitted_for : Dec (AreAdmittedFor objective X words)
   dec_admitted_for = dec_by (λ V M difference word_of enter. AreAdmitted M difference word_of enter X words) (λ V M difference word_of enter s. dec_admitted_over M difference word_of enter X s words) objective
@@ -170,13 +156,13 @@ module _ (objective : Objective) (X : Problem) (words : List (PhaseOf Word)) whe
     pub admitted_for : ProvesPhases objective X choice words → AreAdmittedFor objective X words
     admitted_for p =
         mapped (FoldFact X choice words) (λ V M difference word_of enter. AreAdmitted M difference word_of enter X words)
-        (λ V M difference word_of enter s. admitted_of M difference word_of enter X choice words) objective (to_fact objective X choice words p)
+        (λ V M difference word_of enter s. admitted_of M difference word_of enter X choice words) objective p
 
     pub one_index_for : ProvesPhases objective X choice words → ¬ HaveOtherIndexFor objective X choice words
     one_index_for p other =
         nothing (λ V M difference word_of enter. ProvesFold M difference word_of enter X choice words × HaveOtherIndex M difference word_of enter X choice words)
         (λ V M difference word_of enter s two. one_index M difference word_of enter X s choice words two.0 two.1) objective
-        (both (FoldFact X choice words) (λ V M difference word_of enter. HaveOtherIndex M difference word_of enter X choice words) objective (to_fact objective X choice words p) other)
+        (both (FoldFact X choice words) (λ V M difference word_of enter. HaveOtherIndex M difference word_of enter X choice words) objective p other)
 
 -- no phases at all are admitted for an objective that has a monoid
 pub none_admitted : (objective : Objective) (X : Problem) → IsTrue (is_algebraic objective) → AreAdmittedFor objective X []

@@ -2,4 +2,5 @@ pub mod BoundedSums
 pub mod Maxima
 pub mod Grades
 pub mod Entered
+pub mod ObjectiveMonoids
 pub mod laws

@@ -1,9 +1,9 @@
 -- The fold of an assignment by absorbed cells.
 use Rattle.std.proofs.Common.{◌≡◌, ◌≢◌, ℕ, ◌<◌, List, [], ◌∷◌, length, Option, Some, None, get_or, is_some, refl, sym, ◌∙◌, ap, subst, arith}
-use Rattle.std.specs.Prelude.{All, AllPairs, IfSome, filter_map}
-use Rattle.std.specs.List.{range_with_len, cons_option}
+use Rattle.std.specs.Prelude.{All, AllPairs, IfSome}
+use Rattle.std.specs.List.{range_with_len}
 use Rattle.std.proofs.lemmas.List.{get_or_default}
-use Rattle.std.proofs.lemmas.List.Elements.{All-cons, All-nil, All-head, All-tail, All-weaker}
+use Rattle.std.proofs.lemmas.List.Elements.{All-head, All-tail, All-weaker}
 use Rattle.std.proofs.lemmas.Option.{same_Some}
 use Rattle.asg_match.specs.Matching.{Matches, IsMatching}
 use Rattle.asg_order.specs.Monoid.{Monoid, IsValue, IsOrderedMonoid, fold_of}
@@ -11,15 +11,7 @@ use Rattle.asg_order.specs.laws.Products.{fold_is_value, fold-cons, neutral_righ
 use Rattle.asg_proof.specs.Steps.{HasSide, HasValues, assignment_fold}
 use Rattle.asg_square.specs.Cells.{assignment_values}
 use Rattle.asg_algebra.specs.Growing.{IsAbsorbed}
-
-All-cons_option : {B : Type 0} (P : B → Type 0) (o : Option B) (ys : List B) → IfSome o P → All P ys → All P (cons_option o ys)
-All-cons_option P None ys holds rest = rest
-All-cons_option P (Some y) ys holds rest = All-cons P y ys holds rest
-
--- what h gives of each element has P
-All-filter_map : {A B : Type 0} (h : A → Option B) (P : B → Type 0) → ((x : A) → IfSome (h x) P) → (xs : List A) → All P (filter_map h xs)
-All-filter_map h P each [] = All-nil P
-All-filter_map h P each (x ∷ xs) = All-cons_option P (h x) (filter_map h xs) (each x) (All-filter_map h P each xs)
+use Rattle.asg_model.specs.laws.Listing.{All-filter_map}
 
 IfSome-from : {B : Type 0} (o : Option B) (P : B → Type 0) → ((y : B) → o ≡ Some y → P y) → IfSome o P
 IfSome-from None P each = tt

@@ -9,7 +9,7 @@ use Rattle.asg_match.specs.Alternating.{parent_of}
 use Rattle.asg_match.specs.ColumnSet.{HasColumn, IsColumnSet}
 use Rattle.asg_match.specs.Searched.{parents_in}
 use Rattle.asg_match.specs.laws.Columns.{parent-unseen, unseen_or_reached}
-use Rattle.asg_match.specs.laws.Distinct.{length-le_from_below}
+use Rattle.asg_model.specs.laws.Listing.{length-le_from_below}
 use Rattle.asg_match.specs.laws.Matchings.{Some-from_test}
 use Rattle.asg_order.specs.Monoid.{Monoid, IsValue, IsLe, IsOrderedMonoid, fold_of}
 use Rattle.asg_order.specs.Differences.{HasDifferences}

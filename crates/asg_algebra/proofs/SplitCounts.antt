@@ -22,9 +22,7 @@ use Rattle.asg_match.specs.Matching.{column_at, Matches, IsMatching}
 use Rattle.asg_match.specs.Alternating.{HasParent, IsReached, IsTree}
 use Rattle.asg_proof.specs.Steps.{count_below}
 use Rattle.asg_algebra.specs.Growing.{IsSplit}
-
-Contains-range : (n q : ℕ) → q < n → Contains (range_with_len 0 n) q
-Contains-range n q h = (q, subst (λ m. q < m) (sym (length-range_with_len 0 n)) h, omega (arith, get_or-range_with_len 0 n q q h))
+use Rattle.asg_model.specs.laws.Listing.{Contains-range}
 
 -- the numbers of a list that pass
 Contains-filter : (p : ℕ → Bool) (xs : List ℕ) (q : ℕ) → Contains (filter p xs) q ↔ (Contains xs q × (p q ≡ true))

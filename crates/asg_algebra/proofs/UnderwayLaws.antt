@@ -7,7 +7,7 @@ use Rattle.std.proofs.lemmas.List.{get_or_default, get_or_append_left, get_or_pu
 use Rattle.std.proofs.lemmas.List.Elements.{All-push, Contains-get_or}
 use Rattle.std.proofs.lemmas.Option.{none-some}
 use Rattle.asg_match.specs.laws.Matchings.{None-from_test, Some-from_test, Matches-below}
-use Rattle.asg_match.specs.laws.Distinct.{length-le_from_below}
+use Rattle.asg_model.specs.laws.Listing.{length-le_from_below}
 use Rattle.asg_match.specs.Matching.{Matches}
 use Rattle.asg_match.specs.Deficient.{IsDeficient}
 use Rattle.asg_order.specs.Monoid.{Monoid, IsValue, IsLe, IsOrderedMonoid, fold_of}

@@ -1,10 +1,8 @@
 -- Live costs enter as values, and the fold of a choice, row by row.
-use Rattle.std.proofs.Common.{◌≡◌, ℕ, ◌+◌, false, List, [], ◌∷◌, ◌++◌, map, Option, Some, None, refl, sym, ap, ◌∙◌, zero-add}
+use Rattle.std.proofs.Common.{◌≡◌, ℕ, ◌+◌, false, List, [], ◌∷◌, ◌++◌, map, Option, Some, None, sym, ap, ◌∙◌}
 use Rattle.std.specs.Prelude.{IfSome, MatchOption, filter_map, option_to_list}
 use Rattle.std.specs.List.{range_with_len}
-use Rattle.std.proofs.lemmas.List.{append-nil, map-append, map-id}
-use Rattle.std.proofs.lemmas.List.FromFn.{map-range_with_len_more}
-use Rattle.std.proofs.lemmas.List.Elements.{filter_map-append}
+use Rattle.std.proofs.lemmas.List.{append-nil, map-append}
 use Rattle.std.proofs.lemmas.List.Sums.{fold-append}
 use Rattle.asg_model.specs.declared.objectives.Objective.{Objective}
 use Rattle.asg_model.specs.declared.parts.Cost.{Cost}
@@ -14,6 +12,7 @@ use Rattle.asg_model.specs.Refused.{is_refused, PassesNegative}
 use Rattle.asg_order.specs.Entering.{IsWithin, LiesWithin, MayEnter}
 use Rattle.asg_order.specs.Monoid.{Monoid, IsValue, fold_of}
 use Rattle.asg_proof.specs.PhaseProofs.{EntersValues}
+use Rattle.asg_model.specs.laws.Listing.{filter_map-range_more}
 
 enters_at : (objective : Objective) (reach : ℕ) (P : Cost → Type 0) (o : Option Cost) → ((cost : Cost) → MayEnter objective reach cost → P cost) → IfSome o (IsWithin reach) → IfSome o (λ cost. is_refused objective cost ≡ false) → IfSome o P
 enters_at objective reach P None each near passes = tt
@@ -23,21 +22,6 @@ enters_at objective reach P (Some cost) each near passes = each cost (record { w
 pub live_values : {V : Type 0} (M : Monoid V) (enter : Cost → V) (objective : Objective) (reach : ℕ) (X : Problem) → ((cost : Cost) → MayEnter objective reach cost → IsValue M (enter cost)) → LiesWithin reach X → PassesNegative objective X → EntersValues M enter X
 live_values M enter objective reach X each near passes r c = enters_at objective reach (λ cost. IsValue M (enter cost)) (live_at X r c) each (near r c) (passes r c)
 
-pub range_with_len_more : (n : ℕ) → range_with_len 0 (n + 1) ≡ range_with_len 0 n ++ n ∷ []
-range_with_len_more n =
-    sym (map-id (range_with_len 0 (n + 1))) ∙ map-range_with_len_more (λ k. k) 0 n n (zero-add n) ∙ ap (λ list. list ++ n ∷ []) (map-id (range_with_len 0 n))
-
-filter_map_one : {X Y : Type 0} (h : X → Option Y) (x : X) (o : Option Y) → h x ≡ o → filter_map h (x ∷ []) ≡ option_to_list o
-filter_map_one h x None e = rw e
-filter_map_one h x (Some y) e = rw e
-
--- what is given of one more place
-pub filter_map-more : {Y : Type 0} (h : ℕ → Option Y) (n : ℕ) → filter_map h (range_with_len 0 (n + 1)) ≡ filter_map h (range_with_len 0 n) ++ option_to_list (h n)
-filter_map-more h n =
-    ap (filter_map h) (range_with_len_more n)
-    ∙ filter_map-append h (range_with_len 0 n) (n ∷ [])
-    ∙ ap (λ list. filter_map h (range_with_len 0 n) ++ list) (filter_map_one h n (h n) refl)
-
 -- the product with one more row
 pub fold_more : {V : Type 0} (M : Monoid V) (enter : Cost → V) (chosen : ℕ → Option Cost) (n : ℕ) (before after : V)
     → before ≡ fold_of M (map enter (filter_map chosen (range_with_len 0 n)))
@@ -45,7 +29,7 @@ pub fold_more : {V : Type 0} (M : Monoid V) (enter : Cost → V) (chosen : ℕ �
     → after ≡ fold_of M (map enter (filter_map chosen (range_with_len 0 (n + 1))))
 fold_more {V} M enter chosen n before after is step =
     by (chosen n) step
-    ∙ ap (λ costs. fold_of M (map enter costs)) (sym (filter_map-more chosen n))
+    ∙ ap (λ costs. fold_of M (map enter costs)) (sym (filter_map-range_more chosen n))
   where
     xs : List Cost
     xs = filter_map chosen (range_with_len 0 n)

@@ -1,11 +1,10 @@
 -- Phases and their words: the words of admitted phases are those of no others, and whether words are
 -- those of admitted phases is decided.
 use mathlib.Core.Logic.Dec.{and, of_iff}
-use Rattle.std.proofs.Common.{◌≡◌, ℕ, zero, suc, ◌+◌, ◌<◌, ◌≤◌, Bool, true, List, [], ◌∷◌, length, take, drop, map, Option, Some, None, refl, sym, ap, subst, ◌∙◌, arith, ⊎_elim}
+use Rattle.std.proofs.Common.{◌≡◌, ℕ, zero, suc, ◌+◌, ◌<◌, ◌≤◌, Bool, true, List, [], ◌∷◌, length, take, drop, map, Option, Some, None, refl, sym, ap, subst, ◌∙◌, arith}
 use Rattle.std.specs.Prelude.{All, slice_index_or}
 use Rattle.std.proofs.Math.Bool.{Bool-discrete}
 use Rattle.std.proofs.Math.Decide.{ℕ_discrete}
-use Rattle.std.proofs.lemmas.Bool.{cases_lt}
 use Rattle.std.proofs.lemmas.List.{take-append-drop, take-map}
 use Rattle.std.proofs.lemmas.List.Elements.{All-cons, All-head, All-nil, All-tail}
 use Rattle.std.proofs.lemmas.Option.{same_Some}
@@ -17,6 +16,7 @@ use Rattle.asg_proof.specs.Steps.{IsAdmittedStep, count_below}
 use Rattle.asg_proof.specs.laws.PhaseLists.{AreAdmittedPhases-front}
 use Rattle.asg_proof.specs.laws.PhaseSteps.{phase_has_values}
 use Rattle.asg_check.specs.PhaseReasons.{AreAdmittedFrom}
+use Rattle.asg_model.specs.laws.Tests.{dec_below}
 
 -- ---- finite tests
 
@@ -24,12 +24,6 @@ dec_implies : {A B : Type 0} → Dec A → Dec B → Dec (A → B)
 dec_implies (no none) b = yes (λ x. absurd (none x))
 dec_implies (yes x) (yes y) = yes (λ _. y)
 dec_implies (yes x) (no none) = no (λ f. none (f x))
-
-dec_below : (P : ℕ → Type 0) → ((k : ℕ) → Dec (P k)) → (n : ℕ) → Dec ((k : ℕ) → k < n → P k)
-dec_below P each zero = yes (λ k less. absurd (omega arith))
-dec_below P each (suc n) =
-    of_iff (λ both k less. ⊎_elim (λ (before : k < n). both.1 k before) (λ (past : n ≤ k). let last : n ≡ k = omega arith in subst P last both.0) (cases_lt k n), λ all. (all n (omega arith), λ k less. all k (omega arith)))
-    (and (each n) (dec_below P each n))
 
 dec_present : {V : Type 0} (P : V → Type 0) → ((x : V) → Dec (P x)) → (o : Option V) → Dec ((x : V) → o ≡ Some x → P x)
 dec_present P each None = yes (λ x e. absurd (cc))

@@ -26,7 +26,8 @@ use Rattle.asg_check.specs.declared.window_gaps.Span.{Span}
 use Rattle.asg_check.specs.Spans.{AreCostsUp, AreSpansUp, IsFirstOutside, in_span, in_spans, live_part, live_parts, row_parts, span_of}
 use Rattle.asg_check.specs.WindowReasons.{IsLeastGap}
 use Rattle.asg_model.specs.DifferentCosts.{IsLiveCost}
-use Rattle.asg_check.proofs.LiveCosts.{filter_map-more, range_with_len_more}
+use Rattle.asg_model.specs.laws.Listing.{range_with_len_more, filter_map-range_more}
+use Rattle.asg_model.specs.laws.Tests.{less_is}
 
 -- ---- what holds of each cost of a list
 
@@ -87,7 +88,7 @@ module _ (X : Problem) where
   pub row_more : (costs before : List ℤ) (r n : ℕ) (after : List ℤ) → before ≡ costs ++ row_parts X r n → after ≡ before ++ option_to_list (live_part X r n) → after ≡ costs ++ row_parts X r (n + 1)
   row_more costs before r n after so_far more =
       more ∙ ap (λ list. list ++ option_to_list (live_part X r n)) so_far ∙ append_assoc costs (row_parts X r n) (option_to_list (live_part X r n))
-      ∙ ap (λ list. costs ++ list) (sym (filter_map-more (live_part X r) n))
+      ∙ ap (λ list. costs ++ list) (sym (filter_map-range_more (live_part X r) n))
 
   pub rows_more : (before : List ℤ) (n : ℕ) (after : List ℤ) → before ≡ live_parts X n → after ≡ before ++ row_parts X n (length X.columns) → after ≡ live_parts X (n + 1)
   rows_more before n after so_far more =
@@ -159,9 +160,6 @@ IsLeastGap-from_outside X d windows costs spans found all_costs all_spans outsid
     )
 
 -- ---- sorted costs and sorted spans
-
-less_is : (x y : ℤ) → x <ℤ y → is_lt (int_cmp x y) ≡ true
-less_is x y below = grind (arith, ints)
 
 not_less : (x y : ℤ) → is_lt (int_cmp y x) ≡ false → x ≤ℤ y
 not_less x y e = by_lt_z y x (λ below. absurd (false≢true (sym e ∙ less_is y x below))) (λ above. above)

@@ -27,9 +27,10 @@ use Rattle.asg_match.specs.HallSets.{AllowsCells, labelled_id, hall_ids}
 use Rattle.asg_model.specs.Sums.{sum_below, count_below}
 use Rattle.asg_model.specs.laws.Counting.{sum_below-same, sum_below-zero, length-le-count_below}
 use Rattle.asg_model.specs.Sums.{one}
-use Rattle.asg_square.specs.laws.Bijections.{ones_below, sum_below-split, count-le-within}
+use Rattle.asg_square.specs.laws.Bijections.{sum_below-split, count-le-within}
 use Rattle.asg_square.specs.laws.Copies.{length-copies, count-copies, count-labels}
-use Rattle.asg_square.specs.laws.Rows.{no_row, row-from_counted, copies_within}
+use Rattle.asg_square.specs.laws.Rows.{row-from_counted, copies_within}
+use Rattle.asg_model.specs.laws.Rows.{no_row, ones_below}
 
 -- the id of the row at a place, 0 past the last
 abbrev row_id_at : Problem → ℕ → ℕ

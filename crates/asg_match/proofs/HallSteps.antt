@@ -23,7 +23,7 @@ use Rattle.asg_square.specs.Labels.{row_label}
 use Rattle.asg_match.specs.HallSets.{labelled_id, hall_ids}
 use Rattle.asg_model.specs.laws.Counting.{length-le-count_below}
 use Rattle.asg_model.specs.Sums.{one}
-use Rattle.asg_square.specs.laws.Bijections.{ones_below}
+use Rattle.asg_model.specs.laws.Rows.{ones_below}
 use Rattle.asg_square.specs.laws.Rows.{row-from_counted}
 
 length-cons_option : {B : Type 0} (o : Option B) (ys : List B) → length (cons_option o ys) ≡ one (is_some o) + length ys

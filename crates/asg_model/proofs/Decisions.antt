@@ -1,6 +1,6 @@
 -- What finite tests decide: valid choices and Hall sets.
 use mathlib.Core.Logic.Dec.{and, not, of_iff}
-use Rattle.std.proofs.Common.{◌≡◌, ◌≢◌, ℕ, zero, suc, ◌+◌, ◌<◌, ◌≤◌, true, List, [], ◌∷◌, length, refl, subst, Option, Some, None, IsSome, is_some, arith, ⊎_elim}
+use Rattle.std.proofs.Common.{◌≡◌, ◌≢◌, ℕ, suc, ◌+◌, ◌<◌, ◌≤◌, true, List, [], ◌∷◌, length, refl, subst, Option, Some, None, IsSome, is_some, arith, ⊎_elim}
 use Rattle.std.specs.Prelude.{IsTrue, All, AllPairs, slice_get, count_by}
 use Rattle.std.proofs.Math.Bool.{Bool-discrete}
 use Rattle.std.proofs.Math.Decide.{ℕ_discrete, dec_le, dec_lt}
@@ -15,17 +15,12 @@ use Rattle.asg_model.specs.Live.{live_at}
 use Rattle.asg_model.specs.Problem.{Problem}
 use Rattle.asg_model.specs.ValidChoice.{Chooses, IsValid, takes}
 use Rattle.asg_model.proofs.Takers.{none_past}
+use Rattle.asg_model.specs.laws.Tests.{dec_below}
 
 -- each element of a list, and each number below a bound
 dec_all : {A : Type 0} (P : A → Type 0) → ((x : A) → Dec (P x)) → (xs : List A) → Dec (All P xs)
 dec_all P each [] = yes (All-nil P)
 dec_all P each (x ∷ xs) = of_iff (λ both. All-cons P x xs both.0 both.1, λ all. (All-head P x xs all, All-tail P x xs all)) (and (each x) (dec_all P each xs))
-
-dec_below : (P : ℕ → Type 0) → ((k : ℕ) → Dec (P k)) → (n : ℕ) → Dec ((k : ℕ) → k < n → P k)
-dec_below P each zero = yes (λ k less. absurd (omega arith))
-dec_below P each (suc n) =
-    of_iff (λ both k less. ⊎_elim (λ (before : k < n). both.1 k before) (λ (past : n ≤ k). let last : n ≡ k = omega arith in subst P last both.0) (cases_lt k n), λ all. (all n (omega arith), λ k less. all k (omega arith)))
-    (and (each n) (dec_below P each n))
 
 -- the numbers of a list differ
 dec_different : (xs : List ℕ) → Dec (AllPairs ◌≢◌ xs)

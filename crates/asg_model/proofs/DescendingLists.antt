@@ -11,6 +11,7 @@ use Rattle.std.proofs.lemmas.List.Sums.{sum_by-cons}
 use Rattle.std.proofs.lemmas.List.Sorted.{sum_by-IsPermutation, IsPermutation-refl, IsPermutation-trans, IsPermutation-cons, IsPermutation-middle, IsPermutation-reverse, sorted_far, ranks_by}
 use Rattle.std.proofs.lemmas.Cmp.{int_cmp_total}
 use Rattle.asg_model.specs.Descending.{with_descending, descending, IsDescending}
+use Rattle.asg_model.specs.laws.Tests.{less_is}
 
 -- no number is above one that stands before it, head by head
 abbrev Descends : List ℤ → Type 0
@@ -41,9 +42,6 @@ at_most_when_less y x e = grind (arith, ints)
 
 at_most_when_not : (y x : ℤ) → int_lt y x ≡ false → x ≤ℤ y
 at_most_when_not y x e = grind (arith, ints)
-
-less_is : (x y : ℤ) → x <ℤ y → is_lt (int_cmp x y) ≡ true
-less_is x y below = grind (arith, ints)
 
 not_both : (x y z : ℤ) → x <ℤ z → y ≤ℤ x → y ≡ z → ⊥
 not_both x y z above at_most same = omega (arith, ints)

@@ -1,56 +1,28 @@
 -- The Hall law: an instance with a Hall set under a band has no valid choice whose cells lie in the band.
 -- Each row of the set that chooses takes a column that the set reaches, and no more rows of it stay out
 -- than the slack allows; so the set would be no more than it is short of.
-use Rattle.std.proofs.Common.{◌≡◌, ℕ, zero, suc, ◌+◌, ◌<◌, ◌≤◌, Bool, true, false, cond, ◌&&◌, not, List, length, get_or, refl, arith, sym, ap, ◌∙◌, ⊎_elim, zero-add}
-use Rattle.std.specs.Prelude.{Option, Some, None, IsSome, is_some, count_by, nat_lt}
+use Rattle.std.proofs.Common.{◌≡◌, ℕ, ◌+◌, ◌<◌, ◌≤◌, Bool, true, false, cond, ◌&&◌, not, List, length, get_or, refl, arith, sym, ap, ◌∙◌, ⊎_elim, zero-add}
+use Rattle.std.specs.Prelude.{Option, Some, None, IsSome, is_some, count_by}
 use Rattle.std.specs.List.{enumerate_from}
 use Rattle.std.specs.Option.{option_map_or}
 use Rattle.std.proofs.lemmas.Bool.{false≢true, cases_Bool}
-use Rattle.std.proofs.lemmas.Bool.Decides.{Decides-eqb, Decides-ltb}
+use Rattle.std.proofs.lemmas.Bool.Decides.{Decides-eqb}
 use Rattle.std.proofs.lemmas.Option.{slice_get-get_or}
 use Rattle.std.proofs.lemmas.List.FromFn.{length-enumerate_from, get_or-enumerate_from}
-use Rattle.asg_model.specs.declared.parts.Place.{Place}
-use Rattle.asg_model.specs.declared.parts.Place.TheVariants.{All as PlaceAll, Exactly}
 use Rattle.asg_model.specs.declared.bands.Band.{Band}
 use Rattle.asg_model.specs.Problem.{Problem}
-use Rattle.asg_model.specs.Live.{is_active, live_at}
-use Rattle.asg_model.specs.Counts.{capacity_at, active_count, slack, is_counted, is_counted_by, counted_by}
+use Rattle.asg_model.specs.Live.{live_at}
+use Rattle.asg_model.specs.Counts.{capacity_at, slack, is_counted}
 use Rattle.asg_model.specs.ValidChoice.{takes, IsValid}
 use Rattle.asg_model.specs.Bands.{in_band}
 use Rattle.asg_model.specs.HallSet.{is_live_within, is_reached, reached_part, reached_capacity, IsHall, LiesIn}
 use Rattle.asg_model.specs.Sums.{sum_below, count_below}
 use Rattle.asg_model.specs.laws.Counting.{sum_below-same, sum_below-le, sum_below-add, sum_below-zero, sum_below-exchange, term-le-sum_below, sum_by-below}
-use Rattle.asg_model.proofs.HallRows.{one, chosen, Chooses-from_chosen, is_active-from_live, column-from_live, row-from_active, some_cost, is_in, no_row, no_column, set-le, counted-from_in, reached-from_in}
+use Rattle.asg_model.proofs.HallRows.{one, chosen, Chooses-from_chosen, column-from_live, some_cost, is_in, set-le, counted-from_in, reached-from_in}
+use Rattle.asg_model.specs.laws.Rows.{is_active-from_live, no_column, counted_total, counted-from_active}
+use Rattle.asg_model.specs.laws.Tests.{split_one}
 
 -- ---- the counted rows
-
-active_below : (X : Problem) (r : ℕ) → r < length X.rows → is_active X r ≡ (get_or X.rows r no_row).active
-active_below X r within = ap (λ o. option_map_or (λ row. row.active) o false) (slice_get-get_or X.rows r no_row within)
-
-ones_below : (n : ℕ) → sum_below (λ _. 1) n ≡ n
-ones_below zero = refl
-ones_below (suc n) = let rest = ones_below n in omega (arith, rest)
-
--- how many rows the rule counts
-counted_total : (X : Problem) (place : Place) → count_below (λ r. is_counted_by place (is_active X r) (nat_lt r (length X.rows))) (length X.rows) ≡ counted_by place (active_count X) (length X.rows)
-counted_total X PlaceAll =
-    sum_below-same (λ r. one (is_active X r)) (λ r. one (get_or X.rows r no_row).active) (length X.rows) (λ r within. ap one (active_below X r within))
-    ∙ sym (sum_by-below (λ row. one row.active) X.rows no_row)
-counted_total X (Exactly k) =
-    sum_below-same (λ r. one (nat_lt r (length X.rows))) (λ _. 1) (length X.rows) (λ r within. ap one ((Decides-ltb r (length X.rows)).1 within))
-    ∙ ones_below (length X.rows)
-
--- an active row is counted
-counted-from_active : (X : Problem) (place : Place) (r : ℕ) → is_active X r ≡ true → is_counted_by place (is_active X r) (nat_lt r (length X.rows)) ≡ true
-counted-from_active X PlaceAll r active = active
-counted-from_active X (Exactly k) r active = (Decides-ltb r (length X.rows)).1 (row-from_active X r active)
-
--- a fact that follows from another counts with what is left of it
-split_one : (counted some : Bool) → (some ≡ true → counted ≡ true) → one counted ≡ one some + one (counted && not some)
-split_one true true h = omega arith
-split_one true false h = omega arith
-split_one false true h = absurd (false≢true (h refl))
-split_one false false h = omega arith
 
 in_or_out : (inside some counted : Bool) → (inside ≡ true → counted ≡ true) → one inside ≤ one (inside && some) + one (counted && not some)
 in_or_out true true counted h = omega arith

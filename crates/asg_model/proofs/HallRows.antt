@@ -10,8 +10,6 @@ use Rattle.std.proofs.lemmas.List.Quantifiers.{position-Some}
 use Rattle.std.proofs.lemmas.List.{get_or_past, get_or-map, length-map, get_or-take, length-take}
 use Rattle.std.proofs.lemmas.List.Folds.{list_any_at}
 use Rattle.asg_model.specs.declared.parts.Cost.{Cost}
-use Rattle.asg_model.specs.declared.parts.Row.{Row}
-use Rattle.asg_model.specs.declared.parts.Column.{Column}
 use Rattle.asg_model.specs.declared.bands.Band.{Band}
 use Rattle.asg_model.specs.Problem.{Problem}
 use Rattle.asg_model.specs.Live.{is_active, is_open, cost_at, live_at}
@@ -20,6 +18,7 @@ use Rattle.asg_model.specs.ValidChoice.{Chooses}
 use Rattle.asg_model.specs.HallSet.{row_place_of, is_live_within, reaches, is_reached, is_counted_id, IsHall}
 use Rattle.asg_model.specs.Sums.{count_below}
 use Rattle.asg_model.specs.laws.Counting.{length-le-count_below}
+use Rattle.asg_model.specs.laws.Rows.{no_row}
 
 -- the number of a fact, 1 where it holds
 abbrev pub one : Bool → ℕ
@@ -63,9 +62,6 @@ live_parts true true o live = (refl, refl)
 live_parts true false o live = absurd (false≢true live)
 live_parts false d o live = absurd (false≢true live)
 
-pub is_active-from_live : (X : Problem) (r c : ℕ) → IsSome (live_at X r c) → is_active X r ≡ true
-is_active-from_live X r c live = (live_parts (is_active X r) (is_open X c) (cost_at X.cells r c) live).0
-
 pub column-from_live : (X : Problem) (r c : ℕ) → IsSome (live_at X r c) → c < length X.columns
 column-from_live X r c live =
     let usable = (live_parts (is_active X r) (is_open X c) (cost_at X.cells r c) live).1 in
@@ -74,14 +70,6 @@ column-from_live X r c live =
     (λ (past : length X.columns ≤ c).
     absurd (false≢true (sym (ap (λ o. option_map_or (λ column. column.usable) o false) (slice_get_past X.columns c past)) ∙ usable)))
     (cases_lt c (length X.columns))
-
-pub row-from_active : (X : Problem) (r : ℕ) → is_active X r ≡ true → r < length X.rows
-row-from_active X r active =
-    ⊎_elim
-    (λ (within : r < length X.rows). within)
-    (λ (past : length X.rows ≤ r).
-    absurd (false≢true (sym (ap (λ o. option_map_or (λ row. row.active) o false) (slice_get_past X.rows r past)) ∙ active)))
-    (cases_lt r (length X.rows))
 
 pub some_cost : (o : Option Cost) → IsSome o → (cost : Cost) × (o ≡ Some cost)
 some_cost None live = absurd (false≢true live)
@@ -112,12 +100,6 @@ counted_place X id e =
     let found = option_passes (is_counted X) (row_place_of X id) e in
     let at : place_of X id ≡ found.0 = ap (λ o. unwrap_or o 0) found.1 in
     (found.1 ∙ ap Some (sym at), ap (is_counted X) at ∙ found.2)
-
-abbrev pub no_row : Row
-no_row = record { id = 0; active = false }
-
-abbrev pub no_column : Column
-no_column = record { id = 0; cap = 0; usable = false }
 
 -- the row at the place of an id has that id
 pub id_at_place : (X : Problem) (id r : ℕ) → row_place_of X id ≡ Some r → (r < length X.rows) × ((get_or X.rows r no_row).id ≡ id)

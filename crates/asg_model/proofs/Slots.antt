@@ -16,7 +16,7 @@ use Rattle.asg_model.specs.Live.{is_active, is_open, cost_at}
 use Rattle.asg_model.specs.HallSet.{row_place_of, is_live_within, is_reached, reached_part}
 use Rattle.asg_model.specs.ValueRange.{IsPartInRange}
 use Rattle.asg_model.specs.Table.{absent, IsEntry, IsSlotOf, AreRowCosts}
-use Rattle.asg_model.proofs.HallRows.{no_column}
+use Rattle.asg_model.specs.laws.Rows.{no_column}
 
 -- an open column is there
 pub column-from_open : (X : Problem) (c : ℕ) → is_open X c ≡ true → c < length X.columns

@@ -1,15 +1,13 @@
 -- One more cost: the steps of the loops over costs and over rows.
-use Rattle.std.proofs.Common.{◌≡◌, ℕ, ◌+◌, ◌<◌, ◌≤◌, Bool, true, false, cond, List, [], ◌∷◌, ◌++◌, length, get_or, take, refl, arith, sym, ap, ◌∙◌, zero-add, ℤ, pos, ◌+ℤ◌}
-use Rattle.std.specs.Prelude.{Option, Some, None, fold, filter_map, option_to_list, unsigned_abs, IfSome, All}
-use Rattle.std.specs.List.{range_with_len}
+use Rattle.std.proofs.Common.{◌≡◌, ℕ, ◌+◌, ◌<◌, ◌≤◌, Bool, true, false, cond, List, [], ◌∷◌, ◌++◌, length, get_or, take, refl, arith, sym, ap, ◌∙◌, ℤ, pos, ◌+ℤ◌}
+use Rattle.std.specs.Prelude.{Option, Some, None, fold, option_to_list, unsigned_abs, IfSome, All}
 use Rattle.std.specs.Int.{int_max, int_min}
 use Rattle.std.specs.Ordering.{int_eq}
 use Rattle.std.proofs.lemmas.Int.{ints}
-use Rattle.std.proofs.lemmas.List.{map-id, map-append}
+use Rattle.std.proofs.lemmas.List.{map-append}
 use Rattle.std.proofs.lemmas.List.Sums.{fold_more, fold-append}
 use Rattle.std.proofs.lemmas.List.Folds.{fold-map}
-use Rattle.std.proofs.lemmas.List.Elements.{filter_more, filter_map-append, All-nil, All-cons}
-use Rattle.std.proofs.lemmas.List.FromFn.{map-range_with_len_more}
+use Rattle.std.proofs.lemmas.List.Elements.{filter_more, All-nil, All-cons}
 use Rattle.asg_model.specs.declared.parts.Cost.{Cost}
 use Rattle.asg_model.specs.Values.{first_parts, second_parts, costs_at, total}
 
@@ -37,22 +35,6 @@ total-at_more a costs i d lt =
     ∙ ap total (map-append (λ cost. cost.b) (costs_at a (take i costs)) (cond (int_eq here.a a) (here ∷ []) []))
     ∙ total-append (second_parts (costs_at a (take i costs))) (second_parts (cond (int_eq here.a a) (here ∷ []) []))
     ∙ total_last (total (second_parts (costs_at a (take i costs)))) (int_eq here.a a) here
-
--- one more place
-pub range_with_len_more : (n : ℕ) → range_with_len 0 (n + 1) ≡ range_with_len 0 n ++ n ∷ []
-range_with_len_more n =
-    sym (map-id (range_with_len 0 (n + 1))) ∙ map-range_with_len_more (λ k. k) 0 n n (zero-add n) ∙ ap (λ list. list ++ n ∷ []) (map-id (range_with_len 0 n))
-
-filter_map_one : {X Y : Type 0} (h : X → Option Y) (x : X) (o : Option Y) → h x ≡ o → filter_map h (x ∷ []) ≡ option_to_list o
-filter_map_one h x None e = rw e
-filter_map_one h x (Some y) e = rw e
-
--- what is given of one more place
-pub filter_map-range_more : {Y : Type 0} (h : ℕ → Option Y) (n : ℕ) → filter_map h (range_with_len 0 (n + 1)) ≡ filter_map h (range_with_len 0 n) ++ option_to_list (h n)
-filter_map-range_more h n =
-    ap (filter_map h) (range_with_len_more n)
-    ∙ filter_map-append h (range_with_len 0 n) (n ∷ [])
-    ∙ ap (λ list. filter_map h (range_with_len 0 n) ++ list) (filter_map_one h n (h n) refl)
 
 pub length-option_to_list-le : {Y : Type 0} (o : Option Y) → length (option_to_list o) ≤ 1
 length-option_to_list-le None = omega arith

@@ -1,17 +1,14 @@
 -- Tables of records with free places.
-use Rattle.std.proofs.Common.{◌≡◌, ◌≢◌, inl, inr, ℕ, zero, suc, ◌<◌, ◌≤◌, max, List, [], ◌∷◌, ◌++◌, length, get_or, set, All, AllPairs, Option, None, IsSome, refl, sym, ap, ◌∙◌, arith, length-append}
-use Rattle.std.proofs.lemmas.Bool.{eqb-true, cases_eq, cases_lt}
-use Rattle.std.proofs.lemmas.Bool.Decides.{Decides-eqb}
+use Rattle.std.proofs.Common.{◌≡◌, ◌≢◌, inl, inr, ℕ, zero, suc, ◌<◌, ◌≤◌, max, List, [], ◌∷◌, ◌++◌, length, get_or, set, All, Option, None, IsSome, refl, sym, ap, ◌∙◌, arith, length-append}
+use Rattle.std.proofs.lemmas.Bool.{cases_eq, cases_lt}
 use Rattle.std.proofs.lemmas.List.{get_or-set_same, get_or-set_other, get_or_past, length-set}
-use Rattle.std.proofs.lemmas.List.Elements.{All-contains, All-cons, All-nil, All-append, All-from_get_or}
+use Rattle.std.proofs.lemmas.List.Elements.{All-cons, All-nil, All-append, All-from_get_or}
 use Rattle.std.proofs.lemmas.List.Kept.{AllPairs-cons}
 use Rattle.std.proofs.lemmas.List.Quantifiers.{all_pairs_push}
-use Rattle.std.proofs.lemmas.Map.Made.{IsDistinct-from_AllPairs}
-use Rattle.std.proofs.lemmas.Map.Steps.{length-le_from_distinct_below}
-use Rattle.std.proofs.lemmas.Map.Views.{Contains-from_any}
 use Rattle.asg_pool.specs.declared.links.Link.{Link}
 use Rattle.asg_pool.specs.Strips.{with_row}
 use Rattle.asg_pool.specs.Links.{link_at, AreVacant}
+use Rattle.asg_model.specs.laws.Listing.{length-le_from_below}
 
 module _ {X : Type 0} where
   -- within the list, a place is written as by `set`
@@ -42,12 +39,6 @@ module _ {X : Type 0} where
   length-with_row [] (suc k) x within = absurd (omega arith)
   length-with_row (y ∷ ys) zero x within = omega arith
   length-with_row (y ∷ ys) (suc k) x within = omega (arith, length-with_row ys k x (omega arith))
-
--- different numbers below n are at most n
-pub length-le_from_below : (xs : List ℕ) (n : ℕ) → AllPairs ◌≢◌ xs → All (λ x. x < n) xs → length xs ≤ n
-length-le_from_below xs n apart below =
-    length-le_from_distinct_below xs n (IsDistinct-from_AllPairs Decides-eqb xs apart)
-    (λ q m. All-contains (λ x. x < n) xs q below (Contains-from_any eqb-true q xs m))
 
 -- a record stands within the table
 pub link_within : (slots : List (Option Link)) (k : ℕ) → IsSome (link_at slots k) → k < length slots

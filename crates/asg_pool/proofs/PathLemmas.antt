@@ -7,7 +7,8 @@ use Rattle.asg_proof.specs.Phases.{PhaseOf}
 use Rattle.asg_pool.specs.declared.links.Link.{Link}
 use Rattle.asg_pool.specs.Links.{link_at}
 use Rattle.asg_pool.specs.Paths.{path, parent_at, depth_at, IsRooted, AreRooted}
-use Rattle.asg_pool.proofs.LinkLemmas.{link_within, length-le_from_below}
+use Rattle.asg_pool.proofs.LinkLemmas.{link_within}
+use Rattle.asg_model.specs.laws.Listing.{length-le_from_below}
 
 -- what an option has that has something
 pub some_of : {X : Type 0} (o : Option X) → IsSome o → (x : X) × (o ≡ Some x)

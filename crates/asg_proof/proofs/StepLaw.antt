@@ -1,8 +1,8 @@
 -- The step law: an admitted step takes its value from each perfect assignment.
-use Rattle.std.proofs.Common.{◌≡◌, ℕ, zero, suc, ◌+◌, ◌<◌, ◌≤◌, Bool, true, false, not, ◌&&◌, List, [], ◌∷◌, map, get_or, Option, Some, None, refl, sym, ◌∙◌, ap, subst, arith, cond, unwrap_or}
-use Rattle.std.specs.Prelude.{All, IsSome, count_by, filter_map}
+use Rattle.std.proofs.Common.{◌≡◌, ℕ, suc, ◌+◌, ◌<◌, Bool, true, false, not, ◌&&◌, List, [], ◌∷◌, map, get_or, Option, Some, None, refl, sym, ◌∙◌, ap, subst, arith, cond, unwrap_or}
+use Rattle.std.specs.Prelude.{All, IsSome, count_by}
 use Rattle.std.specs.Option.{option_map}
-use Rattle.std.specs.List.{range_with_len, cons_option}
+use Rattle.std.specs.List.{range_with_len}
 use Rattle.std.proofs.lemmas.Bool.{false≢true}
 use Rattle.std.proofs.lemmas.List.Elements.{All-head, All-tail, All-map, All-weaker, All-replicate}
 use Rattle.std.proofs.lemmas.List.Sums.{sum_by-cons}
@@ -15,6 +15,7 @@ use Rattle.asg_square.specs.Cells.{IsAssignment, assignment_values}
 use Rattle.asg_proof.specs.Steps.{moved, stepped, count_below, IsAdmittedStep, HasSide, HasValues}
 use Rattle.asg_proof.specs.laws.Stepped.{IsAssignment-stepped}
 use Rattle.asg_proof.proofs.Counts.{All-range, count_one_more}
+use Rattle.asg_model.specs.laws.Listing.{all_there}
 
 -- the value of a row's cell
 abbrev pub value_at : {V : Type 0} → Monoid V → (ℕ → ℕ → Option V) → List ℕ → ℕ → V
@@ -23,13 +24,6 @@ value_at M square p r = unwrap_or (square r (get_or p r 0)) M.unit
 there_is : {V : Type 0} (o : Option V) (d : V) → IsSome o → o ≡ Some (unwrap_or o d)
 there_is None d h = absurd (false≢true h)
 there_is (Some x) d h = refl
-
--- values that are all there
-all_there : {V : Type 0} (h : ℕ → Option V) (g : ℕ → V) (a n : ℕ) → ((r : ℕ) → a ≤ r → r < a + n → h r ≡ Some (g r)) → filter_map h (range_with_len a n) ≡ map g (range_with_len a n)
-all_there h g a zero there = refl
-all_there h g a (suc n) there =
-    ap (λ o. cons_option o (filter_map h (range_with_len (a + 1) n))) (there a (omega arith) (omega arith))
-    ∙ ap (λ xs. g a ∷ xs) (all_there h g (a + 1) n (λ r from below. there r (omega arith) (omega arith)))
 
 -- the values of an assignment are those of the rows' cells
 pub values_are : {V : Type 0} (M : Monoid V) (square : ℕ → ℕ → Option V) (side : ℕ) (p : List ℕ) → IsAssignment square side p → assignment_values square side p ≡ map (value_at M square p) (range_with_len 0 side)

@@ -23,6 +23,7 @@ use Rattle.asg_square.specs.Labels.{row_label, column_label}
 use Rattle.asg_square.specs.Cells.{extra_column_cell, corner_cell, labelled_cell, square_cell, IsAssignment, chosen_by, choice_of, entered_or_free, assignment_values}
 use Rattle.asg_square.specs.laws.Rows.{row-from_counted, rows_within}
 use Rattle.asg_square.proofs.PerfectValid.{labelled_as, column_below}
+use Rattle.asg_model.specs.laws.Listing.{all_there}
 
 extra_value : {V : Type 0} (place : Place) (free : V) → IsSome (extra_column_cell place free) → extra_column_cell place free ≡ Some free
 extra_value PlaceAll free h = absurd (false≢true h)
@@ -71,13 +72,6 @@ module _ {V : Type 0} (X : Problem) (free : V) (enter : Cost → V) (p : List �
       ∙ ap (λ b. cond b (labelled_cell X free enter (row_label X r) (column_label X (slice_index p r))) None) ((Decides-ltb (slice_index p r) (square_side X)).1 (column_below X free enter p a r h))
       ∙ value_by X free enter (is_counted X r) r (column_label X (slice_index p r)) cell
       ∙ ap (λ o. Some (option_map_or enter o free)) (sym (cost_chosen r))
-
--- values that are all there
-all_there : {V : Type 0} (h : ℕ → Option V) (g : ℕ → V) (a n : ℕ) → ((r : ℕ) → a ≤ r → r < a + n → h r ≡ Some (g r)) → filter_map h (range_with_len a n) ≡ map g (range_with_len a n)
-all_there h g a zero there = refl
-all_there h g a (suc n) there =
-    ap (λ o. cons_option o (filter_map h (range_with_len (a + 1) n))) (there a (omega arith) (omega arith))
-    ∙ ap (λ xs. g a ∷ xs) (all_there h g (a + 1) n (λ r from below. there r (omega arith) (omega arith)))
 
 pub values_are : {V : Type 0} (X : Problem) (free : V) (enter : Cost → V) (p : List ℕ) → IsAssignment (square_cell X free enter) (square_side X) p → assignment_values (square_cell X free enter) (square_side X) p ≡ map (entered_or_free X free enter (choice_of X p)) (range_with_len 0 (square_side X))
 values_are X free enter p a =

@@ -19,9 +19,10 @@ use Rattle.asg_square.specs.Labels.{row_label, column_label, copies}
 use Rattle.asg_square.specs.Cells.{extra_column_cell, corner_cell, labelled_cell, square_cell, IsAssignment, chosen_by, choice_of}
 use Rattle.asg_model.specs.Sums.{sum_below, count_below, one}
 use Rattle.asg_model.specs.laws.Counting.{sum_below-same, sum_below-le, sum_by-below, sum_below-zero}
-use Rattle.asg_square.specs.laws.Bijections.{ones_below, sum_below-split, sum_below-upto, permute-count}
+use Rattle.asg_square.specs.laws.Bijections.{sum_below-split, sum_below-upto, permute-count}
 use Rattle.asg_square.specs.laws.Copies.{length-copies, count-copies_at, count-labels}
-use Rattle.asg_square.specs.laws.Rows.{counted_total, row-from_counted, count-map, rows_within, copies_within}
+use Rattle.asg_square.specs.laws.Rows.{row-from_counted, count-map, rows_within, copies_within}
+use Rattle.asg_model.specs.laws.Rows.{counted_total, ones_below}
 
 pub cell_parts : {V : Type 0} (b d : Bool) (o : Option V) → IsSome (cond (b && d) o None) → (b ≡ true) × (d ≡ true) × IsSome o
 cell_parts true true o h = (refl, refl, h)

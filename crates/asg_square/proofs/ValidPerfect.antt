@@ -1,7 +1,7 @@
 -- Every valid choice is the choice of a perfect assignment: a row that chooses takes of its column's copies
 -- the one whose number is that of the rows before it that choose this column, and the other rows take the free
 -- columns from the last down.
-use Rattle.std.proofs.Common.{◌≡◌, ℕ, ◌+◌, ◌-◌, ◌<◌, ◌≤◌, Bool, true, false, cond, ◌&&◌, not, List, length, get_or, refl, arith, sym, ap, subst, ◌∙◌, ⊎_elim}
+use Rattle.std.proofs.Common.{◌≡◌, ℕ, ◌+◌, ◌-◌, ◌<◌, ◌≤◌, true, false, cond, ◌&&◌, not, List, length, get_or, refl, arith, sym, ap, subst, ◌∙◌, ⊎_elim}
 use Rattle.std.specs.Prelude.{Option, Some, None, IsSome, is_some, nat_lt, slice_index}
 use Rattle.std.specs.Option.{option_map, option_and_then}
 use Rattle.std.proofs.lemmas.Bool.{false≢true, cases_Bool, cases_lt, eq-eqb, ne_eqb}
@@ -26,7 +26,9 @@ use Rattle.asg_model.specs.laws.Counting.{sum_below-same, sum_below-add, sum_by-
 use Rattle.asg_square.specs.laws.Bijections.{sum_below-upto, rank-less, same-rank, count-not, completed_some, completed_none, completed_below, completed_apart, rank_within, top_high, top_low}
 use Rattle.asg_square.specs.Completion.{is_free, free_columns, lacks}
 use Rattle.asg_square.specs.laws.Copies.{length-copies, label_at, copy_below}
-use Rattle.asg_square.specs.laws.Rows.{counted_total, row-from_counted, counted-from_active, is_active-from_live, rows_within, copies_within}
+use Rattle.asg_square.specs.laws.Rows.{row-from_counted, rows_within, copies_within}
+use Rattle.asg_model.specs.laws.Rows.{counted_total, counted-from_active, is_active-from_live}
+use Rattle.asg_model.specs.laws.Tests.{split_one}
 
 Chooses-from_chosen : (f : List (Option ℕ)) (r c : ℕ) → chosen f r ≡ Some c → (r < length f) × Chooses f r c
 Chooses-from_chosen f r c e =
@@ -34,12 +36,6 @@ Chooses-from_chosen f r c e =
     (λ (within : r < length f). (within, slice_get-get_or f r None within ∙ ap Some e))
     (λ (past : length f ≤ r). absurd (none-some c (sym (get_or_past f r None past) ∙ e)))
     (cases_lt r (length f))
-
-split_one : (counted some : Bool) → (some ≡ true → counted ≡ true) → one counted ≡ one some + one (counted && not some)
-split_one true true h = omega arith
-split_one true false h = omega arith
-split_one false true h = absurd (false≢true (h refl))
-split_one false false h = omega arith
 
 from_map : {A B : Type 0} (h : A → B) (o : Option A) (y : B) → option_map h o ≡ Some y → (x : A) × (o ≡ Some x) × (h x ≡ y)
 from_map h None y e = absurd (cc)

@@ -23,6 +23,7 @@ use Rattle.asg_square.specs.Labels.{row_label, column_label}
 use Rattle.asg_square.specs.Presence.{leaves_rows, has_corner, is_labelled_within, has_cell}
 use Rattle.asg_window.specs.Bands.{IsWithin}
 use Rattle.asg_window.specs.Grades.{grade_of, free_grade, no_bound, cost_of}
+use Rattle.asg_model.specs.laws.Tests.{both_tests}
 
 -- the costs of the band are those with a grade from `low` on and below `high`
 abbrev pub IsBandOf : Band → ℕ → ℕ → Type 0
@@ -38,10 +39,6 @@ grade_upto cost h = grind (arith, ints)
 
 pub IsBandOf-whole : IsBandOf Whole 1 no_bound
 IsBandOf-whole cost h = (λ _. refl, λ _. let above = grade_above cost h in let upto = grade_upto cost h in (omega (arith, above), omega (arith, upto)))
-
-both_tests : (a b : Bool) → IsTrue a → IsTrue b → IsTrue (a && b)
-both_tests true b h k = k
-both_tests false b h k = absurd (false≢true h)
 
 first_test : (a b : Bool) → IsTrue (a && b) → IsTrue a × IsTrue b
 first_test true b h = (refl, h)

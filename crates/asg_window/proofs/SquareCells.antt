@@ -18,7 +18,8 @@ use Rattle.asg_square.specs.Cells.{extra_column_cell, corner_cell, labelled_cell
 use Rattle.asg_square.specs.Grid.{Grid, cell_at, IsSquareOf}
 use Rattle.asg_square.specs.Labels.{row_label, column_label, first_copy}
 use Rattle.asg_square.specs.laws.Copies.{label_at, copy_below, capacity_is}
-use Rattle.asg_square.specs.laws.Rows.{is_active-from_live, row-from_active, counted-from_active, rows_within, copies_within}
+use Rattle.asg_square.specs.laws.Rows.{rows_within, copies_within}
+use Rattle.asg_model.specs.laws.Rows.{is_active-from_live, row-from_active, counted-from_active, no_column}
 use Rattle.asg_window.specs.Grades.{grade_of, free_grade}
 
 -- a live cell of the instance with this grade
@@ -58,9 +59,6 @@ module _ (X : Problem) where
 -- a cell of the square with this grade
 abbrev pub HasCell : Grid ℕ → ℕ → Type 0
 HasCell Q grade = (r : ℕ) × (c : ℕ) × (r < Q.side) × (c < Q.side) × (cell_at Q r c ≡ Some grade)
-
-no_column : Column
-no_column = record { id = 0; cap = 0; usable = false }
 
 open_parts : (b d : Bool) (o : Option Cost) → IsSome (cond (b && d) o None) → d ≡ true
 open_parts true true o live = refl

@@ -1,5 +1,5 @@
 -- Windows of costs that hold grades.
-use Rattle.std.proofs.Common.{◌≡◌, refl, ℕ, ◌+◌, ◌≤◌, sym, ◌∙◌, subst, arith, List, [], ◌∷◌, ◌++◌, length, ◌&&◌, ◌||◌, Bool, true, false}
+use Rattle.std.proofs.Common.{◌≡◌, refl, ℕ, ◌+◌, ◌≤◌, sym, ◌∙◌, subst, arith, List, [], ◌∷◌, ◌++◌, length, ◌||◌, Bool, true, false}
 use Rattle.std.specs.Prelude.{ℤ, pos, ◌+ℤ◌, ◌-ℤ◌, IsTrue, int_le}
 use Rattle.std.specs.List.{list_any}
 use Rattle.std.proofs.lemmas.Bool.{false≢true}
@@ -12,10 +12,7 @@ use Rattle.asg_proof.specs.Windows.{holds_from, is_held}
 use Rattle.asg_square.specs.Grid.{Grid}
 use Rattle.asg_window.specs.CostWindows.{IsWindowBy}
 use Rattle.asg_window.specs.Grades.{cost_of}
-
-both_tests : (a b : Bool) → IsTrue a → IsTrue b → IsTrue (a && b)
-both_tests true b h k = k
-both_tests false b h k = absurd (false≢true h)
+use Rattle.asg_model.specs.laws.Tests.{both_tests}
 
 or_left : (a b : Bool) → IsTrue a → IsTrue (a || b)
 or_left true b h = refl

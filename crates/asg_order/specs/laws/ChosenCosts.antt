@@ -4,7 +4,6 @@ use Rattle.std.proofs.Common.{◌≡◌, ℕ, suc, ◌+◌, ◌≤◌, false, co
 use Rattle.std.specs.Prelude.{Option, Some, None, IsSome, is_some, IfSome, slice_get, filter_map, count_by, option_and_then, All}
 use Rattle.std.specs.List.{range_with_len, cons_option}
 use Rattle.std.proofs.lemmas.List.Sums.{sum_by-cons, count_by-le-length}
-use Rattle.std.proofs.lemmas.List.Elements.{All-nil, All-cons}
 use Rattle.asg_model.specs.declared.parts.Cost.{Cost}
 use Rattle.asg_model.specs.declared.objectives.Objective.{Objective}
 use Rattle.asg_model.specs.Problem.{Problem}
@@ -16,15 +15,7 @@ use Rattle.asg_order.specs.Monoid.{Monoid}
 use Rattle.asg_model.specs.Refused.{is_refused, PassesNegative}
 use Rattle.asg_order.specs.Entering.{IsWithin, MayEnter, LiesWithin}
 use Rattle.asg_order.specs.Bridge.{KeepsOrder, Bridges}
-
-All-cons_option : {B : Type 0} (P : B → Type 0) (o : Option B) (ys : List B) → IfSome o P → All P ys → All P (cons_option o ys)
-All-cons_option P None ys holds rest = rest
-All-cons_option P (Some y) ys holds rest = All-cons P y ys holds rest
-
--- what h gives of each element has P
-All-filter_map : {A B : Type 0} (h : A → Option B) (P : B → Type 0) → ((x : A) → IfSome (h x) P) → (xs : List A) → All P (filter_map h xs)
-All-filter_map h P each [] = All-nil P
-All-filter_map h P each (x ∷ xs) = All-cons_option P (h x) (filter_map h xs) (each x) (All-filter_map h P each xs)
+use Rattle.asg_model.specs.laws.Listing.{All-filter_map}
 
 IfSome-both : (objective : Objective) (reach : ℕ) (o : Option Cost) → IfSome o (IsWithin reach) → IfSome o (λ cost. is_refused objective cost ≡ false) → IfSome o (MayEnter objective reach)
 IfSome-both objective reach None near passes = near

@@ -11,6 +11,7 @@ use Rattle.asg_model.specs.ValidChoice.{takes}
 use Rattle.asg_model.specs.Sums.{sum_below, count_below, passing_below, one}
 use Rattle.asg_square.specs.Completion.{is_free, free_columns, lacks, completed}
 use Rattle.asg_model.specs.laws.Counting.{sum_below-same, sum_below-le, sum_below-add, sum_below-zero, sum_below-exchange, term-le-sum_below, length-passing_below, length-le-count_below, length-le_contains}
+use Rattle.asg_model.specs.laws.Rows.{ones_below}
 
 -- a sum over the first numbers and over those after them
 pub sum_below-split : (f : ℕ → ℕ) (n m : ℕ) → sum_below f (n + m) ≡ sum_below f n + sum_below (λ k. f (n + k)) m
@@ -20,10 +21,6 @@ sum_below-split f n (suc m) =
     let e : sum_below f (n + suc m) ≡ sum_below f (suc (n + m)) = ap (sum_below f) k in
     let rest = sum_below-split f n m in
     omega (arith, e, rest)
-
-pub ones_below : (n : ℕ) → sum_below (λ _. 1) n ≡ n
-ones_below zero = refl
-ones_below (suc n) = let rest = ones_below n in omega (arith, rest)
 
 -- a sum over more numbers is larger
 pub sum_below-upto : (f : ℕ → ℕ) (n m : ℕ) → n ≤ m → sum_below f n ≤ sum_below f m

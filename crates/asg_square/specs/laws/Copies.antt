@@ -124,9 +124,6 @@ copy_below X d j h =
     let inside = copy.0 in
     omega (arith, size, inside)
 
-no_column : Column
-no_column = record { id = 0; cap = 0; usable = false }
-
 pub capacity_is : (X : Problem) (d : ℕ) (x : Column) → d < length X.columns → capacity_at X d ≡ (get_or X.columns d x).cap
 capacity_is X d x within = ap (λ o. option_map_or (λ column. column.cap) o 0) (slice_get-get_or X.columns d x within)
 

@@ -1,60 +1,19 @@
 -- The rows that are counted, and the numbers of the square.
-use Rattle.std.proofs.Common.{◌≡◌, ℕ, ◌<◌, ◌≤◌, Bool, true, false, cond, ◌&&◌, length, get_or, refl, arith, sym, ap, ◌∙◌, ⊎_elim, map}
-use Rattle.std.specs.Prelude.{Option, None, IsSome, count_by, nat_lt}
+use Rattle.std.proofs.Common.{◌≡◌, ℕ, ◌<◌, ◌≤◌, Bool, true, length, get_or, arith, ap, ◌∙◌, map}
+use Rattle.std.specs.Prelude.{count_by, nat_lt}
 use Rattle.std.specs.List.{range_with_len}
-use Rattle.std.specs.Option.{option_map_or}
-use Rattle.std.proofs.lemmas.Bool.{false≢true, cases_lt}
 use Rattle.std.proofs.lemmas.Bool.Decides.{Decides-ltb}
-use Rattle.std.proofs.lemmas.Option.{slice_get-get_or, slice_get_past}
 use Rattle.std.proofs.lemmas.List.FromFn.{length-map-range_with_len, get_or-map-range_with_len}
-use Rattle.asg_model.specs.declared.parts.Row.{Row}
-use Rattle.asg_model.specs.declared.parts.Cost.{Cost}
 use Rattle.asg_model.specs.declared.parts.Place.{Place}
 use Rattle.asg_model.specs.declared.parts.Place.TheVariants.{All as PlaceAll, Exactly}
 use Rattle.asg_model.specs.Problem.{Problem}
 use Rattle.asg_model.specs.Instances.{IsPlaceInRange}
-use Rattle.asg_model.specs.Live.{is_active, is_open, cost_at, live_at}
-use Rattle.asg_model.specs.Counts.{active_count, counted_by, is_counted_by, total_capacity}
+use Rattle.asg_model.specs.Live.{is_active}
+use Rattle.asg_model.specs.Counts.{is_counted_by, total_capacity}
 use Rattle.asg_model.specs.Shapes.{square_side, side_by}
 use Rattle.asg_model.specs.Sums.{sum_below, count_below, one}
 use Rattle.asg_model.specs.laws.Counting.{sum_below-same, sum_by-below}
-use Rattle.asg_square.specs.laws.Bijections.{ones_below}
-
-pub no_row : Row
-no_row = record { id = 0; active = false }
-
-active_below : (X : Problem) (r : ℕ) → r < length X.rows → is_active X r ≡ (get_or X.rows r no_row).active
-active_below X r within = ap (λ o. option_map_or (λ row. row.active) o false) (slice_get-get_or X.rows r no_row within)
-
--- how many rows the rule counts
-pub counted_total : (X : Problem) (place : Place) → count_below (λ r. is_counted_by place (is_active X r) (nat_lt r (length X.rows))) (length X.rows) ≡ counted_by place (active_count X) (length X.rows)
-counted_total X PlaceAll =
-    sum_below-same (λ r. one (is_active X r)) (λ r. one (get_or X.rows r no_row).active) (length X.rows) (λ r within. ap one (active_below X r within))
-    ∙ sym (sum_by-below (λ row. one row.active) X.rows no_row)
-counted_total X (Exactly k) =
-    sum_below-same (λ r. one (nat_lt r (length X.rows))) (λ _. 1) (length X.rows) (λ r within. ap one ((Decides-ltb r (length X.rows)).1 within))
-    ∙ ones_below (length X.rows)
-
-live_parts : (b d : Bool) (o : Option Cost) → IsSome (cond (b && d) o None) → b ≡ true
-live_parts true d o live = refl
-live_parts false d o live = absurd (false≢true live)
-
--- a row with a live cell is active
-pub is_active-from_live : (X : Problem) (r c : ℕ) → IsSome (live_at X r c) → is_active X r ≡ true
-is_active-from_live X r c live = live_parts (is_active X r) (is_open X c) (cost_at X.cells r c) live
-
-pub row-from_active : (X : Problem) (r : ℕ) → is_active X r ≡ true → r < length X.rows
-row-from_active X r active =
-    ⊎_elim
-    (λ (within : r < length X.rows). within)
-    (λ (past : length X.rows ≤ r).
-    absurd (false≢true (sym (ap (λ o. option_map_or (λ row. row.active) o false) (slice_get_past X.rows r past)) ∙ active)))
-    (cases_lt r (length X.rows))
-
--- an active row is counted
-pub counted-from_active : (X : Problem) (place : Place) (r : ℕ) → is_active X r ≡ true → is_counted_by place (is_active X r) (nat_lt r (length X.rows)) ≡ true
-counted-from_active X PlaceAll r active = active
-counted-from_active X (Exactly k) r active = (Decides-ltb r (length X.rows)).1 (row-from_active X r active)
+use Rattle.asg_model.specs.laws.Rows.{row-from_active}
 
 -- a counted row is there
 pub row-from_counted : (X : Problem) (place : Place) (r : ℕ) → is_counted_by place (is_active X r) (nat_lt r (length X.rows)) ≡ true → r < length X.rows

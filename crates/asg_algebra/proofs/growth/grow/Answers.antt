@@ -1,5 +1,5 @@
 use Rattle.std.proofs.Common.{length, arith}
-use Rattle.asg_match.specs.laws.Distinct.{length-le_from_below}
+use Rattle.asg_model.specs.laws.Listing.{length-le_from_below}
 use Rattle.asg_algebra.proofs.growth.grow.Given.{Over}
 use Rattle.asg_algebra.proofs.growth.grow.Goals as goal
 

@@ -2,7 +2,7 @@ use Rattle.std.proofs.Common.{◌<◌, length, get_or, below_more, subst, arith}
 use Rattle.asg_match.specs.Alternating.{IsClosed}
 use Rattle.asg_match.specs.Searched.{parents_in}
 use Rattle.asg_match.proofs.SearchLemmas.{Extends-join, IsReached-later}
-use Rattle.asg_match.specs.laws.Distinct.{length-le_from_below}
+use Rattle.asg_model.specs.laws.Listing.{length-le_from_below}
 use Rattle.asg_match.proofs.search.grow.Goals as goal
 
 -- a tree has at most as many rows as the side

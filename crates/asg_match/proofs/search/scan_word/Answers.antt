@@ -1,6 +1,6 @@
 use Rattle.std.proofs.Common.{◌<◌, length, sym, ◌∙◌, subst, arith}
 use Rattle.std.proofs.lemmas.List.{get_or_read}
-use Rattle.asg_match.specs.laws.Distinct.{length-le_from_below}
+use Rattle.asg_model.specs.laws.Listing.{length-le_from_below}
 use Rattle.asg_match.proofs.SearchLemmas.{Extends-join, IsSearch-more}
 use Rattle.asg_match.proofs.search.scan_word.Goals as goal
 

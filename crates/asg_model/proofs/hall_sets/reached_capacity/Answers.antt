@@ -2,7 +2,7 @@
 use Rattle.std.proofs.Common.{◌≡◌, ℕ, ◌+◌, ◌<◌, ◌≤◌, ◌&&◌, false, cond, length, get_or, take, ◌∙◌, ap, sym, arith}
 use Rattle.std.specs.List.{sum_by, enumerate_from}
 use Rattle.asg_model.specs.HallSet.{reached_part}
-use Rattle.asg_model.proofs.HallRows.{no_column}
+use Rattle.asg_model.specs.laws.Rows.{no_column}
 use Rattle.asg_model.proofs.Slots.{part_same}
 use Rattle.asg_model.proofs.Enumerated.{sum_by-enumerate_more, take-enumerate_all, cond-le}
 use Rattle.asg_model.proofs.hall_sets.reached_capacity.Goals as goal

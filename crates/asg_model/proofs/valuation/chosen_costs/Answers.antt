@@ -5,7 +5,8 @@ use Rattle.std.specs.List.{range_with_len}
 use Rattle.std.proofs.lemmas.List.Elements.{All-append}
 use Rattle.asg_model.specs.Values.{chosen_cost}
 use Rattle.asg_model.specs.Instances.{IsCostInRange}
-use Rattle.asg_model.proofs.Steps.{filter_map-range_more, length-option_to_list-le, All-option_to_list}
+use Rattle.asg_model.proofs.Steps.{length-option_to_list-le, All-option_to_list}
+use Rattle.asg_model.specs.laws.Listing.{filter_map-range_more}
 use Rattle.asg_model.proofs.valuation.chosen_costs.Goals as goal
 
 pub loop-row-preserved : goal.loop-row-preserved

@@ -4,7 +4,7 @@ use Rattle.std.specs.Prelude.{List, Option, Some, IfSome, slice_get}
 use Rattle.std.specs.Option.{option_map_or}
 use Rattle.asg_model.specs.declared.parts.Column.{Column}
 use Rattle.asg_model.specs.HallSet.{column_place_of}
-use Rattle.asg_model.proofs.HallRows.{no_column}
+use Rattle.asg_model.specs.laws.Rows.{no_column}
 use Rattle.asg_model.proofs.Positions.{position-unique, position-there}
 use Rattle.asg_model.proofs.instances.Instance.column_place.Goals as goal
 use Rattle.asg_model.proofs.instances.Instance.column_place.Goals.{Then-is_column_at}

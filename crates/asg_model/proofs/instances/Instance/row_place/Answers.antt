@@ -4,7 +4,7 @@ use Rattle.std.specs.Prelude.{List, Option, Some, IfSome, slice_get}
 use Rattle.std.specs.Option.{option_map_or}
 use Rattle.asg_model.specs.declared.parts.Row.{Row}
 use Rattle.asg_model.specs.HallSet.{row_place_of}
-use Rattle.asg_model.proofs.HallRows.{no_row}
+use Rattle.asg_model.specs.laws.Rows.{no_row}
 use Rattle.asg_model.proofs.Positions.{position-unique, position-there}
 use Rattle.asg_model.proofs.instances.Instance.row_place.Goals as goal
 use Rattle.asg_model.proofs.instances.Instance.row_place.Goals.{Then-is_row_at}

@@ -13,9 +13,8 @@ ghost use Rattle.asg_check.specs.Replays.{IsStart};
 use crate::NoMemory;
 use asg_admit::Reduced;
 use asg_model::{Cost, Instance, Objective};
-use asg_monoids::SumKind;
 use asg_monoids::laws::narrow_sums;
-use asg_order::Kind;
+use asg_monoids::narrow_entry;
 use asg_square::Square;
 use std::alloc::Global;
 
@@ -36,18 +35,7 @@ pub(crate) fn narrow_start(
         requires narrow { (objective ≡ Sum) ⊎ (objective ≡ SumMax) }
         requires may { MayEnter objective cost_reach cost }
         ensures { result ≡ sum_entered objective cost }
-    { narrow_entered(objective, cost) };
+    { narrow_entry(objective, cost) };
     let now = Square::of(alloc, inst, 0, &enter)?;
     Ok(Reduced { now, index: 0 })
-}
-
-// The number as which a cost enters for `sum` or `sum-max`.
-fn narrow_entered(objective: Objective, cost: Cost) -> u64
-    requires narrow { (objective ≡ Sum) ⊎ (objective ≡ SumMax) }
-    requires may { MayEnter objective cost_reach cost }
-    ensures { result ≡ sum_entered objective cost }
-{
-    narrow_sums();
-    let kind = SumKind::of(objective);
-    kind.enter(cost) as u64
 }

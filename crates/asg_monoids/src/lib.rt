@@ -15,6 +15,7 @@
 mod grades;
 pub mod laws;
 mod maxima;
+mod narrow_entries;
 mod narrow_sums;
 mod peak_kinds;
 mod ranks;
@@ -25,6 +26,7 @@ mod time_kinds;
 
 pub use grades::Graded;
 pub use maxima::Greatest;
+pub use narrow_entries::narrow_entry;
 pub use narrow_sums::NarrowSums;
 pub use peak_kinds::PeakKind;
 pub use ranks::compare_ranks;

@@ -25,7 +25,7 @@ use Rattle.asg_proof.specs.laws.LiveCosts.{lies_within}
 use Rattle.asg_proof.specs.Outcomes.{IsOutcome}
 use Rattle.asg_proof.specs.Phases.{PhaseOf}
 use Rattle.asg_objectives.specs.FoldOutcomes.{IsFoldOutcome}
-use Rattle.asg_objectives.specs.NarrowObjectives.{is_narrow_objective}
+use Rattle.asg_monoids.specs.NarrowObjectives.{is_narrow_objective}
 use Rattle.asg_objectives.proofs.KindOutcomes.{IsOutcome-from_fold}
 
 -- sums of so few entered costs are the same by both tops, and below the lesser one

@@ -1,4 +1,3 @@
 pub mod FoldOutcomes
-pub mod NarrowObjectives
 pub mod SolvedSquares
 pub mod Workspaces

@@ -12,7 +12,7 @@ ghost use Rattle.asg_model.specs.Objectives.{is_algebraic, is_bottleneck};
 ghost use Rattle.asg_square.specs.Grid.{IsSquareOf};
 ghost use Rattle.asg_objectives.specs.FoldOutcomes.{IsFoldOutcome};
 ghost use Rattle.asg_proof.specs.PromisedProofs.{GivesFewPhases};
-ghost use Rattle.asg_objectives.specs.NarrowObjectives.{is_narrow_objective};
+ghost use Rattle.asg_monoids.specs.NarrowObjectives.{is_narrow_objective};
 
 use crate::NoMemory;
 use crate::solved_squares::outcome;
@@ -20,7 +20,7 @@ use crate::workspaces::Workspace;
 use asg_algebra::SquareSolver;
 use asg_model::{Cost, Instance, Objective};
 use asg_monoids::laws::narrow_sums;
-use asg_monoids::{NarrowSums, PeakKind, SumKind, TimeKind};
+use asg_monoids::{NarrowSums, PeakKind, SumKind, TimeKind, narrow_entry};
 use asg_order::{Kind, Ordered};
 use asg_proof::Outcome;
 use asg_proof::laws::tops_law;
@@ -53,16 +53,6 @@ where
     { kind.enter(cost) };
     let square = Square::of(alloc, inst, m.unit(), &enter)?;
     outcome(alloc, m, inst, square, workspace)
-}
-
-// The number as which a cost of `sum` or `sum-max` enters, in 64 bits.
-fn narrow_entry(objective: Objective, cost: Cost) -> u64
-    requires objective { IsTrue (is_narrow_objective objective) }
-    requires may { MayEnter objective cost_reach cost }
-    ensures { result ≡ sum_entered objective cost }
-{
-    narrow_sums();
-    SumKind::of(objective).enter(cost) as u64
 }
 
 // The square of an instance whose live costs enter for `sum` or `sum-max`, in 64 bits.

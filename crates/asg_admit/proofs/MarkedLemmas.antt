@@ -10,7 +10,8 @@ use Rattle.asg_admit.specs.MarkedCells.{AreAsideInRow, SettlesBits}
 use Rattle.asg_admit.specs.Settled.{settled}
 use Rattle.asg_admit.proofs.MarkLemmas.{set_bit}
 use Rattle.asg_admit.proofs.SettleLemmas.{map_same}
-use Rattle.asg_admit.proofs.WordBits.{HasBit, HasBit-both}
+use Rattle.asg_admit.proofs.WordBits.{HasBit}
+use Rattle.asg_square.specs.laws.Bits.{HasBit-and}
 
 module _ {V : Type 0} (M : Monoid V) (difference : V → V → V) (steps : List V) (enter : ℕ) (leaves : List ℕ) (Q before after : Grid V) (row n : ℕ) (marks columns : List ℕ) (aside : AreAsideInRow M difference steps enter leaves (cell_at Q row) marks columns) (bits : SettlesBits M difference steps enter leaves before after row (64 * n) (bit_and (get_or marks n 0) (get_or columns n 0))) where
   abbrev f : ℕ → V → V
@@ -29,9 +30,10 @@ module _ {V : Type 0} (M : Monoid V) (difference : V → V → V) (steps : List 
       bits.others row k (inr (λ i below has is. let here : i ≡ k % 64 = omega (arith, is, at, below) in clear (subst (HasBit word) here has)))
       ∙ stood
       ∙ sym (map_same (f k) (cell_at Q row k) (λ x is. aside k x is (λ a b.
-      clear (HasBit-both (get_or marks n 0) (get_or columns n 0) (k % 64)
-      (subst (λ j. HasBit (get_or marks j 0) (k % 64)) (sym number) (set_bit (get_or marks (k / 64) 0) (k % 64) a))
-      (subst (λ j. HasBit (get_or columns j 0) (k % 64)) (sym number) (set_bit (get_or columns (k / 64) 0) (k % 64) b)))))))
+      clear ((HasBit-and (get_or marks n 0) (get_or columns n 0) (k % 64)).1 (
+        subst (λ j. HasBit (get_or marks j 0) (k % 64)) (sym number) (set_bit (get_or marks (k / 64) 0) (k % 64) a),
+        subst (λ j. HasBit (get_or columns j 0) (k % 64)) (sym number) (set_bit (get_or columns (k / 64) 0) (k % 64) b),
+      ))))))
       (cases_eq (bit_at word (k % 64)) 1)
 
   -- the cells of the other words stay

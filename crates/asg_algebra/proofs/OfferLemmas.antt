@@ -8,7 +8,7 @@ use Rattle.std.proofs.lemmas.List.{get_or-set_same, get_or-set_other, length-set
 use Rattle.std.proofs.lemmas.Nat.Bits.{bit_at_ones, bit_at_ones_above, shr_and_one}
 use Rattle.std.proofs.lemmas.Grind.{get_or-set_at}
 use Rattle.asg_match.specs.ColumnSet.{HasBit, HasColumn}
-use Rattle.asg_match.specs.laws.Bits.{HasBit-or}
+use Rattle.asg_square.specs.laws.Bits.{HasBit-or}
 use Rattle.asg_order.specs.Monoid.{Monoid, IsValue, IsLe, IsOrderedMonoid}
 use Rattle.asg_algebra.specs.Leads.{Leads, leads_of, lead_at, KeepsLead, IsOffered, Relaxes, TakesKey, KeepsKey}
 use Rattle.asg_algebra.specs.Nearest.{IsAnswered}

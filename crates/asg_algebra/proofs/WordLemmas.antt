@@ -8,7 +8,7 @@ use Rattle.std.proofs.lemmas.List.{get_or_past, get_or-set_other}
 use Rattle.std.proofs.lemmas.Nat.Bits.{bit_at_ones, bit_at-lt, bit_at_and, bit_at_or, bit_at_not}
 use Rattle.asg_square.specs.BitTable.{AreWordsOf}
 use Rattle.asg_match.specs.ColumnSet.{HasBit, HasColumn}
-use Rattle.asg_match.specs.laws.Bits.{with_bit, without_bit, bit_below, HasBit-zero, HasBit-with, HasBit-with_same, HasBit-with_kept, HasBit-without, HasBit-without_other, HasBit-trailing_zeros, without_bit-lt}
+use Rattle.asg_square.specs.laws.Bits.{with_bit, without_bit, bit_below, HasBit-zero, HasBit-with, HasBit-with_same, HasBit-with_kept, HasBit-without, HasBit-without_other, HasBit-trailing_zeros, without_bit-lt}
 use Rattle.std.proofs.lemmas.Grind.{get_or-set_at}
 
 -- a bit is set, or it isn't

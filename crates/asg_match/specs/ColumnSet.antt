@@ -1,18 +1,11 @@
 -- Sets of columns as words of 64 bits, the lowest bit of the first word for column 0.
 use Rattle.std.specs.Prelude.{◌≡◌, ◌↔◌, ℕ, ◌+◌, ◌*◌, ◌/◌, ◌%◌, ◌<◌, List, length, slice_index}
-use Rattle.std.specs.Int.{bit_at}
-
--- a word has the bit of this place
-abbrev pub HasBit : ℕ → ℕ → Type 0
-HasBit word k = bit_at word k ≡ 1
+pub use Rattle.asg_square.specs.BitTable.{word_count}
+pub use Rattle.asg_square.specs.WordBits.{HasBit}
 
 -- column c is in the set
 abbrev pub HasColumn : List ℕ → ℕ → Type 0
 HasColumn words c = HasBit (slice_index words (c / 64)) (c % 64)
-
--- as many words as the columns below a side need
-abbrev pub word_count : ℕ → ℕ
-word_count side = (side + 63) / 64
 
 -- a set of columns below the side
 pub record IsColumnSet (side : ℕ) (words : List ℕ) : Type 0 where

@@ -1,7 +1,6 @@
--- Laws that upper crates cite: of words of bits, of sets of columns, of lists of different numbers, of
--- the cells of squares, of matchings, of alternating trees, of deficient rows, of columns without
--- cells, of the costs of choices.
-pub mod Bits
+-- Laws that upper crates cite: of sets of columns, of lists of different numbers, of the cells of
+-- squares, of matchings, of alternating trees, of deficient rows, of columns without cells, of the
+-- costs of choices.
 pub mod Columns
 pub mod Distinct
 pub mod Cells

@@ -1,6 +1,7 @@
 pub mod Labels
 pub mod Cells
 pub mod Presence
+pub mod WordBits
 pub mod BitTable
 pub mod CellTable
 pub mod Filling

@@ -6,7 +6,7 @@ use Rattle.std.proofs.lemmas.Bool.{cases_lt}
 use Rattle.std.proofs.lemmas.Bool.Decides.{Decides-eqb}
 use Rattle.std.proofs.lemmas.List.{get_or-set_same, get_or-set_other}
 use Rattle.asg_match.specs.ColumnSet.{HasBit}
-use Rattle.asg_match.specs.laws.Bits.{HasBit-or}
+use Rattle.asg_square.specs.laws.Bits.{HasBit-or}
 use Rattle.asg_square.specs.BitTable.{BitTable, has_bit, is_bit_set, AreWordsOf}
 
 -- a bit of a word of a row

@@ -7,7 +7,7 @@ use Rattle.std.proofs.lemmas.List.{get_or_past, get_or-set_other, get_or-set_sam
 use Rattle.std.proofs.lemmas.Nat.Bits.{bit_at-lt}
 use Rattle.asg_match.specs.Alternating.{parent_of, IsReached}
 use Rattle.asg_match.specs.ColumnSet.{HasBit, HasColumn, word_count, IsColumnSet}
-use Rattle.asg_match.specs.laws.Bits.{HasBit-zero, HasBit-without, HasBit-without_other, without_bit}
+use Rattle.asg_square.specs.laws.Bits.{HasBit-zero, HasBit-without, HasBit-without_other, without_bit}
 
 -- word i of the set has exactly the bits of the columns below the side
 abbrev pub IsFull : ℕ → List ℕ → ℕ → Type 0

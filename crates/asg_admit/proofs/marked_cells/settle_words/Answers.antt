@@ -4,14 +4,14 @@ use Rattle.std.proofs.lemmas.Bool.{cases_lt}
 use Rattle.asg_admit.proofs.MarkLemmas.{bit_set, marked_at}
 use Rattle.asg_admit.proofs.MarkedLemmas.{word_done, word_stays}
 use Rattle.asg_admit.proofs.SquareLemmas.{chained_labels}
-use Rattle.asg_admit.proofs.WordBits.{HasBit-and}
+use Rattle.asg_square.specs.laws.Bits.{HasBit-and}
 use Rattle.asg_admit.proofs.marked_cells.settle_words.Goals as goal
 
 pub settle_bits-requires-clause-cells : goal.settle_bits-requires-clause-cells
 settle_bits-requires-clause-cells g c = λ i low has x is.
     let n = c.loop-number.number in
     let marks = c.args.marks.now in
-    let mark = (HasBit-and (slice_index marks n) (slice_index c.args.columns.now n) i has).0 in
+    let mark = ((HasBit-and (slice_index marks n) (slice_index c.args.columns.now n) i).0 has).0 in
     let within = c.requires.inside (64 * n + i) (omega (arith, low, c.loop-number-test.true)) (marked_at marks n i low ∙ bit_set (slice_index marks n) i mark) in
     c.requires.cells (64 * n + i) within x (sym (c.loop-number.invariant.rest (64 * n + i) (omega arith)) ∙ is)
 
@@ -19,7 +19,7 @@ pub settle_bits-requires-clause-inside : goal.settle_bits-requires-clause-inside
 settle_bits-requires-clause-inside g c = λ i low has.
     let n = c.loop-number.number in
     let marks = c.args.marks.now in
-    let mark = (HasBit-and (slice_index marks n) (slice_index c.args.columns.now n) i has).0 in
+    let mark = ((HasBit-and (slice_index marks n) (slice_index c.args.columns.now n) i).0 has).0 in
     let within = c.requires.inside (64 * n + i) (omega (arith, low, c.loop-number-test.true)) (marked_at marks n i low ∙ bit_set (slice_index marks n) i mark) in
     omega (arith, within, c.loop-number.invariant.labels.side)
 

@@ -1,7 +1,7 @@
 use Rattle.std.proofs.Common.{◌≡◌, inl, inr, ◌%◌, ◌/◌, [], Some, length, get_or, refl, sym, subst, arith, ⊎_elim}
 use Rattle.std.specs.Prelude.{bit_and}
 use Rattle.asg_match.specs.ColumnSet.{HasBit}
-use Rattle.asg_match.specs.laws.Bits.{without_bit, HasBit-zero}
+use Rattle.asg_square.specs.laws.Bits.{without_bit, HasBit-zero}
 use Rattle.asg_algebra.specs.Leads.{leads_of, lead_at}
 use Rattle.asg_algebra.specs.Nearest.{IsWithin}
 use Rattle.asg_algebra.proofs.LeadLemmas.{lead_none, lead_there}

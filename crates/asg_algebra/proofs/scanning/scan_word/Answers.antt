@@ -1,7 +1,7 @@
 use Rattle.std.proofs.Common.{◌≡◌, inl, inr, ◌+◌, ◌*◌, ◌/◌, ◌%◌, ◌<◌, Some, length, get_or, set, refl, sym, subst, arith, ⊎_elim}
 use Rattle.std.proofs.lemmas.List.{set-get_or}
 use Rattle.asg_match.specs.ColumnSet.{HasBit}
-use Rattle.asg_match.specs.laws.Bits.{with_bit, without_bit, HasBit-zero}
+use Rattle.asg_square.specs.laws.Bits.{with_bit, without_bit, HasBit-zero}
 use Rattle.asg_algebra.specs.Leads.{leads_of, lead_at, Relaxes, Picks}
 use Rattle.asg_algebra.specs.Nearest.{IsWithin}
 use Rattle.asg_algebra.specs.Scanned.{AreValued, IsBoth}

@@ -3,7 +3,7 @@ use Rattle.std.specs.Int.{trailing_zeros}
 use Rattle.std.proofs.Math.Facts.{Fits-lt-pow}
 use Rattle.std.proofs.lemmas.Bool.{cases_eq}
 use Rattle.asg_match.specs.ColumnSet.{HasBit}
-use Rattle.asg_match.specs.laws.Bits.{bit_below, HasBit-trailing_zeros, HasBit-without, HasBit-without_other, without_bit, without_bit-lt, HasBit-with, HasBit-with_same, HasBit-with_kept, with_bit}
+use Rattle.asg_square.specs.laws.Bits.{bit_below, HasBit-trailing_zeros, HasBit-without, HasBit-without_other, without_bit, without_bit-lt, HasBit-with, HasBit-with_same, HasBit-with_kept, with_bit}
 use Rattle.asg_match.proofs.allowed.Allowed.among.Goals as goal
 use Rattle.asg_match.proofs.allowed.Allowed.among.Goals.{then-has, else-has}
 

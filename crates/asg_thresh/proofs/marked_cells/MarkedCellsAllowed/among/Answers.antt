@@ -5,7 +5,7 @@ use Rattle.std.proofs.lemmas.List.{get_or_read}
 use Rattle.std.proofs.lemmas.Nat.{mul-add-lt}
 use Rattle.std.proofs.lemmas.Nat.Bits.{bit_at-trailing_zeros}
 use Rattle.asg_match.specs.ColumnSet.{HasBit, word_count}
-use Rattle.asg_match.specs.laws.Bits.{bit_below, HasBit-and}
+use Rattle.asg_square.specs.laws.Bits.{bit_below, HasBit-and}
 use Rattle.asg_thresh.proofs.WordLemmas.{IsMarked-bit}
 use Rattle.asg_thresh.proofs.marked_cells.MarkedCellsAllowed.among.Goals as goal
 

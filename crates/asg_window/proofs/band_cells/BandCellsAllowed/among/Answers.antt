@@ -2,7 +2,7 @@ use Rattle.std.proofs.Common.{◌<◌, arith, w64, get_or, length}
 use Rattle.std.proofs.Math.Facts.{Fits-lt-pow}
 use Rattle.std.proofs.lemmas.Nat.Bits.{bit_at-trailing_zeros}
 use Rattle.asg_match.specs.ColumnSet.{HasBit}
-use Rattle.asg_match.specs.laws.Bits.{bit_below, HasBit-and}
+use Rattle.asg_square.specs.laws.Bits.{bit_below, HasBit-and}
 use Rattle.asg_window.proofs.WordLemmas.{word_bit}
 use Rattle.asg_window.proofs.band_cells.BandCellsAllowed.among.Goals as goal
 

@@ -5,7 +5,7 @@ use Rattle.std.specs.Int.{bit_at, bit_not, trailing_zeros}
 use Rattle.std.proofs.lemmas.Bool.{cases_eq, cases_lt}
 use Rattle.std.proofs.lemmas.Nat.{and_le_l}
 use Rattle.std.proofs.lemmas.Nat.Bits.{bit_at-lt, bit_at-zero, bit_at_and, bit_at_or, bit_at_above, bit_at-trailing_zeros, bit_at_set_same, bit_at_set_other, bit_at_clear_same, bit_at_clear_other}
-use Rattle.asg_match.specs.ColumnSet.{HasBit}
+use Rattle.asg_square.specs.WordBits.{HasBit}
 
 -- the word with one more bit, and the word without one
 abbrev pub with_bit : ℕ → ℕ → ℕ

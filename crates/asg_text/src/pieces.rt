@@ -15,8 +15,9 @@ pub(crate) enum Separators {
 }
 
 impl Separators {
-    // Whether the byte is a separator.
-    fn has(self, byte: u8) -> bool
+    /// Whether the byte is a separator.
+    #[inline]
+    pub(crate) fn has(self, byte: u8) -> bool
         ensures { result ≡ separates self byte }
     {
         match self {

@@ -4,10 +4,10 @@ ghost use Rattle.std.specs.Prelude.{◌≡◌, ◌≤◌, true, IfSome, length, 
 ghost use Rattle.std.specs.List.{list_all};
 ghost use Rattle.std.specs.Char.{is_ascii_digit};
 ghost use Rattle.std.specs.Str.Parse.{digits_value};
-ghost use Rattle.asg_text.specs.Pieces.{is_space};
 ghost use Rattle.asg_text.specs.NextCells.{IsShortInteger, IsShortAmount, IsBehindSpace};
 
 use crate::numbers::{MOST_AMOUNT, is_negative};
+use crate::pieces::Separators;
 
 /// An integer that a text begins with, and the text behind it.
 #[derive(Clone, Copy)]
@@ -60,16 +60,10 @@ fn short_amount<'a>(text: &'a [u8]) -> Option<ShortInteger<'a>>
 pub(crate) fn behind_space<'a>(text: &'a [u8]) -> Option<&'a [u8]>
     ensures { IfSome result (λ rest. IsBehindSpace text.now rest.now) }
 {
-    if text.is_empty() || !is_space(text[0]) {
+    if text.is_empty() || !Separators::Spaces.has(text[0]) {
         return None;
     }
     Some(&text[1..])
-}
-
-fn is_space(byte: u8) -> bool
-    ensures { result ≡ is_space byte }
-{
-    matches!(byte, b' ' | b'\t' | b'\r' | b'\n')
 }
 
 // The number of the digits that the text begins with, at most ten of them, and how many they are.

@@ -7,7 +7,7 @@ returns-then-cap-eq0 c = λ n has is.
     let same : c.in_ok-cap.cap ≡ n = decimal_same c.in_ok-cap.cap n (omega arith) (omega (arith, has.1)) (sym c.in_ok-cap.ensures.1 ∙ is) in
     omega (arith, has.0)
 
-pub returns-then-cap-gt1000000000000 : goal.returns-then-cap-gt1000000000000
-returns-then-cap-gt1000000000000 c = λ n has is.
+pub returns-then-cap-from : goal.returns-then-cap-from
+returns-then-cap-from c = λ n has is.
     let same : c.in_ok-cap.cap ≡ n = decimal_same c.in_ok-cap.cap n (omega arith) (omega (arith, has.1)) (sym c.in_ok-cap.ensures.1 ∙ is) in
-    omega (arith, has.1)
+    omega (arith, has.1, c.from.ensures)

@@ -1,16 +1,25 @@
 -- A table of costs, cell by cell.
-use Rattle.std.proofs.Common.{◌≡◌, ℕ, ◌+◌, ◌*◌, ◌/◌, ◌%◌, ◌<◌, ◌≤◌, true, false, cond, List, [], ◌∷◌, length, get_or, set, take, map, Option, Some, None, sym, ap, ◌∙◌, ⊎_elim, arith, subst, length-append, mul-le-mul_right}
-use Rattle.std.specs.Prelude.{ℤ, IfSome, option_and_then, replicate}
+use Rattle.std.proofs.Common.{◌≡◌, ℕ, ◌+◌, ◌*◌, ◌/◌, ◌%◌, ◌<◌, ◌≤◌, ◌||◌, true, false, cond, refl, rules, List, [], ◌∷◌, length, get_or, set, take, map, Option, Some, None, sym, ap, ◌∙◌, ⊎_elim, arith, subst, length-append, mul-le-mul_right}
+use Rattle.std.specs.Prelude.{ℤ, pos, not, All, IfSome, option_and_then, replicate}
 use Rattle.std.specs.List.{flat_map}
 use Rattle.std.specs.Option.{option_map}
+use Rattle.std.specs.Ordering.{int_eq}
 use Rattle.std.proofs.lemmas.Bool.{cases_Bool, cases_eq, and_parts, and_from, eqb-true, eq-eqb, false≢true}
-use Rattle.std.proofs.lemmas.List.{length-map, get_or-map, length-take-le, same_lists, get_or-set_same, get_or-set_other, length-set, get_or-replicate, length-replicate}
+use Rattle.std.proofs.lemmas.Bool.Decides.{Decides-eqb, Decides-int_eq}
+use Rattle.std.proofs.lemmas.Map.Made.{is_member-Decides}
+use Rattle.std.proofs.lemmas.List.{length-map, get_or_default, get_or-map, length-take-le, same_lists, get_or-set_same, get_or-set_other, length-set, get_or-replicate, length-replicate}
+use Rattle.std.proofs.lemmas.List.Elements.{All-weaker}
 use Rattle.std.proofs.lemmas.List.Concat.{get_or-flat_map}
 use Rattle.std.proofs.lemmas.Nat.{div-add-mod', div-mul-add, mod-mul-add, div_below, mod_below}
 use Rattle.std.proofs.lemmas.Option.{same_Some}
+use Rattle.asg_model.specs.Table.{absent}
+use Rattle.asg_model.specs.ValueRange.{IsPartInRange}
 use Rattle.asg_text.specs.declared.layouts.Layout.{Layout}
-use Rattle.asg_text.specs.Layouts.{IsLayout, cell_between, with_cost}
-use Rattle.asg_text.specs.Networks.{are_same_ends, first_of, firsts_between}
+use Rattle.asg_text.specs.declared.links.Link.{Link}
+use Rattle.asg_text.specs.AsnArcs.{is_among, are_unlike, targets as targets_of}
+use Rattle.asg_text.specs.Layouts.{IsLayout, HasCell, cell_between, with_cost}
+use Rattle.asg_text.specs.Networks.{are_same_ends, first_of, firsts_between, IsRightLink}
+use Rattle.asg_text.proofs.NetworkTables.{target_among}
 
 -- a cell stands within its table
 cell_below : (r c n m : ℕ) → r < n → c < m → r * m + c < n * m
@@ -58,6 +67,18 @@ module _ (known : ℕ → ℕ → Option ℤ) where
 pub no_costs : (sources targets : List ℕ) (xs : List ℤ) → xs ≡ replicate (length sources * length targets) (first_of None) → xs ≡ firsts_between (λ s t. None) sources targets
 no_costs sources targets xs is =
     is ∙ same_table (λ s t. None) sources targets (replicate (length sources * length targets) (first_of None)) (length-replicate (length sources * length targets) (first_of None)) (λ r c d row column. get_or-replicate (length sources * length targets) (r * length targets + c) (first_of None) d (cell_below r c (length sources) (length targets) row column))
+
+-- equal either way
+flip : (cost e : ℤ) → int_eq e cost ≡ not (not (int_eq cost e))
+flip cost e =
+    ⊎_elim
+    (λ (same : int_eq e cost ≡ true). same ∙ ap (λ v. not (not v)) (sym ((Decides-int_eq cost e).1 (sym ((Decides-int_eq e cost).0 same)))))
+    (λ (other : int_eq e cost ≡ false).
+    ⊎_elim
+    (λ (same : int_eq cost e ≡ true). absurd (false≢true (sym other ∙ (Decides-int_eq e cost).1 (sym ((Decides-int_eq cost e).0 same)))))
+    (λ (still : int_eq cost e ≡ false). other ∙ ap (λ v. not (not v)) (sym still))
+    (cases_Bool (int_eq cost e)))
+    (cases_Bool (int_eq e cost))
 
 -- the ends of a cell at a place of a table
 record StandsAt (layout : Layout) (ends : ℕ × ℕ) (cell : ℕ) : Type 0 where
@@ -140,14 +161,36 @@ module _ (layout : Layout) (is : IsLayout layout) (ends : ℕ × ℕ) where
             let c_is : c ≡ at.column = sym (mod-mul-add r (length targets) c column) ∙ ap (λ k. k % length targets) same ∙ mod-mul-add at.row (length targets) at.column at.column_within in
             and_from _ _ (eq-eqb _ _ (ap (λ k. get_or sources k 0) r_is ∙ at.source_is)) (eq-eqb _ _ (ap (λ k. get_or targets k 0) c_is ∙ at.target_is))
 
-    -- or it has none
-    pub put_nowhere : cell_between layout ends ≡ None → firsts_between known sources targets ≡ firsts_between (with_cost known ends cost) sources targets
-    put_nowhere none =
-        same_table (with_cost known ends cost) sources targets (firsts_between known sources targets) (length-firsts_between known sources targets)
-        (λ r c d row column.
-        ⊎_elim
-        (λ (same : are_same_ends (get_or sources r 0, get_or targets c 0) ends ≡ true).
-        let told = told_at r c row column same in absurd cc)
-        (λ (apart : are_same_ends (get_or sources r 0, get_or targets c 0) ends ≡ false).
-        cell_is known sources targets r c d row column ∙ sym (kept_at r c apart))
-        (cases_Bool (are_same_ends (get_or sources r 0, get_or targets c 0) ends)))
+    -- whether another cost stands at its place
+    pub told_alike : (cell : ℕ) → cell_between layout ends ≡ Some cell → (firsts : List ℤ) → firsts ≡ firsts_between known sources targets → IfSome (known ends.0 ends.1) IsPartInRange → (int_eq (get_or firsts cell (pos 0)) absent || int_eq (get_or firsts cell (pos 0)) cost) ≡ not (are_unlike (Some cost) (known ends.0 ends.1))
+    told_alike cell told firsts is in_range =
+        let at = stands_at cell told in
+        let stands : get_or firsts cell (pos 0) ≡ first_of (known ends.0 ends.1) =
+        (λ i. get_or (is i) (sym at.cell_is_at i) (pos 0)) ∙ cell_is known sources targets at.row at.column (pos 0) at.row_within at.column_within
+        ∙ (λ i. first_of (known (at.source_is i) (at.target_is i))) in
+        ap (λ a. int_eq a absent || int_eq a cost) stands ∙ alike (known ends.0 ends.1) in_range
+      where
+        alike : (o : Option ℤ) → IfSome o IsPartInRange → (int_eq (first_of o) absent || int_eq (first_of o) cost) ≡ not (are_unlike (Some cost) o)
+        alike None h = ap (λ v. v || int_eq absent cost) ((Decides-int_eq absent absent).1 refl)
+        alike (Some e) h =
+            let apart : int_eq e absent ≡ false =
+            ⊎_elim
+            (λ (same : int_eq e absent ≡ true). let is = (Decides-int_eq e absent).0 same in absurd (omega (arith, subst IsPartInRange is h)))
+            (λ (other : int_eq e absent ≡ false). other)
+            (cases_Bool (int_eq e absent)) in
+            ap (λ v. v || int_eq e cost) apart ∙ flip cost e
+
+-- an arc from one of the sources to another node has a cell
+pub right_cell : (layout : Layout) (nodes : ℕ) (link : Link) → IsLayout layout → layout.targets.now ≡ targets_of layout.sources.now nodes → IsRightLink layout.sources.now nodes link → HasCell layout link
+right_cell layout nodes link is targets_are right =
+    let row = (is_member-Decides Decides-eqb layout.sources.now link.source).0 right.source in
+    let among : is_among layout.targets.now link.target ≡ true = ap (λ ids. is_among ids link.target) targets_are ∙ target_among layout.sources.now nodes link.target right.target right.target_above right.target_below in
+    let column = (is_member-Decides Decides-eqb layout.targets.now link.target).0 among in
+    let told = told_at layout is (link.source, link.target) row.0 column.0 row.1 column.1 (and_from _ _ (eq-eqb _ _ (get_or_default layout.sources.now row.0 0 link.source row.1 ∙ row.2)) (eq-eqb _ _ (get_or_default layout.targets.now column.0 0 link.target column.1 ∙ column.2))) in
+    record {
+      there = rw told (search rules);
+      in_range = right.cost;
+    }
+
+pub right_cells : (layout : Layout) (nodes : ℕ) (links : List Link) → IsLayout layout → layout.targets.now ≡ targets_of layout.sources.now nodes → All (IsRightLink layout.sources.now nodes) links → All (HasCell layout) links
+right_cells layout nodes links is targets_are right = All-weaker (IsRightLink layout.sources.now nodes) (HasCell layout) (λ link h. right_cell layout nodes link is targets_are h) links right

@@ -17,7 +17,9 @@ pub mod SpelledTables
 pub mod SpelledNetworks
 pub mod LineRanges
 pub mod InstanceLaw
-pub mod FilledTables
+pub mod TwiceLemmas
+pub mod NodeSetLemmas
+pub mod TableFills
 pub mod LayoutLemmas
 pub mod PlaceLemmas
 pub mod PairLemmas

@@ -1,94 +1,72 @@
 -- What is kept of the lines of an asn file, one line further.
-use Rattle.std.proofs.Common.{◌≡◌, ℕ, suc, ◌+◌, ◌<◌, ◌≤◌, Bool, true, false, cond, ◌&&◌, ◌||◌, ◌==◌, List, [], ◌∷◌, ◌++◌, length, get_or, Option, Some, None, refl, sym, ap, ◌∙◌, ⊎_elim, arith, rules, subst, length-append}
-use Rattle.std.specs.Prelude.{ℤ, not, nat_eq, nat_le, is_some, slice_get, find, All, IfSome, IsSome, option_and_then}
-use Rattle.std.specs.Option.{option_or}
-use Rattle.std.specs.List.{list_any}
-use Rattle.std.specs.Ordering.{int_eq}
+use Rattle.std.proofs.Common.{◌≡◌, ℕ, ◌+◌, ◌<◌, ◌≤◌, Bool, true, false, cond, ◌&&◌, ◌||◌, ◌==◌, List, [], ◌∷◌, ◌++◌, length, get_or, map, Option, Some, None, refl, sym, ap, ◌∙◌, ⊎_elim, arith, subst, append_assoc, append-nil}
+use Rattle.std.specs.Prelude.{not, nat_eq, nat_le, is_some, slice_get, All}
+use Rattle.std.specs.List.{list_any, IsDistinct}
 use Rattle.std.proofs.lemmas.Bool.{cases_Bool, and_parts, eqb-true, eq-eqb, ne_eqb, false≢true, leb-true}
-use Rattle.std.proofs.lemmas.Bool.Decides.{Decides-int_eq}
-use Rattle.std.proofs.lemmas.List.Folds.{list_any-append, find-append}
+use Rattle.std.proofs.lemmas.Cmp.{nat_eq_equiv}
+use Rattle.std.proofs.lemmas.List.{map-append, get_or_default}
+use Rattle.std.proofs.lemmas.List.Folds.{list_any-append, list_any_at}
 use Rattle.std.proofs.lemmas.List.Elements.{All-nil, All-push}
-use Rattle.std.specs.Map.{lookup}
-use Rattle.indexmap.specs.IndexMap.{get}
-use Rattle.indexmap.specs.IndexSet.{contains, insert_key}
+use Rattle.std.proofs.lemmas.Map.Keys.{IsDistinct-push}
 use Rattle.asg_model.specs.ValueRange.{IsPartInRange}
 use Rattle.asg_text.specs.declared.asn_lines.Arc.{Arc}
 use Rattle.asg_text.specs.declared.asn_lines.Line.{Line}
 use Rattle.asg_text.specs.declared.asn_lines.Line.TheVariants.{Empty, Header, Node, Arrow}
 use Rattle.asg_text.specs.declared.asn_lines.Sizes.{Sizes}
+use Rattle.asg_text.specs.declared.links.Link.{Link}
 use Rattle.asg_text.specs.declared.network.Network.{Network}
-use Rattle.asg_text.specs.Faults.{SecondProblemLine, BadNode, BadArc, CostRange, ArcTwice, fault_where}
-use Rattle.asg_text.specs.AsnArcs.{stated, arcs, sources, with_id, is_beside, are_unlike, differs_from, is_node, node_faults, arc_faults, goes_right, faults_behind, faults_of_line, cost_between, nodes_of}
-use Rattle.asg_text.specs.Networks.{are_same_ends, known_cost, IsSound, IsNetworkOf, PutsArc}
+use Rattle.asg_text.specs.declared.node_sets.NodeSet.{NodeSet}
+use Rattle.asg_text.specs.declared.refusals.TextRefusal.{TextRefusal}
+use Rattle.asg_text.specs.Faults.{Fault, SecondProblemLine, BadNode, BadArc, CostRange, ArcTwice, fault_where}
+use Rattle.asg_text.specs.AsnArcs.{stated, arcs, sources, arc_in, is_among, is_target, with_id, differs_from, is_node, node_faults, arc_faults, goes_right, faults_behind, faults_of_line, line_faults, nodes_of}
+use Rattle.asg_text.specs.Networks.{arc_of_link, twice_faults, IsRightLink, AreSound, IsSound, IsNetworkOf, PutsArc, PutsSource, RefusesLine, RefusesOwn}
+use Rattle.asg_text.specs.NodeSets.{has}
+use Rattle.asg_text.specs.Slots.{IsEarliest}
 use Rattle.asg_text.proofs.OneMoreLine.{stated_stays, arcs_stay, arcs_grow, sources_stay, sources_grow, stated_first}
-
-some_same : {A : Type 0} {x y : A} → Some x ≡ Some y → x ≡ y
-some_same e = cc
+use Rattle.asg_text.proofs.TwiceLemmas.{twice_more}
 
 -- before the first line
-pub nothing_kept : (network : Network) → network.sizes ≡ None → network.sources.keys ≡ [] → network.targets.keys ≡ [] → network.arcs ≡ 0 → network.costs.entries ≡ [] → IsNetworkOf [] network
+pub nothing_kept : (network : Network) → network.sizes ≡ None → network.sources.items ≡ [] → network.links.items ≡ [] → IsNetworkOf [] network
 unfolding stated arcs sources
-nothing_kept network sizes sources_are targets_are count costs = record {
+nothing_kept network sizes sources_are links = record {
   sizes_are = sizes;
   sources_are = sources_are;
-  targets_are = λ id. ap (list_any (nat_eq id)) targets_are;
-  count_is = count;
-  costs_are = λ s t. ap (λ entries. lookup (are_same_ends (s, t)) entries) costs;
-  one_cost = All-nil _;
+  arcs_are = ap (map arc_of_link) links;
+  faults_are = ap (twice_faults []) (sym links);
 }
 
--- a line that says nothing
-pub empty_kept : (before : List Line) (network : Network) → IsNetworkOf before network → IsNetworkOf (before ++ Empty ∷ []) network
-empty_kept before network is = record {
-  sizes_are = is.sizes_are ∙ sym (stated_stays before Empty refl);
-  sources_are = is.sources_are ∙ sym (sources_stay before Empty refl);
-  targets_are = λ id. is.targets_are id ∙ ap (list_any (λ (arc : Arc). id == arc.target)) (sym (arcs_stay before Empty refl));
-  count_is = is.count_is ∙ ap length (sym (arcs_stay before Empty refl));
-  costs_are = λ s t. is.costs_are s t ∙ ap (λ xs. cost_between xs s t) (sym (arcs_stay before Empty refl));
-  one_cost = subst (All (λ (arc : Arc). (known_cost network arc.source arc.target ≡ arc.cost) × IsSome arc.cost)) (sym (arcs_stay before Empty refl)) is.one_cost;
+pub nothing_sound : (nodes : ℕ) (ids : List ℕ) (links : List Link) (source_set target_set : NodeSet) → ids ≡ [] → links ≡ [] → ((id : ℕ) → has source_set id ≡ false) → ((id : ℕ) → has target_set id ≡ false) → AreSound nodes ids links source_set target_set
+unfolding IsDistinct
+nothing_sound nodes ids links source_set target_set no_ids no_links none_source none_target = record {
+  nodes = subst (All (λ id. (1 ≤ id) × (id ≤ nodes))) (sym no_ids) (All-nil (λ id. (1 ≤ id) × (id ≤ nodes)));
+  differ = subst (IsDistinct nat_eq) (sym no_ids) tt;
+  links = subst (All (IsRightLink ids nodes)) (sym no_links) (All-nil (IsRightLink ids nodes));
+  source_set = λ id. none_source id ∙ ap (λ ids. is_among ids id) (sym no_ids);
+  target_set = λ id. none_target id ∙ ap (list_any (λ (link : Link). id == link.target)) (sym no_links);
 }
 
--- the arcs of lines are kept
-record AreArcs (xs : List Arc) (network : Network) : Type 0 where
-  targets_are : (id : ℕ) → contains nat_eq network.targets id ≡ list_any (λ (arc : Arc). id == arc.target) xs
-  count_is : network.arcs ≡ length xs
-  costs_are : (s t : ℕ) → known_cost network s t ≡ cost_between xs s t
-  one_cost : All (λ (arc : Arc). (known_cost network arc.source arc.target ≡ arc.cost) × IsSome arc.cost) xs
+-- the faults of lines and of those behind them
+pub faults_append : (before xs ys : List Line) → line_faults before (xs ++ ys) ≡ line_faults before xs ++ line_faults (before ++ xs) ys
+faults_append before [] ys = ap (λ before. line_faults before ys) (sym (append-nil before))
+faults_append before (x ∷ xs) ys =
+    let faults = faults_of_line before (length before + 1) x in
+    let next = before ++ x ∷ [] in
+    ap (λ more. faults ++ more) (faults_append next xs ys ∙ ap (λ before. line_faults next xs ++ line_faults before ys) (append_assoc before (x ∷ []) xs))
+    ∙ sym (append_assoc faults (line_faults next xs) (line_faults (before ++ x ∷ xs) ys))
 
--- they are still
-still_arcs : (before after : List Line) (old new : Network) → IsNetworkOf before old → arcs after ≡ arcs before → new.targets ≡ old.targets → new.arcs ≡ old.arcs → new.costs ≡ old.costs → AreArcs (arcs after) new
-still_arcs before after old new is same targets_are arcs_are costs_are =
-    let known : (s t : ℕ) → known_cost new s t ≡ known_cost old s t = λ s t. ap (λ costs. get are_same_ends costs (s, t)) costs_are in
-    record {
-      targets_are = λ id. ap (λ targets. contains nat_eq targets id) targets_are ∙ is.targets_are id ∙ ap (list_any (λ (arc : Arc). id == arc.target)) (sym same);
-      count_is = arcs_are ∙ is.count_is ∙ ap length (sym same);
-      costs_are = λ s t. known s t ∙ is.costs_are s t ∙ ap (λ xs. cost_between xs s t) (sym same);
-      one_cost = λ k d within.
-          let each = is.one_cost k d (omega (arith, ap length same)) in
-          subst (λ xs. (known_cost new (get_or xs k d).source (get_or xs k d).target ≡ (get_or xs k d).cost) × IsSome (get_or xs k d).cost) (sym same)
-          (known (get_or (arcs before) k d).source (get_or (arcs before) k d).target ∙ each.0, each.1);
-    }
+one_more_fault : (before : List Line) (number : ℕ) (line : Line) → number ≡ length before + 1 → line_faults [] (before ++ line ∷ []) ≡ line_faults [] before ++ faults_of_line before number line
+one_more_fault before number line is =
+    faults_append [] before (line ∷ []) ∙ ap (λ more. line_faults [] before ++ more) (append-nil (faults_of_line before (length before + 1) line) ∙ ap (λ number. faults_of_line before number line) (sym is))
 
-with_arcs : (lines : List Line) (network : Network) → network.sizes ≡ stated lines → network.sources.keys ≡ sources lines → AreArcs (arcs lines) network → IsNetworkOf lines network
-with_arcs lines network sizes_are sources_are kept = record {
-  sizes_are = sizes_are;
-  sources_are = sources_are;
-  targets_are = kept.targets_are;
-  count_is = kept.count_is;
-  costs_are = kept.costs_are;
-  one_cost = kept.one_cost;
-}
+-- a line that is refused for a fault of its own, behind arcs that repeat others
+pub refuses_all : (number : ℕ) (line : Line) (old : Network) (refusal told : TextRefusal) → ((faults : List Fault) → IsEarliest faults refusal → IsEarliest (twice_faults [] old.links.items ++ faults) told) → RefusesOwn number line old refusal → RefusesLine number line old told
+refuses_all number line old refusal told earliest own before is number_is =
+    subst (λ faults. IsEarliest faults told) (sym (one_more_fault before number line number_is ∙ ap (λ faults. faults ++ faults_of_line before number line) is.faults_are))
+    (earliest (faults_of_line before number line) (own before is))
 
 not_some : {A : Type 0} (o : Option A) → false ≡ is_some o → o ≡ None
 not_some None e = refl
 not_some (Some x) e = cc
-
--- the ends of arcs
-ends_same : (x y : ℕ × ℕ) → are_same_ends x y ≡ true → (x.0 ≡ y.0) × (x.1 ≡ y.1)
-ends_same x y e = let parts = and_parts _ _ e in (eqb-true _ _ parts.0, eqb-true _ _ parts.1)
-
-same_ends : (a b c d : ℕ) → a ≡ c → b ≡ d → ((a == c) && (b == d)) ≡ true
-same_ends a b c d first second = rw (eq-eqb a c first, eq-eqb b d second) refl
 
 or_true : (b : Bool) → (b || true) ≡ true
 or_true true = refl
@@ -98,194 +76,196 @@ or_false : (b : Bool) → (b || false) ≡ b
 or_false true = refl
 or_false false = refl
 
--- one arc beside others
-module _ (F : ℕ → ℕ → Option ℤ) (arc : Arc) (cost : ℤ) (is_cost : arc.cost ≡ Some cost) where
-  abbrev IsTold : Arc → Type 0
-  IsTold x = (F x.source x.target ≡ x.cost) × IsSome x.cost
-
-  -- none of them differs
-  alike_one : (x : Arc) → IsTold x → are_unlike (Some cost) (F arc.source arc.target) ≡ false → (is_beside arc x && are_unlike arc.cost x.cost) ≡ false
-  alike_one x is alike =
-      ⊎_elim
-      (λ yes.
-      let ends = ends_same (arc.source, arc.target) (x.source, x.target) yes in
-      let same : x.cost ≡ F arc.source arc.target = sym is.0 ∙ (λ i. F (sym ends.0 i) (sym ends.1 i)) in
-      (λ i. yes i && are_unlike (is_cost i) (same i)) ∙ alike)
-      (λ apart. ap (λ v. v && are_unlike arc.cost x.cost) apart)
-      (cases_Bool (is_beside arc x))
-
-  alike_all : (xs : List Arc) → All IsTold xs → are_unlike (Some cost) (F arc.source arc.target) ≡ false → differs_from xs arc ≡ false
-  alike_all [] all alike = refl
-  alike_all (x ∷ xs) all alike =
-      (λ i. alike_one x (all 0 x (omega arith)) alike i || alike_all xs (λ k d within. all (suc k) d (omega arith)) alike i)
-
-  -- one of them differs
-  unlike_some : (xs : List Arc) (e : ℤ) → cost_between xs arc.source arc.target ≡ Some e → are_unlike (Some cost) (Some e) ≡ true → differs_from xs arc ≡ true
-  unlike_some [] e first unlike = cc
-  unlike_some (x ∷ xs) e first unlike =
-      ⊎_elim
-      (λ yes.
-      let ends = ends_same (x.source, x.target) (arc.source, arc.target) yes in
-      let found : x.cost ≡ Some e = sym (ap (λ v. option_and_then (λ (arc : Arc). arc.cost) (cond v (Some x) (find (λ (other : Arc). (other.source == arc.source) && (other.target == arc.target)) xs))) yes) ∙ first in
-      let beside : is_beside arc x ≡ true = same_ends arc.source arc.target x.source x.target (sym ends.0) (sym ends.1) in
-      (λ i. (beside i && are_unlike (is_cost i) (found i)) || differs_from xs arc) ∙ ap (λ v. v || differs_from xs arc) unlike)
-      (λ apart.
-      let later : cost_between xs arc.source arc.target ≡ Some e = sym (ap (λ v. option_and_then (λ (arc : Arc). arc.cost) (cond v (Some x) (find (λ (other : Arc). (other.source == arc.source) && (other.target == arc.target)) xs))) apart) ∙ first in
-      ap (λ v. (is_beside arc x && are_unlike arc.cost x.cost) || v) (unlike_some xs e later unlike) ∙ or_true (is_beside arc x && are_unlike arc.cost x.cost))
-      (cases_Bool ((x.source == arc.source) && (x.target == arc.target)))
-
-  unlike_by : (xs : List Arc) (known : Option ℤ) → known ≡ cost_between xs arc.source arc.target → are_unlike (Some cost) known ≡ true → differs_from xs arc ≡ true
-  unlike_by xs None is unlike = cc
-  unlike_by xs (Some e) is unlike = unlike_some xs e (sym is) unlike
-
--- whether an arc repeats one at another cost is told by the cost that is kept
-differs_by_known : (before : List Line) (old : Network) (arc : Arc) (cost : ℤ) → IsNetworkOf before old → arc.cost ≡ Some cost → differs_from (arcs before) arc ≡ are_unlike (Some cost) (known_cost old arc.source arc.target)
-differs_by_known before old arc cost is is_cost =
+-- one more of a set
+one_more : (x id : ℕ) (b : Bool) → cond (x == id) true b ≡ (b || ((id == x) || false))
+one_more x id b =
     ⊎_elim
-    (λ unlike. unlike_by (known_cost old) arc cost is_cost (arcs before) (known_cost old arc.source arc.target) (is.costs_are arc.source arc.target) unlike ∙ sym unlike)
-    (λ alike. alike_all (known_cost old) arc cost is_cost (arcs before) is.one_cost alike ∙ sym alike)
-    (cases_Bool (are_unlike (Some cost) (known_cost old arc.source arc.target)))
+    (λ (same : (x == id) ≡ true). ap (λ v. cond v true b) same ∙ sym (or_true b) ∙ ap (λ v. b || (v || false)) (sym (eq-eqb id x (sym (eqb-true x id same)))))
+    (λ (apart : (x == id) ≡ false). ap (λ v. cond v true b) apart ∙ sym (or_false b) ∙ ap (λ v. b || (v || false)) (sym (ne_eqb id x (λ same. absurd (false≢true (sym apart ∙ eq-eqb x id (sym same)))))))
+    (cases_Bool (x == id))
 
--- a cost that isn't unlike another is the same
-alike_is : (cost : ℤ) (known : Option ℤ) → IsSome known → are_unlike (Some cost) known ≡ false → known ≡ Some cost
-alike_is cost None some alike = cc
-alike_is cost (Some e) some alike =
-    ⊎_elim
-    (λ yes. ap Some (sym ((Decides-int_eq cost e).0 yes)))
-    (λ apart. absurd (false≢true (sym alike ∙ ap not apart)))
-    (cases_Bool (int_eq cost e))
+-- the ids with one more
+among_with : (ids : List ℕ) (id other : ℕ) → is_among (with_id ids id) other ≡ (is_among ids other || ((other == id) || false))
+among_with ids id other = go (is_among ids id) refl
+  where
+    go : (among : Bool) → is_among ids id ≡ among → is_among (cond among ids (ids ++ id ∷ [])) other ≡ (is_among ids other || ((other == id) || false))
+    go false is = list_any-append (λ x. other == x) ids (id ∷ [])
+    go true is =
+        ⊎_elim
+        (λ (same : (other == id) ≡ true).
+        ap (is_among ids) (eqb-true other id same) ∙ is ∙ sym (or_true (is_among ids other)) ∙ ap (λ v. is_among ids other || (v || false)) (sym same))
+        (λ (apart : (other == id) ≡ false). sym (or_false (is_among ids other)) ∙ ap (λ v. is_among ids other || (v || false)) (sym apart))
+        (cases_Bool (other == id))
 
--- what is found is one of them
-pub found_told : (P : Arc → Type 0) (p : Arc → Bool) (xs : List Arc) (x : Arc) → find p xs ≡ Some x → All P xs → P x
-found_told P p [] x found all = cc
-found_told P p (y ∷ xs) x found all =
-    ⊎_elim
-    (λ yes. let same : y ≡ x = some_same (sym (ap {B = Option Arc} (λ v. cond v (Some y) (find p xs)) yes) ∙ found) in subst P same (all 0 y (omega arith)))
-    (λ apart. found_told P p xs x (sym (ap {B = Option Arc} (λ v. cond v (Some y) (find p xs)) apart) ∙ found) (λ k d within. all (suc k) d (omega arith)))
-    (cases_Bool (p y))
+-- a line is kept that has no arc and no fault
+no_arc_kept : (before : List Line) (number : ℕ) (line : Line) (old new : Network) → IsNetworkOf before old → number ≡ length before + 1 → arc_in line ≡ None → new.sizes ≡ stated (before ++ line ∷ []) → new.sources.items ≡ sources (before ++ line ∷ []) → new.links.items ≡ old.links.items → faults_of_line before number line ≡ [] → IsNetworkOf (before ++ line ∷ []) new
+no_arc_kept before number line old new is number_is none sizes sources_are links right = record {
+  sizes_are = sizes;
+  sources_are = sources_are;
+  arcs_are = ap (map arc_of_link) links ∙ is.arcs_are ∙ sym (arcs_stay before line none);
+  faults_are =
+      one_more_fault before number line number_is ∙ (λ i. is.faults_are i ++ right i) ∙ append-nil (twice_faults [] old.links.items)
+      ∙ ap (twice_faults []) (sym links);
+}
 
-or_none : {A : Type 0} (o : Option A) → option_or o None ≡ o
-or_none None = refl
-or_none (Some x) = refl
+-- an arc goes to the node
+target_told : (before : List Line) (old : Network) (id : ℕ) → IsNetworkOf before old → is_target before id ≡ list_any (λ (link : Link). id == link.target) old.links.items
+target_told before old id is = ap (list_any (λ (arc : Arc). id == arc.target)) (sym is.arcs_are) ∙ of_links old.links.items
+  where
+    of_links : (links : List Link) → list_any (λ (arc : Arc). id == arc.target) (map arc_of_link links) ≡ list_any (λ (link : Link). id == link.target) links
+    of_links [] = refl
+    of_links (link ∷ links) = ap (λ v. (id == link.target) || v) (of_links links)
 
--- one more target
-with_target : (target id : ℕ) (b : Bool) → cond (target == id) true b ≡ (b || ((id == target) || false))
-with_target target id b =
-    ⊎_elim
-    (λ (same : (target == id) ≡ true). ap (λ v. cond v true b) same ∙ sym (or_true b) ∙ ap (λ v. b || (v || false)) (sym (eq-eqb id target (sym (eqb-true target id same)))))
-    (λ (apart : (target == id) ≡ false). ap (λ v. cond v true b) apart ∙ sym (or_false b) ∙ ap (λ v. b || (v || false)) (sym (ne_eqb id target (λ same. absurd (false≢true (sym apart ∙ eq-eqb target id (sym same)))))))
-    (cases_Bool (target == id))
+-- a node that an arc goes to is refused
+pub node_refused : (before : List Line) (old : Network) (number : ℕ) → IsNetworkOf before old → (sizes : Sizes) (id : ℕ) → IsSound old → old.sizes ≡ Some sizes → has old.target_set id ≡ true → slice_get (faults_of_line before number (Node (Some id))) 0 ≡ Some (BadNode number)
+node_refused before old number is sizes id sound stated_is goes =
+    let told : stated before ≡ Some sizes = sym is.sizes_are ∙ stated_is in
+    let target : is_target before id ≡ true = target_told before old id is ∙ sym (sound.target_set id) ∙ goes in
+    (λ i. slice_get (faults_behind number (told i) (λ sizes. node_faults before sizes number (Some id))) 0)
+    ∙ (λ i. slice_get (fault_where (not (is_node sizes id) || target i) (BadNode number)) 0)
+    ∙ ap (λ v. slice_get (fault_where v (BadNode number)) 0) (or_true (not (is_node sizes id)))
 
--- the first cost between two nodes, with one more arc
-module _ (xs : List Arc) (arc : Arc) (s t : ℕ) where
-  abbrev between : Arc → Bool
-  between x = (x.source == s) && (x.target == t)
+module _ (before : List Line) (old new : Network) (number : ℕ) (is : IsNetworkOf before old) (number_is : number ≡ length before + 1) where
+  -- a line that says nothing
+  pub empty_kept : IsNetworkOf (before ++ Empty ∷ []) old
+  empty_kept = no_arc_kept before number Empty old old is number_is refl (is.sizes_are ∙ sym (stated_stays before Empty refl)) (is.sources_are ∙ sym (sources_stay before Empty refl)) refl refl
 
-  cost_apart : between arc ≡ false → cost_between (xs ++ arc ∷ []) s t ≡ cost_between xs s t
-  cost_apart apart =
-      ap (option_and_then (λ (x : Arc). x.cost)) (find-append between xs (arc ∷ []) ∙ ap {B = Option Arc} (λ v. option_or (find between xs) (cond v (Some arc) None)) apart ∙ or_none (find between xs))
-
-  cost_behind : (found : Option Arc) → find between xs ≡ found → between arc ≡ true → (cost : Option ℤ) → arc.cost ≡ cost → ((x : Arc) → found ≡ Some x → x.cost ≡ cost) → cost_between (xs ++ arc ∷ []) s t ≡ cost
-  cost_behind None is test cost last each =
-      ap (option_and_then (λ (x : Arc). x.cost)) (find-append between xs (arc ∷ []) ∙ (λ i. option_or (is i) (cond (test i) (Some arc) None))) ∙ last
-  cost_behind (Some x) is test cost last each =
-      ap (option_and_then (λ (x : Arc). x.cost)) (find-append between xs (arc ∷ []) ∙ (λ i. option_or (is i) (cond (test i) (Some arc) None))) ∙ each x refl
-
-module _ (before : List Line) (old new : Network) (number : ℕ) (is : IsNetworkOf before old) where
   -- a problem line is kept
-  pub sizes_kept : (sizes : Option Sizes) → false ≡ is_some old.sizes → is_some sizes ≡ true → new.sizes ≡ sizes → new.sources.keys ≡ old.sources.keys → new.targets ≡ old.targets → new.arcs ≡ old.arcs → new.costs ≡ old.costs → (faults_of_line before number (Header sizes) ≡ []) × IsNetworkOf (before ++ Header sizes ∷ []) new
-  sizes_kept None no_old some sizes_are sources_are targets_are arcs_are costs_are = cc
-  sizes_kept (Some sizes) no_old some sizes_are sources_are targets_are arcs_are costs_are =
+  pub sizes_kept : (sizes : Option Sizes) → false ≡ is_some old.sizes → is_some sizes ≡ true → new.sizes ≡ sizes → new.sources.items ≡ old.sources.items → new.links.items ≡ old.links.items → IsNetworkOf (before ++ Header sizes ∷ []) new
+  sizes_kept None no_old some sizes_are sources_are links = cc
+  sizes_kept (Some sizes) no_old some sizes_are sources_are links =
       let none : stated before ≡ None = sym is.sizes_are ∙ not_some old.sizes no_old in
       let line = Header (Some sizes) in
-      (ap (λ o. fault_where (is_some o) (SecondProblemLine number) ++ []) none, with_arcs (before ++ line ∷ []) new (sizes_are ∙ sym (stated_first before sizes none)) (sources_are ∙ is.sources_are ∙ sym (sources_stay before line refl)) (still_arcs before (before ++ line ∷ []) old new is (arcs_stay before line refl) targets_are arcs_are costs_are))
+      no_arc_kept before number line old new is number_is refl (sizes_are ∙ sym (stated_first before sizes none)) (sources_are ∙ is.sources_are ∙ sym (sources_stay before line refl)) links
+      (ap (λ o. fault_where (is_some o) (SecondProblemLine number) ++ []) none)
 
   -- a node line is kept
-  pub node_kept : (sizes : Sizes) (id : ℕ) → old.sizes ≡ Some sizes → is_node sizes id ≡ true → contains nat_eq old.targets id ≡ false → new.sizes ≡ old.sizes → new.sources.keys ≡ insert_key nat_eq old.sources.keys id → new.targets ≡ old.targets → new.arcs ≡ old.arcs → new.costs ≡ old.costs → (faults_of_line before number (Node (Some id)) ≡ []) × IsNetworkOf (before ++ Node (Some id) ∷ []) new
-  node_kept sizes id stated_is right no_target sizes_are sources_are targets_are arcs_are costs_are =
+  pub node_kept : (sizes : Sizes) (id : ℕ) → IsSound old → old.sizes ≡ Some sizes → is_node sizes id ≡ true → has old.target_set id ≡ false → PutsSource id old new → IsNetworkOf (before ++ Node (Some id) ∷ []) new
+  node_kept sizes id sound stated_is right no_target put =
       let line = Node (Some id) in
       let told : stated before ≡ Some sizes = sym is.sizes_are ∙ stated_is in
-      ((λ i. faults_behind number (told i) (λ sizes. node_faults before sizes number (Some id))) ∙ (λ i. fault_where (not (right i) || (sym (is.targets_are id) ∙ no_target) i) (BadNode number)), with_arcs (before ++ line ∷ []) new (sizes_are ∙ is.sizes_are ∙ sym (stated_stays before line refl)) (sources_are ∙ ap (λ ids. with_id ids id) is.sources_are ∙ sym (sources_grow before line id refl)) (still_arcs before (before ++ line ∷ []) old new is (arcs_stay before line refl) targets_are arcs_are costs_are))
-
-  -- an arc that repeats another at another cost is refused for that
-  pub arc_twice : (sizes : Sizes) (arc : Arc) (cost : ℤ) → old.sizes ≡ Some sizes → goes_right old.sources.keys sizes arc ≡ true → arc.cost ≡ Some cost → are_unlike (Some cost) (known_cost old arc.source arc.target) ≡ true → slice_get (faults_of_line before number (Arrow (Some arc))) 0 ≡ Some (ArcTwice number)
-  arc_twice sizes arc cost stated_is right is_cost unlike =
-      let told : stated before ≡ Some sizes = sym is.sizes_are ∙ stated_is in
-      let goes : goes_right (sources before) sizes arc ≡ true = ap (λ ids. goes_right ids sizes arc) (sym is.sources_are) ∙ right in
-      let twice : differs_from (arcs before) arc ≡ true = differs_by_known before old arc cost is is_cost ∙ unlike in
-      (λ i. slice_get (faults_behind number (told i) (λ sizes. arc_faults before sizes number (Some arc))) 0)
-      ∙ (λ i. slice_get (fault_where (not (goes i)) (BadArc number) ++ fault_where (not (is_some (is_cost i))) (CostRange number) ++ fault_where (twice i) (ArcTwice number)) 0)
-
-  -- an arc beside another that is kept at this cost has it, too
-  beside_is : (arc x : Arc) (cost : ℤ) → (known_cost old x.source x.target ≡ x.cost) × IsSome x.cost → arc.source ≡ x.source → arc.target ≡ x.target → are_unlike (Some cost) (known_cost old arc.source arc.target) ≡ false → x.cost ≡ Some cost
-  beside_is arc x cost each source target alike =
-      alike_is cost x.cost each.1 (ap (are_unlike (Some cost)) (sym each.0 ∙ (λ i. known_cost old (sym source i) (sym target i))) ∙ alike)
-
-  -- the arcs before one that is kept are told as before
-  still_told : (arc : Arc) (cost : ℤ) → are_unlike (Some cost) (known_cost old arc.source arc.target) ≡ false → PutsArc arc cost old new → (x : Arc) → (known_cost old x.source x.target ≡ x.cost) × IsSome x.cost → (known_cost new x.source x.target ≡ x.cost) × IsSome x.cost
-  still_told arc cost alike put x each = (
-    put.costs x.source x.target
-        ∙ ⊎_elim
-        (λ (beside : are_same_ends (arc.source, arc.target) (x.source, x.target) ≡ true).
-        let ends = ends_same (arc.source, arc.target) (x.source, x.target) beside in
-        ap {B = Option ℤ} (λ v. cond v (Some cost) (known_cost old x.source x.target)) beside ∙ sym (beside_is arc x cost each ends.0 ends.1 alike))
-        (λ (apart : are_same_ends (arc.source, arc.target) (x.source, x.target) ≡ false).
-        ap {B = Option ℤ} (λ v. cond v (Some cost) (known_cost old x.source x.target)) apart ∙ each.0)
-        (cases_Bool (are_same_ends (arc.source, arc.target) (x.source, x.target))),
-    each.1,
-  )
-
-  -- an arc that is found beside one that is kept has its cost
-  found_is : (arc : Arc) (cost : ℤ) (s t : ℕ) → are_unlike (Some cost) (known_cost old arc.source arc.target) ≡ false → are_same_ends (arc.source, arc.target) (s, t) ≡ true → (x : Arc) → find (λ (other : Arc). (other.source == s) && (other.target == t)) (arcs before) ≡ Some x → x.cost ≡ Some cost
-  found_is arc cost s t alike beside x found =
-      let ends = ends_same (arc.source, arc.target) (s, t) beside in
-      let each = found_told (λ (x : Arc). (known_cost old x.source x.target ≡ x.cost) × IsSome x.cost) (λ (other : Arc). (other.source == s) && (other.target == t)) (arcs before) x found is.one_cost in
-      let known : known_cost old s t ≡ x.cost = is.costs_are s t ∙ ap (option_and_then (λ (x : Arc). x.cost)) found in
-      alike_is cost x.cost each.1 (ap (are_unlike (Some cost)) (sym known ∙ (λ i. known_cost old (sym ends.0 i) (sym ends.1 i))) ∙ alike)
+      let none : is_target before id ≡ false = target_told before old id is ∙ sym (sound.target_set id) ∙ no_target in
+      no_arc_kept before number line old new is number_is refl (put.sizes ∙ is.sizes_are ∙ sym (stated_stays before line refl)) (put.sources ∙ ap (λ ids. with_id ids id) is.sources_are ∙ sym (sources_grow before line id refl)) put.links
+      ((λ i. faults_behind number (told i) (λ sizes. node_faults before sizes number (Some id))) ∙ (λ i. fault_where (not (right i) || none i) (BadNode number)))
 
   -- an arc line is kept
-  pub arc_kept : (sizes : Sizes) (arc : Arc) (cost : ℤ) → old.sizes ≡ Some sizes → goes_right old.sources.keys sizes arc ≡ true → arc.cost ≡ Some cost → are_unlike (Some cost) (known_cost old arc.source arc.target) ≡ false → PutsArc arc cost old new → (faults_of_line before number (Arrow (Some arc)) ≡ []) × IsNetworkOf (before ++ Arrow (Some arc) ∷ []) new
-  arc_kept sizes arc cost stated_is right is_cost alike put =
+  pub arc_kept : (sizes : Sizes) (arc : Arc) (link : Link) → old.sizes ≡ Some sizes → goes_right old.sources.items sizes arc ≡ true → arc ≡ arc_of_link link → link.line ≡ number → PutsArc link old new → IsNetworkOf (before ++ Arrow (Some arc) ∷ []) new
+  arc_kept sizes arc link stated_is right arc_is line_is put =
       let line = Arrow (Some arc) in
       let told : stated before ≡ Some sizes = sym is.sizes_are ∙ stated_is in
       let goes : goes_right (sources before) sizes arc ≡ true = ap (λ ids. goes_right ids sizes arc) (sym is.sources_are) ∙ right in
-      let once : differs_from (arcs before) arc ≡ false = differs_by_known before old arc cost is is_cost ∙ alike in
-      let grow = arcs_grow before line arc refl in
-      let known_same : known_cost new arc.source arc.target ≡ Some cost = put.costs arc.source arc.target ∙ ap {B = Option ℤ} (λ v. cond v (Some cost) (known_cost old arc.source arc.target)) (same_ends arc.source arc.target arc.source arc.target refl refl) in
-      let some_cost : IsSome arc.cost = rw is_cost (search rules) in
-      let kept : AreArcs (arcs before ++ arc ∷ []) new = record {
-        targets_are = λ id. put.targets id ∙ ap (cond (arc.target == id) true) (is.targets_are id) ∙ with_target arc.target id (list_any (λ (other : Arc). id == other.target) (arcs before)) ∙ sym (list_any-append (λ (other : Arc). id == other.target) (arcs before) (arc ∷ []));
-        count_is = put.count ∙ ap (λ n. n + 1) is.count_is ∙ sym (length-append (arcs before) (arc ∷ []));
-        costs_are = λ s t.
-            ⊎_elim
-            (λ (yes : are_same_ends (arc.source, arc.target) (s, t) ≡ true). put.costs s t ∙ ap {B = Option ℤ} (λ v. cond v (Some cost) (known_cost old s t)) yes ∙ sym (cost_behind (arcs before) arc s t (find (between (arcs before) arc s t) (arcs before)) refl yes (Some cost) is_cost (found_is arc cost s t alike yes)))
-            (λ (apart : are_same_ends (arc.source, arc.target) (s, t) ≡ false). put.costs s t ∙ ap {B = Option ℤ} (λ v. cond v (Some cost) (known_cost old s t)) apart ∙ is.costs_are s t ∙ sym (cost_apart (arcs before) arc s t apart))
-            (cases_Bool (are_same_ends (arc.source, arc.target) (s, t)));
-        one_cost = All-push (λ (x : Arc). (known_cost new x.source x.target ≡ x.cost) × IsSome x.cost) (arcs before) arc (λ k d within. still_told arc cost alike put (get_or (arcs before) k d) (is.one_cost k d within)) (known_same ∙ sym is_cost, some_cost);
-      } in
-      ((λ i. faults_behind number (told i) (λ sizes. arc_faults before sizes number (Some arc))) ∙ (λ i. fault_where (not (goes i)) (BadArc number) ++ fault_where (not (is_some (is_cost i))) (CostRange number) ++ fault_where (once i) (ArcTwice number)), with_arcs (before ++ line ∷ []) new (put.sizes ∙ is.sizes_are ∙ sym (stated_stays before line refl)) (put.sources ∙ is.sources_are ∙ sym (sources_stay before line refl)) (subst (λ xs. AreArcs xs new) (sym grow) kept))
+      let some_cost : is_some arc.cost ≡ true = ap (λ (arc : Arc). is_some arc.cost) arc_is in
+      let faults : faults_of_line before number line ≡ fault_where (differs_from (arcs before) arc) (ArcTwice number) =
+      (λ i. faults_behind number (told i) (λ sizes. arc_faults before sizes number (Some arc)))
+      ∙ (λ i. fault_where (not (goes i)) (BadArc number) ++ fault_where (not (some_cost i)) (CostRange number) ++ fault_where (differs_from (arcs before) arc) (ArcTwice number)) in
+      record {
+        sizes_are = put.sizes ∙ is.sizes_are ∙ sym (stated_stays before line refl);
+        sources_are = put.sources ∙ is.sources_are ∙ sym (sources_stay before line refl);
+        arcs_are =
+            ap (map arc_of_link) put.links ∙ map-append arc_of_link old.links.items (link ∷ [])
+            ∙ (λ i. is.arcs_are i ++ sym arc_is i ∷ []) ∙ sym (arcs_grow before line arc refl);
+        faults_are =
+            one_more_fault before number line number_is
+            ∙ (λ i. is.faults_are i ++ (faults ∙ (λ j. fault_where (differs_from (sym is.arcs_are j) (arc_is j)) (ArcTwice (sym line_is j)))) i)
+            ∙ sym (twice_more old.links.items link) ∙ ap (twice_faults []) (sym put.links);
+      }
 
--- before the sizes are stated there is no source
-pub sizes_sound : (old new : Network) → IsSound old → false ≡ is_some old.sizes → new.sources.keys ≡ old.sources.keys → new.costs ≡ old.costs → IsSound new
-sizes_sound old new sound none sources_are costs_are = record {
-  nodes = λ k d within.
-      let low = sound.nodes k d (omega (arith, ap length sources_are)) in
-      let no_nodes : nodes_of old.sizes ≡ 0 = ap nodes_of (not_some old.sizes none) in
-      absurd (omega (arith, low, no_nodes));
-  costs = λ s t. subst (λ known. IfSome known IsPartInRange) (sym (ap (λ costs. get are_same_ends costs (s, t)) costs_are)) (sound.costs s t);
-}
+-- before the sizes are stated there is no source, and no arc
+pub sizes_sound : (old : Network) (nodes : ℕ) → IsSound old → false ≡ is_some old.sizes → AreSound nodes old.sources.items old.links.items old.source_set old.target_set
+sizes_sound old nodes sound none =
+    let no_nodes : nodes_of old.sizes ≡ 0 = ap nodes_of (not_some old.sizes none) in
+    record {
+      nodes = λ k d within. let low = sound.nodes k d within in absurd (omega (arith, low.0, low.1, no_nodes));
+      differ = sound.differ;
+      links = λ k d within. let right = sound.links k d within in absurd (omega (arith, right.target_above, right.target_below, no_nodes));
+      source_set = sound.source_set;
+      target_set = sound.target_set;
+    }
 
--- a source is a node
-pub node_sound : (old new : Network) (sizes : Sizes) (id : ℕ) → IsSound old → old.sizes ≡ Some sizes → is_node sizes id ≡ true → new.sizes ≡ old.sizes → new.sources.keys ≡ insert_key nat_eq old.sources.keys id → new.costs ≡ old.costs → IsSound new
-node_sound old new sizes id sound stated_is right sizes_are sources_are costs_are = record {
-  nodes =
-      let P : ℕ → Type 0 = λ id. (1 ≤ id) × (id ≤ nodes_of old.sizes) in
-      let parts = and_parts (nat_le 1 id) (nat_le id sizes.nodes) right in
-      let nodes : nodes_of old.sizes ≡ sizes.nodes = ap nodes_of stated_is in
-      let high : id ≤ nodes_of old.sizes = omega (arith, leb-true id sizes.nodes parts.1, nodes) in
-      let more : All P (cond (list_any (nat_eq id) old.sources.keys) old.sources.keys (old.sources.keys ++ id ∷ [])) = elim (list_any (nat_eq id) old.sources.keys) as (λ v. All P (cond v old.sources.keys (old.sources.keys ++ id ∷ []))) [ true ↦ sound.nodes | false ↦ All-push P old.sources.keys id sound.nodes (leb-true 1 id parts.0, high) ] in
-      (λ k d within.
-      let at : k < length (cond (list_any (nat_eq id) old.sources.keys) old.sources.keys (old.sources.keys ++ id ∷ [])) = omega (arith, ap length sources_are) in
-      subst (λ keys. (1 ≤ get_or keys k d) × (get_or keys k d ≤ nodes_of new.sizes)) (sym sources_are) (subst (λ sizes. (1 ≤ get_or (insert_key nat_eq old.sources.keys id) k d) × (get_or (insert_key nat_eq old.sources.keys id) k d ≤ nodes_of sizes)) (sym sizes_are) (more k d at)));
-  costs = λ s t. subst (λ known. IfSome known IsPartInRange) (sym (ap (λ costs. get are_same_ends costs (s, t)) costs_are)) (sound.costs s t);
-}
+-- a source is kept to which no arc goes
+module _ (nodes : ℕ) (ids : List ℕ) (links : List Link) (source_set target_set : NodeSet) (sound : AreSound nodes ids links source_set target_set) (id : ℕ) where
+  apart : (link : Link) (k : ℕ) → k < length links → get_or links k link ≡ link → list_any (λ (link : Link). id == link.target) links ≡ false → (link.target == id) ≡ false
+  apart link k within here none =
+      ⊎_elim
+      (λ (same : (link.target == id) ≡ true).
+      let back : (id == (get_or links k link).target) ≡ true = ap (λ (link : Link). id == link.target) here ∙ eq-eqb id link.target (sym (eqb-true link.target id same)) in
+      absurd (false≢true (sym none ∙ list_any_at (λ (link : Link). id == link.target) links k link within back)))
+      (λ (apart : (link.target == id) ≡ false). apart)
+      (cases_Bool (link.target == id))
+
+  still_right : (link : Link) → (link.target == id) ≡ false → IsRightLink ids nodes link → IsRightLink (with_id ids id) nodes link
+  still_right link other right = record {
+    source = among_with ids id link.source ∙ ap (λ v. v || ((link.source == id) || false)) right.source;
+    target = among_with ids id link.target ∙ (λ i. right.target i || (other i || false));
+    target_above = right.target_above;
+    target_below = right.target_below;
+    cost = right.cost;
+  }
+
+  pub source_sound : (set : NodeSet) → 1 ≤ id → id ≤ nodes → has target_set id ≡ false → ((other : ℕ) → has set other ≡ cond (id == other) true (has source_set other)) → AreSound nodes (with_id ids id) links set target_set
+  source_sound set low high no_target put =
+      let P : ℕ → Type 0 = λ id. (1 ≤ id) × (id ≤ nodes) in
+      let none = sym (sound.target_set id) ∙ no_target in
+      record {
+        nodes = elim (is_among ids id) as (λ v. All P (cond v ids (ids ++ id ∷ []))) [ true ↦ sound.nodes | false ↦ All-push P ids id sound.nodes (low, high) ];
+        differ = distinct (is_among ids id) refl;
+        links = λ k d within.
+            let link = get_or links k d in
+            still_right link (apart link k within (same_at k d within) none) (sound.links k d within);
+        source_set = λ other. put other ∙ ap (cond (id == other) true) (sound.source_set other) ∙ one_more id other (is_among ids other) ∙ sym (among_with ids id other);
+        target_set = sound.target_set;
+      }
+    where
+      distinct : (among : Bool) → is_among ids id ≡ among → IsDistinct nat_eq (cond among ids (ids ++ id ∷ []))
+      distinct true is = sound.differ
+      distinct false is = IsDistinct-push nat_eq_equiv ids id sound.differ is
+
+      same_at : (k : ℕ) (d : Link) → k < length links → get_or links k (get_or links k d) ≡ get_or links k d
+      same_at k d within = get_or_default links k (get_or links k d) d within
+
+pub node_sound : (old new : Network) (sizes : Sizes) (id : ℕ) → IsSound old → old.sizes ≡ Some sizes → is_node sizes id ≡ true → has old.target_set id ≡ false → PutsSource id old new → IsSound new
+node_sound old new sizes id sound stated_is right no_target put =
+    let parts = and_parts (nat_le 1 id) (nat_le id sizes.nodes) right in
+    let nodes : nodes_of old.sizes ≡ sizes.nodes = ap nodes_of stated_is in
+    let more : AreSound (nodes_of old.sizes) (with_id old.sources.items id) old.links.items new.source_set old.target_set =
+    source_sound (nodes_of old.sizes) old.sources.items old.links.items old.source_set old.target_set sound id new.source_set (leb-true 1 id parts.0) (omega (arith, leb-true id sizes.nodes parts.1, nodes)) no_target put.source_set in
+    subst (λ sizes. AreSound (nodes_of sizes) new.sources.items new.links.items new.source_set new.target_set) (sym put.sizes)
+    (subst (λ ids. AreSound (nodes_of old.sizes) ids new.links.items new.source_set new.target_set) (sym put.sources)
+    (subst (λ links. AreSound (nodes_of old.sizes) (with_id old.sources.items id) links new.source_set new.target_set) (sym put.links)
+    (subst (λ set. AreSound (nodes_of old.sizes) (with_id old.sources.items id) old.links.items new.source_set set) (sym put.target_set) more)))
+
+-- an arc is kept that goes from a source to another node
+not_among : (b : Bool) → not b ≡ true → b ≡ false
+not_among true e = cc
+not_among false e = refl
+
+right_link : (ids : List ℕ) (sizes : Sizes) (link : Link) → goes_right ids sizes (arc_of_link link) ≡ true → IsPartInRange link.cost → IsRightLink ids sizes.nodes link
+right_link ids sizes link right in_range =
+    let parts = and_parts (is_among ids link.source && is_node sizes link.target) (not (is_among ids link.target)) right in
+    let first = and_parts (is_among ids link.source) (is_node sizes link.target) parts.0 in
+    let node = and_parts (nat_le 1 link.target) (nat_le link.target sizes.nodes) first.1 in
+    record {
+      source = first.0;
+      target = not_among (is_among ids link.target) parts.1;
+      target_above = leb-true 1 link.target node.0;
+      target_below = leb-true link.target sizes.nodes node.1;
+      cost = in_range;
+    }
+
+pub arc_sound : (old new : Network) (sizes : Sizes) (link : Link) → IsSound old → old.sizes ≡ Some sizes → goes_right old.sources.items sizes (arc_of_link link) ≡ true → IsPartInRange link.cost → PutsArc link old new → IsSound new
+arc_sound old new sizes link sound stated_is right in_range put =
+    let nodes : nodes_of old.sizes ≡ sizes.nodes = ap nodes_of stated_is in
+    let this : IsRightLink old.sources.items (nodes_of old.sizes) link = subst (λ n. IsRightLink old.sources.items n link) (sym nodes) (right_link old.sources.items sizes link right in_range) in
+    let more : AreSound (nodes_of old.sizes) old.sources.items (old.links.items ++ link ∷ []) old.source_set new.target_set = record {
+      nodes = sound.nodes;
+      differ = sound.differ;
+      links = All-push (IsRightLink old.sources.items (nodes_of old.sizes)) old.links.items link sound.links this;
+      source_set = sound.source_set;
+      target_set = λ id.
+          put.target_set id ∙ ap (cond (link.target == id) true) (sound.target_set id) ∙ one_more link.target id (list_any (λ (link : Link). id == link.target) old.links.items)
+          ∙ sym (list_any-append (λ (link : Link). id == link.target) old.links.items (link ∷ []));
+    } in
+    subst (λ sizes. AreSound (nodes_of sizes) new.sources.items new.links.items new.source_set new.target_set) (sym put.sizes)
+    (subst (λ ids. AreSound (nodes_of old.sizes) ids new.links.items new.source_set new.target_set) (sym put.sources)
+    (subst (λ links. AreSound (nodes_of old.sizes) old.sources.items links new.source_set new.target_set) (sym put.links)
+    (subst (λ set. AreSound (nodes_of old.sizes) old.sources.items (old.links.items ++ link ∷ []) set new.target_set) (sym put.source_set) more)))

@@ -1,5 +1,5 @@
 -- The table of a network.
-use Rattle.std.proofs.Common.{◌≡◌, ◌≢◌, ℕ, ◌-◌, ◌*◌, ◌<◌, ◌≤◌, true, List, [], ◌∷◌, ◌++◌, length, get_or, map, Option, Some, None, refl, sym, ap, ◌∙◌, arith, subst, length-append, eqb-true, filter}
+use Rattle.std.proofs.Common.{◌≡◌, ◌≢◌, ℕ, ◌-◌, ◌*◌, ◌<◌, ◌≤◌, true, false, List, [], ◌∷◌, ◌++◌, length, get_or, map, Option, Some, None, refl, sym, ap, ◌∙◌, arith, subst, length-append, eqb-true, filter}
 use Rattle.std.specs.Prelude.{ℤ, pos, not, nat_eq, All, IfSome}
 use Rattle.std.specs.List.{IsDistinct, range_with_len}
 use Rattle.std.proofs.lemmas.Bool.{le-leb, and_from}
@@ -23,6 +23,14 @@ use Rattle.asg_text.specs.Networks.{first_of, firsts_between}
 use Rattle.asg_text.specs.Slots.{first_part, IsSlot}
 use Rattle.asg_text.proofs.ReadCells.{slot_of_none, slot_in_range}
 use Rattle.asg_text.proofs.TableInstances.{AreDistinct, AreSlots, range_is_distinct, same_cells, is_table}
+
+-- a node that is no source is among the others
+pub target_among : (sources : List ℕ) (nodes id : ℕ) → is_among sources id ≡ false → 1 ≤ id → id ≤ nodes → is_among (targets sources nodes) id ≡ true
+unfolding targets
+target_among sources nodes id none low high =
+    let within : id - 1 < nodes = omega arith in
+    let node : is_among (range_with_len 1 nodes) id ≡ true = (is_member-Decides Decides-eqb (range_with_len 1 nodes) id).1 (id - 1, omega (arith, length-range_with_len 1 nodes), omega (arith, get_or-range_with_len 1 nodes (id - 1) id within)) in
+    is_member-filter nat_eq_equiv (λ id. not (is_among sources id)) id (λ x same. ap (λ id. not (is_among sources id)) (eqb-true id x same)) (range_with_len 1 nodes) ∙ and_from _ _ node (ap not none)
 
 -- different sources among so many nodes
 module _ (sources : List ℕ) (nodes : ℕ) (distinct : IsDistinct nat_eq sources) (in_range : All (λ id. (1 ≤ id) × (id ≤ nodes)) sources) where

@@ -19,7 +19,7 @@ use Rattle.asg_text.specs.AsnArcs.{stated, arcs, sources, sizes_in, node_in, arc
 use Rattle.asg_text.specs.AsnLines.{IsLineInRange}
 use Rattle.asg_text.specs.Faults.{ArcCount, BadNode, NoRows, SecondProblemLine, TooLarge, fault_where}
 use Rattle.asg_text.specs.Readings.{Spells}
-use Rattle.asg_text.proofs.NetworkLemmas.{found_told}
+use Rattle.asg_text.proofs.TwiceLemmas.{found_told}
 use Rattle.asg_text.proofs.OneMoreLine.{stated_stays, sources_stay, sources_grow}
 use Rattle.asg_text.proofs.NetworkTables.{length-targets, sources_differ, targets_differ, whole_table, table_same}
 use Rattle.asg_text.proofs.Spelled.{AreFew, are_few, none_in_front, none_where, spelled}

@@ -1,9 +1,11 @@
 -- Where the costs of arcs stand in a table: words of the reader of asn files, on which `reading_of`
 -- doesn't stand.
-use Rattle.std.specs.Prelude.{◌≡◌, ◌≢◌, ℕ, ◌+◌, ◌*◌, ◌<◌, ◌≤◌, ℤ, if◌then◌else◌, List, length, Option, Some, None, IfSome, All, AllPairs, slice_index, slice_index_or, option_and_then}
+use Rattle.std.specs.Prelude.{◌≡◌, ◌≢◌, ℕ, ◌+◌, ◌*◌, ◌<◌, ◌≤◌, ℤ, if◌then◌else◌, List, length, Option, Some, None, IfSome, IsSome, All, AllPairs, slice_index, slice_index_or, option_and_then}
 use Rattle.std.specs.Option.{option_map}
 use Rattle.asg_model.specs.Limits.{most_rows, most_columns}
+use Rattle.asg_model.specs.ValueRange.{IsPartInRange}
 use Rattle.asg_text.specs.declared.layouts.Layout.{Layout}
+use Rattle.asg_text.specs.declared.links.Link.{Link}
 use Rattle.asg_text.specs.Networks.{are_same_ends}
 
 -- different ids of nodes, of which there are so many
@@ -31,6 +33,11 @@ cell_between layout ends =
     option_map (λ column. row * length layout.targets.now + column)
     (slice_index_or layout.columns.items ends.1 None))
     (slice_index_or layout.rows.items ends.0 None)
+
+-- the table has a cell for the arc, whose cost is in range
+pub record HasCell (layout : Layout) (link : Link) : Type 0 where
+  pub there : IsSome (cell_between layout (link.source, link.target))
+  pub in_range : IsPartInRange link.cost
 
 -- known costs, with one more
 abbrev pub with_cost : (ℕ → ℕ → Option ℤ) → ℕ × ℕ → ℤ → ℕ → ℕ → Option ℤ

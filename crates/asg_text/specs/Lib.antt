@@ -8,6 +8,7 @@ pub mod AsnLines
 pub mod AsnArcs
 pub mod NextCells
 pub mod Slots
+pub mod NodeSets
 pub mod Networks
 pub mod SameCells
 pub mod Texts

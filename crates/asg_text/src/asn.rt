@@ -21,12 +21,12 @@ pub(crate) fn read_asn(alloc: Global, text: &[u8]) -> Result<Instance, TextRefus
         reading_of_asn (map line_of (lines text.now)) ≡ Spells inst) }
     ensures refused { IfErr result (TellsOf (reading_of_asn (map line_of (lines text.now)))) }
 {
-    let mut network = Network::new(alloc);
+    let mut network = Network::new(alloc)?;
     let mut rest = text;
     let mut number = 0;
     while let Some(first) = first_line(rest) {
         number += 1;
-        network.take(read_line(first.bytes), number)?;
+        network.take(alloc, read_line(first.bytes), number)?;
         rest = first.rest;
     }
     network.instance(alloc)

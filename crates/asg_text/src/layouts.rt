@@ -1,10 +1,18 @@
 //! Where the costs of arcs stand in a table.
 
-ghost use Rattle.std.specs.Prelude.{◌≡◌, ℕ, ℤ, ◌*◌, ◌^◌, ◌<◌, ◌≤◌, Option, None, length, slice_index_or, IfOk};
+ghost use Rattle.std.specs.Prelude.{◌≡◌, ℕ, ℤ, ◌*◌, ◌^◌, ◌<◌, ◌≤◌, ◌||◌, [], Option, Some, None, All, length, not, pos, slice_index_or, IfOk, OnOk, IfErr, IfSome};
+ghost use Rattle.std.specs.List.{slice_set};
+ghost use Rattle.std.specs.Ordering.{int_eq};
 ghost use Rattle.asg_model.specs.Limits.{most_rows, most_columns};
-ghost use Rattle.asg_text.specs.Layouts.{AreNodeIds, TellsPlaces, IsLayout, cell_between, with_cost};
-ghost use Rattle.asg_text.specs.Networks.{firsts_between};
+ghost use Rattle.asg_model.specs.Table.{absent};
+ghost use Rattle.asg_model.specs.ValueRange.{IsPartInRange};
+ghost use Rattle.asg_text.specs.AsnArcs.{are_unlike};
+ghost use Rattle.asg_text.specs.Layouts.{AreNodeIds, TellsPlaces, IsLayout, HasCell, cell_between, with_cost};
+ghost use Rattle.asg_text.specs.Networks.{firsts_between, known_cost, twice_faults};
+ghost use Rattle.asg_text.specs.Slots.{IsEarliest};
 
+use crate::links::Link;
+use crate::refusals::TextRefusal;
 use asg_model::ABSENT;
 use std::alloc::{AllocError, Global};
 
@@ -54,20 +62,47 @@ impl<'a> Layout<'a> {
         vec![in alloc; ABSENT; self.sources.len() * self.targets.len()]
     }
 
-    /// Puts the cost between two nodes into its cell of a table, if the table has one for it.
+    /// Puts the costs of all these arcs into a table without a cost, or refuses the first of them that
+    /// repeats another at another cost.
+    pub(crate) fn fill(&self, firsts: &mut Vec<i64>, links: &[Link]) -> Result<(), TextRefusal>
+        requires layout { IsLayout self.now }
+        requires none { firsts.old.items
+            ≡ firsts_between (λ source target. None) self.now.sources.now self.now.targets.now }
+        requires cells { All (HasCell self.now) links.now }
+        ensures filled { OnOk result (firsts.new.items
+            ≡ firsts_between (known_cost links.now) self.now.sources.now self.now.targets.now) }
+        ensures once { OnOk result (twice_faults [] links.now ≡ []) }
+        ensures refused { IfErr result (IsEarliest (twice_faults [] links.now)) }
+    {
+        for link in links {
+            if !self.put(firsts, link) {
+                return Err(TextRefusal::ArcTwice(link.line));
+            }
+        }
+        Ok(())
+    }
+
+    // Puts the cost of an arc into its cell of a table. Whether no other cost was there.
     #[inline]
-    pub(crate) fn put(&self, firsts: &mut Vec<i64>, ends: &(u32, u32), cost: &i64)
+    fn put(&self, firsts: &mut Vec<i64>, link: &Link) -> bool
         requires layout { IsLayout self.now }
         requires whole { length firsts.old.items
             ≡ length self.now.sources.now * length self.now.targets.now }
-        ensures { (known : ℕ → ℕ → Option ℤ)
+        requires cell { HasCell self.now link.now }
+        ensures put { (known : ℕ → ℕ → Option ℤ)
             → firsts.old.items ≡ firsts_between known self.now.sources.now self.now.targets.now
-            → firsts.new.items ≡ firsts_between (with_cost known ends.now cost.now)
+            → firsts.new.items ≡ firsts_between
+            (with_cost known (link.now.source, link.now.target) link.now.cost)
             self.now.sources.now self.now.targets.now }
+        ensures alike { (known : ℕ → ℕ → Option ℤ)
+            → firsts.old.items ≡ firsts_between known self.now.sources.now self.now.targets.now
+            → IfSome (known link.now.source link.now.target) IsPartInRange
+            → result ≡ not (are_unlike (Some link.now.cost) (known link.now.source link.now.target)) }
     {
-        if let Some(cell) = self.cell(*ends) {
-            firsts[cell] = *cost;
-        }
+        let Some(cell) = self.cell((link.source, link.target)) else {
+            return true;
+        };
+        put_at(firsts, cell, link.cost)
     }
 
     // The place of the cell from a source to a target, if there is one.
@@ -80,6 +115,27 @@ impl<'a> Layout<'a> {
         let column = place(self.columns.as_slice(), ends.1)?;
         Some(row * self.targets.len() + column)
     }
+}
+
+// Puts a cost at a place. Whether no other cost was there.
+#[inline]
+fn put_at(firsts: &mut Vec<i64>, cell: usize, cost: i64) -> bool
+    requires { cell < length firsts.old.items }
+    ensures put { firsts.new.items ≡ slice_set firsts.old.items cell cost }
+    ensures alike { result ≡ (int_eq (slice_index_or firsts.old.items cell (pos 0)) absent
+        || int_eq (slice_index_or firsts.old.items cell (pos 0)) cost) }
+{
+    let earlier = firsts[cell];
+    firsts[cell] = cost;
+    is_alike(earlier, cost)
+}
+
+// Whether a place holds no other cost.
+#[inline]
+fn is_alike(earlier: i64, cost: i64) -> bool
+    ensures { result ≡ (int_eq earlier absent || int_eq earlier cost) }
+{
+    earlier == ABSENT || earlier == cost
 }
 
 // For each id up to the number of nodes, its place among these ids, if it is one of them.

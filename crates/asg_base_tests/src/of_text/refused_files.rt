@@ -12,7 +12,7 @@ pub(crate) const REFUSED: [(Format, &'static [Refused]); 3] = [
     (Format::Rect, &RECT),
 ];
 
-const ASN: [Refused; 42] = [
+const ASN: [Refused; 47] = [
     (b"", TextRefusal::NoProblemLine),
     (b"\n\nc p asn 1 1\n", TextRefusal::NoProblemLine),
     (b"p asn 2 0\np asn 2 0", TextRefusal::SecondProblemLine(2)),
@@ -85,6 +85,26 @@ const ASN: [Refused; 42] = [
         TextRefusal::TooLarge(1, 4_294_967_294),
     ),
     (b"p asn 1002 0\nn 1002", TextRefusal::TooLarge(1, 1001)),
+    (
+        b"p asn 9000 9\nn 7000\na 7000 8000 5\na 7000 8001 6\na 7000 8000 5\na 7000 8000 6",
+        TextRefusal::ArcTwice(6),
+    ),
+    (
+        b"p asn 9000 9\nn 7000\na 7000 8000 5\nn 8001\nn 8000",
+        TextRefusal::BadNode(5),
+    ),
+    (
+        b"p asn 9000 9\nn 2000\nn 2001\na 2000 2001 5",
+        TextRefusal::BadArc(4),
+    ),
+    (
+        b"p asn 4 1\nn 1\na 1 3 5\na 1 3 6",
+        TextRefusal::ArcTwice(4),
+    ),
+    (
+        b"p asn 4 1\nn 1\na 1 3 5\na 1 3 6\nx",
+        TextRefusal::ArcTwice(4),
+    ),
 ];
 
 const SQUARE: [Refused; 21] = [

@@ -1,18 +1,16 @@
-use Rattle.std.proofs.Common.{◌≡◌, ◌≤◌, [], length, take, drop, map}
+use Rattle.std.proofs.Common.{◌≡◌, ◌≤◌, length, take, drop, map}
 use Rattle.std.specs.Str.Lines.{lines}
 use Rattle.asg_text.specs.AsnLines.{line_of}
-use Rattle.asg_text.specs.AsnArcs.{line_faults}
 use Rattle.asg_text.specs.Networks.{IsSound, IsNetworkOf}
 use Rattle.asg_text.proofs.asn.read_asn.Given as goal
 
--- so many lines are read, without a fault, and what they say is kept
+-- so many lines are read, and what they say is kept
 abbrev pub invariant-loop-first : goal.invariant-loop-first
 invariant-loop-first l = record {
   within : l.number ≤ length (map line_of (lines l.text));
   left : map line_of (lines l.rest) ≡ drop l.number (map line_of (lines l.text));
   kept : IsNetworkOf (take l.number (map line_of (lines l.text))) l.network;
   sound : IsSound l.network;
-  right : line_faults [] (map line_of (lines l.text)) ≡ line_faults (take l.number (map line_of (lines l.text))) (drop l.number (map line_of (lines l.text)));
 }
 
 abbrev pub decreases-loop-first : goal.decreases-loop-first

@@ -1,33 +1,38 @@
-use Rattle.std.proofs.Common.{ap, ◌∙◌, length, subst}
-use Rattle.std.specs.Map.Iter.{deref_pair}
-use Rattle.std.proofs.lemmas.Map.Iter.{rest_more, rest_all}
-use Rattle.asg_text.specs.Networks.{known_cost, firsts_between}
-use Rattle.asg_text.proofs.FilledTables.{IsFilled, none_filled, fill_more, all_filled}
-use Rattle.asg_text.proofs.LayoutLemmas.{length-firsts_between}
+use Rattle.std.proofs.Common.{◌≤◌, ◌∙◌, ap, sym, subst, length, arith}
+use Rattle.std.specs.Prelude.{All}
+use Rattle.asg_text.specs.AsnArcs.{targets}
+use Rattle.asg_text.specs.Layouts.{AreNodeIds, HasCell}
+use Rattle.asg_text.specs.Networks.{IsRightLink}
+use Rattle.asg_text.proofs.LayoutLemmas.{right_cells}
+use Rattle.asg_text.proofs.NetworkTables.{sources_are_ids, targets_are_ids, length-targets}
 use Rattle.asg_text.proofs.network.Network.firsts.Goals as goal
+use Rattle.asg_text.proofs.network.Network.firsts.Goals.{After-as_slice}
 
-pub loop-ends-init : goal.loop-ends-init
-loop-ends-init c =
-    let sources = c.in_ok-layout.layout.sources.now in
-    let targets = c.in_ok-layout.layout.targets.now in
-    none_filled sources targets c.args.self.now.costs.entries c.into_iter-ends-iterator.result c.in_ok-firsts.firsts.items (c.into_iter-ends-iterator.ensures.into_iter_gives ∙ c.iter-ends-items.ensures.rest) c.in_ok-firsts.ensures
+module _ (c : After-as_slice) where
+  nodes : All (λ id. (1 ≤ id) × (id ≤ c.args.nodes)) c.args.self.now.sources.items
+  nodes = subst (λ n. All (λ id. (1 ≤ id) × (id ≤ n)) c.args.self.now.sources.items) (sym c.requires.nodes) c.requires.sound.nodes
 
-pub put-requires-clause-whole : goal.put-requires-clause-whole
-put-requires-clause-whole c = ap length c.loop-ends.invariant.firsts_are ∙ length-firsts_between _ c.in_ok-layout.layout.sources.now c.in_ok-layout.layout.targets.now
+pub new-requires-clause-sources : goal.new-requires-clause-sources
+new-requires-clause-sources c =
+    subst (AreNodeIds c.args.nodes) (sym c.as_slice.ensures.value)
+    (sources_are_ids c.args.self.now.sources.items c.args.nodes c.requires.sound.differ (nodes c))
 
-pub loop-ends-preserved : goal.loop-ends-preserved
-loop-ends-preserved c =
-    let sources = c.in_ok-layout.layout.sources.now in
-    let targets = c.in_ok-layout.layout.targets.now in
-    let entries = c.args.self.now.costs.entries in
-    let left = rest_more deref_pair c.loop-ends.ends-iterator c.next.new.self c.next.result (c.in-Some.ends, c.in-Some.cost) c.in-Some.is c.next.ensures.steps in
-    fill_more sources targets entries c.next.new.self (c.in-Some.ends.now, c.in-Some.cost.now) c.loop-ends.firsts.items c.put.new.firsts.items c.iter-ends-items.ensures.unique
-    (subst (λ left. IsFilled sources targets entries left c.loop-ends.firsts.items) left c.loop-ends.invariant)
-    c.put.ensures
+pub new-requires-clause-targets : goal.new-requires-clause-targets
+new-requires-clause-targets c =
+    subst (AreNodeIds c.args.nodes) (sym c.requires.others)
+    (targets_are_ids c.args.self.now.sources.items c.args.nodes c.requires.sound.differ (nodes c))
 
-pub returns : goal.returns
-returns c =
-    let sources = c.in_ok-layout.layout.sources.now in
-    let targets = c.in_ok-layout.layout.targets.now in
-    all_filled sources targets c.args.self.now.costs.entries c.loop-ends.ends-iterator c.loop-ends.firsts.items c.loop-ends.invariant (rest_all deref_pair c.loop-ends.ends-iterator c.next.new.self c.next.result c.in-None.is c.next.ensures.steps)
-    ∙ (λ i. firsts_between (known_cost c.args.self.now) ((c.in_ok-layout.ensures.sources ∙ c.as_slice.ensures.keys) i) (c.in_ok-layout.ensures.targets i))
+pub new-requires-clause-few_columns : goal.new-requires-clause-few_columns
+new-requires-clause-few_columns c =
+    omega (arith, length-targets c.args.self.now.sources.items c.args.nodes c.requires.sound.differ (nodes c), ap length c.requires.others, c.requires.few_columns)
+
+pub fill-requires-clause-cells : goal.fill-requires-clause-cells
+fill-requires-clause-cells c =
+    let layout = c.in_ok-layout.layout in
+    let network = c.args.self.now in
+    let rows_are = c.in_ok-layout.ensures.sources ∙ c.as_slice.ensures.value in
+    subst (All (HasCell layout)) (sym c.as_slice-2.ensures.value)
+    (right_cells layout c.args.nodes network.links.items c.in_ok-layout.ensures.layout
+    (c.in_ok-layout.ensures.targets ∙ c.requires.others ∙ ap (λ ids. targets ids c.args.nodes) (sym rows_are))
+    (subst (λ ids. All (IsRightLink ids c.args.nodes) network.links.items) (sym rows_are)
+    (subst (λ n. All (IsRightLink network.sources.items n) network.links.items) (sym c.requires.nodes) c.requires.sound.links)))

@@ -1,9 +1,11 @@
-use Rattle.std.proofs.Common.{◌≡◌, [], ◌∷◌, ◌++◌, refl, sym, subst}
-use Rattle.asg_text.specs.AsnArcs.{faults_of_line}
-use Rattle.asg_text.specs.Networks.{IsNetworkOf}
-use Rattle.asg_text.proofs.NetworkLemmas.{empty_kept}
+use Rattle.std.proofs.Common.{◌∙◌, [], ◌++◌, subst}
+use Rattle.asg_text.specs.Networks.{twice_faults}
+use Rattle.asg_text.specs.Slots.{IsEarliest}
+use Rattle.asg_text.proofs.NetworkLemmas.{refuses_all}
 use Rattle.asg_text.proofs.network.Network.take.Goals as goal
 
-pub returns-in-Empty-clause-taken : goal.returns-in-Empty-clause-taken
-returns-in-Empty-clause-taken c = λ before is.
-    subst (λ line. (faults_of_line before c.args.number line ≡ []) × IsNetworkOf (before ++ line ∷ []) c.args.self.now) (sym c.in-Empty.is) (refl, empty_kept before c.args.self.now is)
+pub returns-in-Err-clause-refused : goal.returns-in-Err-clause-refused
+returns-in-Err-clause-refused c =
+    refuses_all c.args.number c.args.line c.args.self.now c.in-Err.refusal c.earliest.result
+    (λ faults is. subst (λ links. IsEarliest (twice_faults [] links ++ faults) c.earliest.result) (c.as_slice.ensures.value ∙ c.in-Err.ensures.kept) (c.earliest.ensures faults is))
+    c.in-Err.ensures.refused

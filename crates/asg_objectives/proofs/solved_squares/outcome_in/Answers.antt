@@ -8,7 +8,7 @@ use Rattle.asg_pool.specs.Forest.{IsLive, phases_to}
 use Rattle.asg_proof.specs.Phases.{worded}
 use Rattle.asg_square.specs.Cells.{IsPresent}
 use Rattle.asg_square.specs.Grid.{cell_at}
-use Rattle.asg_objectives.specs.FoldOutcomes.{AreFewPhases, GivesFewPhases}
+use Rattle.asg_proof.specs.PromisedProofs.{AreFewPhases, GivesFewPhases}
 use Rattle.asg_objectives.specs.SolvedSquares.{AreOfValues, IsBestBy, IsNothingBy, IsSquareOutcome}
 use Rattle.asg_objectives.proofs.LedSquares.{IsPerfect-present, admitted_values, IsFoldOutcome-best, IsFoldOutcome-nothing, GivesFewPhases-best, GivesFewPhases-nothing, HasLabelsOf-kept, AreFewPhases-words}
 use Rattle.asg_objectives.proofs.solved_squares.outcome_in.Goals as goal

@@ -1,5 +1,5 @@
 use Rattle.std.proofs.Common.{◌≡◌, subst, arith, length}
-use Rattle.asg_window.specs.Costs.{HasCosts}
+use Rattle.asg_model.specs.DifferentCosts.{HasCosts}
 use Rattle.asg_window.proofs.CostLemmas.{HasCosts-grades, count_fits}
 use Rattle.asg_window.proofs.outcomes.graded_outcome.Goals as goal
 

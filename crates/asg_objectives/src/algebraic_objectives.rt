@@ -26,12 +26,12 @@ use asg_proof::laws::tops_law;
 use asg_square::Square;
 use std::alloc::Global;
 
-/// A valid choice of least fold in the monoid of a kind, with at most as many phases as the side that
-/// prove its fold; where no choice is valid, a Hall set of the whole instance. So the choice is best for
-/// the kind's objective. The side of the instance's square is at most 2,000, the objective refuses no
-/// live cost of the instance, and the kind's reach is at least the cost limit. The error is want of
-/// memory. The time grows with the cube of the side at most, by shortest augmenting paths over a
-/// d-monoid [Burkard, Hahn and Zimmermann 1977].
+/// A valid choice of least fold in the monoid of a kind, with at most as many phases as the side
+/// that prove its fold; where no choice is valid, a Hall set of the whole instance. So the choice
+/// is best for the kind's objective. The side of the instance's square is at most 2,000, the
+/// objective refuses no live cost of the instance, and the kind's reach is at least the cost limit.
+/// The error is want of memory. The time grows with the cube of the side at most, by shortest
+/// augmenting paths over a d-monoid [Burkard, Hahn and Zimmermann 1977].
 pub fn algebraic<K: Kind>(alloc: Global, kind: &K, inst: &Instance) -> Result<Outcome, NoMemory>
 where
     K::M: SquareSolver,
@@ -119,11 +119,12 @@ fn by_grades(alloc: Global, inst: &Instance) -> Result<Outcome, NoMemory>
     algebraic(alloc, &TimeKind::new(), inst)
 }
 
-/// A best choice for an algebraic objective, with phases that prove it: at most as many as the side of
-/// the instance's square, each of 1 to side steps. Where no choice is valid, a Hall set of the whole
-/// instance. The objective is any but `Balanced` and `Lex`, it refuses no live cost of the instance
-/// (`asg_model::negative`), and the side is at most 2,000. The error is want of memory. The method and
-/// its time are those of [`algebraic`]; the sums of `sum` and `sum-max` are taken in 64 bits.
+/// A best choice for an algebraic objective, with phases that prove it: at most as many as the side
+/// of the instance's square, each of 1 to side steps. Where no choice is valid, a Hall set of the
+/// whole instance. The objective is any but `Balanced` and `Lex`, it refuses no live cost of the
+/// instance (`asg_model::negative`), and the side is at most 2,000. The error is want of memory.
+/// The method and its time are those of [`algebraic`]; the sums of `sum` and `sum-max` are taken in
+/// 64 bits.
 pub fn algebraic_assignment(
     alloc: Global,
     objective: Objective,

@@ -1,11 +1,11 @@
 //! The algebraic objectives: best choices with phases that prove them, or Hall sets.
 //!
-//! The square of an instance, its live costs entered into the monoid of the objective, is solved as an
-//! algebraic assignment problem. A perfect assignment by absorbed cells gives the choice, and the phases
-//! that were taken prove it, with each step as its word; rows with fewer present cells than they are
-//! give a Hall set of the whole instance. Contracts see the outcome alone. One call is generic in the
-//! kind of the objective, another chooses the kind by the objective. Programs solve the objectives of
-//! one instance here; rankings and sessions stand on the engine themselves.
+//! The square of an instance, its live costs entered into the monoid of the objective, is solved as
+//! an algebraic assignment problem. A perfect assignment by absorbed cells gives the choice, and
+//! the phases that were taken prove it, with each step as its word; rows with fewer present cells
+//! than they are give a Hall set of the whole instance. Contracts see the outcome alone. One call
+//! is generic in the kind of the objective, another chooses the kind by the objective. Programs
+//! solve the objectives of one instance here; rankings and sessions stand on the engine themselves.
 #![tactic(auto)]
 
 mod algebraic_objectives;

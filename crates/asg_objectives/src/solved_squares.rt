@@ -70,8 +70,8 @@ fn choice_by<V: Copy>(
     square.choice_of(alloc, columns.as_slice())
 }
 
-// The best choice and the phases that led to it. The square is let go of before they are written, and
-// their marks are moved out of the region.
+// The best choice and the phases that led to it. The square is let go of before they are written,
+// and their marks are moved out of the region.
 fn best_by<M: Written>(
     alloc: Global,
     m: &M,
@@ -192,9 +192,9 @@ fn outcome_in<M: SquareSolver>(
     }
 }
 
-/// Solves the square of an instance, whose present cells are values and whose free cells are units: a
-/// valid choice with phases that prove its fold, or a Hall set of the whole instance. The error is want
-/// of memory.
+/// Solves the square of an instance, whose present cells are values and whose free cells are units:
+/// a valid choice with phases that prove its fold, or a Hall set of the whole instance. The error
+/// is want of memory.
 pub(crate) fn outcome<M: SquareSolver>(
     alloc: Global,
     m: &M,

@@ -27,9 +27,9 @@ fn words_of<M: Written>(
     Ok(Phases::from_vec(words))
 }
 
-/// The phases of a trail in order, with each step as its word; none where there is no trail. The trail is
-/// live, and the steps are values. The region is given away, and the marks of the phases are moved out of
-/// it. The error is want of memory.
+/// The phases of a trail in order, with each step as its word; none where there is no trail. The
+/// trail is live, and the steps are values. The region is given away, and the marks of the phases
+/// are moved out of it. The error is want of memory.
 pub(crate) fn trail_phases<M: Written>(
     alloc: Global,
     m: &M,

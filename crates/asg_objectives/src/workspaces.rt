@@ -27,8 +27,8 @@ fn spare_region<V: Copy>(alloc: Global, side: u32) -> Result<Region<V>, NoMemory
 }
 
 impl<V: Copy> Workspace<V> {
-    /// A workspace for a side: no row has a column, no phase was pushed, and there is a record spare for
-    /// each row. The error is want of memory.
+    /// A workspace for a side: no row has a column, no phase was pushed, and there is a record
+    /// spare for each row. The error is want of memory.
     pub(crate) fn make(alloc: Global, side: u32) -> Result<Workspace<V>, NoMemory>
         ensures { IfOk result (IsReady side) }
     {

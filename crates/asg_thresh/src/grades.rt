@@ -94,8 +94,8 @@ fn grade_row(square: &mut Square<u32>, row: u32)
     }
 }
 
-/// Gives each absent cell of a square the grade of no cell, so that the square's values are the grades
-/// of all its cells. Takes no memory.
+/// Gives each absent cell of a square the grade of no cell, so that the square's values are the
+/// grades of all its cells. Takes no memory.
 pub(crate) fn grade_absent(square: &mut Square<u32>)
     requires { square.old.side ≤ most_side }
     ensures { Grades square.old square.new 0 (square.old.side * square.old.side) }

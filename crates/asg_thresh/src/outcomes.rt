@@ -91,10 +91,10 @@ fn outcome(
 }
 
 /// A best choice for a bottleneck objective, with the rows that prove it: a Hall set of the cells
-/// whose costs are strictly better than its value. Where no choice is valid, a Hall set of the whole
-/// instance. The objective is `Bottleneck` or `BottleneckMax`, and the side of the instance's square
-/// is at most 2,000. The error is want of memory. The time grows with the cube of the side for each
-/// of a few dozen limits at most (the threshold method, [Garfinkel 1971]).
+/// whose costs are strictly better than its value. Where no choice is valid, a Hall set of the
+/// whole instance. The objective is `Bottleneck` or `BottleneckMax`, and the side of the instance's
+/// square is at most 2,000. The error is want of memory. The time grows with the cube of the side
+/// for each of a few dozen limits at most (the threshold method, [Garfinkel 1971]).
 pub fn bottleneck(alloc: Global, objective: Objective, inst: &Instance) -> Result<Outcome, NoMemory>
     requires objective { IsBottleneck objective }
     requires side { square_side inst.now ≤ most_side }

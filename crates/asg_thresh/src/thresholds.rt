@@ -74,7 +74,8 @@ fn next_grade(grades: &[u32], side: u32, rows: &[u32], limit: u32) -> u32
     least
 }
 
-// A limit between two bounds: a step above the lower one while no assignment is known, then half-way.
+// A limit between two bounds: a step above the lower one while no assignment is known, then
+// half-way.
 fn middle(low: u32, high: u32, step: u32) -> u32
     requires { low < high }
     ensures low { low ≤ result }
@@ -87,12 +88,12 @@ fn middle(low: u32, high: u32, step: u32) -> u32
     }
 }
 
-/// The least limit within which a perfect assignment exists (the threshold method, [Garfinkel 1971]).
-/// It begins at the greatest of the rows' and the columns' least grades; limits are tried by value,
-/// first up by steps that double, then half-way between the bounds. Each search begins with the
-/// matching that the last one left. After a failure the lower bound is the least grade above the
-/// limit in the deficient rows. The time grows with the cube of the side for each limit, and there
-/// are about as many limits as a grade has bits.
+/// The least limit within which a perfect assignment exists (the threshold method, [Garfinkel
+/// 1971]). It begins at the greatest of the rows' and the columns' least grades; limits are tried
+/// by value, first up by steps that double, then half-way between the bounds. Each search begins
+/// with the matching that the last one left. After a failure the lower bound is the least grade
+/// above the limit in the deficient rows. The time grows with the cube of the side for each limit,
+/// and there are about as many limits as a grade has bits.
 pub(crate) fn least_threshold(
     alloc: Global,
     grades: &[u32],

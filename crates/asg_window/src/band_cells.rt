@@ -5,9 +5,9 @@ ghost use Rattle.std.specs.Prelude.{◌≡◌};
 use asg_match::Allowed;
 use asg_square::BitRows;
 
-/// The cells that are marked by a bit each, and the ends of the band of grades that they are of: the
-/// free cells and the live ones with a grade from `low` on and below `high`, which stand between the
-/// two places among the live cells in order.
+/// The cells that are marked by a bit each, and the ends of the band of grades that they are of:
+/// the free cells and the live ones with a grade from `low` on and below `high`, which stand
+/// between the two places among the live cells in order.
 #[derive(Drop)]
 pub(crate) struct BandCells {
     pub(crate) side: u32,

@@ -46,8 +46,8 @@ fn leave(bits: &mut BitRows, entries: &[Entry], from: usize, to: usize)
     }
 }
 
-// Marks the cells from one place on up to another, or takes the marks from those from the other place
-// on, where it stands below.
+// Marks the cells from one place on up to another, or takes the marks from those from the other
+// place on, where it stands below.
 fn shift(bits: &mut BitRows, entries: &[Entry], from: usize, to: usize)
     requires within { All (λ e. (e.row < bits.old.rows) × (e.column < bits.old.columns))
         entries.now }
@@ -95,8 +95,8 @@ impl BandCells {
         self.low = low;
     }
 
-    /// Moves the band to these ends, of which the lower one isn't less than it was: marks the cells that
-    /// enter, and takes the marks from those that leave. Takes no memory.
+    /// Moves the band to these ends, of which the lower one isn't less than it was: marks the cells
+    /// that enter, and takes the marks from those that leave. Takes no memory.
     pub(crate) fn move_to(&mut self, cells: &LiveCells<'_>, low: u32, high: u32)
         requires band { MarksBand cells.now.square.now cells.now.entries.now self.old }
         requires up { self.old.low ≤ low }

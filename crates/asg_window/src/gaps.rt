@@ -26,7 +26,8 @@ pub(crate) struct Gap {
     pub(crate) rows: Vec<u32>,
 }
 
-/// How far a sweep has come: the least spread so far, the lower end of the band, and the gaps below it.
+/// How far a sweep has come: the least spread so far, the lower end of the band, and the gaps below
+/// it.
 #[derive(Drop)]
 pub(crate) struct Ascent {
     pub(crate) spread: u32,
@@ -42,15 +43,16 @@ pub(crate) struct Least {
     pub(crate) gaps: Vec<Gap>,
 }
 
-/// What a sweep finds: an assignment of the least spread, or rows that are deficient in the whole square.
+/// What a sweep finds: an assignment of the least spread, or rows that are deficient in the whole
+/// square.
 #[derive(Drop)]
 pub(crate) enum Swept {
     Found(Least),
     Short(Vec<u32>),
 }
 
-// Raises the upper end of the band from the least grade on until it has a perfect assignment. False: the
-// whole square has none.
+// Raises the upper end of the band from the least grade on until it has a perfect assignment.
+// False: the whole square has none.
 fn rise(cells: &LiveCells<'_>, seeker: &mut Seeker) -> Result<bool, NoMemory>
     requires seeker { IsSeeker cells.now.square.now cells.now.entries.now seeker.old }
     requires low { seeker.old.band.low ≡ 1 }
@@ -73,8 +75,8 @@ fn rise(cells: &LiveCells<'_>, seeker: &mut Seeker) -> Result<bool, NoMemory>
     Ok(true)
 }
 
-// Adds the gap from the lower end of the band on and below a grade. The band moves up until it holds that
-// grade.
+// Adds the gap from the lower end of the band on and below a grade. The band moves up until it
+// holds that grade.
 fn add_gap(alloc: Global, ascent: &mut Ascent, next: u32, rows: &[u32]) -> Result<(), NoMemory>
     requires some { 0 < ascent.old.spread }
     requires above { ascent.old.low + ascent.old.spread ≤ next }
@@ -90,8 +92,8 @@ fn add_gap(alloc: Global, ascent: &mut Ascent, next: u32, rows: &[u32]) -> Resul
     Ok(())
 }
 
-// Looks for an assignment of a less spread in the band of as many grades as the least so far. One is
-// the seeker's from then on; where there is none, that is one gap more, and the band moves up.
+// Looks for an assignment of a less spread in the band of as many grades as the least so far. One
+// is the seeker's from then on; where there is none, that is one gap more, and the band moves up.
 fn ascend(
     alloc: Global,
     cells: &LiveCells<'_>,
@@ -143,14 +145,15 @@ fn lessen(
     })
 }
 
-/// An assignment of the least spread of a square, with the gaps that show it, or rows that are deficient
-/// in the whole square (the method of two moving ends, [Martello et al. 1984]). The lower end of the band
-/// stands at the least grade while the upper one rises to the first band with an assignment. From then on
-/// the band holds as many grades as the least spread so far: an assignment in it has a less spread, and
-/// where it has none, its deficient rows stay so up to the next grade that helps them, and the band moves
-/// up until it holds that grade. Each search begins with the matching that the last one left. The error is
-/// want of memory. There are at most twice as many searches as different grades, and the time of one
-/// grows with the cube of the side over 64, commonly with its square.
+/// An assignment of the least spread of a square, with the gaps that show it, or rows that are
+/// deficient in the whole square (the method of two moving ends, [Martello et al. 1984]). The lower
+/// end of the band stands at the least grade while the upper one rises to the first band with an
+/// assignment. From then on the band holds as many grades as the least spread so far: an assignment
+/// in it has a less spread, and where it has none, its deficient rows stay so up to the next grade
+/// that helps them, and the band moves up until it holds that grade. Each search begins with the
+/// matching that the last one left. The error is want of memory. There are at most twice as many
+/// searches as different grades, and the time of one grows with the cube of the side over 64,
+/// commonly with its square.
 pub(crate) fn sweep(alloc: Global, cells: &LiveCells<'_>) -> Result<Swept, NoMemory>
     requires { AreEntries cells.now.square.now cells.now.entries.now }
     ensures { IfOk result (IsSwept cells.now.square.now) }

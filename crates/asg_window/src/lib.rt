@@ -1,10 +1,11 @@
 //! Balanced assignment by windows of costs, for instances of every shape.
 //!
-//! The live cells of the square of an instance are taken in the order of their costs, and a band of costs
-//! moves over them: its cells are rows of bits, which change by the cells that enter or leave. A perfect
-//! assignment within the band lessens the best spread; rows that are deficient under the band, and stay
-//! so up to the next cost that helps them, make a window, and the band moves up past it. Contracts see
-//! the outcome alone: a valid choice with windows that prove its spread least, or a Hall set.
+//! The live cells of the square of an instance are taken in the order of their costs, and a band of
+//! costs moves over them: its cells are rows of bits, which change by the cells that enter or
+//! leave. A perfect assignment within the band lessens the best spread; rows that are deficient
+//! under the band, and stay so up to the next cost that helps them, make a window, and the band
+//! moves up past it. Contracts see the outcome alone: a valid choice with windows that prove its
+//! spread least, or a Hall set.
 #![tactic(auto)]
 
 mod band_cells;

@@ -16,8 +16,8 @@ use crate::live_cells::{Entry, LiveCells};
 use crate::words::{add_words, has_column};
 use std::alloc::Global;
 
-/// Some rows of a square, and the columns that they have in a band, as bits. Its memory serves one list
-/// of rows after another.
+/// Some rows of a square, and the columns that they have in a band, as bits. Its memory serves one
+/// list of rows after another.
 #[derive(Drop)]
 pub(crate) struct Reached {
     pub(crate) rows: Vec<bool>,
@@ -36,8 +36,8 @@ fn is_new(reached: &Reached, entry: Entry) -> bool
         && !has_column(reached.columns.as_slice(), usize::from(entry.column))
 }
 
-// The grade of the first entry from a place on whose row is one of the rows and whose column none of
-// them has, or no bound.
+// The grade of the first entry from a place on whose row is one of the rows and whose column none
+// of them has, or no bound.
 fn first_new(entries: &[Entry], from: usize, reached: &Reached) -> u32
     requires from_within { from ≤ length entries.now }
     requires rows { All (λ e. e.row < length reached.now.rows.items) entries.now }
@@ -95,8 +95,8 @@ impl Reached {
         }
     }
 
-    /// The least grade above the band of a live cell of these rows in a column that none of them has in
-    /// the band, or no bound.
+    /// The least grade above the band of a live cell of these rows in a column that none of them
+    /// has in the band, or no bound.
     pub(crate) fn next_grade(
         &mut self,
         cells: &LiveCells<'_>,

@@ -178,13 +178,13 @@ fn graded_outcome(
     Ok(outcome(alloc, inst, cells, grades.as_slice())?)
 }
 
-/// A best choice for the balanced objective, the least difference between the greatest and the least
-/// chosen cost, with at most 20,000 windows that prove it: where the value d is above 0, each cost v of a
-/// live cell has a window that holds the costs from v to v + d - 1 and whose rows are a Hall set of the
-/// cells of its costs. Where no choice is valid, a Hall set of the whole instance. The side of the
-/// instance's square is at most 2,000. The errors: the live cells have more than 20,000 different costs,
-/// or want of memory. A band of costs moves over the cells in their order, and keeps its matching (the
-/// method of two moving ends, [Martello et al. 1984]).
+/// A best choice for the balanced objective, the least difference between the greatest and the
+/// least chosen cost, with at most 20,000 windows that prove it: where the value d is above 0, each
+/// cost v of a live cell has a window that holds the costs from v to v + d - 1 and whose rows are a
+/// Hall set of the cells of its costs. Where no choice is valid, a Hall set of the whole instance.
+/// The side of the instance's square is at most 2,000. The errors: the live cells have more than
+/// 20,000 different costs, or want of memory. A band of costs moves over the cells in their order,
+/// and keeps its matching (the method of two moving ends, [Martello et al. 1984]).
 pub fn balanced(alloc: Global, inst: &Instance) -> Result<Outcome, BalancedRefusal>
     requires { square_side inst.now ≤ most_side }
     ensures outcome { IfOk result (IsOutcome Balanced inst.now) }

@@ -18,8 +18,8 @@ use crate::next_grades::Reached;
 use asg_match::{Matching, Tree, complete, prune};
 use std::alloc::Global;
 
-/// Looks for perfect assignments within one band after another, each time from the matching that the
-/// last search left, and keeps what it found.
+/// Looks for perfect assignments within one band after another, each time from the matching that
+/// the last search left, and keeps what it found.
 #[derive(Drop)]
 pub(crate) struct Seeker {
     band: BandCells,
@@ -110,8 +110,8 @@ impl Seeker {
         Ok(false)
     }
 
-    // Lengthens the matching as far as the marked cells allow. True: the list of columns is a perfect
-    // assignment. False: the rows are deficient, and the columns as before.
+    // Lengthens the matching as far as the marked cells allow. True: the list of columns is a
+    // perfect assignment. False: the rows are deficient, and the columns as before.
     fn is_completed(&mut self) -> Result<bool, NoMemory>
         requires sides { HaveSide self.old.band.side self.old }
         ensures sides { HaveSide self.old.band.side self.new }
@@ -155,9 +155,9 @@ impl Seeker {
     }
 
     /// Looks for a perfect assignment within the band from one grade on and below another, of which
-    /// the first isn't less than that of the last search. `None`: the list of columns is one. Else the
-    /// rows are deficient, and stay so up to the grade, which is at least the upper end; the columns
-    /// are as before.
+    /// the first isn't less than that of the last search. `None`: the list of columns is one. Else
+    /// the rows are deficient, and stay so up to the grade, which is at least the upper end; the
+    /// columns are as before.
     pub(crate) fn test(
         &mut self,
         cells: &LiveCells<'_>,

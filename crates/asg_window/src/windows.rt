@@ -83,8 +83,8 @@ fn last_gap(gaps: &[Gap], from: usize, grade: u32) -> usize
     place
 }
 
-// Adds the window of the last gap from a place on that begins at a grade or below it. The answer is the
-// place of the gap.
+// Adds the window of the last gap from a place on that begins at a grade or below it. The answer is
+// the place of the gap.
 fn add_window(
     alloc: Global,
     inst: &Instance,
@@ -106,8 +106,8 @@ fn add_window(
     Ok(place)
 }
 
-/// The windows of those gaps that are needed: for each grade of a list, which ascends, one holds the
-/// spread from there on.
+/// The windows of those gaps that are needed: for each grade of a list, which ascends, one holds
+/// the spread from there on.
 pub(crate) fn windows_of(
     alloc: Global,
     inst: &Instance,

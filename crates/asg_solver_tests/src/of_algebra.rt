@@ -1,5 +1,5 @@
 //! Tests of `asg_algebra`.
 
-mod samples;
+pub(crate) mod samples;
 mod solver_tests;
 mod tests;

@@ -6,6 +6,7 @@ ghost use Rattle.asg_monoids.specs.BoundedSums.{bounded_sums, narrow_top};
 
 use super::{FIRST, FIRST_ENTERS, FIRST_INDEX, FIRST_LEAVES};
 use crate::of_admit::samples::{blank, fill_row, reduced_of};
+use crate::of_algebra::samples::{column_of, put};
 use asg_admit::{NarrowRow, NarrowSquare, Reduced, Replayed, admits, are_values};
 use asg_model::Cost;
 use asg_monoids::NarrowSums;
@@ -182,5 +183,51 @@ fn replays_phases_in_64_bits(rt: HostRuntime) -> Result<(), Fail> {
     );
     assert!(rt; is_narrow_now(&narrow, &FIRST));
     assert!(rt; u128::from(narrow.index()) == FIRST_INDEX);
+    Ok(())
+}
+
+// A square of 64 rows: the value 7 at each column of the first row, and 0 in the others.
+fn sevens(alloc: Global) -> Result<Option<NarrowSquare>, NoMemory> {
+    let inst = column_of(alloc, 64)?;
+    if inst.side() != 64 {
+        return Ok(None);
+    }
+    let mut square = Square::of(alloc, &inst, 0, &nothing)?;
+    put(&mut square, &[Some(7); 64]);
+    match reduced_of(&NarrowSums, square) {
+        Some(reduced) => Ok(Some(NarrowSquare::make(alloc, reduced)?)),
+        None => Ok(None),
+    }
+}
+
+// The columns of the first row at which a sum with the value is less than the key, as bits.
+fn lesser(square: &NarrowSquare, sum: u64, keys: &[u64; 64]) -> Option<u64> {
+    if square.side() != 64 {
+        return None;
+    }
+    Some(square.row(0).lesser(sum, keys, 0))
+}
+
+// A key of 9 at each column.
+const NINES: [u64; 64] = [9; 64];
+
+// The same with 10 at the first column and the last but one.
+fn two_tens() -> [u64; 64] {
+    let mut keys = NINES;
+    keys[0] = 10;
+    keys[62] = 10;
+    keys
+}
+
+// A sum of 7 and 2 is 9 at each column: less than a key of 10, and not less than one of 9.
+#[test]
+fn tells_the_columns_at_which_a_sum_is_less(rt: HostRuntime) -> Result<(), Fail> {
+    let Some(square) = sevens(rt.alloc())? else {
+        assert!(rt; false);
+        return Ok(());
+    };
+    assert!(rt; lesser(&square, 2, &NINES) == Some(0));
+    assert!(rt; lesser(&square, 2, &two_tens()) == Some(1 + (1 << 62)));
+    assert!(rt; lesser(&square, 1, &two_tens()) == Some(u64::MAX));
     Ok(())
 }

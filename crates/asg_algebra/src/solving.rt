@@ -104,7 +104,8 @@ pub(crate) fn serve_all<M: DMonoid, S: ReducedSquare<M>>(
     Progress::Ended(Solved::Perfect(last))
 }
 
-/// Gives every row a column by an absorbed cell, by shortest augmenting paths over a d-monoid
+/// Gives every row a column by an absorbed cell, by shortest augmenting paths
+/// ([Tomizawa 1971], [Jonker and Volgenant 1987]) over a d-monoid
 /// [Burkard, Hahn and Zimmermann 1977], each followed by at most one phase that is pushed on the
 /// trail before it.
 ///

@@ -6,7 +6,8 @@
 //! are replayed on a square of the instance, and their index compared with the choice's fold; the
 //! rows of windows are tested as Hall sets, and the windows for gaps. Contracts see a document by
 //! what it claims, and an instance by its rows, columns and costs; a law says that what certifies
-//! is true. It stands on no solver: a user can trust an answer without one.
+//! is true. It stands on no solver: a user can trust an answer without one (certifying
+//! algorithms, [McConnell et al. 2011]).
 #![tactic(auto)]
 
 mod checker;

@@ -1,3 +1,5 @@
+//! The cells that an assignment may use.
+
 ghost use Rattle.std.specs.Prelude.{ℕ, ◌+◌, ◌*◌, ◌<◌, ◌^◌, ◌↔◌, IsTrue};
 ghost use Rattle.asg_match.specs.ColumnSet.{HasBit, AreAmong};
 

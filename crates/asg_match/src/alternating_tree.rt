@@ -1,3 +1,5 @@
+//! Alternating trees.
+
 ghost use Rattle.std.specs.Prelude.{◌≡◌, ◌≢◌, ℕ, ◌<◌, [], IfOk, All, AllPairs};
 
 use crate::NoMemory;

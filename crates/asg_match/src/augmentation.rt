@@ -1,3 +1,5 @@
+//! Augmenting a matching by one row.
+
 ghost use Rattle.std.specs.Prelude.{◌≡◌, ℕ, ◌<◌, length, None};
 ghost use Rattle.asg_match.specs.Matching.{column_at, IsMatching, AllAllowed};
 ghost use Rattle.asg_match.specs.Augmentation.{IsLonger, IsStuck};

@@ -1,3 +1,5 @@
+//! Sets of columns, as words of bits.
+
 ghost use Rattle.std.specs.Prelude.{◌≡◌, ◌≢◌, ℕ, ◌<◌, ◌↔◌, length};
 ghost use Rattle.asg_match.specs.ColumnSet.{HasBit, HasColumn, IsColumnSet, word_count};
 

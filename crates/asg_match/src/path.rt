@@ -1,3 +1,5 @@
+//! Flipping an augmenting path.
+
 ghost use Rattle.std.specs.Prelude.{◌≡◌, ◌<◌, length, slice_index};
 ghost use Rattle.asg_match.specs.Matching.{IsFree};
 ghost use Rattle.asg_match.specs.Alternating.{IsTree, HasParent, IsReached};
@@ -17,7 +19,8 @@ fn parent(tree: &Branches, column: u32) -> u32
 }
 
 /// Gives the exit's column to the exit's row, that row's former column to the row that reached it,
-/// and so on up to the root: the root and every row that had a column have one. It takes no memory.
+/// and so on up to the root: the root and every row that had a column have one (a matching is
+/// lengthened along an augmenting path, [Berge 1957]). It takes no memory.
 pub fn flip(matching: &mut Matching, tree: &Branches, exit: Exit)
     requires grown { IsTree matching.old tree.now.rows.items (parents_in tree.now) }
     requires place_within { exit.place < length tree.now.rows.items }

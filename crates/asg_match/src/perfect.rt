@@ -1,3 +1,5 @@
+//! Perfect assignments, and rows that show that there is none.
+
 ghost use Rattle.std.specs.Prelude.{◌≡◌, ◌↔◌, ℕ, ◌<◌, List, Option, IfOk, length};
 ghost use Rattle.std.specs.Bool.{OnTrue, OnFalse};
 ghost use Rattle.asg_match.specs.Matching.{IsMatched, AllAllowed, IsPerfect};

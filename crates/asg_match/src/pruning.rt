@@ -1,3 +1,5 @@
+//! Taking columns from rows whose cells are no longer allowed.
+
 ghost use Rattle.std.specs.Prelude.{◌≡◌, ℕ, ◌<◌, ◌↔◌, IsTrue, length};
 ghost use Rattle.asg_match.specs.Matching.{Matches, AllAllowed};
 

@@ -12,7 +12,8 @@ use crate::limits::{MOST_COLUMNS, MOST_ROWS};
 use crate::parts::Column;
 use crate::reach::reach_id;
 
-/// Whether the rows, by id, are a Hall set under the band (Hall's condition with deficiency):
+/// Whether the rows, by id, are a Hall set under the band (Hall's condition with deficiency,
+/// [Ore 1955]):
 /// counted rows, none named twice, that are more than the columns which they reach by live cells of
 /// the band can hold, even where as many of them stay out as a valid choice may leave out. It takes
 /// no memory, and time in proportion to the cells of the rows where the costs stand in a table.

@@ -79,7 +79,7 @@ pub fn decision_law()
 {}
 
 /// The Hall law: an instance with a Hall set under a band has no valid choice whose cells all lie
-/// in the band.
+/// in the band ([Hall 1935]; also where rows stay out, [Ore 1955]).
 pub fn hall_law()
     ensures { (X : Problem) (band : Band) (ids : List ℕ) (f : List (Option ℕ)) →
         IsHall X band ids → IsValid X f → LiesIn X band f → ⊥ }

@@ -37,7 +37,7 @@ pub trait Ordered {
     ghost laws: { (m : Self) → IsOrderedMonoid (monoid_of m) };
 }
 
-/// An ordered monoid with differences.
+/// An ordered monoid with differences: a d-monoid [Zimmermann 1981].
 pub trait DMonoid: Ordered {
     // The least z for which y is at most the product of x and z, by y and then x.
     ghost difference: { Self → Self.Value → Self.Value → Self.Value };

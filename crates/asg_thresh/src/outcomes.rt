@@ -90,7 +90,8 @@ fn outcome(
     })
 }
 
-/// A best choice for a bottleneck objective, with the rows that prove it: a Hall set of the cells
+/// A best choice for a bottleneck objective [Fulkerson, Glicksberg and Gross 1953], with the rows
+/// that prove it: a Hall set of the cells
 /// whose costs are strictly better than its value. Where no choice is valid, a Hall set of the
 /// whole instance. The objective is `Bottleneck` or `BottleneckMax`, and the side of the instance's
 /// square is at most 2,000. The error is want of memory. The time grows with the cube of the side

@@ -69,7 +69,7 @@ fn run_made(
 }
 
 // A run with these words, and then these options, over a sink with this room.
-fn run_within(
+pub(crate) fn run_within(
     alloc: Global,
     room: u32,
     words: &[&str],

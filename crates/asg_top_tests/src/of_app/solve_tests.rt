@@ -2,7 +2,7 @@
 
 use crate::of_app::algebraic_runs::ALGEBRAIC;
 use crate::of_app::check_tests::{Faulty, is_stopped};
-use crate::of_app::memory_runs::{CASES, Case, Ran, THREE, ends, held, run_over};
+use crate::of_app::memory_runs::{CASES, Case, Ran, THREE, ends, held, run_over, run_within};
 use asg_app::Status;
 use std::alloc::{AllocError, Global};
 use std::test::Fail;
@@ -297,5 +297,37 @@ fn faults_of_shelf_and_sink(rt: HostRuntime) -> Result<(), Fail> {
         assert!(rt; is_stopped(rt.alloc(), case)?);
     }
     assert_eq!(rt; Status::TooLong.code(), 10);
+    Ok(())
+}
+
+// Adds the products of a number and the numbers from 1 to 800, each with a space behind it.
+fn add_products(alloc: Global, number: u32, file: &mut String) -> Result<(), AllocError> {
+    for other in 1..801u32 {
+        let cost = number.wrapping_mul(other);
+        let part = format!(in alloc; "{cost} ")?;
+        file.push_str(part.as_str())?;
+    }
+    Ok(())
+}
+
+// The square of side 800 whose costs are the products of the numbers of row and column.
+fn products(alloc: Global) -> Result<String, AllocError> {
+    let mut file = String::from_str(alloc, "800\n")?;
+    for number in 1..801u32 {
+        add_products(alloc, number, &mut file)?;
+    }
+    Ok(file)
+}
+
+// The greatest numbers meet the least ones: 801 * 800 * 801 / 2 - 800 * 801 * 1601 / 6.
+const LEAST_PRODUCTS: &[u8] =
+    b"assignment 1\ncommand solve\nobjective sum\nstatus best\nvalue 85653600\n";
+
+#[test]
+fn a_sum_over_eight_hundred_rows(rt: HostRuntime) -> Result<(), Fail> {
+    let file = products(rt.alloc())?;
+    let files = held(file.as_bytes(), b"");
+    let ran = run_within(rt.alloc(), 16_000_000, &["solve", "sum", "f"], &[], files)?;
+    assert!(rt; ran.code == 0 && ran.written.starts_with(LEAST_PRODUCTS));
     Ok(())
 }

@@ -1,5 +1,5 @@
 -- The costs of a valid choice of an instance lie between its least one and as much more as its spread.
-use Rattle.std.proofs.Common.{◌≡◌, ℕ, suc, ◌+◌, ◌≤◌, true, List, [], ◌∷◌, length, refl, arith, ap, sym, subst, ℤ, pos, ◌+ℤ◌, ◌-ℤ◌, ◌≤ℤ◌, ⊎_elim}
+use Rattle.std.proofs.Common.{◌≡◌, ℕ, suc, ◌≤◌, true, List, [], ◌∷◌, length, refl, arith, ap, sym, subst, ℤ, pos, ◌+ℤ◌, ◌-ℤ◌, ◌≤ℤ◌, ⊎_elim}
 use Rattle.std.specs.Prelude.{Option, Some, None, is_some, All, Contains, fold, filter_map, slice_get, count_by, option_and_then, int_le, ◌&&◌}
 use Rattle.std.specs.Int.{int_min}
 use Rattle.std.specs.List.{range_with_len, cons_option}
@@ -13,7 +13,7 @@ use Rattle.asg_model.specs.declared.objectives.Value.TheVariants.{One, Two, Many
 use Rattle.asg_model.specs.declared.parts.Cost.{Cost}
 use Rattle.asg_model.specs.declared.parts.Place.{Place}
 use Rattle.asg_model.specs.declared.parts.Place.TheVariants.{All as PlaceAll, Exactly}
-use Rattle.asg_model.specs.Counts.{active_count, placed, placed_by}
+use Rattle.asg_model.specs.Counts.{active_count, placed_by}
 use Rattle.asg_model.specs.Extremes.{greatest, least}
 use Rattle.asg_model.specs.Instances.{IsInstance, IsPlaceInRange}
 use Rattle.asg_model.specs.Live.{live_at}

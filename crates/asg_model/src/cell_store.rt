@@ -1,6 +1,6 @@
 //! Where the costs of an instance stand.
 
-ghost use Rattle.std.specs.Prelude.{◌≡◌, ℕ, ◌+◌, ◌*◌, ◌<◌, ◌≤◌, length, pos, take, drop, OnSome, IfSome, slice_get, slice_index_or, option_and_then, if◌then◌else◌};
+ghost use Rattle.std.specs.Prelude.{◌≡◌, ℕ, ◌+◌, ◌*◌, ◌<◌, ◌≤◌, None, length, pos, take, drop, OnSome, IfSome, slice_get, slice_index_or, option_and_then, if◌then◌else◌};
 ghost use Rattle.std.specs.Ordering.{int_eq};
 ghost use Rattle.asg_model.specs.Limits.{most_columns};
 ghost use Rattle.asg_model.specs.Live.{cost_at};
@@ -75,6 +75,7 @@ pub(crate) fn table_row(rows: usize, columns: usize, firsts: &[i64], row: u32) -
     requires few { columns ≤ most_columns }
     requires whole { length firsts.now ≡ rows * columns }
     ensures there { OnSome result (row < rows) }
+    ensures past { result ≡ None → rows ≤ row }
     ensures costs { IfSome result
         (λ costs. costs.now ≡ take columns (drop (row * columns) firsts.now)) }
 {
@@ -108,6 +109,7 @@ pub(crate) fn table_parts<'a>(
     requires few { columns ≤ most_columns }
     requires whole { length firsts.now ≡ rows * columns }
     ensures there { OnSome result (row < rows) }
+    ensures past { result ≡ None → rows ≤ row }
     ensures parts { IfSome result (λ parts.
         AreTableParts columns firsts.now seconds.now row parts.firsts.now parts.seconds.now) }
 {

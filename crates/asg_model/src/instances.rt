@@ -1,10 +1,11 @@
 //! Instances.
 
-ghost use Rattle.std.specs.Prelude.{◌≡◌, ◌<◌, ◌^◌, [], length, All, IfSome};
+ghost use Rattle.std.specs.Prelude.{◌≡◌, ◌<◌, ◌≤◌, ℕ, ◌^◌, [], None, length, All, IfSome, slice_index_or};
 ghost use Rattle.asg_model.specs.Problem.{problem_of};
 
 use crate::cell_store::{CellStore, table_cell, table_parts, table_row};
 use crate::parts::{Column, Cost, Place, Row, RowParts};
+use crate::row_rooms::RowRoom;
 use std::collections::BTreeMap;
 use std::marker::Model;
 
@@ -34,7 +35,7 @@ impl Instance {
     ghost use Rattle.asg_model.specs.Instances.{IsWellFormed, IsInstance, IsCostInRange};
     ghost use Rattle.asg_model.specs.Live.{is_active, is_open, cost_at, live_at};
     ghost use Rattle.asg_model.specs.Counts.{active_count, placed, slack, is_counted};
-    ghost use Rattle.asg_model.specs.Table.{table_cells, IsTable, AreRowCosts, AreRowParts};
+    ghost use Rattle.asg_model.specs.Table.{absent, table_cost, table_cells, IsTable, AreRowCosts, AreRowParts};
 
     /// The instance of these parts. It takes no memory.
     pub fn with(
@@ -181,12 +182,9 @@ impl Instance {
         }
     }
 
-    /// The first parts of the costs of the cells of a row, column by column, live or not,
-    /// [`ABSENT`] exactly where there is no cell; `None` where they don't stand side by side, or
-    /// past the last row.
-    ///
-    /// [`ABSENT`]: crate::ABSENT
-    pub fn row_costs(&self, row: u32) -> Option<&[i64]>
+    // The first parts of the costs of the cells of a row, column by column, live or not,
+    // [`ABSENT`] exactly where there is no cell, where they stand side by side.
+    pub(crate) fn row_costs(&self, row: u32) -> Option<&[i64]>
         ensures { IfSome result (λ costs. AreRowCosts self.now row costs.now) }
     {
         match &self.store {
@@ -202,14 +200,16 @@ impl Instance {
         }
     }
 
-    /// Both parts of the costs of the cells of a row, column by column, live or not; `None` where
-    /// they don't stand side by side, or past the last row. So a loop over a row needs no look-up.
-    pub fn row_parts(&self, row: u32) -> Option<RowParts<'_>>
-        ensures { IfSome result (λ parts.
+    /// Both parts of the costs of the cells of a row, column by column, live or not; `None` exactly
+    /// past the last row. A loop over a row needs no look-up then: a table has them side by side,
+    /// and from a map they are read into the room.
+    pub fn row_parts<'a>(&'a self, row: u32, room: &'a mut RowRoom) -> Option<RowParts<'a>>
+        ensures parts { IfSome result (λ parts.
             AreRowParts self.now row parts.firsts.now parts.seconds.now) }
+        ensures past { result ≡ None → length self.now.rows ≤ row }
     {
         match &self.store {
-            CellStore::Map(_) => None,
+            CellStore::Map(_) => self.map_parts(row, room),
             CellStore::Table { firsts, seconds } => table_parts(
                 self.rows().len(),
                 self.columns().len(),
@@ -217,6 +217,30 @@ impl Instance {
                 seconds.as_slice(),
                 row,
             ),
+        }
+    }
+
+    // The same, read into the room.
+    fn map_parts<'a>(&self, row: u32, room: &'a mut RowRoom) -> Option<RowParts<'a>>
+        ensures parts { IfSome result (λ parts.
+            AreRowParts self.now row parts.firsts.now parts.seconds.now) }
+        ensures past { result ≡ None → length self.now.rows ≤ row }
+    {
+        if (row as usize) < self.rows().len() {
+            self.read_row(row, room);
+            Some(room.parts(self.columns().len()))
+        } else {
+            None
+        }
+    }
+
+    // Reads the costs of a row into the room, cell by cell.
+    fn read_row(&self, row: u32, room: &mut RowRoom)
+        ensures { (c : ℕ) → c < length self.now.columns → cost_at self.now.cells row c
+            ≡ table_cost room.new.seconds c (slice_index_or room.new.firsts c absent) }
+    {
+        for col in 0..self.columns().len() as u32 {
+            room.put(col, self.cell(row, col));
         }
     }
 

@@ -25,6 +25,7 @@ mod objectives;
 mod parts;
 mod places;
 mod reach;
+mod row_rooms;
 mod shapes;
 mod sums;
 mod validity;
@@ -40,6 +41,7 @@ pub use negatives::negative;
 pub use objective_words::{uncapped_named, word_front};
 pub use objectives::{Costs, Objective, Value};
 pub use parts::{ABSENT, Column, Cost, Place, PlaceRange, Row, RowParts};
+pub use row_rooms::RowRoom;
 pub use validity::is_valid;
 pub use valuation::value;
 

@@ -1,5 +1,5 @@
 -- A column that is chosen is there, so the columns that are there are all that matter.
-use Rattle.std.proofs.Common.{ℕ, ◌<◌, ◌≤◌, length, refl, ap, ⊎_elim, arith}
+use Rattle.std.proofs.Common.{◌<◌, ◌≤◌, length, refl, ap, ⊎_elim, arith}
 use Rattle.std.proofs.lemmas.Bool.{cases_lt}
 use Rattle.asg_model.proofs.Takers.{none_past}
 use Rattle.asg_model.proofs.validity.are_within.Goals as goal

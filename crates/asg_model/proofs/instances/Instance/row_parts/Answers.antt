@@ -1,11 +1,10 @@
 -- A row of the table has both parts of the row's costs.
-use Rattle.std.proofs.Common.{◌≡◌, ◌<◌, ◌∙◌, ℕ, ap, sym, subst, length, List, ℤ}
+use Rattle.std.proofs.Common.{◌<◌, ◌∙◌, ap, subst, length, List}
 use Rattle.std.specs.Prelude.{Option, Some, None, IfSome, OnSome}
 use Rattle.asg_model.specs.declared.parts.Row.{Row}
 use Rattle.asg_model.specs.declared.parts.Column.{Column}
-use Rattle.asg_model.specs.declared.parts.Cost.{Cost}
 use Rattle.asg_model.specs.Live.{cost_at}
-use Rattle.asg_model.specs.Table.{AreTableParts, AreRowParts}
+use Rattle.asg_model.specs.Table.{AreTableParts}
 use Rattle.asg_model.proofs.Tables.{cells_are}
 use Rattle.asg_model.proofs.instances.Instance.row_parts.Goals as goal
 
@@ -13,8 +12,8 @@ both : {A : Type 0} (o : Option A) (Q : Type 0) (P R : A → Type 0) → OnSome 
 both None Q P R q p h = tt
 both (Some x) Q P R q p h = h x q p
 
-pub returns-in-Table : goal.returns-in-Table
-returns-in-Table c =
+pub returns-in-Table-clause-parts : goal.returns-in-Table-clause-parts
+returns-in-Table-clause-parts c =
     let X = c.args.self.now in
     let inside = c.self.inside in
     let rows = ap (λ (list : List Row). length list) c.rows.ensures.rows in

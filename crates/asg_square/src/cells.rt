@@ -15,7 +15,7 @@ ghost use Rattle.asg_square.specs.Presence.{is_labelled_within};
 use crate::cell_tables::CellTable;
 use crate::pieces::extra_cell;
 use crate::rows::{ColumnLabels, are_all_open, column_labels, row_parts};
-use asg_model::{Cost, Instance, Place, RowParts};
+use asg_model::{Cost, Instance, Place, RowParts, RowRoom};
 
 // Writes the cells of the square, row by row.
 pub(crate) fn fill_cells<V: Copy, E: Fn(Cost) -> V>(
@@ -40,6 +40,7 @@ pub(crate) fn fill_cells<V: Copy, E: Fn(Cost) -> V>(
     let side = cells.side();
     let are_open = are_all_open(inst);
     let labels = column_labels(columns);
+    let mut room = RowRoom::new();
     for r in 0..side {
         fill_row(
             inst,
@@ -47,6 +48,7 @@ pub(crate) fn fill_cells<V: Copy, E: Fn(Cost) -> V>(
             enter,
             rows[r as usize],
             are_open,
+            &mut room,
             &labels,
             r,
             cells,
@@ -62,6 +64,7 @@ fn fill_row<V: Copy, E: Fn(Cost) -> V>(
     enter: &E,
     row: Option<u32>,
     are_open: bool,
+    room: &mut RowRoom,
     columns: &ColumnLabels<'_>,
     r: u32,
     cells: &mut CellTable<V>,
@@ -78,7 +81,7 @@ fn fill_row<V: Copy, E: Fn(Cost) -> V>(
     ensures present { FillsRow cells.old.side (is_present_at cells.old) (is_present_at cells.new) r
         columns.now.labels.now (is_labelled_within inst.now Whole row) }
 {
-    match row_parts(inst, row, are_open) {
+    match row_parts(inst, row, are_open, room) {
         Some(parts) => fill_pieces(inst, free, enter, row, parts, columns, r, cells),
         None => fill_one_by_one(inst, free, enter, row, columns.labels, r, cells),
     }

@@ -14,7 +14,7 @@ ghost use Rattle.asg_square.specs.Presence.{is_labelled_within};
 use crate::cell_tables::CellTable;
 use crate::labels::is_active;
 use crate::pieces::row_piece;
-use asg_model::{Cost, Instance, Place, RowParts};
+use asg_model::{Cost, Instance, Place, RowParts, RowRoom};
 
 // What the columns of the square are copies of. The first `plain` of them are the only copies of
 // the columns at their places.
@@ -70,22 +70,28 @@ pub(crate) fn are_all_open(inst: &Instance) -> bool
     true
 }
 
-// The parts of the costs of a row where they stand side by side and all its cells are live.
-fn live_row(inst: &Instance, i: u32) -> Option<RowParts<'_>>
+// The parts of the costs of a row all whose cells are live, read into the room where they don't
+// stand side by side.
+fn live_row<'a>(inst: &'a Instance, i: u32, room: &'a mut RowRoom) -> Option<RowParts<'a>>
     requires { AreAllOpen inst.now }
     ensures { IfSome result (λ parts.
         IsLiveRow inst.now i parts.firsts.now parts.seconds.now) }
 {
     if is_active(inst, i) {
-        inst.row_parts(i)
+        inst.row_parts(i, room)
     } else {
         None
     }
 }
 
 // What the cells of a row with this label are made of, 64 at a time: nothing where it isn't
-// counted, else the parts of its costs, where they stand side by side and all its cells are live.
-pub(crate) fn row_parts(inst: &Instance, row: Option<u32>, are_open: bool) -> Option<RowParts<'_>>
+// counted, else the parts of its costs, where all its cells are live.
+pub(crate) fn row_parts<'a>(
+    inst: &'a Instance,
+    row: Option<u32>,
+    are_open: bool,
+    room: &'a mut RowRoom,
+) -> Option<RowParts<'a>>
     requires { IsTrue are_open → AreAllOpen inst.now }
     ensures { IfSome result (λ parts.
         IfSome row (λ i. IsLiveRow inst.now i parts.firsts.now parts.seconds.now)) }
@@ -95,7 +101,7 @@ pub(crate) fn row_parts(inst: &Instance, row: Option<u32>, are_open: bool) -> Op
             firsts: &[],
             seconds: &[],
         }),
-        Some(i) if are_open => live_row(inst, i),
+        Some(i) if are_open => live_row(inst, i, room),
         Some(_) => None,
     }
 }

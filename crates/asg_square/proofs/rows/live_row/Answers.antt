@@ -14,5 +14,5 @@ returns-then-is_active c =
     let X = c.args.inst.now in
     weaker c.row_parts.result (λ parts. AreRowParts X c.args.i parts.firsts.now parts.seconds.now)
     (λ parts. IsLiveRow X c.args.i parts.firsts.now parts.seconds.now)
-    c.row_parts.ensures
+    c.row_parts.ensures.parts
     (λ parts are. live_of_parts X c.args.i parts.firsts.now parts.seconds.now (sym c.if-is_active.ensures) c.requires are)

@@ -21,7 +21,8 @@ pub(crate) struct Cell<'a> {
     pub(crate) rest: &'a [u8],
 }
 
-/// The cell that a text begins with, whose token stands at this place; `None` at the end of the text.
+/// The cell that a text begins with, whose token stands at this place; `None` at the end of the
+/// text.
 #[inline]
 pub(crate) fn next_cell<'a>(text: &'a [u8], place: u64) -> Result<Option<Cell<'a>>, TextRefusal>
     ensures cell { IfOk result (λ next.
@@ -47,8 +48,9 @@ fn short_cell<'a>(text: &'a [u8]) -> Option<Cell<'a>>
     }
 }
 
-// The cell that begins with this integer, of which this is the text behind it: the integer alone, where
-// a separator stands there, which is taken with it, or a pair; `None` tells nothing of the text.
+// The cell that begins with this integer, of which this is the text behind it: the integer alone,
+// where a separator stands there, which is taken with it, or a pair; `None` tells nothing of the
+// text.
 #[inline(always)]
 fn cell_from<'a>(first: i64, behind: &'a [u8]) -> Option<Cell<'a>>
     ensures { IfSome result (λ cell. (text : List ℕ) (place : ℕ)
@@ -91,8 +93,8 @@ fn behind_colon<'a>(text: &'a [u8]) -> Option<&'a [u8]>
     Some(&text[1..])
 }
 
-// The absent cell that a text begins with, where a separator stands behind it, which is taken with it;
-// `None` tells nothing of the text.
+// The absent cell that a text begins with, where a separator stands behind it, which is taken with
+// it; `None` tells nothing of the text.
 #[inline(always)]
 fn short_absent_cell<'a>(text: &'a [u8]) -> Option<Cell<'a>>
     ensures { IfSome result (λ cell. (place : ℕ) → IsCell place text.now cell.cost cell.rest.now) }
@@ -161,8 +163,8 @@ fn is_absent(token: &[u8]) -> bool
     token == b"-".as_slice()
 }
 
-// The cost that a token spells, or `Some(None)` where a part is out of range; `None` where it spells
-// none.
+// The cost that a token spells, or `Some(None)` where a part is out of range; `None` where it
+// spells none.
 fn cost(token: &[u8]) -> Option<Option<Cost>>
     ensures { result ≡ option_map cost_in_range (cost_of token.now) }
 {

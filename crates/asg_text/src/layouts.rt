@@ -16,8 +16,8 @@ use crate::refusals::TextRefusal;
 use asg_model::ABSENT;
 use std::alloc::{AllocError, Global};
 
-/// The nodes of the rows and of the columns of a table, and for each id the row and the column that it
-/// stands at, if it does.
+/// The nodes of the rows and of the columns of a table, and for each id the row and the column that
+/// it stands at, if it does.
 #[derive(Drop)]
 pub(crate) struct Layout<'a> {
     sources: &'a [u32],
@@ -27,8 +27,8 @@ pub(crate) struct Layout<'a> {
 }
 
 impl<'a> Layout<'a> {
-    /// The layout of a table whose rows go from these sources, and whose columns go to these targets,
-    /// which are among so many nodes.
+    /// The layout of a table whose rows go from these sources, and whose columns go to these
+    /// targets, which are among so many nodes.
     pub(crate) fn new(
         alloc: Global,
         sources: &'a [u32],
@@ -62,8 +62,8 @@ impl<'a> Layout<'a> {
         vec![in alloc; ABSENT; self.sources.len() * self.targets.len()]
     }
 
-    /// Puts the costs of all these arcs into a table without a cost, or refuses the first of them that
-    /// repeats another at another cost.
+    /// Puts the costs of all these arcs into a table without a cost, or refuses the first of them
+    /// that repeats another at another cost.
     pub(crate) fn fill(&self, firsts: &mut Vec<i64>, links: &[Link]) -> Result<(), TextRefusal>
         requires layout { IsLayout self.now }
         requires none { firsts.old.items

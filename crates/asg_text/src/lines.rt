@@ -6,8 +6,8 @@ ghost use Rattle.std.specs.Str.Lines.{lines, strip_carriage_return};
 
 use crate::pieces::Piece;
 
-/// The first line of a text, without its end, and the text behind it; `None` where the text has none. A
-/// line ends at LF or at the end of the text, and a CR before the LF belongs to its end.
+/// The first line of a text, without its end, and the text behind it; `None` where the text has
+/// none. A line ends at LF or at the end of the text, and a CR before the LF belongs to its end.
 pub(crate) fn first_line<'a>(text: &'a [u8]) -> Option<Piece<'a>>
     ensures first { IfSome result (λ line. lines text.now ≡ line.bytes.now ∷ lines line.rest.now) }
     ensures none { IfNone result (lines text.now ≡ []) }

@@ -20,8 +20,8 @@ pub(crate) struct Link {
     pub(crate) line: u64,
 }
 
-/// The earliest fault, where these arcs come before a fault: that of the first of them which repeats
-/// another at another cost, if one does. It takes n log n steps for n arcs.
+/// The earliest fault, where these arcs come before a fault: that of the first of them which
+/// repeats another at another cost, if one does. It takes n log n steps for n arcs.
 pub(crate) fn earliest(alloc: Global, links: &[Link], refusal: TextRefusal) -> TextRefusal
     ensures { (faults : List Fault) → IsEarliest faults refusal
         → IsEarliest (twice_faults [] links.now ++ faults) result }

@@ -38,8 +38,8 @@ impl Network {
         })
     }
 
-    /// Takes what a line with this number says, or refuses all lines up to it for their earliest fault.
-    /// A line that has no fault but that its arc repeats another at another cost is taken.
+    /// Takes what a line with this number says, or refuses all lines up to it for their earliest
+    /// fault. A line that has no fault but that its arc repeats another at another cost is taken.
     pub(crate) fn take(&mut self, alloc: Global, line: Line, number: u64) -> Result<(), TextRefusal>
         requires sound { IsSound self.old }
         requires in_range { IsLineInRange line }

@@ -16,8 +16,8 @@ use asg_model::{Column, Instance, Place, Row};
 use std::alloc::{AllocError, Global};
 
 impl Network {
-    /// The instance of a whole file, or its earliest fault: that of the first arc that repeats another
-    /// at another cost, else that of its counts of arcs, rows and columns.
+    /// The instance of a whole file, or its earliest fault: that of the first arc that repeats
+    /// another at another cost, else that of its counts of arcs, rows and columns.
     pub(crate) fn instance(&self, alloc: Global) -> Result<Instance, TextRefusal>
         requires { IsSound self.now }
         ensures instance { IfOk result (λ inst. reading_of_network self.now ≡ Spells inst) }
@@ -63,7 +63,8 @@ impl Network {
         Ok(sizes.nodes)
     }
 
-    // The instance of these sources among so many nodes, where no arc repeats another at another cost.
+    // The instance of these sources among so many nodes, where no arc repeats another at another
+    // cost.
     fn table(&self, alloc: Global, nodes: u32) -> Result<Instance, TextRefusal>
         requires sound { IsSound self.now }
         requires nodes { nodes ≡ nodes_of self.now.sizes }
@@ -82,8 +83,8 @@ impl Network {
         Ok(Instance::of_table(rows, columns, firsts, Vec::new(alloc), Place::All))
     }
 
-    // The first parts of a table of the costs from each source to each of these nodes, which are the
-    // others.
+    // The first parts of a table of the costs from each source to each of these nodes, which are
+    // the others.
     fn firsts(&self, alloc: Global, others: &[u32], nodes: u32) -> Result<Vec<i64>, TextRefusal>
         requires sound { IsSound self.now }
         requires nodes { nodes ≡ nodes_of self.now.sizes }

@@ -10,8 +10,8 @@ use asg_model::limits::{MOST_COLUMNS, MOST_ROWS};
 use std::alloc::{AllocError, Global};
 use std::collections::BTreeSet;
 
-/// A set of ids: for those up to 2,000, the most nodes that an instance has, a table tells which are in
-/// it, and a tree has those above.
+/// A set of ids: for those up to 2,000, the most nodes that an instance has, a table tells which
+/// are in it, and a tree has those above.
 #[derive(Drop)]
 pub(crate) struct NodeSet {
     low: Vec<bool>,

@@ -41,8 +41,8 @@ pub(crate) fn size(piece: &[u8]) -> Option<u32>
     }
 }
 
-/// The integer that a piece spells, or `Some(None)` where it is below -10^9 or above 10^9; `None` where
-/// it spells none.
+/// The integer that a piece spells, or `Some(None)` where it is below -10^9 or above 10^9; `None`
+/// where it spells none.
 #[tactic(auto, unfolding(crate::specs::Numbers::integer_of))]
 pub(crate) fn integer(piece: &[u8]) -> Option<Option<i64>>
     ensures { result ≡ option_map integer_in_range (integer_of piece.now) }

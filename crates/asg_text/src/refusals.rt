@@ -3,9 +3,10 @@
 ghost use Rattle.std.specs.Prelude.{◌≡◌};
 
 use std::alloc::{AllocError, AllocFailed};
+use std::fmt;
 
-/// Why a text isn't read. Lines and tokens count from 1. The variants before `NoMemory` have the numbers
-/// 1 to 12, in this order.
+/// Why a text isn't read. Lines and tokens count from 1. The variants before `NoMemory` have the
+/// numbers 1 to 12, in this order.
 #[derive(Clone, Copy, Debug, PartialEq, Eq)]
 pub enum TextRefusal {
     /// An asn file has no problem line.
@@ -16,8 +17,8 @@ pub enum TextRefusal {
     BadLine(u64),
     /// This node line has another form, its node is out of range, or an earlier arc goes to it.
     BadNode(u64),
-    /// This arc line has another form, its nodes are out of range, or it doesn't go from a source to a
-    /// node that is none.
+    /// This arc line has another form, its nodes are out of range, or it doesn't go from a source
+    /// to a node that is none.
     BadArc(u64),
     /// A cost below -10^9 or above 10^9, at this line of an asn file, else at this token.
     CostRange(u64),
@@ -35,6 +36,35 @@ pub enum TextRefusal {
     BadToken(u64),
     /// Memory ran out.
     NoMemory,
+}
+
+impl fmt::Display for TextRefusal {
+    fn fmt<W: fmt::Write>(&self, f: &mut fmt::Formatter<W>) -> fmt::Result {
+        match self {
+            TextRefusal::NoProblemLine => write!(f, "there is no problem line"),
+            TextRefusal::SecondProblemLine(line) => write!(f, "line {line}: a second problem line"),
+            TextRefusal::BadLine(line) => write!(
+                f,
+                "line {line}: no line of this form may stand here"
+            ),
+            TextRefusal::BadNode(line) => write!(f, "line {line}: no node line may say this"),
+            TextRefusal::BadArc(line) => write!(f, "line {line}: no arc line may say this"),
+            TextRefusal::CostRange(place) => write!(f, "{place}: a cost out of range"),
+            TextRefusal::ArcTwice(line) => write!(f, "line {line}: an earlier arc at another cost"),
+            TextRefusal::ArcCount(told, found) => write!(f, "{told} arcs are told, {found} there"),
+            TextRefusal::TooLarge(rows, columns) => write!(
+                f,
+                "too large: {rows} rows, {columns} columns"
+            ),
+            TextRefusal::NoRows => write!(f, "there is no row"),
+            TextRefusal::TokenCount(due, found) => write!(f, "{due} tokens are due, {found} there"),
+            TextRefusal::BadToken(token) => write!(
+                f,
+                "token {token} has no form that may stand here"
+            ),
+            TextRefusal::NoMemory => write!(f, "out of memory"),
+        }
+    }
 }
 
 impl From<AllocError> for TextRefusal {

@@ -19,9 +19,9 @@ pub(crate) struct ShortInteger<'a> {
 // How many digits are read at most.
 const MOST_DIGITS: usize = 10;
 
-/// The integer that a text begins with, where it has at most ten digits and lies between -10^9 and 10^9.
-/// `None` tells nothing of the text; it comes too where the text has less than eleven bytes behind the
-/// sign.
+/// The integer that a text begins with, where it has at most ten digits and lies between -10^9 and
+/// 10^9. `None` tells nothing of the text; it comes too where the text has less than eleven bytes
+/// behind the sign.
 #[inline(always)]
 pub(crate) fn short_integer<'a>(text: &'a [u8]) -> Option<ShortInteger<'a>>
     ensures { IfSome result (λ short. IsShortInteger text.now short.value short.rest.now) }

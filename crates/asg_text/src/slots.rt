@@ -29,8 +29,8 @@ pub(crate) fn second_part(cost: Option<Cost>) -> i64
     }
 }
 
-/// Puts a second part into its place. The list is made, for so many places, where it is empty and the
-/// part isn't 0.
+/// Puts a second part into its place. The list is made, for so many places, where it is empty and
+/// the part isn't 0.
 #[inline]
 pub(crate) fn put_second(
     alloc: Global,

@@ -115,8 +115,8 @@ fn check_sizes(rows: u32, columns: u32) -> Result<(), TextRefusal>
     Ok(())
 }
 
-// The costs of so many cells behind a header of so many tokens, or of as many as the text has bytes,
-// so that no more memory is taken than the file has the tokens for.
+// The costs of so many cells behind a header of so many tokens, or of as many as the text has
+// bytes, so that no more memory is taken than the file has the tokens for.
 fn read_costs<'a>(
     alloc: Global,
     header: u64,

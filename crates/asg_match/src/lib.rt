@@ -2,7 +2,8 @@
 //!
 //! A matching grows row by row along alternating trees. Where a row can't be served, its tree has
 //! rows that together have fewer allowed columns than they are: they are *deficient* (a Hall
-//! violator, [Hall 1935]), show that no perfect assignment exists, and give a Hall set of the instance.
+//! violator, [Hall 1935]), show that no perfect assignment exists, and give a Hall set of the
+//! instance.
 //! Contracts see a matching as the list of the rows' columns, a tree as the rows that it reached,
 //! and the allowed cells as a relation. Every solver completes its matchings and makes its Hall
 //! sets here.

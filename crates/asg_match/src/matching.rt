@@ -1,6 +1,7 @@
 //! Matchings.
 
-ghost use Rattle.std.specs.Prelude.{◌≡◌, ℕ, ◌<◌, ◌↔◌, length, Some, None, List, Option, IfOk, IfSome, IfNone, replicate, slice_set, slice_index};
+ghost use Rattle.std.specs.Prelude.{◌≡◌, ℕ, ◌<◌, ◌↔◌, length, Some, None, List, Option, IfOk};
+ghost use Rattle.std.specs.Prelude.{IfSome, IfNone, replicate, slice_set, slice_index};
 ghost use Rattle.asg_match.specs.Matching.{column_at, Matches, IsMatched, IsMatching, IsFree};
 
 use crate::NoMemory;

@@ -1,6 +1,8 @@
 //! The growth of an alternating tree.
 
-ghost use Rattle.std.specs.Prelude.{◌≡◌, ◌⊎◌, ℕ, ◌+◌, ◌*◌, ◌/◌, ◌<◌, ◌≤◌, ◌^◌, [], ◌∷◌, None, Some, false, length, vec_len, vec_capacity, slice_index, IsTrue, IfSome, IfNone};
+ghost use Rattle.std.specs.Prelude.{◌≡◌, ◌⊎◌, ℕ, ◌+◌, ◌*◌, ◌/◌, ◌<◌, ◌≤◌, ◌^◌, [], ◌∷◌, None, Some};
+ghost use Rattle.std.specs.Prelude.{false, length, vec_len, vec_capacity, slice_index, IsTrue};
+ghost use Rattle.std.specs.Prelude.{IfSome, IfNone};
 ghost use Rattle.asg_match.specs.Matching.{Matches, IsMatching};
 ghost use Rattle.asg_match.specs.Alternating.{HasParent, IsReached, IsClosed, IsOpen};
 ghost use Rattle.asg_match.specs.ColumnSet.{HasColumn, IsColumnSet, word_count};

@@ -1,9 +1,38 @@
-use Rattle.std.proofs.Common.{None, length, ap, ◌∙◌, subst}
-use Rattle.std.proofs.lemmas.Bool.{OnFalse_at}
+use Rattle.std.proofs.Common.{None, length, ap, sym, ◌∙◌, subst}
+use Rattle.std.proofs.lemmas.Bool.{OnFalse_at, OnTrue_at}
 use Rattle.std.proofs.lemmas.List.{length-replicate}
+use Rattle.asg_match.specs.Matching.{Matches, IsPerfect}
 use Rattle.asg_match.specs.Deficient.{IsDeficient}
 use Rattle.asg_match.specs.laws.Deficiency.{IsDeficient-refutes}
+use Rattle.asg_match.specs.laws.Matchings.{Matches-empty}
 use Rattle.asg_match.proofs.perfect.perfect_or_hall.Goals as goal
+
+pub complete-requires-clause-cells : goal.complete-requires-clause-cells
+complete-requires-clause-cells g c = λ r k matches. absurd (Matches-empty c.args.side r k (subst (λ m. Matches m r k) c.in_ok-matching.ensures.empty matches))
+
+pub returns-then-complete-clause-answer : goal.returns-then-complete-clause-answer
+returns-then-complete-clause-answer g c =
+    let side = ap length c.in_ok-matching.ensures.empty ∙ length-replicate c.args.side None in
+    subst (λ n. IsPerfect (g.A.Allowed.allows c.args.allowed.now) n c.complete.new.matching) side (OnTrue_at c.if-complete.true c.complete.ensures.perfect)
+
+pub returns-then-complete-clause-perfect : goal.returns-then-complete-clause-perfect
+returns-then-complete-clause-perfect g c =
+    let side = ap length c.in_ok-matching.ensures.empty ∙ length-replicate c.args.side None in
+    let perfect = subst (λ n. IsPerfect (g.A.Allowed.allows c.args.allowed.now) n c.complete.new.matching) side (OnTrue_at c.if-complete.true c.complete.ensures.perfect) in
+    (λ _. (c.complete.new.matching, perfect), λ _. tt)
+
+pub returns-then-complete-clause-short : goal.returns-then-complete-clause-short
+returns-then-complete-clause-short g c =
+    let side = ap length c.in_ok-matching.ensures.empty ∙ length-replicate c.args.side None in
+    let perfect = subst (λ n. IsPerfect (g.A.Allowed.allows c.args.allowed.now) n c.complete.new.matching) side (OnTrue_at c.if-complete.true c.complete.ensures.perfect) in
+    (λ none. absurd none, λ none. none c.complete.new.matching perfect)
+
+pub returns-clause-answer : goal.returns-clause-answer
+returns-clause-answer g c =
+    let allows = g.A.Allowed.allows c.args.allowed.now in
+    let side = ap length c.in_ok-matching.ensures.empty ∙ length-replicate c.args.side None in
+    let deficient = subst (λ n. IsDeficient allows n c.complete.new.tree.rows) side (OnFalse_at c.if-complete.false c.complete.ensures.deficient) in
+    subst (IsDeficient allows c.args.side) (sym (c.of.ensures ∙ c.into_rows.ensures)) deficient
 
 pub returns-clause-perfect : goal.returns-clause-perfect
 returns-clause-perfect g c =

@@ -8,5 +8,8 @@ pub mod BestLaw
 pub mod Raised
 pub mod RaisedInstances
 pub mod Tops
+pub mod LesserTops
+pub mod CutPhases
+pub mod GradeAmountLemmas
 pub mod WorkedPhase
 pub mod WorkedWindows

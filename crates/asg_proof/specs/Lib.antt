@@ -3,6 +3,7 @@ pub mod Threshold
 pub mod Windows
 pub mod Steps
 pub mod Phases
+pub mod GradeAmounts
 pub mod PhaseProofs
 pub mod FoldProofs
 pub mod Proves

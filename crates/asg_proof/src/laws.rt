@@ -23,10 +23,15 @@ ghost use Rattle.asg_proof.specs.Proves.{Proves};
 ghost use Rattle.asg_proof.specs.Steps.{stepped, IsAdmittedStep, HasSide, HasValues, AreRaised, assignment_fold};
 ghost use Rattle.asg_square.specs.Cells.{square_cell, IsAssignment};
 
+mod grades;
+mod sums;
+
 use asg_model::laws::{bottleneck_law, bottleneck_max_law, hall_law, infeasible_law, spread_law};
 use asg_order::DMonoid;
 use asg_order::laws::differences;
 use asg_square::laws::square_law;
+pub use grades::grade_law;
+pub use sums::{cut_law, lesser_tops_law};
 
 /// A valid choice of an instance that a proof proves is best, where the objective refuses no cost
 /// of the instance: `capped` and `time-cost` refuse negative parts, the others nothing.

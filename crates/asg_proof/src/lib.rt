@@ -10,6 +10,7 @@
 //! its value from the product of each perfect assignment, whatever d-monoid the values are of.
 #![tactic(auto)]
 
+mod cuts;
 pub mod laws;
 mod outcomes;
 mod phase_lists;
@@ -17,6 +18,7 @@ mod phases;
 mod row_ids;
 mod windows;
 
+pub use cuts::cut_steps;
 pub use outcomes::{Outcome, Proof};
 pub use phase_lists::Phases;
 pub use phases::{Phase, into_words, words};

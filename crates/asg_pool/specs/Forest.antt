@@ -1,5 +1,5 @@
 -- What contracts see of a region: a forest of trails.
-use Rattle.std.specs.Prelude.{◌≡◌, ◌≢◌, ℕ, ◌-◌, ◌<◌, ◌≤◌, List, [], ◌∷◌, ◌++◌, length, Option, Some, None, IsSome, IfSome, slice_index_or, unwrap_or, option_map, option_and_then}
+use Rattle.std.specs.Prelude.{◌≡◌, ◌≢◌, ℕ, ◌-◌, List, [], ◌∷◌, ◌++◌, length, Option, Some, None, IsSome, IfSome, slice_index_or, unwrap_or, option_map, option_and_then}
 use Rattle.asg_proof.specs.Phases.{PhaseOf, phase_of}
 use Rattle.asg_proof.specs.PromisedProofs.{IsPhaseOver}
 

@@ -1,6 +1,7 @@
 //! The table of the records of a region: which trail each one grew on.
 
-ghost use Rattle.std.specs.Prelude.{◌≡◌, ◌<◌, ◌≤◌, ◌+◌, [], length, max, Some, None, IsSome, IfSome, OnOk, OnErr, slice_set};
+ghost use Rattle.std.specs.Prelude.{◌≡◌, ◌<◌, ◌≤◌, ◌+◌, [], length, max, Some, None, IsSome};
+ghost use Rattle.std.specs.Prelude.{IfSome, OnOk, OnErr, slice_set};
 ghost use Rattle.asg_pool.specs.Links.{Table, link_at, spare_of, most_room};
 ghost use Rattle.asg_pool.specs.Paths.{depth_at};
 ghost use Rattle.asg_pool.specs.Strips.{with_row};
@@ -31,9 +32,14 @@ impl Model for Links {
 
     ghost Value = { Table };
 
-    ghost view = { λ l. record { room = l.room; vacant = length l.vacant.items; slots = l.slots.items } };
+    ghost view = { λ l. record {
+      room = l.room;
+      vacant = length l.vacant.items;
+      slots = l.slots.items;
+    } };
 
-    ghost invariant = { λ l. IsTable l.room l.slots.items l.vacant.items (vec_capacity l.slots) (vec_capacity l.vacant) };
+    ghost invariant = { λ l. IsTable l.room l.slots.items l.vacant.items
+        (vec_capacity l.slots) (vec_capacity l.vacant) };
 }
 
 impl Links {
@@ -84,7 +90,8 @@ impl Links {
         requires { 0 < spare_of self.old }
         ensures place { result ≤ length self.old.slots }
         ensures free { link_at self.old.slots result ≡ None }
-        ensures slots { self.new.slots ≡ with_row self.old.slots result (Some (record { parent = parent; depth = depth })) }
+        ensures slots { self.new.slots ≡ with_row self.old.slots result
+            (Some (record { parent = parent; depth = depth })) }
         ensures room { self.new.room ≡ self.old.room }
         ensures spare { spare_of self.new + 1 ≡ spare_of self.old }
         ensures used { length self.new.slots ≤ self.new.room }

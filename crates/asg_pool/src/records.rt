@@ -1,6 +1,7 @@
 //! The lists of the records of a region that is given away.
 
-ghost use Rattle.std.specs.Prelude.{◌≡◌, ◌<◌, [], length, slice_set, IsSome, IfSome, IfOk};
+ghost use Rattle.std.specs.Prelude.{◌≡◌, ◌<◌, [], length, slice_set, IsSome, IfSome, IfOk, OnOk};
+ghost use Rattle.std.specs.Prelude.{reverse};
 ghost use Rattle.asg_pool.specs.Links.{link_at};
 ghost use Rattle.asg_pool.specs.Paths.{path, depth_at, AreRooted, HasListsFor, phase_of_record};
 
@@ -32,6 +33,29 @@ impl<V: Copy> Records<V> {
         Phase::of(self.steps.take(k), self.enters.take(k), self.leaves.take(k))
     }
 
+    // Moves the phases on the way to a record, if there is one, into an empty list, the last one
+    // first. The error is want of memory.
+    fn unwind(
+        &mut self,
+        links: &Links,
+        last: Option<u32>,
+        phases: &mut Vec<Phase<V>>,
+    ) -> Result<(), NoMemory>
+        requires rooted { AreRooted links.now.slots }
+        requires lists { HasListsFor links.now.slots self.old }
+        requires there { IfSome last (λ k. IsSome (link_at links.now.slots k)) }
+        requires empty { phases.old.items ≡ [] }
+        ensures { let slots = links.now.slots in OnOk result (reverse phases.new.items
+            ≡ path slots (phase_of_record self.old) (depth_at slots last) last) }
+    {
+        let mut next = last;
+        'records: while let Some(k) = next {
+            phases.push(self.take(k))?;
+            next = links.link(k).parent;
+        }
+        Ok(())
+    }
+
     // The phases on the way to a record, if there is one. The error is want of memory for their
     // list alone.
     pub(crate) fn phases_to(
@@ -47,11 +71,7 @@ impl<V: Copy> Records<V> {
             ≡ path links.now.slots (phase_of_record self) (depth_at links.now.slots last) last) }
     {
         let mut phases = Vec::with_capacity(alloc, links.depth_to(last) as usize)?;
-        let mut next = last;
-        'records: while let Some(k) = next {
-            phases.push(self.take(k))?;
-            next = links.link(k).parent;
-        }
+        self.unwind(links, last, &mut phases)?;
         phases.reverse();
         Ok(phases)
     }

@@ -1,8 +1,10 @@
 //! Regions of trails.
 
-ghost use Rattle.std.specs.Prelude.{◌≡◌, ◌<◌, ◌≤◌, ◌+◌, ℕ, [], length, max, Some, None, IfSome, OnOk, OnErr, IfOk};
+ghost use Rattle.std.specs.Prelude.{◌≡◌, ◌<◌, ◌≤◌, ◌+◌, ℕ, [], length, max, Some, None, IfSome};
+ghost use Rattle.std.specs.Prelude.{OnOk, OnErr, IfOk};
 ghost use Rattle.asg_proof.specs.Phases.{phase_of};
-ghost use Rattle.asg_pool.specs.Forest.{Forest, Branch, trail_at, IsLive, parent_of, phases_of, phases_to, last_phase, IsLeaf, Changes, IsForest, grown_on};
+ghost use Rattle.asg_pool.specs.Forest.{Forest, Branch, trail_at, IsLive, parent_of, phases_of};
+ghost use Rattle.asg_pool.specs.Forest.{phases_to, last_phase, IsLeaf, Changes, IsForest, grown_on};
 ghost use Rattle.asg_pool.specs.Links.{most_room};
 
 use crate::NoMemory;
@@ -59,7 +61,8 @@ impl<V: Copy> Region<V> {
     /// Takes memory so that at least so many records are spare. Trails and their lists stay. The
     /// error is want of memory, and then all is as before.
     pub fn reserve(&mut self, records: u32) -> Result<(), NoMemory>
-        ensures ok { OnOk result (self.new ≡ record self.old { spare = max self.old.spare records }) }
+        ensures ok { OnOk result
+            (self.new ≡ record self.old { spare = max self.old.spare records }) }
         ensures err { OnErr result (self.new ≡ self.old) }
     {
         let spare = self.links.spare();
@@ -95,13 +98,36 @@ impl<V: Copy> Region<V> {
         ensures spare { self.new.spare + 1 ≡ self.old.spare }
         ensures side { self.new.side ≡ self.old.side }
     {
-        let parent = number_of(parent);
+        let number = self.push_record(number_of(parent), steps, enters, leaves);
+        Trail::at(number)
+    }
+
+    // Writes a phase into a free record behind another one, or behind none, and gives its number.
+    fn push_record(
+        &mut self,
+        parent: Option<u32>,
+        steps: &[V],
+        enters: &[u32],
+        leaves: &[u32],
+    ) -> u32
+        requires spare { 1 ≤ self.old.spare }
+        requires parent { IfSome parent (IsLive self.old) }
+        requires some_steps { 1 ≤ length steps.now }
+        requires few_steps { length steps.now ≤ self.old.side }
+        requires enters { length enters.now ≡ self.old.side }
+        requires leaves { length leaves.now ≡ self.old.side }
+        ensures new { trail_at self.old result ≡ None }
+        ensures trails { let phase = phase_of steps.now enters.now leaves.now in
+            Changes self.old self.new result (Some (grown_on self.old parent phase)) }
+        ensures spare { self.new.spare + 1 ≡ self.old.spare }
+        ensures side { self.new.side ≡ self.old.side }
+    {
         let depth = self.depth_to(parent) + 1;
         let number = self.links.insert(parent, depth);
         self.steps.put(number, steps);
         self.enters.put(number, enters);
         self.leaves.put(number, leaves);
-        Trail::at(number)
+        number
     }
 
     /// Frees the record of a trail that is no live trail's parent. It is live no more, every other

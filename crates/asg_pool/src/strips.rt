@@ -1,6 +1,7 @@
 //! Rows of values, each in a list of its own.
 
-ghost use Rattle.std.specs.Prelude.{◌≡◌, ◌<◌, ◌≤◌, [], All, max, length, slice_set, slice_index_or, vec_capacity, IfOk, OnOk, OnErr};
+ghost use Rattle.std.specs.Prelude.{◌≡◌, ◌<◌, ◌≤◌, [], All, max, length, slice_set, slice_index_or};
+ghost use Rattle.std.specs.Prelude.{vec_capacity, IfOk, OnOk, OnErr};
 ghost use Rattle.asg_pool.specs.Strips.{Rows, row_at, with_row, HasRoom};
 
 use crate::NoMemory;

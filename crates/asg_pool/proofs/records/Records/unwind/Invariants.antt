@@ -1,6 +1,6 @@
 use Rattle.asg_pool.specs.Paths.{depth_at, phase_of_record}
 use Rattle.asg_pool.proofs.RecordLemmas.{IsUnwound}
-use Rattle.asg_pool.proofs.records.Records.phases_to.Given as goal
+use Rattle.asg_pool.proofs.records.Records.unwind.Given as goal
 
 abbrev pub invariant-records : goal.invariant-records
 invariant-records g l = IsUnwound l.links.slots (phase_of_record l.fn.self) l.fn.last l.self l.next l.phases.items

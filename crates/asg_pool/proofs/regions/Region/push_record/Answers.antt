@@ -1,4 +1,4 @@
-use Rattle.std.proofs.Common.{◌≡◌, ◌+◌, length, Some, IfSome, sym, ap, ◌∙◌, arith}
+use Rattle.std.proofs.Common.{refl, ◌≡◌, ◌+◌, length, Some, IfSome, sym, ap, ◌∙◌, arith}
 use Rattle.std.specs.Prelude.{option_map}
 use Rattle.asg_proof.specs.Phases.{PhaseOf, phase_of}
 use Rattle.asg_pool.specs.Forest.{trail_at, phases_to, grown_on}
@@ -8,22 +8,22 @@ use Rattle.asg_pool.proofs.PathLemmas.{IsThere}
 use Rattle.asg_pool.proofs.ForestLemmas.{way_there, trail_shown, depth_shown}
 use Rattle.asg_pool.proofs.ChangeLemmas.{Changes-at}
 use Rattle.asg_pool.proofs.PushLemmas.{IsRegion-pushed, trails_after}
-use Rattle.asg_pool.proofs.regions.Region.push.Given as given
-use Rattle.asg_pool.proofs.regions.Region.push.Goals as goal
+use Rattle.asg_pool.proofs.regions.Region.push_record.Given as given
+use Rattle.asg_pool.proofs.regions.Region.push_record.Goals as goal
 
-module _ (g : given.Over) (c : goal.After-at g) where
-  parent_there : IfSome c.number_of-parent.result (IsThere c.self.inside.links.slots)
+module _ (g : given.Over) (c : goal.After-put-3 g) where
+  parent_there : IfSome c.args.parent (IsThere c.self.inside.links.slots)
   parent_there =
       let s = c.self.inside in
-      way_there s.side s.links (phase_at s.steps s.enters s.leaves) c.args.self.now c.args.parent c.number_of-parent.result c.self.view_is c.requires.parent c.number_of-parent.ensures
+      way_there s.side s.links (phase_at s.steps s.enters s.leaves) c.args.self.now c.args.parent c.args.parent c.self.view_is c.requires.parent refl
 
-  deep : c.depth_to-depth.result + 1 ≡ depth_at c.self.inside.links.slots c.number_of-parent.result + 1
+  deep : c.depth_to-depth.result + 1 ≡ depth_at c.self.inside.links.slots c.args.parent + 1
   deep =
       let s = c.self.inside in
       let phase = phase_at s.steps s.enters s.leaves in
-      let shown = depth_shown s.side s.links phase c.self.invariant.rooted c.number_of-parent.result parent_there in
+      let shown = depth_shown s.side s.links phase c.self.invariant.rooted c.args.parent parent_there in
       ap (λ n. n + 1)
-      (c.depth_to-depth.ensures.value ∙ sym (ap (λ F. length (phases_to F c.number_of-parent.result)) c.self.view_is) ∙ shown)
+      (c.depth_to-depth.ensures.value ∙ sym (ap (λ F. length (phases_to F c.args.parent)) c.self.view_is) ∙ shown)
 
   abbrev new : PhaseOf g.row.V.Denot
   new = phase_of c.args.steps.now c.args.enters.now c.args.leaves.now
@@ -39,7 +39,7 @@ invariant_of-self g c =
       enters = c.requires.enters ∙ sym side;
       leaves = c.requires.leaves ∙ sym side;
     } in
-    IsRegion-pushed s.side s.links n.new.self n.result c.number_of-parent.result (c.depth_to-depth.result + 1) n.ensures.place n.ensures.free n.ensures.slots
+    IsRegion-pushed s.side s.links n.new.self n.result c.args.parent (c.depth_to-depth.result + 1) n.ensures.place n.ensures.free n.ensures.slots
     (parent_there g c) (deep g c) s.steps c.put.new.self s.enters c.put-2.new.self s.leaves c.put-3.new.self (new g c) c.self.invariant
     c.put.ensures c.put-2.ensures c.put-3.ensures n.ensures.room n.ensures.used over
 
@@ -48,8 +48,7 @@ returns-clause-new g c =
     let s = c.self.inside in
     let phase = phase_at s.steps s.enters s.leaves in
     let k = c.insert-number.result in
-    ap (trail_at c.args.self.now) c.at.ensures
-    ∙ sym (ap (λ F. trail_at F k) c.self.view_is)
+    sym (ap (λ F. trail_at F k) c.self.view_is)
     ∙ trail_shown s.side s.links phase k
     ∙ ap (option_map (λ link. record { parent = link.parent; phases = path s.links.slots phase link.depth (Some k) })) c.insert-number.ensures.free
 
@@ -57,10 +56,10 @@ pub returns-clause-trails : goal.returns-clause-trails
 returns-clause-trails g c =
     let s = c.self.inside in
     let n = c.insert-number in
-    let P = c.number_of-parent.result in
+    let P = c.args.parent in
     let changes =
     trails_after s.side s.links n.new.self n.result P (c.depth_to-depth.result + 1) n.ensures.place n.ensures.free n.ensures.slots
     (parent_there g c) (deep g c) s.steps c.put.new.self s.enters c.put-2.new.self s.leaves c.put-3.new.self (new g c) c.self.invariant
     c.put.ensures c.put-2.ensures c.put-3.ensures in
-    let branch = ap (λ F. Some (grown_on F P (new g c))) c.self.view_is ∙ ap (λ p. Some (grown_on c.args.self.now p (new g c))) c.number_of-parent.ensures in
-    Changes-at changes c.self.view_is (sym c.at.ensures) branch
+    let branch = ap (λ F. Some (grown_on F P (new g c))) c.self.view_is in
+    Changes-at changes c.self.view_is refl branch

@@ -1,0 +1,85 @@
+//! What the solver keeps from row to row, with all its memory.
+
+ghost use Rattle.std.specs.Prelude.{◌≡◌, length};
+
+use crate::NoMemory;
+use crate::numbers::Number;
+use crate::places::{NONE, at, mark, name, put};
+use crate::tables::Table;
+use std::alloc::Global;
+
+// The columns of rows so far, the dual variables of columns, and room for searches.
+#[derive(Drop)]
+pub(crate) struct Bench<N: Number> {
+    // The dual variable of each column: a cell is its number less it.
+    pub duals: Vec<N>,
+    pub column_of: Vec<u32>,
+    pub row_of: Vec<u32>,
+    // A bit for each column that no row has.
+    pub free: Vec<u64>,
+    // Of each column the shortest distance so far, and the row that it is reached from.
+    pub keys: Vec<N>,
+    pub came: Vec<u32>,
+    // The columns that are done in order, and the distance of each column that is.
+    pub done: Vec<u32>,
+    pub reached: Vec<N>,
+    // The rows without a column.
+    pub waiting: Vec<u32>,
+    pub later: Vec<u32>,
+    // How many rows were gone through since the starts.
+    pub scans: u64,
+}
+
+impl<N: Number> Bench<N> {
+    // A bench over a table; no row has a column. The error is want of memory.
+    pub(crate) fn make(alloc: Global, table: &Table<N>) -> Result<Bench<N>, NoMemory> {
+        let side = table.side;
+        let wide = table.wide;
+        Ok(Bench {
+            duals: vec![in alloc; N::zero(); wide]?,
+            column_of: vec![in alloc; NONE; side]?,
+            row_of: vec![in alloc; NONE; wide]?,
+            free: vec![in alloc; 0; wide / 64 + 1]?,
+            keys: vec![in alloc; N::zero(); wide]?,
+            came: vec![in alloc; 0; wide]?,
+            done: vec![in alloc; 0; wide]?,
+            reached: vec![in alloc; N::zero(); wide]?,
+            waiting: vec![in alloc; 0; side]?,
+            later: vec![in alloc; 0; side]?,
+            scans: 0,
+        })
+    }
+
+    // Takes all columns from all rows.
+    pub(crate) fn release(&mut self, side: usize) {
+        for row in 0..self.column_of.len() {
+            put(self.column_of.as_mut_slice(), row, NONE);
+        }
+        for column in 0..self.row_of.len() {
+            put(self.row_of.as_mut_slice(), column, NONE);
+        }
+        for column in 0..side {
+            mark(self.free.as_mut_slice(), column, true);
+        }
+    }
+
+    // Gives a row a column.
+    #[inline]
+    pub(crate) fn pair(&mut self, row: u32, column: u32) {
+        put(self.column_of.as_mut_slice(), row as usize, column);
+        put(self.row_of.as_mut_slice(), column as usize, row);
+        mark(self.free.as_mut_slice(), column as usize, false);
+    }
+
+    // Lists the rows that have no column as waiting, and tells how many there are.
+    pub(crate) fn list_waiting(&mut self) -> usize {
+        let mut count = 0;
+        for row in 0..self.column_of.len() {
+            if at(self.column_of.as_slice(), row) == NONE {
+                put(self.waiting.as_mut_slice(), count, name(row));
+                count = count.saturating_add(1);
+            }
+        }
+        count
+    }
+}

@@ -1,0 +1,99 @@
+//! Signed numbers of a width, with the passes over a row of them that the solver makes.
+
+ghost use Rattle.std.specs.Prelude.{◌≡◌, length};
+
+// The least of a row's numbers and the next one, with the place of the first.
+#[derive(Clone, Copy)]
+pub(crate) struct Two<N: Number> {
+    pub least: N,
+    pub next: N,
+    pub place: u32,
+}
+
+// Numbers of a width. Sums and differences wrap. A pass goes over the first `wide` places, and does
+// nothing where a list has fewer.
+pub(crate) trait Number: Copy {
+    // Nothing.
+    fn zero() -> Self;
+
+    // The greatest one: of cells past the last column, and of columns that no row has reached.
+    fn greatest() -> Self;
+
+    // The least one: the key of a column that is done.
+    fn done() -> Self;
+
+    // The number of so many, its low bits where there are more.
+    fn of(amount: u64) -> Self;
+
+    // The same number in 64 bits.
+    fn to_wide(self) -> i64;
+
+    fn plus(self, other: Self) -> Self;
+
+    fn minus(self, other: Self) -> Self;
+
+    fn is_less(self, other: Self) -> bool;
+
+    // Lessens the number of each column to this row's, with so much less, and notes the row.
+    fn lessen(
+        row: &[Self],
+        leasts: &mut [Self],
+        rows: &mut [u32],
+        wide: usize,
+        base: Self,
+        from: u32,
+    )
+        ensures leasts { length leasts.new ≡ length leasts.old }
+        ensures rows { length rows.new ≡ length rows.old };
+
+    // Lessens each open column's key to what this row reaches, and tells the least of all open
+    // keys, less one. Columns that are done have the least number as their key.
+    fn relax(
+        row: &[Self],
+        duals: &[Self],
+        keys: &mut [Self],
+        came: &mut [u32],
+        wide: usize,
+        base: Self,
+        from: u32,
+    ) -> Self
+        ensures keys { length keys.new ≡ length keys.old }
+        ensures came { length came.new ≡ length came.old };
+
+    // The first free column with this key, else the first column with it, else a place past all:
+    // from the sixteen of a place on, and then from the start.
+    fn find(keys: &[Self], free: &[u64], key: Self, wide: usize, from: usize) -> usize;
+
+    // The least of the row's numbers less those of the columns, and the next.
+    fn two_least(row: &[Self], duals: &[Self], wide: usize) -> Two<Self>;
+
+    // The first free column but one at which the row's number less the column's is this, else the
+    // first such column, else a place past all.
+    fn find_tie(
+        row: &[Self],
+        duals: &[Self],
+        free: &[u64],
+        level: Self,
+        wide: usize,
+        but: usize,
+    ) -> usize;
+}
+
+// The number at a place, 0 outside.
+#[inline]
+pub(crate) fn value<N: Number>(numbers: &[N], place: usize) -> N {
+    if place < numbers.len() {
+        numbers[place]
+    } else {
+        N::zero()
+    }
+}
+
+#[inline]
+pub(crate) fn set<N: Number>(numbers: &mut [N], place: usize, number: N)
+    ensures { length numbers.new ≡ length numbers.old }
+{
+    if place < numbers.len() {
+        numbers[place] = number;
+    }
+}

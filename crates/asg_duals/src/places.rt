@@ -1,0 +1,78 @@
+//! Reading and writing at places that may lie outside a list.
+
+ghost use Rattle.std.specs.Prelude.{◌≡◌, length};
+
+// No row or column.
+pub(crate) const NONE: u32 = u32::MAX;
+
+// The place as a name of a row or column, none where it is too great.
+#[inline]
+pub(crate) fn name(place: usize) -> u32 {
+    if place < 4294967295 {
+        place as u32
+    } else {
+        NONE
+    }
+}
+
+// The name at a place, none outside.
+#[inline]
+pub(crate) fn at(names: &[u32], place: usize) -> u32 {
+    if place < names.len() {
+        names[place]
+    } else {
+        NONE
+    }
+}
+
+#[inline]
+pub(crate) fn put(names: &mut [u32], place: usize, name: u32)
+    ensures { length names.new ≡ length names.old }
+{
+    if place < names.len() {
+        names[place] = name;
+    }
+}
+
+// The amount at a place, 0 outside.
+#[inline]
+pub(crate) fn amount(amounts: &[u64], place: usize) -> u64 {
+    if place < amounts.len() {
+        amounts[place]
+    } else {
+        0
+    }
+}
+
+#[inline]
+pub(crate) fn put_amount(amounts: &mut [u64], place: usize, amount: u64)
+    ensures { length amounts.new ≡ length amounts.old }
+{
+    if place < amounts.len() {
+        amounts[place] = amount;
+    }
+}
+
+// Sets or clears the bit of a column, in words of 64.
+#[inline]
+pub(crate) fn mark(words: &mut [u64], column: usize, is: bool)
+    ensures { length words.new ≡ length words.old }
+{
+    let place = column / 64;
+    if place < words.len() {
+        let bit = 1u64 << ((column % 64) as u32);
+        if is {
+            words[place] |= bit;
+        } else {
+            words[place] &= !bit;
+        }
+    }
+}
+
+// The bits of 16 columns, the first one's lowest.
+#[inline]
+pub(crate) fn sixteen(words: &[u64], number: usize) -> u64 {
+    let place = number / 4;
+    let word = if place < words.len() { words[place] } else { 0 };
+    word >> (16 * (number % 4) as u32)
+}

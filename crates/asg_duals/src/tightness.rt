@@ -1,0 +1,112 @@
+//! The test of dual variables, in one pass over the cells.
+
+ghost use Rattle.std.specs.Prelude.{◌≡◌, ◌<◌, ◌≤◌, ◌+◌, ◌/◌, ◌%◌, ℕ, IsTrue, Some, IfSome, IsSome, length, slice_index};
+ghost use Rattle.asg_square.specs.BitTable.{is_bit_set, word_count};
+ghost use Rattle.asg_square.specs.Grid.{cell_at};
+ghost use Rattle.asg_duals.specs.Tight.{AreTight, IsRowTight};
+
+use crate::duals::Duals;
+use asg_square::Square;
+
+// Whether the bit of a column is set.
+#[inline]
+fn is_there(words: &[u64], column: usize) -> bool
+    requires { column / 64 < length words.now }
+    ensures { result ≡ is_bit_set (slice_index words.now (column / 64)) (column % 64) }
+{
+    words[column / 64] >> ((column % 64) as u32) & 1 == 1
+}
+
+// Whether each cell whose bit is set is, with its column's rise, at least the fall.
+fn are_above(values: &[u64], words: &[u64], rises: &[u64], fall: u64) -> bool
+    requires rises { length rises.now ≡ length values.now }
+    requires words { length words.now ≡ word_count (length values.now) }
+    ensures { IsTrue result → (c : ℕ) → c < length values.now
+        → IsTrue (is_bit_set (slice_index words.now (c / 64)) (c % 64))
+        → fall ≤ slice_index values.now c + slice_index rises.now c }
+{
+    'columns: for column in 0..values.len() {
+        if values[column].saturating_add(rises[column]) < fall && is_there(words, column) {
+            return false;
+        }
+    }
+    true
+}
+
+// Whether each present cell of a row is, with its column's rise, at least the fall.
+fn row_is_above(square: &Square<u64>, row: u32, rises: &[u64], fall: u64) -> bool
+    requires row { row < square.now.side }
+    requires rises { length rises.now ≡ square.now.side }
+    ensures { IsTrue result → (c x : ℕ) → cell_at square.now row c ≡ Some x
+        → fall ≤ x + slice_index rises.now c }
+{
+    are_above(square.row_values(row), square.row_words(row), rises, fall)
+}
+
+// Whether a cell is present and, with its column's rise, the fall.
+fn is_at(square: &Square<u64>, row: u32, column: u32, rises: &[u64], fall: u64) -> bool
+    requires row { row < square.now.side }
+    requires column { column < square.now.side }
+    requires rises { length rises.now ≡ square.now.side }
+    ensures present { IsTrue result → IsSome (cell_at square.now row column) }
+    ensures level { IsTrue result → (x : ℕ) → cell_at square.now row column ≡ Some x
+        → fall ≡ x + slice_index rises.now column }
+{
+    match square.at(row, column) {
+        Some(cell) => cell.checked_add(rises[column as usize]) == Some(fall),
+        None => false,
+    }
+}
+
+// Whether a row has a column of its own and is tight.
+fn row_is_tight(square: &Square<u64>, duals: &Duals, row_of: &[u32], row: u32) -> bool
+    requires row { row < square.now.side }
+    requires columns { length duals.now.columns ≡ square.now.side }
+    requires falls { length duals.now.falls ≡ square.now.side }
+    requires rises { length duals.now.rises ≡ square.now.side }
+    ensures { IsTrue result → IsRowTight square.now duals.now row_of.now row }
+{
+    let column = duals.columns()[row as usize];
+    let fall = duals.falls()[row as usize];
+    if column >= square.side() || column as usize >= row_of.len() {
+        return false;
+    }
+    if row_of[column as usize] != row || !is_at(square, row, column, duals.rises(), fall) {
+        return false;
+    }
+    row_is_above(square, row, duals.rises(), fall)
+}
+
+// Whether dual variables are tight on an assignment, which the rows of columns show to give no
+// column twice.
+fn are_tight(square: &Square<u64>, duals: &Duals, row_of: &[u32]) -> bool
+    ensures { IsTrue result → AreTight square.now duals.now }
+{
+    let side = square.side() as usize;
+    if duals.columns().len() != side {
+        return false;
+    }
+    if duals.falls().len() != side {
+        return false;
+    }
+    if duals.rises().len() != side {
+        return false;
+    }
+    'rows: for row in 0..square.side() {
+        if !row_is_tight(square, duals, row_of, row) {
+            return false;
+        }
+    }
+    true
+}
+
+// The dual variables where they are tight.
+pub(crate) fn tested(square: &Square<u64>, duals: Duals, row_of: &[u32]) -> Option<Duals>
+    ensures { IfSome result (AreTight square.now) }
+{
+    if are_tight(square, &duals, row_of) {
+        Some(duals)
+    } else {
+        None
+    }
+}

@@ -11,6 +11,10 @@ mod DualLemmas
 mod LesserLemmas
 mod DualPhases
 mod NarrowPhases
+pub mod TotalsLemmas
+pub mod SegmentLemmas
+pub mod WalkLemmas
+pub mod ExchangedMarks
 mod CountLemmas
 mod LeftLemmas
 mod WordBits

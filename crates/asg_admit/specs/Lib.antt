@@ -4,6 +4,7 @@ pub mod Settling
 pub mod LeftColumns
 pub mod Reduced
 pub mod Duals
+pub mod PhaseTotals
 pub mod NarrowRows
 pub mod MarkedCells
 pub mod LowCells

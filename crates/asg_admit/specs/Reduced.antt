@@ -1,14 +1,11 @@
 -- A square that phases have reduced, with the product of their steps.
 use Rattle.std.specs.Prelude.{◌≡◌, ◌⊎◌, ℕ, ◌<◌, List}
 use Rattle.asg_order.specs.Monoid.{Monoid, IsValue, fold_of}
+pub use Rattle.asg_proof.specs.Phases.{phase_of}
 use Rattle.asg_proof.specs.Phases.{PhaseOf, after_phase}
 use Rattle.asg_proof.specs.Steps.{HasValues}
 use Rattle.asg_square.specs.Grid.{Grid, cell_at}
 use Rattle.asg_admit.specs.declared.reduced.Reduced.{Reduced}
-
--- the phase of these lists
-abbrev pub phase_of : {V : Type 0} → List V → List ℕ → List ℕ → PhaseOf V
-phase_of steps enters leaves = record { steps = steps; enters = enters; leaves = leaves }
 
 -- each present cell is a value, and so is the index
 pub record IsReduced {V : Type 0} (M : Monoid V) (reduced : Reduced V) : Type 0 where

@@ -40,7 +40,7 @@ pub(crate) fn rows_fit(
 }
 
 // Whether each present cell of a row does so; nothing is asked where the row never enters.
-fn row_fits(
+pub(crate) fn row_fits(
     square: &Square<u64>,
     row: u32,
     dual: u64,

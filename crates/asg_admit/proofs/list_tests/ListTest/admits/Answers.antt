@@ -1,0 +1,16 @@
+use Rattle.std.proofs.Common.{◌≡◌, sym, subst, arith}
+use Rattle.std.specs.Prelude.{All}
+use Rattle.asg_square.specs.Grid.{cell_at}
+use Rattle.asg_admit.specs.PhaseTotals.{CountsRight}
+use Rattle.asg_admit.proofs.AdmissionLemmas.{never, not_both}
+use Rattle.asg_admit.proofs.SegmentLemmas.{all_count_right}
+use Rattle.asg_admit.proofs.list_tests.ListTest.admits.Goals as goal
+
+pub returns-then-not-all_count_right-clause-told : goal.returns-then-not-all_count_right-clause-told
+returns-then-not-all_count_right-clause-told c = λ top above.
+    let side : c.len.result ≡ c.args.square.now.side = omega (arith, c.len.ensures, c.self.view_is, c.requires.side) in
+    never (λ all. not_both c.all_count_right.result
+    (c.all_count_right.ensures.1
+    (subst (λ n. All (CountsRight n) c.args.phases.now) (sym side)
+    (all_count_right top c.args.square.now.side c.args.phases.now (cell_at c.args.square.now) all)))
+    c.if-not-all_count_right.true)

@@ -1,0 +1,10 @@
+use Rattle.std.proofs.Common.{◌≡◌, ◌⊎◌, ℕ, ◌<◌, ◌≤◌, length}
+use Rattle.std.specs.Prelude.{slice_index}
+use Rattle.asg_admit.proofs.phase_totals.greatest_of.Given as goal
+
+-- the numbers so far are at most it, and it is one of them or 0
+abbrev pub invariant-loop-i : goal.invariant-loop-i
+invariant-loop-i l = record {
+  above : (j : ℕ) → j < l.i → slice_index l.numbers j ≤ l.greatest;
+  reached : (l.greatest ≡ 0) ⊎ ((j : ℕ) × (j < length l.numbers) × (slice_index l.numbers j ≡ l.greatest));
+}

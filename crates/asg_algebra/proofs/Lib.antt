@@ -16,3 +16,4 @@ pub mod SolvedLaws
 pub mod FinishLaws
 pub mod SolvingLaws
 pub mod FoldLaws
+mod TakenLaws

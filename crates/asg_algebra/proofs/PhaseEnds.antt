@@ -1,5 +1,5 @@
 -- How a phase begins and ends.
-use Rattle.std.proofs.Common.{◌≡◌, ℕ, ◌<◌, ◌≤◌, min, List, [], ◌∷◌, length, replicate, Option, None, get_or, set, refl, sym, ◌∙◌, ap, subst, arith, ⊎_elim}
+use Rattle.std.proofs.Common.{◌≡◌, ℕ, ◌<◌, ◌≤◌, min, List, [], ◌∷◌, length, replicate, Option, Some, None, get_or, set, refl, sym, ◌∙◌, ap, subst, arith, ⊎_elim}
 use Rattle.std.specs.Prelude.{Contains}
 use Rattle.std.proofs.lemmas.Bool.{cases_lt, cases_eq, le-leb, lt-leb, lt-ltb, le-ltb}
 use Rattle.std.proofs.lemmas.List.{get_or-map, get_or_past, get_or-replicate, length-replicate, length-set, length-map, get_or-set_other}
@@ -18,7 +18,10 @@ use Rattle.asg_admit.specs.declared.reduced.Reduced.{Reduced}
 use Rattle.asg_admit.specs.Reduced.{IsReduced, IsPhaseTo}
 use Rattle.asg_admit.specs.Settled.{step_of, between}
 use Rattle.asg_square.specs.Grid.{cell_at}
+use Rattle.asg_pool.specs.Forest.{Forest}
 use Rattle.asg_algebra.specs.Rest.{IsRest, cut}
+use Rattle.asg_algebra.specs.Served.{made_of}
+use Rattle.asg_algebra.specs.Solved.{IsPush, ArePushed}
 use Rattle.asg_algebra.specs.Underway.{IsUnderway}
 use Rattle.asg_match.specs.laws.Trees.{IsTree-root}
 use Rattle.asg_algebra.specs.Growing.{IsAbsorbed, IsGrowing}
@@ -163,3 +166,11 @@ no_steps {V} M laws difference phase reduced is none = record {
   labels = record { side = refl; rows = refl; row_labels = refl; column_labels = refl };
   reduced = is;
 }
+
+-- a phase with a step was pushed
+pub ArePushed-made : {V : Type 0} (phase : PhaseOf V) → 0 < length phase.steps → (before after : Forest V) (trail : Option ℕ) (new : ℕ) → IsPush before after trail phase new → ArePushed (made_of phase phase.steps) before after trail (Some new)
+ArePushed-made {V} phase some before after trail new is = made phase.steps some
+  where
+    made : (steps : List V) → 0 < length steps → ArePushed (made_of phase steps) before after trail (Some new)
+    made [] none = absurd (omega (arith, none))
+    made (c ∷ rest) _ = (after, new, is, (refl, refl))

@@ -1,5 +1,5 @@
 -- What leads are after a scan of columns.
-use Rattle.std.proofs.Common.{◌≡◌, inl, inr, ℕ, ◌+◌, ◌/◌, ◌%◌, ◌<◌, List, Option, get_or, sym, ◌∙◌, ap, subst, arith, ⊎_elim}
+use Rattle.std.proofs.Common.{◌≡◌, inl, inr, ℕ, ◌+◌, ◌/◌, ◌%◌, ◌<◌, List, Option, Some, get_or, sym, ◌∙◌, ap, subst, arith, ⊎_elim}
 use Rattle.std.proofs.lemmas.Bool.{cases_eq, cases_lt}
 use Rattle.std.proofs.lemmas.Option.{same_Some}
 use Rattle.std.specs.Prelude.{IsSome, is_some}
@@ -9,6 +9,7 @@ use Rattle.asg_square.specs.BitTable.{AreWordsOf}
 use Rattle.asg_square.specs.CellTable.{AreValuesOf}
 use Rattle.asg_algebra.specs.Leads.{Leads, lead_at, Relaxes, OffersRow}
 use Rattle.asg_algebra.specs.Scanned.{AreValued, IsBoth}
+use Rattle.asg_algebra.proofs.GrowthLaws.{some_value, value_read}
 use Rattle.asg_algebra.proofs.LeadLemmas.{Relaxes-join, Relaxes-iff}
 use Rattle.asg_algebra.proofs.NearestLemmas.{IsApproached}
 use Rattle.asg_algebra.proofs.WordLemmas.{present_some, some_present}
@@ -47,6 +48,14 @@ module _ {V : Type 0} (M : Monoid V) where
       (λ k p. (omega (arith, p.0), p.1, p.2))
       (λ k q. (omega (arith, q.0), q.1, q.2))
       a b
+
+  -- the cells of a row at the columns that its words and a set have are values
+  pub present_values : (row : ℕ → Option V) (side : ℕ) (unseen : List ℕ) (values : List V) (present : List ℕ) → IsColumnSet side unseen → AreValuesOf row side values → AreWordsOf (λ k. is_some (row k)) side present
+      → ((k : ℕ) (x : V) → k < side → row k ≡ Some x → IsValue M x) → (k : ℕ) → HasColumn present k → HasColumn unseen k → IsValue M (get_or values k M.unit)
+  present_values row side unseen values present set are_values are_words cells k in_row here =
+      let below : k < side = omega (arith, set.below (k / 64) (k % 64) here) in
+      let cell = some_value (row k) (present_some row side present are_words k below in_row) in
+      subst (IsValue M) (sym (value_read row side values are_values k cell.0 M.unit cell.1)) (cells k cell.0 below cell.1)
 
   -- the columns that the words of a row say were offered its cells
   pub OffersRow-scanned : (row : ℕ → Option V) (side : ℕ) (sum : V) (place : ℕ) (unseen : List ℕ) (values : List V) (present : List ℕ) (before after : Leads V) → IsColumnSet side unseen → AreValuesOf row side values → AreWordsOf (λ k. is_some (row k)) side present → Relaxes M values sum place (λ k. HasColumn present k × HasColumn unseen k) before after → OffersRow M row side sum place unseen before after

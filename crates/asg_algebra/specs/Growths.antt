@@ -60,6 +60,22 @@ phase_in growth =
     phase_of growth.steps.items (cut (length growth.steps.items) growth.enters.items)
     (cut (length growth.steps.items) growth.leaves.items)
 
+-- the marks of the phase were cut to its steps, and there is room for a value for each step and one
+-- more
+pub record Closes {V : Type 0} (before after : Growth V) : Type 0 where
+  pub tree : after.tree ≡ before.tree
+  pub sums : after.sums ≡ before.sums
+  pub keys : after.keys ≡ before.keys
+  pub keyed : after.keyed ≡ before.keyed
+  pub nearest : after.nearest ≡ before.nearest
+  pub steps : after.steps ≡ before.steps
+  pub enters : after.enters.items ≡ cut (length before.steps.items) before.enters.items
+  pub leaves : after.leaves.items ≡ cut (length before.steps.items) before.leaves.items
+  pub enters_len : vec_len after.enters ≡ vec_len before.enters
+  pub leaves_len : vec_len after.leaves ≡ vec_len before.leaves
+  pub room : vec_len after.room ≡ vec_len before.steps + 1
+  pub room_room : vec_capacity after.room ≡ vec_capacity before.room
+
 -- the search on a reduced square
 abbrev pub Searches : {V : Type 0} → Monoid V → (V → V → V) → Reduced V → List (Option ℕ) → Growth V
     → V → ℕ → Type 0

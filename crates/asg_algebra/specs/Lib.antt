@@ -11,3 +11,4 @@ pub mod Solved
 pub mod Served
 pub mod Benches
 pub mod Ended
+pub mod Taken

@@ -1,6 +1,7 @@
 //! The memory of a solver.
 
-ghost use Rattle.std.specs.Prelude.{◌≡◌, ◌≢◌, ◌<◌, ◌≤◌, ◌^◌, [], IfOk, All, AllPairs, vec_len, vec_capacity};
+ghost use Rattle.std.specs.Prelude.{◌≡◌, ◌≢◌, ◌<◌, ◌≤◌, ◌^◌, []};
+ghost use Rattle.std.specs.Prelude.{IfOk, All, AllPairs, vec_len, vec_capacity};
 ghost use Rattle.asg_match.specs.ColumnSet.{word_count};
 
 use crate::NoMemory;

@@ -10,11 +10,12 @@
 //! in how the square is kept: squares of sums by dual variables while no sum reaches the top, any
 //! other by its cells. Contracts see what phases were pushed, that they are admitted in turn and
 //! lead from the old reduced square to the new one, and which cells are absorbed: it all follows
-//! from the laws of a d-monoid alone. Rankings, sessions and lexicographic objectives solve here.
+//! from the laws of a d-monoid alone. `asg_objectives` solves the squares of instances here.
 #![tactic(auto)]
 
 mod bench;
 mod dual_squares;
+mod given;
 mod graded_squares;
 mod growth;
 pub mod laws;
@@ -27,9 +28,12 @@ mod row_values;
 mod scanning;
 mod solving;
 mod square_solvers;
+mod taken;
 mod whole_words;
+mod zeros;
 
 pub use bench::Bench;
+pub use given::solve_given;
 pub use solving::{Solved, solve};
 pub use square_solvers::{SolvedSquare, SquareSolver};
 

@@ -1,7 +1,8 @@
 //! The nearest column of a word of 64 columns: of those that weren't reached the one with the least
 //! key, and of equal ones one that no row has.
 
-ghost use Rattle.std.specs.Prelude.{◌≡◌, ℕ, [], ◌+◌, ◌*◌, ◌/◌, ◌<◌, ◌≤◌, false, None, Some, length, slice_index_or, IsTrue};
+ghost use Rattle.std.specs.Prelude.{◌≡◌, ℕ, [], ◌+◌, ◌*◌, ◌/◌, ◌<◌, ◌≤◌};
+ghost use Rattle.std.specs.Prelude.{false, None, Some, length, slice_index_or, IsTrue};
 ghost use Rattle.asg_model.specs.Limits.{most_side};
 ghost use Rattle.asg_order.specs.Monoid.{IsValue, IsLe};
 ghost use Rattle.asg_match.specs.ColumnSet.{HasColumn};

@@ -1,6 +1,7 @@
 //! One phase: a row without a column gets one.
 
-ghost use Rattle.std.specs.Prelude.{◌≡◌, ◌≢◌, ℕ, ◌+◌, ◌<◌, ◌≤◌, None, vec_len, vec_capacity, All, AllPairs, IfSome, slice_index};
+ghost use Rattle.std.specs.Prelude.{◌≡◌, ◌≢◌, ℕ, ◌+◌, ◌<◌, ◌≤◌, None};
+ghost use Rattle.std.specs.Prelude.{vec_len, vec_capacity, All, AllPairs, IfSome, slice_index};
 ghost use Rattle.asg_model.specs.Limits.{most_side};
 ghost use Rattle.asg_admit.specs.Reduced.{IsReduced, IsPhaseTo};
 ghost use Rattle.asg_match.specs.Matching.{IsFree, column_at};
@@ -8,7 +9,7 @@ ghost use Rattle.asg_order.specs.Monoid.{fold_of};
 ghost use Rattle.asg_pool.specs.Forest.{IsLive};
 ghost use Rattle.asg_proof.specs.Phases.{IsAdmittedPhase};
 ghost use Rattle.asg_square.specs.Grid.{cell_at};
-ghost use Rattle.asg_algebra.specs.Growths.{IsRoomy, Searches, IsReady, phase_in};
+ghost use Rattle.asg_algebra.specs.Growths.{IsRoomy, Searches, IsReady, Closes, phase_in};
 ghost use Rattle.asg_algebra.specs.Rest.{cut, IsRestOf};
 ghost use Rattle.asg_algebra.specs.Served.{made_of, Serves};
 ghost use Rattle.asg_algebra.specs.Solved.{ArePushed};
@@ -39,6 +40,19 @@ fn cut_marks(marks: &mut [u32], steps: u32)
     }
 }
 
+// Closes the phase of the search: its marks are cut to its steps, and there is room for a value for
+// each step and one more.
+fn close<M: DMonoid>(m: &M, growth: &mut Growth<M::Value>)
+    requires room { vec_len growth.old.steps < vec_capacity growth.old.room }
+    requires small { vec_len growth.old.steps ≤ most_side }
+    ensures { Closes growth.old growth.new }
+{
+    let steps = growth.steps.len();
+    cut_marks(&mut growth.enters, steps as u32);
+    cut_marks(&mut growth.leaves, steps as u32);
+    refill(&mut growth.room, m.unit(), steps + 1);
+}
+
 // Settles the phase of the search on the square and pushes it on the trail, if it has a step.
 fn keep<M: DMonoid, S: ReducedSquare<M>>(
     m: &M,
@@ -66,13 +80,10 @@ fn keep<M: DMonoid, S: ReducedSquare<M>>(
     ensures tree { growth.new.tree ≡ growth.old.tree }
     ensures roomy { IsRoomy (S.as_reduced reduced.old).now.side growth.new }
 {
-    let steps = growth.steps.len();
-    if steps == 0 {
+    if growth.steps.is_empty() {
         return trail;
     }
-    cut_marks(&mut growth.enters, steps as u32);
-    cut_marks(&mut growth.leaves, steps as u32);
-    refill(&mut growth.room, m.unit(), steps + 1);
+    close(m, growth);
     reduced.settle(
         m,
         &growth.steps,

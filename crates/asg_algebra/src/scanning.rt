@@ -1,6 +1,7 @@
 //! A row of the tree offers keys to the columns that weren't reached, word by word.
 
-ghost use Rattle.std.specs.Prelude.{◌≡◌, ℕ, [], ◌/◌, ◌%◌, ◌<◌, ◌≤◌, IsTrue, Some, length, slice_index, slice_index_or};
+ghost use Rattle.std.specs.Prelude.{◌≡◌, ℕ, [], ◌/◌, ◌%◌, ◌<◌, ◌≤◌};
+ghost use Rattle.std.specs.Prelude.{IsTrue, Some, length, slice_index, slice_index_or};
 ghost use Rattle.asg_model.specs.Limits.{most_side};
 ghost use Rattle.asg_order.specs.Monoid.{IsValue};
 ghost use Rattle.asg_match.specs.ColumnSet.{HasBit, HasColumn};

@@ -1,5 +1,9 @@
-use Rattle.std.proofs.Common.{ap, subst, arith}
-use Rattle.asg_algebra.specs.Ended.{last_of}
+use Rattle.std.proofs.Common.{sym, ap, subst, arith}
+use Rattle.asg_admit.specs.Reduced.{IsReduced}
+use Rattle.asg_match.specs.Matching.{AllAllowed}
+use Rattle.asg_square.specs.Grid.{cell_at}
+use Rattle.asg_algebra.specs.Ended.{last_of, EndsIn}
+use Rattle.asg_algebra.specs.Growing.{IsAbsorbed}
 use Rattle.asg_algebra.specs.Solved.{HasSolved}
 use Rattle.asg_algebra.proofs.SolvedLaws.{ArePushed-side}
 use Rattle.asg_algebra.proofs.SolvingLaws.{HasSolved-join}
@@ -15,6 +19,32 @@ serve_all-requires-clause-rest g c =
       columns = c.side-2.ensures.matching;
       absorbed = r.absorbed;
     }
+
+pub serve_all-requires-clause-spare : goal.serve_all-requires-clause-spare
+serve_all-requires-clause-spare g c = c.requires.spare
+
+pub serve_all-requires-clause-live : goal.serve_all-requires-clause-live
+serve_all-requires-clause-live g c = c.requires.live
+
+pub serve_all-requires-clause-region_side : goal.serve_all-requires-clause-region_side
+serve_all-requires-clause-region_side g c = c.requires.region_side
+
+pub solve_rewriting-requires-clause-reduced : goal.solve_rewriting-requires-clause-reduced
+solve_rewriting-requires-clause-reduced g c =
+    let s = c.in-Full.ensures.solved in
+    subst (IsReduced (g.M.Ordered.monoid_of c.args.m.now)) (sym c.into_reduced-in-Full.ensures) s.lead.reduced
+
+pub solve_rewriting-requires-clause-absorbed : goal.solve_rewriting-requires-clause-absorbed
+solve_rewriting-requires-clause-absorbed g c =
+    let M = g.M.Ordered.monoid_of c.args.m.now in
+    let s = c.in-Full.ensures.solved in
+    subst (λ d. AllAllowed (IsAbsorbed M d.index (cell_at d.now)) c.serve_all.new.matching) (sym c.into_reduced-in-Full.ensures) s.rows.absorbed
+
+pub solve_rewriting-requires-clause-spare : goal.solve_rewriting-requires-clause-spare
+solve_rewriting-requires-clause-spare g c = omega (arith, c.in-Full.ensures.left, c.requires.spare)
+
+pub solve_rewriting-requires-clause-live : goal.solve_rewriting-requires-clause-live
+solve_rewriting-requires-clause-live g c = let s = c.in-Full.ensures.solved in s.live
 
 pub solve_rewriting-requires-clause-region_side : goal.solve_rewriting-requires-clause-region_side
 solve_rewriting-requires-clause-region_side g c =
@@ -39,3 +69,19 @@ returns-in-Full-clause-solved g c =
     c.in-Full.ensures.solved
     (subst (λ d. HasSolved M difference d third m' m'' g' h c.in-Full.last last) c.into_reduced-in-Full.ensures c.solve_rewriting.ensures.solved)
     c.in-Full.ensures.left
+
+pub returns-in-Full-clause-ends : goal.returns-in-Full-clause-ends
+returns-in-Full-clause-ends g c = c.solve_rewriting.ensures.ends
+
+pub returns-in-Ended-clause-solved : goal.returns-in-Ended-clause-solved
+returns-in-Ended-clause-solved g c =
+    let M = g.M.Ordered.monoid_of c.args.m.now in
+    let before = g.S.ReducedSquare.as_reduced c.args.square in
+    let new = c.serve_all.new in
+    subst (λ d. HasSolved M (g.M.DMonoid.difference c.args.m.now) before d c.args.matching.now new.matching c.args.region.now new.region c.args.trail (last_of c.in-Ended.ended)) (sym c.into_reduced.ensures) c.in-Ended.ensures.solved
+
+pub returns-in-Ended-clause-ends : goal.returns-in-Ended-clause-ends
+returns-in-Ended-clause-ends g c =
+    let M = g.M.Ordered.monoid_of c.args.m.now in
+    let new = c.serve_all.new in
+    subst (λ d. EndsIn M d new.matching new.growth.tree.rows.items c.in-Ended.ended) (sym c.into_reduced.ensures) c.in-Ended.ensures.ends

@@ -1,0 +1,7 @@
+use Rattle.std.proofs.Common.{ℕ, ◌<◌}
+use Rattle.asg_match.specs.Matching.{IsMatched}
+use Rattle.asg_algebra.proofs.given.is_perfect.Given as goal
+
+-- the rows so far have columns
+abbrev pub invariant-rows : goal.invariant-rows
+invariant-rows l = (r : ℕ) → r < l.row → IsMatched l.fn.matching r

@@ -1,6 +1,6 @@
 //! The outcome of an algebraic objective: a best choice with its phases, or a Hall set.
 
-ghost use Rattle.std.specs.Prelude.{◌≡◌, ◌≤◌, IsTrue, IfOk};
+ghost use Rattle.std.specs.Prelude.{◌≡◌, ◌≤◌, IsTrue, IfOk, IfSome};
 ghost use Rattle.asg_model.specs.declared.objectives.Objective.TheVariants.{TimeCost};
 ghost use Rattle.asg_model.specs.Limits.{most_cost, most_side};
 ghost use Rattle.asg_model.specs.Refused.{PassesNegative};
@@ -15,6 +15,7 @@ ghost use Rattle.asg_proof.specs.PromisedProofs.{GivesFewPhases};
 ghost use Rattle.asg_monoids.specs.NarrowObjectives.{is_narrow_objective};
 
 use crate::NoMemory;
+use crate::guessed_squares::guessed_outcome;
 use crate::solved_squares::outcome;
 use asg_algebra::SquareSolver;
 use asg_model::{Cost, Instance, Objective};
@@ -25,6 +26,27 @@ use asg_proof::Outcome;
 use asg_proof::laws::tops_law;
 use asg_square::Square;
 use std::alloc::Global;
+
+// The square of an instance whose live costs enter the monoid of a kind.
+fn entered_square<K: Kind>(
+    alloc: Global,
+    kind: &K,
+    inst: &Instance,
+) -> Result<Square<<K::M as Ordered>::Value>, NoMemory>
+    requires side { square_side inst.now ≤ most_side }
+    requires passes { PassesNegative (K.objective kind.now) inst.now }
+    requires reach { most_cost ≤ K.reach kind.now }
+    ensures { let unit = (K.M.monoid_of (K.monoid kind.now)).unit in
+        IfOk result (IsSquareOf inst.now unit (K.entered kind.now)) }
+{
+    let m = kind.monoid();
+    let _rows = inst.rows();
+    let enter = |cost: Cost| -> <K::M as Ordered>::Value
+        requires { MayEnter (K.objective kind.now) (K.reach kind.now) cost }
+        ensures { result ≡ K.entered kind.entry.now cost }
+    { kind.enter(cost) };
+    Square::of(alloc, inst, m.unit(), &enter)
+}
 
 /// A valid choice of least fold in the monoid of a kind, with at most as many phases as the side
 /// that prove its fold; where no choice is valid, a Hall set of the whole instance. So the choice
@@ -43,14 +65,9 @@ where
         (K.entered kind.now) inst.now) }
     ensures phases { IfOk result (GivesFewPhases (square_side inst.now)) }
 {
-    let m = kind.monoid();
     let _rows = inst.rows();
-    let enter = |cost: Cost| -> <K::M as Ordered>::Value
-        requires { MayEnter (K.objective kind.now) (K.reach kind.now) cost }
-        ensures { result ≡ K.entered kind.entry.now cost }
-    { kind.enter(cost) };
-    let square = Square::of(alloc, inst, m.unit(), &enter)?;
-    outcome(alloc, m, inst, square)
+    let square = entered_square(alloc, kind, inst)?;
+    outcome(alloc, kind.monoid(), inst, square)
 }
 
 // The square of an instance whose live costs enter for `sum` or `sum-max`, in 64 bits.
@@ -72,7 +89,47 @@ fn narrow_square(
     Square::of(alloc, inst, 0, &enter)
 }
 
-// The outcome of `sum` or `sum-max`, by sums in 64 bits, which stay far below their top.
+// The outcome of the square of an instance whose live costs entered for `sum` or `sum-max`, by sums
+// in 64 bits, which stay far below their top.
+fn narrow_outcome(
+    alloc: Global,
+    objective: Objective,
+    inst: &Instance,
+    square: Square<u64>,
+) -> Result<Outcome, NoMemory>
+    requires objective { IsTrue (is_narrow_objective objective) }
+    requires passes { PassesNegative objective inst.now }
+    requires square { IsSquareOf inst.now 0 (sum_entered objective) square }
+    ensures outcome { IfOk result (IsOutcome objective inst.now) }
+    ensures phases { IfOk result (GivesFewPhases (square_side inst.now)) }
+{
+    narrow_sums();
+    tops_law();
+    let _rows = inst.rows();
+    outcome(alloc, &NarrowSums, inst, square)
+}
+
+// The same by guessed phases, where they pass the tests.
+fn guessed_narrow_outcome(
+    alloc: Global,
+    objective: Objective,
+    inst: &Instance,
+    square: Square<u64>,
+) -> Result<Option<Outcome>, NoMemory>
+    requires objective { IsTrue (is_narrow_objective objective) }
+    requires passes { PassesNegative objective inst.now }
+    requires square { IsSquareOf inst.now 0 (sum_entered objective) square }
+    ensures outcome { IfOk result (λ found. IfSome found (IsOutcome objective inst.now)) }
+    ensures phases { IfOk result (λ found. IfSome found (GivesFewPhases (square_side inst.now))) }
+{
+    narrow_sums();
+    tops_law();
+    let _rows = inst.rows();
+    guessed_outcome(alloc, inst, square)
+}
+
+// The outcome of `sum` or `sum-max`, by sums in 64 bits: by guessed phases, and where these don't
+// serve by those of the engine, over a square that is made anew.
 fn by_narrow_sums(alloc: Global, objective: Objective, inst: &Instance) -> Result<Outcome, NoMemory>
     requires objective { IsTrue (is_narrow_objective objective) }
     requires side { square_side inst.now ≤ most_side }
@@ -80,11 +137,12 @@ fn by_narrow_sums(alloc: Global, objective: Objective, inst: &Instance) -> Resul
     ensures outcome { IfOk result (IsOutcome objective inst.now) }
     ensures phases { IfOk result (GivesFewPhases (square_side inst.now)) }
 {
-    narrow_sums();
-    tops_law();
-    let _rows = inst.rows();
     let square = narrow_square(alloc, objective, inst)?;
-    outcome(alloc, &NarrowSums, inst, square)
+    if let Some(found) = guessed_narrow_outcome(alloc, objective, inst, square)? {
+        return Ok(found);
+    }
+    let square = narrow_square(alloc, objective, inst)?;
+    narrow_outcome(alloc, objective, inst, square)
 }
 
 // The outcome of an objective whose costs enter sums, by sums in 128 bits.

@@ -4,11 +4,12 @@
 //! an algebraic assignment problem. A perfect assignment by absorbed cells gives the choice, and
 //! the phases that were taken prove it, with each step as its word; rows with fewer present cells
 //! than they are give a Hall set of the whole instance. Contracts see the outcome alone. One call
-//! is generic in the kind of the objective, another chooses the kind by the objective. Programs
-//! solve the objectives of one instance here; rankings and sessions stand on the engine themselves.
+//! is generic in the kind of the objective, another chooses the kind by the objective; the program
+//! solves by the second.
 #![tactic(auto)]
 
 mod algebraic_objectives;
+mod guessed_squares;
 mod present_cells;
 mod solved_squares;
 mod trail_phases;

@@ -8,9 +8,10 @@ ghost use Rattle.asg_pool.specs.Forest.{IsLive, phases_to};
 ghost use Rattle.asg_proof.specs.Phases.{worded};
 ghost use Rattle.asg_proof.specs.Steps.{HasValues};
 ghost use Rattle.asg_square.specs.Cells.{IsPresent};
-ghost use Rattle.asg_square.specs.Grid.{cell_at, HasLabelsOf};
+ghost use Rattle.asg_square.specs.Grid.{Grid, cell_at, HasLabelsOf};
 ghost use Rattle.asg_proof.specs.PromisedProofs.{GivesFewPhases};
-ghost use Rattle.asg_objectives.specs.SolvedSquares.{AreOfValues, IsChoiceBy, IsBestBy, IsNothingBy, IsSquareOutcome};
+ghost use Rattle.asg_objectives.specs.SolvedSquares.{AreOfValues, IsChoiceBy, IsBestBy};
+ghost use Rattle.asg_objectives.specs.SolvedSquares.{IsNothingBy, IsSquareOutcome};
 ghost use Rattle.asg_objectives.specs.SolvedFrom.{IsSolvedFrom};
 ghost use Rattle.asg_objectives.specs.Workspaces.{IsReady};
 
@@ -164,6 +165,35 @@ fn solve_in<M: SquareSolver>(
     )
 }
 
+/// The outcome of the square of an instance that was solved in a workspace.
+pub(crate) fn outcome_of<M: SquareSolver>(
+    alloc: Global,
+    m: &M,
+    inst: &Instance,
+    found: SolvedSquare<M::Value>,
+    workspace: Workspace<M::Value>,
+) -> Result<Outcome, NoMemory>
+    requires { (Q : Grid M.Value) × HasLabelsOf inst.now Q
+        × IsSolvedFrom (M.monoid_of m.now) (M.difference m.now) Q found workspace }
+    ensures outcome { (Q : Grid M.Value)
+        → IsSolvedFrom (M.monoid_of m.now) (M.difference m.now) Q found workspace
+        → IfOk result (IsSquareOutcome (M.monoid_of m.now) (M.difference m.now) (M.word_of m.now)
+        inst.now Q) }
+    ensures phases { (Q : Grid M.Value)
+        → IsSolvedFrom (M.monoid_of m.now) (M.difference m.now) Q found workspace
+        → IfOk result (GivesFewPhases Q.side) }
+{
+    fold_law(m);
+    square_law::<M::Value>();
+    grid_law::<M::Value>();
+    let _rows = inst.rows();
+    let SolvedSquare { reduced, ended } = found;
+    match ended {
+        Solved::Perfect(last) => best(alloc, m, reduced.now, workspace, last),
+        Solved::Short(_) => nothing(alloc, inst, &reduced.now, workspace.bench.violator()),
+    }
+}
+
 // The outcome of the square of an instance that is solved in a workspace.
 fn outcome_in<M: SquareSolver>(
     alloc: Global,
@@ -179,17 +209,9 @@ fn outcome_in<M: SquareSolver>(
         (M.word_of m.now) inst.now square) }
     ensures phases { IfOk result (GivesFewPhases square.side) }
 {
-    fold_law(m);
-    square_law::<M::Value>();
-    grid_law::<M::Value>();
-    let _rows = inst.rows();
     let mut workspace = workspace;
     let found = solve_in(alloc, m, square, &mut workspace)?;
-    let SolvedSquare { reduced, ended } = found;
-    match ended {
-        Solved::Perfect(last) => best(alloc, m, reduced.now, workspace, last),
-        Solved::Short(_) => nothing(alloc, inst, &reduced.now, workspace.bench.violator()),
-    }
+    outcome_of(alloc, m, inst, found, workspace)
 }
 
 /// Solves the square of an instance, whose present cells are values and whose free cells are units:

@@ -2,7 +2,6 @@ use Rattle.std.proofs.Common.{ℕ, ◌≡◌, ◌∙◌, Option, None, length, r
 use Rattle.std.specs.Prelude.{IfOk, is_none, Result, Ok, Err}
 use Rattle.std.proofs.lemmas.List.{length-replicate}
 use Rattle.std.proofs.lemmas.List.Sums.{count_by-le-length}
-use Rattle.asg_admit.specs.declared.reduced.Reduced.{Reduced}
 use Rattle.asg_algebra.specs.declared.square_solvers.SolvedSquare.{SolvedSquare}
 use Rattle.asg_algebra.specs.Ended.{last_of, EndsIn}
 use Rattle.asg_algebra.specs.Solved.{HasSolved}

@@ -1,5 +1,5 @@
 -- Words of the bits of a square, up to a limit.
-use Rattle.std.proofs.Common.{◌≡◌, ◌↔◌, ℕ, ◌+◌, ◌-◌, ◌*◌, ◌/◌, ◌%◌, ◌^◌, ◌<◌, ◌≤◌, ⊎_elim, sym, ◌∙◌, subst, ap, arith, w64, List, get_or, min, Bool, true, false, leb, zero-mul}
+use Rattle.std.proofs.Common.{◌≡◌, ◌↔◌, ℕ, ◌+◌, ◌-◌, ◌*◌, ◌/◌, ◌%◌, ◌^◌, ◌<◌, ◌≤◌, ⊎_elim, sym, ◌∙◌, subst, ap, arith, w64, List, length, get_or, min, Bool, true, false, leb, zero-mul}
 use Rattle.std.specs.Prelude.{bit_or}
 use Rattle.std.specs.Int.{bit_at}
 use Rattle.std.proofs.Math.Nat.{mul_comm}
@@ -10,7 +10,7 @@ use Rattle.std.proofs.lemmas.Nat.{div-mul-add, mod-mul-add, mul-add-lt}
 use Rattle.std.proofs.lemmas.Nat.Bits.{bit_at_set_same, bit_at_set_other}
 use Rattle.asg_match.specs.ColumnSet.{HasBit, word_count}
 use Rattle.asg_thresh.specs.Grades.{grade_at}
-use Rattle.asg_thresh.specs.Words.{IsMarked, AreBitsUpTo, MarksUpTo}
+use Rattle.asg_thresh.specs.Words.{IsMarked, AreBitsUpTo, IsWordUpTo, MarksUpTo}
 
 -- one more grade, whose bit is set exactly where it is at most the limit
 pub bits_more_set : (grades : List ℕ) (place limit word : ℕ) → place < 64 → get_or grades place 0 ≤ limit → AreBitsUpTo grades place limit word → AreBitsUpTo grades (place + 1) limit (bit_or word (1 * 2 ^ place % 2 ^ 64))
@@ -47,13 +47,21 @@ bits_more grades place limit word b false h e is bits =
     (subst (λ n. AreBitsUpTo grades (place + 1) limit (bit_or word n)) (sym nothing)
     (subst (AreBitsUpTo grades (place + 1) limit) (sym (or_zero_r word)) (bits_more_clear grades place limit word (leb-false (get_or grades place 0) limit e) bits)))
 
--- a word by its number among all words: its bits mark cells up to the limit
-abbrev pub IsWordUpTo : List ℕ → ℕ → ℕ → List ℕ → ℕ → Type 0
-IsWordUpTo grades side limit words i =
-    (k : ℕ) → HasBit (get_or words i 0) k ↔ ((k < min 64 (side - 64 * (i % word_count side))) × (grade_at grades side (i / word_count side) (64 * (i % word_count side) + k) ≤ limit))
+-- the bits of the grades of a piece of a row are those of its word
+pub IsWordUpTo-piece : (grades piece : List ℕ) (side limit place width word : ℕ) → width ≡ word_count side → length piece ≡ min 64 (side - 64 * (place % width)) → ((k : ℕ) → k < length piece → get_or piece k 0 ≡ grade_at grades side (place / width) (64 * (place % width) + k)) → AreBitsUpTo piece (length piece) limit word → IsWordUpTo grades side limit place word
+IsWordUpTo-piece grades piece side limit place width word same count cells bits =
+    let long : length piece ≡ min 64 (side - 64 * (place % word_count side)) = count ∙ ap (λ w. min 64 (side - 64 * (place % w))) same in
+    let cell : (k : ℕ) → k < length piece → get_or piece k 0 ≡ grade_at grades side (place / word_count side) (64 * (place % word_count side) + k) =
+    λ k h. cells k h ∙ ap (λ w. grade_at grades side (place / w) (64 * (place % w) + k)) same in
+    record {
+      bits = λ k. (
+        λ has. let both = (bits k).0 has in (subst (λ n. k < n) long both.0, subst (λ x. x ≤ limit) (cell k both.0) both.1),
+        λ both. let within = subst (λ n. k < n) (sym long) both.0 in (bits k).1 (within, subst (λ x. x ≤ limit) (sym (cell k within)) both.1),
+      );
+    }
 
 -- words that all mark cells up to the limit
-pub MarksUpTo-words : (grades : List ℕ) (side limit : ℕ) (words : List ℕ) → ((i : ℕ) → i < side * word_count side → IsWordUpTo grades side limit words i) → MarksUpTo grades side limit words
+pub MarksUpTo-words : (grades : List ℕ) (side limit : ℕ) (words : List ℕ) → ((i : ℕ) → i < side * word_count side → IsWordUpTo grades side limit i (get_or words i 0)) → MarksUpTo grades side limit words
 MarksUpTo-words grades side limit words done r c =
     let width = word_count side in (
       λ marked.
@@ -61,7 +69,7 @@ MarksUpTo-words grades side limit words done r c =
           let word = div-mul-add r width (c / 64) within in
           let number = mod-mul-add r width (c / 64) within in
           let place : r * width + c / 64 < side * width = omega (arith, mul-add-lt r width (c / 64) side marked.row within, mul_comm side width) in
-          let both = (done (r * width + c / 64) place (c % 64)).0 marked.bit in
+          let both = ((done (r * width + c / 64) place).bits (c % 64)).0 marked.bit in
           let column : 64 * ((r * width + c / 64) % width) + c % 64 ≡ c = omega (arith, number) in
           record {
             row = marked.row;
@@ -79,7 +87,7 @@ MarksUpTo-words grades side limit words done r c =
           record {
             row = upto.row;
             column = upto.column;
-            bit = (done (r * width + c / 64) place (c % 64)).1 (left, subst (λ q. grade_at grades side q (64 * ((r * width + c / 64) % width) + c % 64) ≤ limit) (sym word) (subst (λ d. grade_at grades side r d ≤ limit) (sym column) upto.grade));
+            bit = ((done (r * width + c / 64) place).bits (c % 64)).1 (left, subst (λ q. grade_at grades side q (64 * ((r * width + c / 64) % width) + c % 64) ≤ limit) (sym word) (subst (λ d. grade_at grades side r d ≤ limit) (sym column) upto.grade));
           },
     )
 

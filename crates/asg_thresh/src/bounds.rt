@@ -7,6 +7,7 @@ ghost use Rattle.asg_thresh.specs.Bounds.{IsRowBound, IsColumnBound, AreAllBelow
 ghost use Rattle.asg_thresh.specs.Grades.{IsUnder, grade_at};
 
 use crate::NoMemory;
+use crate::grades::row_of;
 use std::alloc::Global;
 
 /// A grade that no assignment can do without, and rows that are deficient under it.
@@ -21,19 +22,6 @@ pub(crate) struct Bound {
 struct Least {
     line: u32,
     grade: u32,
-}
-
-// The grades of a row.
-#[inline]
-fn row_of(grades: &[u32], side: u32, row: u32) -> &[u32]
-    requires row_below { row < side }
-    requires few { side ≤ most_side }
-    requires square { length grades.now ≡ side * side }
-    ensures count { length result.now ≡ side }
-    ensures cells { (c : ℕ) → c < side → slice_index result.now c ≡ grade_at grades.now side row c }
-{
-    let start = (row * side) as usize;
-    &grades[start..start + side as usize]
 }
 
 // The least of some grades.
@@ -73,8 +61,10 @@ fn row_bound(grades: &[u32], side: u32) -> Least
 // Lowers each grade of a list to that of another list.
 fn lower(leasts: &mut [u32], grades: &[u32])
     requires { length leasts.old ≡ length grades.now }
-    ensures kept { (k : ℕ) → k < length leasts.old → slice_index leasts.new k ≤ slice_index leasts.old k }
-    ensures lowered { (k : ℕ) → k < length leasts.old → slice_index leasts.new k ≤ slice_index grades.now k }
+    ensures kept { (k : ℕ) → k < length leasts.old
+        → slice_index leasts.new k ≤ slice_index leasts.old k }
+    ensures lowered { (k : ℕ) → k < length leasts.old
+        → slice_index leasts.new k ≤ slice_index grades.now k }
 {
     for k in 0..leasts.len() {
         leasts[k] = leasts[k].min(grades[k]);

@@ -1,10 +1,11 @@
 //! Grades of costs and of the cells of a square.
 
-ghost use Rattle.std.specs.Prelude.{◌≡◌, ℕ, ◌+◌, ◌*◌, ◌<◌, ◌≤◌, min, IsTrue, IsSome, unsigned_abs};
+ghost use Rattle.std.specs.Prelude.{◌≡◌, ℕ, ◌+◌, ◌*◌, ◌<◌, ◌≤◌, min, length};
+ghost use Rattle.std.specs.Prelude.{slice_index, IsTrue, IsSome, unsigned_abs};
 ghost use Rattle.asg_model.specs.Limits.{most_cost, most_side};
 ghost use Rattle.asg_square.specs.BitTable.{word_count};
 ghost use Rattle.asg_square.specs.Grid.{IsGrid, cell_at};
-ghost use Rattle.asg_thresh.specs.Grades.{grade_of, Grades};
+ghost use Rattle.asg_thresh.specs.Grades.{grade_of, grade_at, Grades};
 
 use asg_model::limits::MOST_COST;
 use asg_model::{Cost, Objective};
@@ -26,6 +27,19 @@ pub(crate) fn grade(objective: Objective, cost: Cost) -> u32
         Objective::BottleneckMax => (MOST_COST + 1 - cost.a) as u32,
         _ => (cost.a + (MOST_COST + 1)) as u32,
     }
+}
+
+/// The grades of a row.
+#[inline]
+pub(crate) fn row_of(grades: &[u32], side: u32, row: u32) -> &[u32]
+    requires row_below { row < side }
+    requires few { side ≤ most_side }
+    requires square { length grades.now ≡ side * side }
+    ensures count { length result.now ≡ side }
+    ensures cells { (c : ℕ) → c < side → slice_index result.now c ≡ grade_at grades.now side row c }
+{
+    let start = (row * side) as usize;
+    &grades[start..start + side as usize]
 }
 
 // Gives a cell the grade of no cell, if it is absent.

@@ -2,7 +2,7 @@
 
 ghost use Rattle.std.specs.Prelude.{◌≡◌, ℕ, ◌*◌, ◌<◌, ◌≤◌, IfOk, length, vec_len};
 ghost use Rattle.asg_match.specs.ColumnSet.{word_count};
-ghost use Rattle.asg_thresh.specs.Words.{AreBitsUpTo, MarksUpTo};
+ghost use Rattle.asg_thresh.specs.Words.{AreBitsUpTo, IsWordUpTo, MarksUpTo};
 
 use crate::NoMemory;
 use asg_match::Allowed;
@@ -108,6 +108,18 @@ impl MarkedCells {
     }
 }
 
+// The bits of a word by its place among all words: 1 for a cell with a grade of at most the limit.
+#[inline]
+fn word_at(grades: &[u32], side: u32, limit: u32, place: u32) -> u64
+    requires few { side ≤ most_side }
+    requires square { length grades.now ≡ side * side }
+    requires place_below { place < side * word_count side }
+    ensures { IsWordUpTo grades.now side limit place result }
+{
+    let width = side.div_ceil(64);
+    bits_of(piece_of(grades, side, place / width, place % width), limit)
+}
+
 // Sets the words to the bits of the cells with a grade of at most the limit.
 fn mark_words(words: &mut Vec<u64>, grades: &[u32], side: u32, limit: u32)
     requires few { side ≤ most_side }
@@ -116,10 +128,8 @@ fn mark_words(words: &mut Vec<u64>, grades: &[u32], side: u32, limit: u32)
     ensures sized { vec_len words.new ≡ vec_len words.old }
     ensures cells { MarksUpTo grades.now side limit words.new.items }
 {
-    let width = side.div_ceil(64);
     for place in 0..words.len() as u32 {
-        let piece = piece_of(grades, side, place / width, place % width);
-        words[place as usize] = bits_of(piece, limit);
+        words[place as usize] = word_at(grades, side, limit, place);
     }
 }
 

@@ -90,6 +90,45 @@ fn outcome(
     })
 }
 
+// The outcome that the square of an instance with the grades of all its cells shows.
+fn graded_outcome(
+    alloc: Global,
+    objective: Objective,
+    inst: &Instance,
+    square: &Square<u32>,
+) -> Result<Outcome, NoMemory>
+    requires objective { IsBottleneck objective }
+    requires square { IsGradedSquareOf inst.now objective square.now }
+    requires side { square_side inst.now ≤ most_side }
+    ensures outcome { IfOk result (IsOutcome objective inst.now) }
+    ensures threshold { IfOk result HasThresholdProof }
+{
+    let _rows = inst.rows();
+    let grades = square.values();
+    let side = square.side();
+    let found = least_threshold(alloc, grades, side)?;
+    outcome(alloc, objective, inst, square, grades, &found)
+}
+
+// The square of an instance with the grades of all its cells, absent ones among them.
+fn graded_square(
+    alloc: Global,
+    objective: Objective,
+    inst: &Instance,
+) -> Result<Square<u32>, NoMemory>
+    requires { square_side inst.now ≤ most_side }
+    ensures { IfOk result (IsGradedSquareOf inst.now objective) }
+{
+    let _rows = inst.rows();
+    let enter = |cost: Cost| -> u32
+        requires { unsigned_abs cost.a ≤ most_cost }
+        ensures { result ≡ grade_of objective cost }
+    { grade(objective, cost) };
+    let mut square = Square::of(alloc, inst, FREE_GRADE, &enter)?;
+    grade_absent(&mut square);
+    Ok(square)
+}
+
 /// A best choice for a bottleneck objective [Fulkerson, Glicksberg and Gross 1953], with the rows
 /// that prove it: a Hall set of the cells
 /// whose costs are strictly better than its value. Where no choice is valid, a Hall set of the
@@ -102,15 +141,6 @@ pub fn bottleneck(alloc: Global, objective: Objective, inst: &Instance) -> Resul
     ensures outcome { IfOk result (IsOutcome objective inst.now) }
     ensures threshold { IfOk result HasThresholdProof }
 {
-    let _rows = inst.rows();
-    let enter = |cost: Cost| -> u32
-        requires { unsigned_abs cost.a ≤ most_cost }
-        ensures { result ≡ grade_of objective cost }
-    { grade(objective, cost) };
-    let mut square = Square::of(alloc, inst, FREE_GRADE, &enter)?;
-    grade_absent(&mut square);
-    let grades = square.values();
-    let side = square.side();
-    let found = least_threshold(alloc, grades, side)?;
-    outcome(alloc, objective, inst, &square, grades, &found)
+    let square = graded_square(alloc, objective, inst)?;
+    graded_outcome(alloc, objective, inst, &square)
 }

@@ -4,11 +4,12 @@ ghost use Rattle.std.specs.Prelude.{◌≡◌, ℕ, ◌+◌, ◌*◌, ◌<◌, �
 ghost use Rattle.asg_model.specs.Limits.{most_side};
 ghost use Rattle.asg_match.specs.Deficient.{IsDeficient};
 ghost use Rattle.asg_thresh.specs.Grades.{no_grade, grade_at, IsUpTo, IsUnder};
+ghost use Rattle.asg_thresh.specs.Seekers.{HaveSide};
 ghost use Rattle.asg_thresh.specs.Thresholds.{IsAssignmentUpTo, IsLeast};
 
 use crate::NoMemory;
 use crate::bounds::first_bound;
-use crate::grades::NO_GRADE;
+use crate::grades::{NO_GRADE, row_of};
 use crate::seeker::Seeker;
 use std::alloc::Global;
 
@@ -68,8 +69,7 @@ fn next_grade(grades: &[u32], side: u32, rows: &[u32], limit: u32) -> u32
 {
     let mut least = NO_GRADE;
     for row in rows {
-        let start = (*row * side) as usize;
-        least = least_above(&grades[start..start + side as usize], limit, least);
+        least = least_above(row_of(grades, side, *row), limit, least);
     }
     least
 }
@@ -86,6 +86,33 @@ fn middle(low: u32, high: u32, step: u32) -> u32
     } else {
         low + (high - low) / 2
     }
+}
+
+// Narrows a lower bound, under which the seeker's rows are deficient, and the grade of no cell down
+// to the least limit within which a perfect assignment exists. The seeker has the assignment then,
+// and rows that are deficient under the limit.
+fn narrow(seeker: &mut Seeker, grades: &[u32], side: u32, bound: u32) -> Result<u32, NoMemory>
+    requires few { side ≤ most_side }
+    requires square { length grades.now ≡ side * side }
+    requires side { HaveSide side seeker.old }
+    requires deficient { IsDeficient (IsUnder grades.now side bound) side seeker.old.rows.items }
+    ensures limit { IfOk result (λ limit. limit ≤ no_grade) }
+    ensures least { IfOk result (λ limit.
+        IsLeast grades.now side limit seeker.new.perm.items seeker.new.rows.items) }
+{
+    let mut low = bound;
+    let mut high = NO_GRADE;
+    let mut step = 0;
+    'limits: while low < high {
+        let limit = middle(low, high, step);
+        if seeker.seek(grades, side, limit)? {
+            high = greatest_grade(grades, side, seeker.perm.as_slice());
+        } else {
+            low = next_grade(grades, side, seeker.rows.as_slice(), limit);
+            step = step.saturating_mul(2).max(1_000_000);
+        }
+    }
+    Ok(high)
 }
 
 /// The least limit within which a perfect assignment exists (the threshold method, [Garfinkel
@@ -106,21 +133,10 @@ pub(crate) fn least_threshold(
     ensures least { IfOk result (λ t. IsLeast grades.now side t.limit t.perm.items t.rows.items) }
 {
     let start = first_bound(alloc, grades, side)?;
-    let mut low = start.grade;
-    let mut high = NO_GRADE;
-    let mut step = 0;
     let mut seeker = Seeker::make(alloc, side, start.rows)?;
-    'limits: while low < high {
-        let limit = middle(low, high, step);
-        if seeker.seek(grades, side, limit)? {
-            high = greatest_grade(grades, side, seeker.perm.as_slice());
-        } else {
-            low = next_grade(grades, side, seeker.rows.as_slice(), limit);
-            step = step.saturating_mul(2).max(1_000_000);
-        }
-    }
+    let limit = narrow(&mut seeker, grades, side, start.grade)?;
     Ok(Threshold {
-        limit: high,
+        limit,
         perm: seeker.perm,
         rows: seeker.rows,
     })

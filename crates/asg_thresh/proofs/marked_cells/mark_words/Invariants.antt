@@ -1,6 +1,6 @@
-use Rattle.std.proofs.Common.{◌≡◌, ℕ, ◌*◌, ◌<◌, length}
+use Rattle.std.proofs.Common.{◌≡◌, ℕ, ◌*◌, ◌<◌, length, get_or}
 use Rattle.asg_match.specs.ColumnSet.{word_count}
-use Rattle.asg_thresh.proofs.WordLemmas.{IsWordUpTo}
+use Rattle.asg_thresh.specs.Words.{IsWordUpTo}
 use Rattle.asg_thresh.proofs.marked_cells.mark_words.Given as goal
 
 -- the words so far mark the cells up to the limit
@@ -9,5 +9,5 @@ invariant-loop-place l =
     record {
       count : length l.words.items ≡ l.side * word_count l.side;
       end : l.place-end ≡ l.side * word_count l.side;
-      done : (i : ℕ) → i < l.place → IsWordUpTo l.grades l.side l.limit l.words.items i;
+      done : (i : ℕ) → i < l.place → IsWordUpTo l.grades l.side l.limit i (get_or l.words.items i 0);
     }

@@ -6,7 +6,7 @@ use Rattle.asg_match.specs.Deficient.{IsDeficient}
 use Rattle.asg_thresh.specs.Grades.{grade_at, IsUpTo, IsUnder}
 use Rattle.asg_thresh.specs.Thresholds.{IsAssignmentUpTo}
 use Rattle.asg_thresh.proofs.CellLemmas.{IsDeficient-fewer}
-use Rattle.asg_thresh.proofs.thresholds.least_threshold.Goals as goal
+use Rattle.asg_thresh.proofs.thresholds.narrow.Goals as goal
 
 pub limits-smaller-then-branch : goal.limits-smaller-then-branch
 limits-smaller-then-branch c =
@@ -52,4 +52,16 @@ limits-preserved c =
             })
             short;
       };
+    }
+
+pub returns-clause-least : goal.returns-clause-least
+returns-clause-least c =
+    let inv = c.limits.invariant in
+    let grades = c.args.grades.now in
+    let side = c.args.side in
+    record {
+      assignment = inv.bracket.assignment;
+      deficient = IsDeficient-fewer (IsUnder grades side c.limits.low) (IsUnder grades side c.limits.high) side c.limits.seeker.rows.items
+          (λ r d of under. record { row = under.row; column = under.column; grade = let less = under.grade in omega (arith, less, c.limits-test.false) })
+          inv.bracket.deficient;
     }

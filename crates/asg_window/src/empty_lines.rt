@@ -9,7 +9,7 @@ ghost use Rattle.asg_window.specs.Marks.{IsMarked};
 
 use crate::NoMemory;
 use crate::band_cells::BandCells;
-use crate::words::{add_words, has_any, has_column};
+use crate::words::{add_words, clear_words, has_any, has_column};
 use asg_square::BitRows;
 
 /// The first row without a marked cell.
@@ -32,7 +32,7 @@ fn join(columns: &mut Vec<u64>, bits: &BitRows, side: u32)
     ensures all { (r c : ℕ) → r < side → IsTrue (has_bit bits.now r c)
         → HasColumn columns.new.items c }
 {
-    columns.as_mut_slice().fill(0);
+    clear_words(columns);
     for row in 0..side {
         add_words(columns, bits.row(row));
     }

@@ -6,7 +6,7 @@ ghost use Rattle.asg_match.specs.Deficient.{IsDeficient};
 ghost use Rattle.asg_window.specs.Assignments.{IsAssignmentWithin, IsSpread};
 ghost use Rattle.asg_window.specs.Ascents.{IsAscent, AddsGap};
 ghost use Rattle.asg_window.specs.Bands.{IsWithin};
-ghost use Rattle.asg_window.specs.Gaps.{IsLeast, IsSwept};
+ghost use Rattle.asg_window.specs.Gaps.{IsSwept};
 ghost use Rattle.asg_window.specs.Grades.{no_bound};
 ghost use Rattle.asg_window.specs.LiveCells.{AreEntries};
 ghost use Rattle.asg_window.specs.Seekers.{IsSeeker};
@@ -118,17 +118,20 @@ fn ascend(
     }
 }
 
-// Lessens the spread of the seeker's assignment to the least, with the gaps that show it.
+// Lessens the spread of the seeker's assignment to the least. The answer has the gaps that show it.
 fn lessen(
     alloc: Global,
     cells: &LiveCells<'_>,
-    mut seeker: Seeker,
+    seeker: &mut Seeker,
     first: u32,
-) -> Result<Least, NoMemory>
-    requires seeker { IsSeeker cells.now.square.now cells.now.entries.now seeker }
-    requires low { seeker.band.low ≡ 1 }
-    requires spread { IsSpread cells.now.square.now seeker.perm.items first }
-    ensures { IfOk result (IsLeast cells.now.square.now) }
+) -> Result<Ascent, NoMemory>
+    requires seeker { IsSeeker cells.now.square.now cells.now.entries.now seeker.old }
+    requires low { seeker.old.band.low ≡ 1 }
+    requires spread { IsSpread cells.now.square.now seeker.old.perm.items first }
+    ensures ascent { IfOk result
+        (IsAscent cells.now.square.now cells.now.entries.now seeker.new) }
+    ensures all { IfOk result (λ ascent.
+        0 < ascent.spread → no_bound < ascent.low + ascent.spread) }
 {
     let mut ascent = Ascent {
         spread: first,
@@ -136,13 +139,26 @@ fn lessen(
         gaps: Vec::new(alloc),
     };
     'bands: while ascent.spread > 0 && ascent.low <= NO_BOUND - ascent.spread {
-        ascend(alloc, cells, &mut seeker, &mut ascent)?;
+        ascend(alloc, cells, seeker, &mut ascent)?;
     }
-    Ok(Least {
+    Ok(ascent)
+}
+
+// Finds an assignment of the least spread, from the seeker's first one on.
+fn found(alloc: Global, cells: &LiveCells<'_>, mut seeker: Seeker) -> Result<Swept, NoMemory>
+    requires seeker { IsSeeker cells.now.square.now cells.now.entries.now seeker }
+    requires low { seeker.band.low ≡ 1 }
+    requires assignment { (high : ℕ)
+        × IsAssignmentWithin cells.now.square.now 1 high seeker.perm.items }
+    ensures { IfOk result (IsSwept cells.now.square.now) }
+{
+    let first = spread_of(cells.square, seeker.perm.as_slice());
+    let ascent = lessen(alloc, cells, &mut seeker, first)?;
+    Ok(Swept::Found(Least {
         spread: ascent.spread,
-        perm: seeker.perm,
+        perm: seeker.into_perm(),
         gaps: ascent.gaps,
-    })
+    }))
 }
 
 /// An assignment of the least spread of a square, with the gaps that show it, or rows that are
@@ -159,9 +175,8 @@ pub(crate) fn sweep(alloc: Global, cells: &LiveCells<'_>) -> Result<Swept, NoMem
     ensures { IfOk result (IsSwept cells.now.square.now) }
 {
     let mut seeker = Seeker::make(alloc, cells)?;
-    if !rise(cells, &mut seeker)? {
-        return Ok(Swept::Short(seeker.rows));
+    if rise(cells, &mut seeker)? {
+        return found(alloc, cells, seeker);
     }
-    let spread = spread_of(cells.square, seeker.perm.as_slice());
-    Ok(Swept::Found(lessen(alloc, cells, seeker, spread)?))
+    Ok(Swept::Short(seeker.into_rows()))
 }

@@ -7,13 +7,14 @@ ghost use Rattle.asg_square.specs.BitTable.{has_bit};
 ghost use Rattle.asg_window.specs.declared.live_cells.Entry.{Entry as E};
 ghost use Rattle.asg_window.specs.Bands.{MarksBand};
 ghost use Rattle.asg_window.specs.LiveCells.{entry_at};
-ghost use Rattle.asg_window.specs.Reaching.{HasRoom, IsRowMarked, Reaches, AreReachedBelow, GetNoColumn};
+ghost use Rattle.asg_window.specs.Reaching.{HasRoom, IsRowMarked, Reaches, AreReachedBelow};
+ghost use Rattle.asg_window.specs.Reaching.{GetNoColumn};
 
 use crate::NoMemory;
 use crate::band_cells::BandCells;
 use crate::grades::NO_BOUND;
 use crate::live_cells::{Entry, LiveCells};
-use crate::words::{add_words, has_column};
+use crate::words::{add_words, clear_words, has_column};
 use std::alloc::Global;
 
 /// Some rows of a square, and the columns that they have in a band, as bits. Its memory serves one
@@ -67,6 +68,15 @@ impl Reached {
         Ok(Reached { rows, columns })
     }
 
+    // Takes all rows away, with their columns.
+    fn clear(&mut self)
+        ensures room { (side : ℕ) → HasRoom side self.old → HasRoom side self.new }
+        ensures none { (c : ℕ) → HasColumn self.new.columns.items c → ⊥ }
+    {
+        self.rows.as_mut_slice().fill(false);
+        clear_words(&mut self.columns);
+    }
+
     // Adds a row, with the columns that it has in the band.
     fn add_row(&mut self, band: &BandCells, row: u32)
         requires room { HasRoom band.now.side self.old }
@@ -88,8 +98,7 @@ impl Reached {
         ensures room { HasRoom band.now.side self.new }
         ensures reaches { Reaches band.now.bits rows.now self.new }
     {
-        self.rows.as_mut_slice().fill(false);
-        self.columns.as_mut_slice().fill(0);
+        self.clear();
         for place in 0..rows.len() {
             self.add_row(band, rows[place]);
         }

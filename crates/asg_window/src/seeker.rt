@@ -88,6 +88,20 @@ impl Seeker {
         })
     }
 
+    /// The list of columns alone.
+    pub(crate) fn into_perm(self) -> Vec<u32>
+        ensures { result ≡ self.perm }
+    {
+        self.perm
+    }
+
+    /// The rows alone.
+    pub(crate) fn into_rows(self) -> Vec<u32>
+        ensures { result ≡ self.rows }
+    {
+        self.rows
+    }
+
     // Whether a row or a column has no marked cell. True: the rows are deficient.
     fn is_blocked(&mut self) -> Result<bool, NoMemory>
         requires sides { HaveSide self.old.band.side self.old }

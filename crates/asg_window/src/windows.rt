@@ -1,6 +1,7 @@
 //! Windows of costs from gaps.
 
-ghost use Rattle.std.specs.Prelude.{◌≡◌, ℕ, ◌+◌, ◌<◌, ◌≤◌, pos, All, IfOk, IsTrue, length, slice_index_or};
+ghost use Rattle.std.specs.Prelude.{◌≡◌, ℕ, ◌+◌, ◌<◌, ◌≤◌, pos, All, IfOk, IsTrue, length};
+ghost use Rattle.std.specs.Prelude.{slice_index_or};
 ghost use Rattle.asg_match.specs.Deficient.{IsDeficient};
 ghost use Rattle.asg_match.specs.HallSets.{GivesHallSets};
 ghost use Rattle.asg_proof.specs.Windows.{is_held};

@@ -16,6 +16,14 @@ pub(crate) fn add_words(columns: &mut Vec<u64>, words: &[u64])
     }
 }
 
+/// Clears all bits.
+pub(crate) fn clear_words(words: &mut Vec<u64>)
+    ensures count { length words.new.items ≡ length words.old.items }
+    ensures none { (c : ℕ) → HasColumn words.new.items c → ⊥ }
+{
+    words.as_mut_slice().fill(0);
+}
+
 /// Whether the bit of a column is set.
 #[inline]
 pub(crate) fn has_column(columns: &[u64], column: usize) -> bool

@@ -1,0 +1,13 @@
+use Rattle.std.proofs.Common.{ap, sym, subst}
+use Rattle.asg_window.specs.Assignments.{IsSpread}
+use Rattle.asg_window.proofs.gaps.found.Goals as goal
+
+pub returns : goal.returns
+returns c =
+    let ends = c.in_ok-ascent.ensures.ascent in
+    record {
+      spread = subst (λ columns. IsSpread c.args.cells.now.square.now columns c.in_ok-ascent.ascent.spread) (sym (ap (λ v. v.items) c.into_perm.ensures)) ends.spread;
+      low = c.in_ok-ascent.ascent.low;
+      all = c.in_ok-ascent.ensures.all;
+      gaps = ends.gaps;
+    }

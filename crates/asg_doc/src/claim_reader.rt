@@ -4,7 +4,9 @@ ghost use Rattle.std.specs.Prelude.{true, false};
 ghost use Rattle.asg_parts.specs.Parts.{counted};
 ghost use Rattle.asg_parts.specs.Reading.{Reads, ReadsOrFails};
 ghost use Rattle.asg_parts.specs.Spellings.{SpellsOrFails};
-ghost use Rattle.asg_doc.specs.DocumentParts.{status_part, formed_part, value_part, cell_part, answer_part, proof_head_spelling, proof_head_part, proof_part, proved_part, hall_part, claim_part};
+ghost use Rattle.asg_doc.specs.DocumentParts.{status_part, formed_part, value_part, cell_part};
+ghost use Rattle.asg_doc.specs.DocumentParts.{answer_part, proof_head_spelling, proof_head_part};
+ghost use Rattle.asg_doc.specs.DocumentParts.{proof_part, proved_part, hall_part, claim_part};
 
 use crate::documents::{Answer, Cells, Claim, ProofHead, Status};
 use crate::phase_reader::phases;

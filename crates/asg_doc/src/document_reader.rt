@@ -1,6 +1,7 @@
 //! Documents from their text.
 
-ghost use Rattle.std.specs.Prelude.{◌≡◌, ◌↔◌, ◌+◌, ◌≤◌, [], List, length, IsTrue, IfOk, IfErr, MatchResult};
+ghost use Rattle.std.specs.Prelude.{◌≡◌, ◌↔◌, ◌+◌, ◌≤◌, [], List, length, IsTrue, IfOk, IfErr};
+ghost use Rattle.std.specs.Prelude.{MatchResult};
 ghost use Rattle.std.specs.List.{flat_map};
 ghost use Rattle.asg_doc.specs.declared.documents.Document.{Document};
 ghost use Rattle.asg_doc.specs.DocumentParts.{command_part, objective_part, document_part};

@@ -2,7 +2,9 @@
 
 ghost use Rattle.std.specs.Prelude.{◌≡◌};
 ghost use Rattle.asg_parts.specs.Spellings.{Spells};
-ghost use Rattle.asg_doc.specs.Words.{command_word, status_word, has_pairs, has_grades, command_spelling, cap_spelling, named_spelling, objective_spelling, status_spelling};
+ghost use Rattle.asg_doc.specs.Words.{command_word, status_word, has_pairs, has_grades};
+ghost use Rattle.asg_doc.specs.Words.{command_spelling, cap_spelling, named_spelling};
+ghost use Rattle.asg_doc.specs.Words.{objective_spelling, status_spelling};
 
 use crate::documents::{Command, Status};
 use asg_model::limits::MOST_CAP;

@@ -2,7 +2,7 @@
 use mathlib.Core.HLevel.{dec→stable, ×_discrete}
 use mathlib.Core.List.{List-discrete}
 use mathlib.Core.Logic.Dec.{and, not, of_iff}
-use Rattle.std.proofs.Common.{◌≡◌, ◌↔◌, ◌&&◌, ℕ, suc, Bool, true, false, List, [], ◌∷◌, length, take, Option, inl, inr, refl, sym, ap, ◌∙◌, subst, arith}
+use Rattle.std.proofs.Common.{◌≡◌, ◌≢◌, ◌↔◌, ◌&&◌, ℕ, suc, Bool, true, false, List, [], ◌∷◌, length, take, Option, inl, inr, refl, sym, ap, ◌∙◌, subst, arith}
 use Rattle.std.proofs.Math.Bool.{Bool-discrete}
 use Rattle.std.proofs.Math.Decide.{ℕ_discrete}
 use Rattle.std.specs.Prelude.{ℤ, pos, IsTrue}
@@ -41,16 +41,30 @@ use Rattle.asg_check.specs.declared.verdicts.Verdict.TheVariants.{No, Yes}
 use Rattle.asg_check.specs.Certifies.{Certifies, CertifiesClaim}
 use Rattle.asg_check.specs.DocumentForm.{has_form, is_command_of, takes_claim}
 use Rattle.asg_check.specs.PhaseReasons.{AreAdmittedFor, AreBadAt, HaveOtherIndexFor}
-use Rattle.asg_check.specs.Reasons.{HasBadPhase, HasHallSet, HasNoChoice, HasOtherIndex, HasOtherValue, IsFirstReason, LacksHallSet, LeavesGap, Stands, StandsAgainst, Tells, claim_reasons, phase_reasons, proof_reasons, reasons_in_order, window_reasons}
+use Rattle.asg_check.specs.Reasons.{HasBadPhase, HasHallSet, HasNoChoice, HasOtherIndex, HasOtherValue, IsFirstReason, IsToldOf, LacksHallSet, LeavesGap, Stands, StandsAgainst, Tells, claim_reasons, phase_reasons, proof_reasons, reasons_in_order, window_reasons}
 use Rattle.asg_check.specs.WindowReasons.{LeaveGapAt, StandsOn}
 use Rattle.asg_check.specs.Replays.{StandsFor}
-use Rattle.asg_check.specs.Spots.{At, Overall, Spot}
+use Rattle.asg_check.specs.Spots.{At, ForWhole, Overall, Spot}
 use Rattle.asg_check.specs.Written.{IsWrittenAs, read_cells}
 use Rattle.asg_check.proofs.ByObjective.{admitted_for, dec_admitted_for, dec_other_for, none_admitted, one_index_for, proves_for, take_for}
 use Rattle.asg_check.proofs.Decisions.{same_objective, same_value}
 use Rattle.asg_check.proofs.Reading.{written-once, written-read}
-use Rattle.asg_check.proofs.ToldReasons.{NoneOf, Nowhere, Tested, none_bad, none_stands, nowhere, one_verdict, some_verdict, tested, tested_bad, told_same, yes_told}
+use Rattle.asg_check.proofs.ToldReasons.{NoneOf, Nowhere, Tested, none_bad, none_stands, nowhere, one_verdict, overall, some_verdict, tested, tested_bad, told_same, yes_told}
 use Rattle.asg_check.proofs.WindowTold.{halls_from_nowhere, halls_nowhere, proved_halls, proved_nowhere, tested_gap, tested_halls, windows_prove}
+
+module _ (objective : Objective) (X : Problem) (form : Form) (document : Document) (verdict : Verdict) where
+  -- against a document of another objective stands that
+  pub of_other : (document.objective ≢ objective) → verdict ≡ No 1 (pos 0) → Tells (Stands objective X form document) reasons_in_order verdict
+  of_other other is = inl (subst (IsToldOf (ForWhole (document.objective ≢ objective)) OtherObjective) (sym is) (overall OtherObjective other))
+
+  -- against one of the objective and of another form that
+  pub of_wrong_form : document.objective ≡ objective → has_form objective form document ≡ false → verdict ≡ No 2 (pos 0) → Tells (Stands objective X form document) reasons_in_order verdict
+  of_wrong_form same wrong is =
+      inr (nowhere (λ other. other same), inl (subst (IsToldOf (ForWhole (has_form objective form document ≡ false)) WrongForm) (sym is) (overall WrongForm wrong)))
+
+  -- against any other what stands against its claim
+  pub to_claim : document.objective ≡ objective → has_form objective form document ≡ true → Tells (StandsAgainst objective X document.claim) claim_reasons verdict → Tells (Stands objective X form document) reasons_in_order verdict
+  to_claim same formed told = inr (nowhere (λ other. other same), inr (nowhere (λ wrong. let both = sym formed ∙ wrong in absurd (cc)), told))
 
 module _ (objective : Objective) (X : Problem) (i : IsInstance X) where
   -- an answer that has the value of the choice that its cells spell has no other

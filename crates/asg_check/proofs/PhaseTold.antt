@@ -1,6 +1,6 @@
 -- What the verdict on phases tells.
 use Rattle.std.proofs.Common.{◌≡◌, ◌≢◌, ◌⊎◌, ℕ, suc, ◌+◌, ◌<◌, ◌^◌, true, List, length, take, Option, inl, inr, refl, sym, ap, subst, ◌∙◌, arith}
-use Rattle.std.specs.Prelude.{ℤ, pos}
+use Rattle.std.specs.Prelude.{pos}
 use Rattle.std.proofs.Math.Path.{fun_ext}
 use Rattle.asg_model.specs.declared.objectives.Objective.{Objective}
 use Rattle.asg_model.specs.declared.objectives.Objective.TheVariants.{Sum, SumMax, SumPair, Capped, Bottleneck, BottleneckMax, TimeCost}
@@ -40,15 +40,15 @@ module _ {V : Type 0} (M : Monoid V) (laws : IsOrderedMonoid M) (difference : V 
   Admitted = AreAdmittedFrom M difference word_of start.now.side (cell_at start.now)
 
   -- the first bad phase
-  pub bad_from : (place : ℕ) (number : ℤ) (verdict : Verdict) → IsFirstBad M difference word_of start.now.side (cell_at start.now) words place → verdict ≡ No 6 number → number ≡ pos (place + 1)
+  pub bad_from : (place : ℕ) (verdict : Verdict) → IsFirstBad M difference word_of start.now.side (cell_at start.now) words place → verdict ≡ No 6 (pos (place + 1))
       → Tells (StandsFrom M difference word_of start.now.side (cell_at start.now) value words) phase_reasons verdict
-  bad_from place number verdict first told is =
+  bad_from place verdict first told =
       let more : place + 1 ≡ suc place = omega arith in
       let earlier : (m : ℕ) → m < place → ¬ ¬ Admitted (take (suc m) words) =
       λ m less none. none (subst Admitted (take-take (suc m) place words (omega (arith, less)))
       (admitted-take M difference word_of start.now.side (cell_at start.now) (suc m) (take place words) first.before)) in
       let one = bad_told Admitted words place first.there first.bad earlier in
-      inl (record { spot = one.spot; stands = one.stands; least = one.least; told = told ∙ ap (No 6) (is ∙ ap pos more) ∙ one.told })
+      inl (record { spot = one.spot; stands = one.stands; least = one.least; told = told ∙ ap (No 6) (ap pos more) ∙ one.told })
 
   module _ (is_unit : start.index ≡ M.unit) (after : Reduced V) (all : AreReplayed M difference word_of words start after) where
     abbrev listed : Admitted words

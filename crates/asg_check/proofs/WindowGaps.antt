@@ -177,6 +177,18 @@ pub spans_up_by_key : {F : Type 0} {g : Mut F (Bor Span × Unit {0}) ℤ} {f : F
     → ((a : Bor Span × Unit {0}) (r : ℤ) (f' : F) → Called g f a r f' → (r ≡ a.0.now.lo) × (f' ≡ f)) → AreSpansUp xs
 spans_up_by_key {g = g} {f = f} xs up h = spans_up xs (up (λ s. s.lo) (always_returns_same g (λ a r. r ≡ a.0.now.lo) f h))
 
+-- ---- costs up to the end of a span
+
+-- one cost more isn't above the end
+pub none_above_more : (costs : List ℤ) (from at : ℕ) (last : ℤ) → at < length costs → get_or costs at (pos 0) ≤ℤ last → ((k : ℕ) (d : ℤ) → from ≤ k → k < at → get_or costs k d ≤ℤ last)
+    → (k : ℕ) (d : ℤ) → from ≤ k → k < at + 1 → get_or costs k d ≤ℤ last
+none_above_more costs from at last within here before k d low less =
+    ⊎_elim (λ (early : k < at). before k d low early)
+    (λ (late : at ≤ k).
+    let same : at ≡ k = omega (arith, late, less) in
+    subst (λ n. get_or costs n d ≤ℤ last) same (subst (λ v. v ≤ℤ last) (get_or_default costs at (pos 0) d within) here))
+    (cases_lt k at)
+
 -- ---- one pass over sorted costs and sorted spans
 
 -- the costs before the place are those of spans, and the first so many spans end before the cost there

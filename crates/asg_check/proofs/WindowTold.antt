@@ -175,9 +175,10 @@ gap_tells X d windows (Some v) verdict above (live, unheld, least) is =
     inl (subst (IsToldOf (LeaveGapAt X (One d) windows) WindowGap) (sym is) (gap_told X d windows above v live unheld least))
 
 -- the verdict on windows: the first that is no Hall set, or what is told of gaps
-pub bad_tells : (X : Problem) (value : Value) (windows : List Window) (n : ℕ) (verdict : Verdict) (place : ℤ) → IsNoHallAt X windows n → ((m : ℕ) → m < n → ¬ IsNoHallAt X windows m) → verdict ≡ No 5 place → place ≡ pos (suc n) → Tells (StandsOn X value windows) window_reasons verdict
-bad_tells X value windows n verdict place one first is at =
-    inl (subst (IsToldOf (AreNoHallSetsAt X windows) NotHall) (sym (is ∙ ap (No 5) at)) (no_hall_told X windows n one first))
+pub bad_tells : (X : Problem) (value : Value) (windows : List Window) (n : ℕ) (verdict : Verdict) → IsNoHallAt X windows n → ((m : ℕ) → m < n → ¬ IsNoHallAt X windows m) → verdict ≡ No 5 (pos (n + 1)) → Tells (StandsOn X value windows) window_reasons verdict
+bad_tells X value windows n verdict one first is =
+    let more : n + 1 ≡ suc n = omega arith in
+    inl (subst (IsToldOf (AreNoHallSetsAt X windows) NotHall) (sym (is ∙ ap (No 5) (ap pos more))) (no_hall_told X windows n one first))
 
 pub halls_tell : (X : Problem) (value : Value) (windows : List Window) (verdict : Verdict) → All (IsHallWindow X) windows → Tells (StandsOn X value windows) (WindowGap ∷ []) verdict → Tells (StandsOn X value windows) window_reasons verdict
 halls_tell X value windows verdict halls told = inr (halls_nowhere X windows halls, told)

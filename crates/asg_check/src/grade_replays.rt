@@ -57,8 +57,8 @@ pub(crate) fn first_bad_grade(
 ) -> Result<Option<usize>, NoMemory>
     requires { IsReduced (graded (bounded_sums m.now.inner.top)) square.old }
     ensures { let sums = bounded_sums m.now.inner.top in
-        IfOk result (LeadOrStop (graded sums) (graded_difference sums bounded_difference) graded_word
-        phases.now square.old square.new) }
+        IfOk result (LeadOrStop (graded sums) (graded_difference sums bounded_difference)
+        graded_word phases.now square.old square.new) }
 {
     let mut values = Vec::new(alloc);
     let mut room = Vec::new(alloc);

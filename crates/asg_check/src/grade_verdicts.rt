@@ -36,8 +36,27 @@ pub(crate) fn grade_verdict(
         graded_word start.now.side (cell_at start.now) value phases.now) phase_reasons) }
 {
     let mut square = GradedSquare::make(alloc, start)?;
-    match first_bad_grade(alloc, m, &mut square, phases)? {
-        Some(place) => Ok(Reason::BadPhase.verdict_at(place as i64 + 1)),
+    replay_verdict(alloc, m, &mut square, phases, value)
+}
+
+// The same from a square that knows its low cells, on which the phases are replayed.
+fn replay_verdict(
+    alloc: Global,
+    m: &Graded<Bounded>,
+    square: &mut GradedSquare,
+    phases: &[Phase<Word>],
+    value: (u64, u128),
+) -> Result<Verdict, NoMemory>
+    requires reduced { IsReduced (graded (bounded_sums m.now.inner.top)) square.old }
+    requires unit { square.old.index ≡ (graded (bounded_sums m.now.inner.top)).unit }
+    requires value { IsValue (graded (bounded_sums m.now.inner.top)) value }
+    ensures { let sums = bounded_sums m.now.inner.top in
+        IfOk result (Tells (StandsFrom (graded sums) (graded_difference sums bounded_difference)
+        graded_word square.old.now.side (cell_at square.old.now) value phases.now)
+        phase_reasons) }
+{
+    match first_bad_grade(alloc, m, square, phases)? {
+        Some(place) => Ok(Reason::BadPhase.verdict_at_part(place)),
         None => Ok(index_verdict(m, square.index(), value)),
     }
 }

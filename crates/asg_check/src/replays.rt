@@ -1,6 +1,7 @@
 //! Phases, replayed on the square of an instance.
 
-ghost use Rattle.std.specs.Prelude.{◌≡◌, ◌≢◌, ◌<◌, ◌≤◌, ◌^◌, false, None, List, length, map, take, All, IsTrue, IfOk, IfSome};
+ghost use Rattle.std.specs.Prelude.{◌≡◌, ◌≢◌, ◌<◌, ◌≤◌, ◌^◌, false, None, List, length, map, take};
+ghost use Rattle.std.specs.Prelude.{All, IsTrue, IfOk, IfSome};
 ghost use Rattle.asg_admit.specs.Reduced.{IsReduced};
 ghost use Rattle.asg_order.specs.Monoid.{IsValue};
 ghost use Rattle.asg_square.specs.Grid.{cell_at};

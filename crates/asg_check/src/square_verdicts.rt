@@ -31,7 +31,7 @@ pub(crate) fn square_verdict<M: Written>(
 {
     let mut reduced = before;
     match first_bad(alloc, m, &mut reduced, phases, from)? {
-        Some(place) => Ok(Reason::BadPhase.verdict_at(place as i64 + 1)),
+        Some(place) => Ok(Reason::BadPhase.verdict_at_part(place)),
         None => Ok(index_verdict(m, reduced.index, value)),
     }
 }

@@ -1,7 +1,8 @@
 //! Squares of sums that phases are replayed on, however they are kept.
 
 ghost use Rattle.std.specs.Prelude.{◌≡◌, ◌≤◌, ℕ, IfOk};
-ghost use Rattle.asg_admit.specs.declared.dual_squares.Replayed.TheVariants.{Applied, Refused, Full};
+ghost use Rattle.asg_admit.specs.declared.dual_squares.Replayed.TheVariants.{Applied, Refused};
+ghost use Rattle.asg_admit.specs.declared.dual_squares.Replayed.TheVariants.{Full};
 ghost use Rattle.asg_admit.specs.declared.reduced.Reduced.{Reduced};
 ghost use Rattle.asg_monoids.specs.BoundedSums.{bounded_sums, bounded_difference, plain_word};
 ghost use Rattle.asg_square.specs.Grid.{cell_at};

@@ -2,7 +2,8 @@
 
 ghost use Rattle.std.specs.Prelude.{◌≡◌, ◌≤◌, IfOk, IfSome};
 ghost use Rattle.asg_admit.specs.Reduced.{IsReduced};
-ghost use Rattle.asg_monoids.specs.BoundedSums.{bounded_sums, bounded_difference, narrow_top, plain_word};
+ghost use Rattle.asg_monoids.specs.BoundedSums.{bounded_sums, bounded_difference, plain_word};
+ghost use Rattle.asg_monoids.specs.BoundedSums.{narrow_top};
 ghost use Rattle.asg_order.specs.Monoid.{IsValue};
 ghost use Rattle.asg_square.specs.Grid.{cell_at};
 ghost use Rattle.asg_check.specs.Reasons.{Tells, phase_reasons};
@@ -34,11 +35,27 @@ pub(crate) fn sum_verdict(
     ensures { IfOk result (Tells (StandsFrom (bounded_sums m.now.top) bounded_difference plain_word
         start.now.side (cell_at start.now) value phases.now) phase_reasons) }
 {
-    let mut dual = DualSquare::make(alloc, m, start)?;
-    let stop = first_stop(alloc, m, &mut dual, phases)?;
-    match stop {
+    let dual = DualSquare::make(alloc, m, start)?;
+    dual_verdict(alloc, m, dual, phases, value)
+}
+
+// The same from a square that is kept by dual variables.
+fn dual_verdict(
+    alloc: Global,
+    m: &Bounded,
+    mut dual: DualSquare,
+    phases: &[Phase<Word>],
+    value: u128,
+) -> Result<Verdict, NoMemory>
+    requires reduced { IsReduced (bounded_sums m.now.top) dual }
+    requires unit { dual.index ≡ 0 }
+    requires value { IsValue (bounded_sums m.now.top) value }
+    ensures { IfOk result (Tells (StandsFrom (bounded_sums m.now.top) bounded_difference plain_word
+        dual.now.side (cell_at dual.now) value phases.now) phase_reasons) }
+{
+    match first_stop(alloc, m, &mut dual, phases)? {
         Stop::End => Ok(index_verdict(m, dual.index(), value)),
-        Stop::Bad(place) => Ok(Reason::BadPhase.verdict_at(place as i64 + 1)),
+        Stop::Bad(place) => Ok(Reason::BadPhase.verdict_at_part(place)),
         Stop::Full(place) => square_verdict(alloc, m, dual.reduce(), phases, place, value),
     }
 }
@@ -61,10 +78,28 @@ pub(crate) fn narrow_verdict(
         phase_reasons)) }
 {
     let mut narrow = NarrowSquare::make(alloc, start)?;
-    let stop = first_stop(alloc, m, &mut narrow, phases)?;
-    match stop {
+    narrow_dual_verdict(alloc, m, &mut narrow, phases, value)
+}
+
+// The same from a square in 64 bits that is kept by dual variables.
+fn narrow_dual_verdict(
+    alloc: Global,
+    m: &Bounded,
+    narrow: &mut NarrowSquare,
+    phases: &[Phase<Word>],
+    value: u128,
+) -> Result<Option<Verdict>, NoMemory>
+    requires reduced { IsReduced (bounded_sums m.now.top) narrow.old }
+    requires top { narrow_top ≤ m.now.top }
+    requires unit { narrow.old.index ≡ 0 }
+    requires value { IsValue (bounded_sums m.now.top) value }
+    ensures { IfOk result (λ told. IfSome told (Tells (StandsFrom (bounded_sums m.now.top)
+        bounded_difference plain_word narrow.old.now.side (cell_at narrow.old.now) value
+        phases.now) phase_reasons)) }
+{
+    match first_stop(alloc, m, narrow, phases)? {
         Stop::End => Ok(Some(index_verdict(m, narrow.index() as u128, value))),
-        Stop::Bad(place) => Ok(Some(Reason::BadPhase.verdict_at(place as i64 + 1))),
+        Stop::Bad(place) => Ok(Some(Reason::BadPhase.verdict_at_part(place))),
         Stop::Full(_) => Ok(None),
     }
 }

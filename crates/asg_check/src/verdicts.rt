@@ -1,7 +1,9 @@
 //! What is asked of a document, and what the checker answers.
 
-ghost use Rattle.std.specs.Prelude.{◌≡◌, pos};
+ghost use Rattle.std.specs.Prelude.{◌≡◌, ◌+◌, ◌<◌, ◌^◌, pos};
 ghost use Rattle.asg_check.specs.Reasons.{reason_number};
+
+use std::fmt;
 
 /// The form that a document must have: what it must answer.
 #[derive(Clone, Copy, Debug, PartialEq, Eq)]
@@ -34,7 +36,35 @@ pub enum Reason {
     IndexDiffers,
 }
 
+impl fmt::Display for Reason {
+    fn fmt<W: fmt::Write>(&self, f: &mut fmt::Formatter<W>) -> fmt::Result {
+        f.write_str(self.words())
+    }
+}
+
 impl Reason {
+    // The reason in words.
+    fn words(self) -> &'static str {
+        match self {
+            Reason::OtherObjective => "the objective isn't the one that is asked",
+            Reason::WrongForm => {
+                "the command isn't that of the request, or the objective doesn't take the proof"
+            }
+            Reason::NotValid => {
+                "the cells aren't those of a valid choice, in the order of the rows"
+            }
+            Reason::WrongValue => "the value isn't that of the cells",
+            Reason::NotHall => "the rows aren't a Hall set",
+            Reason::WindowGap => "the windows leave a gap",
+            Reason::BadPhase => {
+                "a phase has the wrong length or steps, or isn't admitted after those before it"
+            }
+            Reason::IndexDiffers => {
+                "the product of the steps isn't that of the entered costs of the cells"
+            }
+        }
+    }
+
     /// The number of the reason.
     pub fn number(self) -> u8
         ensures { result ≡ reason_number self }
@@ -70,6 +100,15 @@ impl Reason {
             place,
         }
     }
+
+    // The verdict that the reason stands at a phase or a window, whose place in its list this is,
+    // from 0 on.
+    pub(crate) fn verdict_at_part(self, part: usize) -> Verdict
+        requires { part + 1 < 2 ^ 63 }
+        ensures { result ≡ Verdict.No (reason_number self) (pos (part + 1)) }
+    {
+        self.verdict_at(part as i64 + 1)
+    }
 }
 
 /// What the checker answers.
@@ -81,4 +120,18 @@ pub enum Verdict {
     /// bad phase is its number from 1, as is that of a window whose rows aren't a Hall set; the
     /// place of a gap is its cost. That of each other reason is 0: the whole document.
     No { reason: u8, place: i64 },
+}
+
+impl fmt::Display for Verdict {
+    fn fmt<W: fmt::Write>(&self, f: &mut fmt::Formatter<W>) -> fmt::Result {
+        match self {
+            Verdict::Yes => write!(f, "the document certifies"),
+            Verdict::No { reason, place } => {
+                write!(
+                    f,
+                    "the document doesn't certify: reason {reason}, place {place}"
+                )
+            }
+        }
+    }
 }

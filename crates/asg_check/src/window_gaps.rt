@@ -2,9 +2,12 @@
 //!
 //! The costs of the live cells and the windows are sorted, and one pass over both finds it.
 
-ghost use Rattle.std.specs.Prelude.{◌≡◌, ◌↔◌, ◌<◌, ◌≤◌, ◌*◌, ◌++◌, ℕ, ℤ, pos, ◌≤ℤ◌, ◌<ℤ◌, length, map, option_to_list, slice_get, slice_index_or, IfOk, IsTrue};
+ghost use Rattle.std.specs.Prelude.{◌≡◌, ◌↔◌, ◌<◌, ◌≤◌, ◌*◌, ◌++◌, ℕ, ℤ, pos, ◌≤ℤ◌, ◌<ℤ◌};
+ghost use Rattle.std.specs.Prelude.{length, map, option_to_list, slice_get, slice_index_or};
+ghost use Rattle.std.specs.Prelude.{IfOk, IsTrue};
 ghost use Rattle.asg_model.specs.Limits.{most_cost};
-ghost use Rattle.asg_check.specs.Spans.{AreCostsUp, AreSpansUp, IsFirstOutside, live_part, live_parts, row_parts, span_of};
+ghost use Rattle.asg_check.specs.Spans.{AreCostsUp, AreSpansUp, IsFirstOutside, span_of};
+ghost use Rattle.asg_check.specs.Spans.{live_part, live_parts, row_parts};
 ghost use Rattle.asg_check.specs.WindowReasons.{IsLeastGap};
 
 use crate::NoMemory;

@@ -1,6 +1,7 @@
 //! What stands against windows for a value.
 
-ghost use Rattle.std.specs.Prelude.{◌≡◌, ◌↔◌, ℕ, IsTrue, None, [], ◌∷◌, ◌<◌, length, All, IfOk, IfSome};
+ghost use Rattle.std.specs.Prelude.{◌≡◌, ◌↔◌, ℕ, None, [], ◌∷◌, ◌<◌, length};
+ghost use Rattle.std.specs.Prelude.{All, IsTrue, IfOk, IfSome};
 ghost use Rattle.asg_model.specs.declared.objectives.Objective.TheVariants.{Balanced};
 ghost use Rattle.asg_model.specs.Instances.{IsInstance};
 ghost use Rattle.asg_model.specs.ValueRange.{IsValueInRange};
@@ -29,7 +30,7 @@ pub(crate) fn windows_verdict(
     ensures { IfOk result (Tells (StandsOn inst.now value.now windows.now) window_reasons) }
 {
     if let Some(place) = first_no_hall(inst, windows) {
-        return Ok(Reason::NotHall.verdict_at(place as i64 + 1));
+        return Ok(Reason::NotHall.verdict_at_part(place));
     }
     gap_verdict(alloc, inst, value, windows)
 }

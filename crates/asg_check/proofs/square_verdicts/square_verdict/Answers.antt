@@ -1,17 +1,13 @@
-use Rattle.std.proofs.Common.{arith}
-use Rattle.std.proofs.lemmas.Int.{ints}
 use Rattle.asg_check.proofs.PhaseTold.{bad_from, told_index}
 use Rattle.asg_check.proofs.square_verdicts.square_verdict.Goals as goal
 
 pub returns-in-Some : goal.returns-in-Some
 returns-in-Some g c =
     let m = c.args.m.now in
-    let below = rw c.in-Some.is at c.in_ok-place.ensures.place in
     let bad = rw c.in-Some.is at c.in_ok-place.ensures.bad in
-    let told = c.verdict_at.ensures in
     λ start is unit led.
-    bad_from (g.M.Ordered.monoid_of m) (g.met.M.Ordered.laws m) (g.M.DMonoid.difference m) (g.M.Written.word_of m) start c.args.value c.args.phases.now c.in-Some.place _ c.verdict_at.result
-    (bad start is led) told (omega (arith, ints, below))
+    bad_from (g.M.Ordered.monoid_of m) (g.met.M.Ordered.laws m) (g.M.DMonoid.difference m) (g.M.Written.word_of m) start c.args.value c.args.phases.now c.in-Some.place c.verdict_at_part.result
+    (bad start is led) c.verdict_at_part.ensures
 
 pub returns : goal.returns
 returns g c =

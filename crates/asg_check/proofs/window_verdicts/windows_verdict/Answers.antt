@@ -1,5 +1,4 @@
-use Rattle.std.proofs.Common.{[], ◌∷◌, arith}
-use Rattle.std.proofs.lemmas.Int.{ints}
+use Rattle.std.proofs.Common.{[], ◌∷◌}
 use Rattle.std.proofs.lemmas.Result.{IfOk-weaker}
 use Rattle.asg_check.specs.declared.verdicts.Reason.TheVariants.{WindowGap}
 use Rattle.asg_check.specs.Reasons.{Tells, window_reasons}
@@ -9,9 +8,8 @@ use Rattle.asg_check.proofs.window_verdicts.windows_verdict.Goals as goal
 
 pub returns-in-Some : goal.returns-in-Some
 returns-in-Some c =
-    let below = rw c.in-Some.is at c.first_no_hall.ensures.within in
-    bad_tells c.args.inst.now c.args.value.now c.args.windows.now c.in-Some.place c.verdict_at.result _
-    (rw c.in-Some.is at c.first_no_hall.ensures.there) (rw c.in-Some.is at c.first_no_hall.ensures.first) c.verdict_at.ensures (omega (arith, ints, below))
+    bad_tells c.args.inst.now c.args.value.now c.args.windows.now c.in-Some.place c.verdict_at_part.result
+    (rw c.in-Some.is at c.first_no_hall.ensures.there) (rw c.in-Some.is at c.first_no_hall.ensures.first) c.verdict_at_part.ensures
 
 pub returns : goal.returns
 returns c =

@@ -1,6 +1,6 @@
 -- What makes a document of an outcome.
 use Rattle.std.proofs.Common.{◌≡◌, ℕ, ◌+◌, ◌*◌, ◌<◌, ◌≤◌, true, List, length, get_or, Option, count_by, is_some, sym, refl, subst, arith}
-use Rattle.std.specs.Prelude.{◌^◌, ℤ, pos, ◌≤ℤ◌, FitsSigned, unsigned_abs}
+use Rattle.std.specs.Prelude.{ℤ, pos, ◌≤ℤ◌, FitsSigned, unsigned_abs}
 use Rattle.std.specs.Int.{w128}
 use Rattle.std.proofs.lemmas.Int.{fits_signed_from_abs, ints}
 use Rattle.asg_model.specs.declared.bands.Band.{Band}

@@ -1,14 +1,15 @@
 -- What is due for what an instance's file holds.
-use Rattle.std.proofs.Common.{◌≡◌, ◌&&◌, ℕ, true, cond, List, [], ◌∷◌, length, Option, Some, None, Result, Ok, Err, IsErr, refl, ap}
-use Rattle.std.specs.Prelude.{IfSome, IfOk, MatchOption}
+use Rattle.std.proofs.Common.{◌≡◌, ◌&&◌, ℕ, ◌<◌, true, false, cond, List, [], ◌∷◌, length, Option, Some, None, Result, Ok, Err, IsErr, refl, ap, sym, subst, arith}
+use Rattle.std.specs.Prelude.{◌⊎◌, IfSome, IfOk, MatchOption}
 use Rattle.std.proofs.lemmas.Bool.{le-leb}
+use Rattle.std.proofs.lemmas.Bool.Decides.{nat_tests}
 use Rattle.asg_model.specs.declared.objectives.Objective.{Objective}
 use Rattle.asg_model.specs.declared.parts.Place.{Place}
 use Rattle.asg_model.specs.declared.parts.Place.TheVariants.{All as PlaceAll, Exactly}
 use Rattle.asg_model.specs.Counts.{total_capacity}
 use Rattle.asg_model.specs.Instances.{IsPlaceInRange}
 use Rattle.asg_model.specs.Problem.{Problem}
-use Rattle.asg_model.specs.Shapes.{is_range_of, shaped}
+use Rattle.asg_model.specs.Shapes.{IsPlaceOutOfRange, is_range_of, shaped}
 use Rattle.asg_text.specs.Readings.{Spells, Refuses as RefusesText}
 use Rattle.asg_text.specs.Texts.{reading_of}
 use Rattle.asg_text.specs.Faults.{Fault, refusal_numbers}
@@ -45,6 +46,26 @@ range_passes X (Exactly k) within = λ i. le-leb 1 k within.0 i && le-leb k (len
 pub fitted_file : (objective : Objective) (place : Place) (each : ℕ) (X : Problem) → IsPlaceInRange (shaped X place each) place → fitted objective place each X ≡ passed objective (shaped X place each)
 fitted_file objective place each X within =
     ap (λ test. cond test (passed objective (shaped X place each)) (Refuses (13 ∷ rows_asked place ∷ []))) (range_passes (shaped X place each) place within)
+
+-- one out of this range is refused, with the rows that it asks for
+range_fails : (k rows capacity : ℕ) → (k ≡ 0) ⊎ ((rows < k) ⊎ (capacity < k)) → is_range_of (Exactly k) rows capacity ≡ false
+range_fails k rows capacity out = grind (arith, nat_tests)
+
+range_refuses : (X : Problem) (place : Place) → IsPlaceOutOfRange X place → is_range_of place (length X.rows) (total_capacity X) ≡ false
+range_refuses X PlaceAll out = absurd out
+range_refuses X (Exactly k) out = range_fails k (length X.rows) (total_capacity X) out
+
+pub unfitted_file : (objective : Objective) (place : Place) (each : ℕ) (X : Problem) → IsPlaceOutOfRange (shaped X place each) place → fitted objective place each X ≡ Refuses (13 ∷ rows_asked place ∷ [])
+unfitted_file objective place each X out =
+    ap (λ test. cond test (passed objective (shaped X place each)) (Refuses (13 ∷ rows_asked place ∷ []))) (range_refuses (shaped X place each) place out)
+
+-- the reply that refuses an instance with these numbers is due for its file
+pub refuses_file : {E : Type 0} (file : InstanceFile) (job : Job) (contents : List (List ℕ)) (numbers : List ℕ) (result : Result Reply E) → file ≡ Refuses numbers
+    → IfOk result (λ reply. IsReply reply Instance (refused_instance_text numbers)) → IfOk result (Answers (DueForFile file job contents))
+refuses_file file job contents numbers result is says =
+    replied (DueForFile file job contents) Instance (refused_instance_text numbers) result
+    (subst (λ held. DueForFile held job contents Instance (refused_instance_text numbers)) (sym is) (refl, refl))
+    says
 
 -- the reply that refuses an instance by its text
 pub refused_reply : {E : Type 0} (job : Job) (contents : List (List ℕ)) (fault : Option Fault) (result : Result Reply E) → AreShort contents

@@ -1,6 +1,6 @@
 //! What a run answers, and how it is put.
 
-ghost use Rattle.std.specs.Prelude.{◌≡◌, IfOk, OnOk, OnErr};
+ghost use Rattle.std.specs.Prelude.{◌≡◌, IfOk, OnOk, OnErr, string_bytes};
 ghost use Rattle.asg_io.specs.Shelf.{Rose};
 ghost use Rattle.asg_io.specs.Sink.{Puts, PutsPrefix};
 ghost use Rattle.asg_app.specs.Ends.{Ends};
@@ -34,11 +34,17 @@ impl Reply {
     pub(crate) fn line(alloc: Global, status: Status, line: &str) -> Result<Reply, NoMemory>
         ensures { IfOk result (λ reply. IsReply reply status line.now) }
     {
-        let line = String::from_str(alloc, line)?;
-        Ok(Reply {
+        Ok(Reply::made(status, String::from_str(alloc, line)?))
+    }
+
+    // The reply of a line that is made.
+    pub(crate) fn made(status: Status, line: String) -> Reply
+        ensures { IsReply result status (string_bytes line) }
+    {
+        Reply {
             status,
             text: Text::Line(line),
-        })
+        }
     }
 }
 

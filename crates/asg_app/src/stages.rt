@@ -25,8 +25,8 @@ use asg_words::{Job, Task};
 use std::alloc::{AllocError, Global};
 
 /// The line for words that are no request.
-const USAGE: &str =
-    "usage: asg solve OBJECTIVE INSTANCE | rank OBJECTIVE INSTANCE --count K | edit OBJECTIVE INSTANCE SCRIPT | check OBJECTIVE INSTANCE ANSWER | make SEED SIDE\n";
+const USAGE: &str = "usage: asg solve OBJECTIVE INSTANCE | rank OBJECTIVE INSTANCE --count K | \
+    edit OBJECTIVE INSTANCE SCRIPT | check OBJECTIVE INSTANCE ANSWER | make SEED SIDE\n";
 
 // The refusal of an instance by its text. The error is want of memory, also where that is what
 // refused it.
@@ -130,10 +130,10 @@ fn fitted_reply(
         (DueForFile (fitted job.now.objective job.now.place job.now.each inst)
         job.now sources.now)) }
 {
-    let Ok(()) = inst.shape(job.place, job.each) else {
-        return refusal(alloc, &[13, rows_asked(job.place)]);
-    };
-    passed_reply(alloc, job, &inst, sources)
+    match inst.shape(job.place, job.each) {
+        Ok(()) => passed_reply(alloc, job, &inst, sources),
+        Err(PlaceRange) => refusal(alloc, &[13, rows_asked(job.place)]),
+    }
 }
 
 // The reply to a job, whose instance stands in the first file. The error is want of memory.

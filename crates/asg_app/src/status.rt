@@ -3,6 +3,8 @@
 ghost use Rattle.std.specs.Prelude.{◌≡◌};
 ghost use Rattle.asg_app.specs.Statuses.{code_of};
 
+use std::fmt;
+
 /// How a run of the program ends.
 #[derive(Debug, Clone, Copy, PartialEq, Eq)]
 pub enum Status {
@@ -36,5 +38,23 @@ impl Status {
         ensures { result ≡ code_of self }
     {
         self as u8
+    }
+}
+
+impl fmt::Display for Status {
+    fn fmt<W: fmt::Write>(&self, f: &mut fmt::Formatter<W>) -> fmt::Result {
+        f.write_str(match self {
+            Status::Done => "the request is answered",
+            Status::Nothing => "no choice is valid",
+            Status::Usage => "the words are no request",
+            Status::Instance => "the instance is refused",
+            Status::Script => "the script is refused",
+            Status::Document => "the answer's file isn't one document",
+            Status::No => "the document doesn't certify",
+            Status::ReadFault => "a file couldn't be read",
+            Status::WriteFault => "the text couldn't be written whole",
+            Status::NoMemory => "memory was wanting",
+            Status::TooLong => "a file is longer than 268,435,456 bytes",
+        })
     }
 }

@@ -12,7 +12,7 @@ ghost use Rattle.asg_model.specs.Shapes.{square_side};
 ghost use Rattle.asg_app.specs.Replies.{Answers, IsReply};
 ghost use Rattle.asg_app.specs.Texts.{no_text, refused_document_text};
 
-use crate::replies::{Reply, Text};
+use crate::replies::Reply;
 use crate::status::Status;
 use asg_check::{Form, Verdict, check};
 use asg_doc::{DocRefusal, Document, read};
@@ -25,10 +25,7 @@ fn denial(alloc: Global, reason: u8, place: i64) -> Result<Reply, NoMemory>
     ensures { IfOk result (λ reply. IsReply reply Status.No (no_text 1 reason place)) }
 {
     let line = format!(in alloc; "no 1 {reason} {place}\n")?;
-    Ok(Reply {
-        status: Status::No,
-        text: Text::Line(line),
-    })
+    Ok(Reply::made(Status::No, line))
 }
 
 // Tells that the answer's file is refused in this line.
@@ -36,10 +33,7 @@ fn refusal(alloc: Global, line: u32) -> Result<Reply, NoMemory>
     ensures { IfOk result (λ reply. IsReply reply Status.Document (refused_document_text line)) }
 {
     let line = format!(in alloc; "refused document {line}\n")?;
-    Ok(Reply {
-        status: Status::Document,
-        text: Text::Line(line),
-    })
+    Ok(Reply::made(Status::Document, line))
 }
 
 // Tells whether the one document certifies for the instance.

@@ -1,7 +1,8 @@
 //! Requests to solve.
 
-ghost use Rattle.std.specs.Prelude.{◌≡◌, ◌≤◌, true, IfErr, IfOk};
+ghost use Rattle.std.specs.Prelude.{◌≡◌, ◌≤◌, true, IfErr, IfOk, IsTrue};
 ghost use Rattle.asg_model.specs.Limits.{most_side};
+ghost use Rattle.asg_model.specs.Objectives.{is_algebraic};
 ghost use Rattle.asg_model.specs.Refused.{PassesNegative};
 ghost use Rattle.asg_model.specs.Shapes.{square_side};
 ghost use Rattle.asg_doc.specs.HasText.{HasText};
@@ -29,9 +30,27 @@ use asg_window::{BalancedRefusal, balanced};
 use asg_words::Job;
 use std::alloc::{AllocError, Global};
 
-// The outcome of an objective that is built: thresholds solve the two bottleneck ones, windows of
-// costs `balanced`, and phases of steps the other algebraic ones. The errors: the live cells have
-// too many different costs for `balanced`, or want of memory.
+// The outcome of an algebraic objective: thresholds solve the two bottleneck ones, and phases of
+// steps the others. The error is want of memory.
+fn algebraic_outcome(
+    alloc: Global,
+    objective: Objective,
+    inst: &Instance,
+) -> Result<Outcome, NoMemory>
+    requires objective { IsTrue (is_algebraic objective) }
+    requires side { square_side inst.now ≤ most_side }
+    requires passes { PassesNegative objective inst.now }
+    ensures outcome { IfOk result (IsOutcome objective inst.now) }
+    ensures promised { IfOk result (IsPromisedOutcome objective inst.now) }
+{
+    match objective {
+        Objective::Bottleneck | Objective::BottleneckMax => bottleneck(alloc, objective, inst),
+        _ => algebraic_assignment(alloc, objective, inst),
+    }
+}
+
+// The outcome of an objective that is built: windows of costs solve `balanced`. The errors: the
+// live cells have too many different costs for `balanced`, or want of memory.
 fn outcome(alloc: Global, objective: Objective, inst: &Instance) -> Result<Outcome, BalancedRefusal>
     requires built { is_built_objective objective ≡ true }
     requires side { square_side inst.now ≤ most_side }
@@ -42,16 +61,8 @@ fn outcome(alloc: Global, objective: Objective, inst: &Instance) -> Result<Outco
     ensures refusal { IfErr result (IsCostRefusal objective inst.now) }
 {
     match objective {
-        Objective::Bottleneck | Objective::BottleneckMax => {
-            Ok(bottleneck(alloc, objective, inst)?)
-        }
-        Objective::Sum
-        | Objective::SumMax
-        | Objective::SumPair
-        | Objective::Capped(_)
-        | Objective::TimeCost => Ok(algebraic_assignment(alloc, objective, inst)?),
         Objective::Balanced => balanced(alloc, inst),
-        Objective::Lex => unreachable!(),
+        _ => Ok(algebraic_outcome(alloc, objective, inst)?),
     }
 }
 

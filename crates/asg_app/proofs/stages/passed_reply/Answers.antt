@@ -1,12 +1,10 @@
 use Rattle.std.proofs.Common.{◌≡◌, ◌∙◌, ℕ, List, [], ◌∷◌, Option, ap, refl, sym, subst}
 use Rattle.std.specs.Prelude.{IfOk, IsNone}
-use Rattle.asg_app.specs.declared.status.Status.TheVariants.{Instance}
 use Rattle.asg_app.specs.InstanceFile.{Refuses, passed, passed_by, sided}
 use Rattle.asg_app.specs.InstanceStage.{DueForFile}
 use Rattle.asg_app.specs.Replies.{Answers}
-use Rattle.asg_app.specs.Texts.{refused_instance_text}
+use Rattle.asg_app.proofs.InstanceLemmas.{refuses_file}
 use Rattle.asg_app.proofs.RefusedCosts.{first_found, first_none}
-use Rattle.asg_app.proofs.ReplyLemmas.{replied}
 use Rattle.asg_app.proofs.stages.passed_reply.Goals as goal
 
 pub returns-in-Some : goal.returns-in-Some
@@ -16,9 +14,7 @@ returns-in-Some c =
     let numbers : List ℕ = 14 ∷ c.from.result ∷ c.from-in-Some.result ∷ [] in
     let found = first_found job.objective X (c.in-Some.row, c.in-Some.column) c.in-Some.ensures.found in
     let file : passed job.objective X ≡ Refuses numbers = ap (λ found. passed_by found X) found ∙ (λ i. Refuses (14 ∷ sym c.from.ensures i ∷ sym c.from-in-Some.ensures i ∷ [])) in
-    replied (DueForFile (passed job.objective X) job c.args.sources.now) Instance (refused_instance_text numbers) c.refusal.result
-    (subst (λ held. DueForFile held job c.args.sources.now Instance (refused_instance_text numbers)) (sym file) (refl, refl))
-    c.refusal.ensures
+    refuses_file (passed job.objective X) job c.args.sources.now numbers c.refusal.result file c.refusal.ensures
 
 pub returns-in-None : goal.returns-in-None
 returns-in-None c =

@@ -1,4 +1,5 @@
 //! Tests of `asg_admit`.
 
-mod samples;
 mod tests;
+mod totals;
+mod worked_phases;

@@ -1,5 +1,6 @@
 //! Tests of `asg_algebra`.
 
-pub(crate) mod samples;
+mod desks;
+mod given_tests;
 mod solver_tests;
 mod tests;

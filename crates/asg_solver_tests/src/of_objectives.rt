@@ -1,4 +1,3 @@
 //! Tests of `asg_objectives`.
 
-mod samples;
 mod tests;

@@ -2,7 +2,10 @@
 
 mod algebraic_runs;
 mod balanced_tests;
+mod bottleneck_runs;
 mod check_tests;
 mod memory_runs;
 mod phase_tests;
+mod refused_tests;
 mod solve_tests;
+mod status_tests;

@@ -151,20 +151,31 @@ fn has_a_hole(inst: &Instance) -> bool {
     has_cells(inst) && has_places(inst) && has_shape(inst)
 }
 
-// Whether its table has these first parts, row by row.
-fn has_costs(table: &Instance) -> bool {
-    table.row_costs(1) == Some([2, 0, ABSENT].as_slice())
-        && table.row_costs(2) == Some([3, 2, 2].as_slice())
-        && table.row_costs(3).is_none()
-}
-
-// Whether its table has these parts in its third row.
-fn has_parts(table: &Instance) -> bool {
-    match table.row_parts(2) {
-        Some(parts) => parts.firsts == [3, 2, 2].as_slice()
-            && parts.seconds == [6, 4, 4].as_slice(),
+// Whether the row at this place has these first parts.
+fn has_firsts(inst: &Instance, row: u32, want: [i64; 3]) -> bool {
+    let mut room = RowRoom::new();
+    match inst.row_parts(row, &mut room) {
+        Some(parts) => parts.firsts == want.as_slice(),
         None => false,
     }
+}
+
+// Whether the row at this place has these second parts.
+fn has_seconds(inst: &Instance, row: u32, want: [i64; 3]) -> bool {
+    let mut room = RowRoom::new();
+    match inst.row_parts(row, &mut room) {
+        Some(parts) => parts.seconds == want.as_slice(),
+        None => false,
+    }
+}
+
+// Whether it has these parts, row by row, and no fourth row.
+fn has_parts(inst: &Instance) -> bool {
+    let mut room = RowRoom::new();
+    has_firsts(inst, 1, [2, 0, ABSENT])
+        && has_firsts(inst, 2, [3, 2, 2])
+        && has_seconds(inst, 2, [6, 4, 4])
+        && inst.row_parts(3, &mut room).is_none()
 }
 
 // Whether the plain square without its third row and column places two rows and leaves none out.
@@ -177,8 +188,7 @@ fn places_two(alloc: Global) -> Result<bool, Fault> {
 fn reads_the_square(rt: HostRuntime) -> Result<(), Fail> {
     let (map, table) = squares(rt.alloc(), &WITH_A_HOLE)?;
     assert!(rt; has_a_hole(&map) && has_a_hole(&table));
-    assert!(rt; has_costs(&table) && has_parts(&table) && table.row_parts(3).is_none());
-    assert!(rt; map.row_costs(1).is_none() && map.row_parts(1).is_none());
+    assert!(rt; has_parts(&map) && has_parts(&table));
     assert!(rt; places_two(rt.alloc())?);
     Ok(())
 }

@@ -1,6 +1,5 @@
-//! A worked example: three phases of a square, as they are replayed and settled, and single steps and cells.
+//! The phases of the worked example, as they are replayed and settled, and single steps and cells.
 
-ghost use Rattle.std.specs.Prelude.{◌≡◌, ◌<◌, length};
 ghost use Rattle.asg_admit.specs.Reduced.{IsReduced};
 ghost use Rattle.asg_monoids.specs.BoundedSums.{bounded_sums};
 
@@ -9,233 +8,151 @@ mod graded_squares;
 mod narrow_squares;
 mod one_pass;
 
-use crate::of_admit::samples::{SHIFT, SUMS, worked};
+use crate::of_admit::worked_phases::{
+    FIRST, SECOND, SHIFT, START, SUMS, THIRD, WorkedPhase, is_now, worked,
+};
 use asg_admit::{Reduced, admits, are_values, range, replay, replay_cell, settle, step};
 use asg_order::Ordered;
 use std::test::Fail;
 
-// When rows enter and columns leave in the first of three phases, and the square and the index after
-// its step 10^9 + 1.
-const FIRST_ENTERS: [u32; 3] = [0, 1, 1];
-
-const FIRST_LEAVES: [u32; 3] = [1, 1, 1];
-
-const FIRST: [[u128; 3]; 3] = [
-    [3, 0, 2],
-    [1_000_000_002, 1_000_000_000, 1_000_000_005],
-    [1_000_000_003, 1_000_000_002, 1_000_000_002],
-];
-
-const FIRST_INDEX: u128 = 1_000_000_001;
-
-// The same of the second, after its steps 10^9 and 2.
-const SECOND_ENTERS: [u32; 3] = [1, 0, 2];
-
-const SECOND_LEAVES: [u32; 3] = [2, 1, 2];
-
-const SECOND: [[u128; 3]; 3] = [
-    [1, 0, 0],
-    [0, 0, 3],
-    [1_000_000_003, 1_000_000_004, 1_000_000_002],
-];
-
-const SECOND_INDEX: u128 = 2_000_000_003;
-
-// The same of the third, after its step 10^9 + 2.
-const THIRD_ENTERS: [u32; 3] = [1, 1, 0];
-
-const THIRD_LEAVES: [u32; 3] = [1, 1, 1];
-
-const THIRD: [[u128; 3]; 3] = [[1, 0, 0], [0, 0, 3], [1, 2, 0]];
-
-const THIRD_INDEX: u128 = 3_000_000_005;
-
-// Whether the square has these cells, and the index is this.
-fn is_now(reduced: &Reduced<u128>, cells: &[[u128; 3]; 3], index: u128) -> bool {
-    if reduced.now.side() != 3 {
-        return false;
-    }
-    for row in 0..3u32 {
-        if reduced.now.row_values(row) != cells[row as usize].as_slice() {
-            return false;
-        }
-    }
-    reduced.index == index
-}
-
-// Settles a phase, where it is admitted.
-fn settles(
-    reduced: &mut Reduced<u128>,
-    steps: &[u128],
-    enters: &[u32; 3],
-    leaves: &[u32; 3],
-    room: &mut [u128],
-) -> bool
-    requires reduced { IsReduced (bounded_sums 1000000000000) reduced.old }
-    requires room { length steps.now < length room.old }
-    ensures reduced { IsReduced (bounded_sums 1000000000000) reduced.new }
-    ensures room { length room.new ≡ length room.old }
-{
-    if !admits(&SUMS, &reduced.now, steps, enters, leaves) {
-        return false;
-    }
-    settle(&SUMS, reduced, steps, enters, leaves, room);
-    true
-}
-
-// Applies one step, where it is admitted.
-fn takes_step(reduced: &mut Reduced<u128>, c: u128, enters: &[u32; 3], leaves: &[u32; 3]) -> bool
+// Whether a phase is replayed, and the square and the index are then its.
+fn replays(reduced: &mut Reduced<u128>, phase: &WorkedPhase) -> bool
     requires { IsReduced (bounded_sums 1000000000000) reduced.old }
     ensures { IsReduced (bounded_sums 1000000000000) reduced.new }
 {
-    if !admits(&SUMS, &reduced.now, &[c], enters, leaves) {
+    if !replay(&SUMS, reduced, phase.steps, &phase.enters, &phase.leaves) {
         return false;
     }
-    step(&SUMS, reduced, enters, leaves, 0, c);
-    true
+    is_now(reduced, &phase.cells, phase.index)
 }
 
 #[test]
 fn replays_the_phases_of_the_worked_example(rt: HostRuntime) -> Result<(), Fail> {
-    let Some(mut reduced) = worked(rt.alloc())? else {
-        assert!(rt; false);
-        return Ok(());
-    };
-    assert!(rt;
-        replay(
-            &SUMS,
-            &mut reduced,
-            &[SHIFT + 1],
-            &FIRST_ENTERS,
-            &FIRST_LEAVES
-        )
-    );
-    assert!(rt; is_now(&reduced, &FIRST, FIRST_INDEX));
-    assert!(rt;
-        replay(
-            &SUMS,
-            &mut reduced,
-            &[SHIFT, 2],
-            &SECOND_ENTERS,
-            &SECOND_LEAVES
-        )
-    );
-    assert!(rt; is_now(&reduced, &SECOND, SECOND_INDEX));
-    assert!(rt;
-        replay(
-            &SUMS,
-            &mut reduced,
-            &[SHIFT + 2],
-            &THIRD_ENTERS,
-            &THIRD_LEAVES
-        )
-    );
-    assert!(rt; is_now(&reduced, &THIRD, THIRD_INDEX));
+    let mut reduced = worked(rt.alloc())?;
+    assert!(rt; replays(&mut reduced, &FIRST));
+    assert!(rt; replays(&mut reduced, &SECOND));
+    assert!(rt; replays(&mut reduced, &THIRD));
     Ok(())
+}
+
+// Whether the first phase isn't admitted with this step, and nothing is changed.
+fn refuses(reduced: &mut Reduced<u128>, c: u128) -> bool
+    requires { IsReduced (bounded_sums 1000000000000) reduced.old }
+    ensures { IsReduced (bounded_sums 1000000000000) reduced.new }
+{
+    if replay(&SUMS, reduced, &[c], &FIRST.enters, &FIRST.leaves) {
+        return false;
+    }
+    is_now(reduced, &START, 0)
 }
 
 // A step greater than the least cell of both is refused, and changes nothing.
 #[test]
 fn refuses_a_greater_step(rt: HostRuntime) -> Result<(), Fail> {
-    let Some(mut reduced) = worked(rt.alloc())? else {
-        assert!(rt; false);
-        return Ok(());
-    };
-    assert!(rt;
-        !replay(
-            &SUMS,
-            &mut reduced,
-            &[SHIFT + 2],
-            &FIRST_ENTERS,
-            &FIRST_LEAVES
-        )
-    );
-    assert_eq!(rt; reduced.index, 0);
-    assert!(rt;
-        replay(
-            &SUMS,
-            &mut reduced,
-            &[SHIFT + 1],
-            &FIRST_ENTERS,
-            &FIRST_LEAVES
-        )
-    );
-    assert!(rt; is_now(&reduced, &FIRST, FIRST_INDEX));
+    let mut reduced = worked(rt.alloc())?;
+    assert!(rt; refuses(&mut reduced, SHIFT + 2));
+    assert!(rt; replays(&mut reduced, &FIRST));
     Ok(())
+}
+
+// Whether a phase is admitted, and when it is settled the square and the index are its.
+fn settles(reduced: &mut Reduced<u128>, phase: &WorkedPhase) -> bool
+    requires { IsReduced (bounded_sums 1000000000000) reduced.old }
+    ensures { IsReduced (bounded_sums 1000000000000) reduced.new }
+{
+    let mut room = [0u128; 3];
+    if phase.steps.len() > 2 {
+        return false;
+    }
+    if !admits(
+        &SUMS,
+        &reduced.now,
+        phase.steps,
+        &phase.enters,
+        &phase.leaves,
+    ) {
+        return false;
+    }
+    settle(
+        &SUMS,
+        reduced,
+        phase.steps,
+        &phase.enters,
+        &phase.leaves,
+        &mut room,
+    );
+    is_now(reduced, &phase.cells, phase.index)
 }
 
 #[test]
 fn settles_the_phases_of_the_worked_example(rt: HostRuntime) -> Result<(), Fail> {
-    let Some(mut reduced) = worked(rt.alloc())? else {
-        assert!(rt; false);
-        return Ok(());
-    };
-    let mut room = [0u128; 3];
-    assert!(rt;
-        settles(
-            &mut reduced,
-            &[SHIFT + 1],
-            &FIRST_ENTERS,
-            &FIRST_LEAVES,
-            &mut room
-        )
-    );
-    assert!(rt; is_now(&reduced, &FIRST, FIRST_INDEX));
-    assert!(rt;
-        settles(
-            &mut reduced,
-            &[SHIFT, 2],
-            &SECOND_ENTERS,
-            &SECOND_LEAVES,
-            &mut room
-        )
-    );
-    assert!(rt; is_now(&reduced, &SECOND, SECOND_INDEX));
-    assert!(rt;
-        settles(
-            &mut reduced,
-            &[SHIFT + 2],
-            &THIRD_ENTERS,
-            &THIRD_LEAVES,
-            &mut room
-        )
-    );
-    assert!(rt; is_now(&reduced, &THIRD, THIRD_INDEX));
+    let mut reduced = worked(rt.alloc())?;
+    assert!(rt; settles(&mut reduced, &FIRST));
+    assert!(rt; settles(&mut reduced, &SECOND));
+    assert!(rt; settles(&mut reduced, &THIRD));
     Ok(())
+}
+
+// Applies one step of the first phase, where it is admitted.
+fn takes_step(reduced: &mut Reduced<u128>, c: u128) -> bool
+    requires { IsReduced (bounded_sums 1000000000000) reduced.old }
+    ensures { IsReduced (bounded_sums 1000000000000) reduced.new }
+{
+    if !admits(&SUMS, &reduced.now, &[c], &FIRST.enters, &FIRST.leaves) {
+        return false;
+    }
+    step(&SUMS, reduced, &FIRST.enters, &FIRST.leaves, 0, c);
+    true
+}
+
+// Whether the step of the first phase is taken, and the square and the index are then its.
+fn takes_first_step(reduced: &mut Reduced<u128>) -> bool
+    requires { IsReduced (bounded_sums 1000000000000) reduced.old }
+{
+    takes_step(reduced, SHIFT + 1) && is_now(reduced, &FIRST.cells, FIRST.index)
 }
 
 #[test]
 fn takes_the_first_step_of_the_worked_example(rt: HostRuntime) -> Result<(), Fail> {
-    let Some(mut reduced) = worked(rt.alloc())? else {
-        assert!(rt; false);
-        return Ok(());
-    };
-    assert!(rt; !takes_step(&mut reduced, SHIFT + 2, &FIRST_ENTERS, &FIRST_LEAVES));
-    assert!(rt; takes_step(&mut reduced, SHIFT + 1, &FIRST_ENTERS, &FIRST_LEAVES));
-    assert!(rt; is_now(&reduced, &FIRST, FIRST_INDEX));
+    let mut reduced = worked(rt.alloc())?;
+    assert!(rt; !takes_step(&mut reduced, SHIFT + 2));
+    assert!(rt; takes_first_step(&mut reduced));
     Ok(())
 }
 
 // Steps that change nothing, more of them than are counted at a time.
 const NOTHING: [u128; 2500] = [0; 2500];
 
-// At each of many steps the rows that have entered and the columns that stay are one more than the side.
+// Whether the phase of these steps is replayed, the columns leaving at these.
+fn replays_nothing(reduced: &mut Reduced<u128>, leaves: &[u32; 3]) -> bool
+    requires { IsReduced (bounded_sums 1000000000000) reduced.old }
+    ensures { IsReduced (bounded_sums 1000000000000) reduced.new }
+{
+    replay(&SUMS, reduced, &NOTHING, &[0, 2400, 2400], leaves)
+}
+
+// At each of many steps the rows that have entered and the columns that stay are one more than the
+// side.
 #[test]
 fn counts_at_each_of_many_steps(rt: HostRuntime) -> Result<(), Fail> {
-    let Some(mut reduced) = worked(rt.alloc())? else {
-        assert!(rt; false);
-        return Ok(());
-    };
-    let enters = [0, 2400, 2400];
-    assert!(rt; !replay(&SUMS, &mut reduced, &NOTHING, &enters, &[2400, 2401, 3000]));
-    assert!(rt; !replay(&SUMS, &mut reduced, &NOTHING, &enters, &[2400, 3000, 3000]));
-    assert!(rt; replay(&SUMS, &mut reduced, &NOTHING, &enters, &[2400, 2400, 3000]));
+    let mut reduced = worked(rt.alloc())?;
+    assert!(rt; !replays_nothing(&mut reduced, &[2400, 2401, 3000]));
+    assert!(rt; !replays_nothing(&mut reduced, &[2400, 3000, 3000]));
+    assert!(rt; replays_nothing(&mut reduced, &[2400, 2400, 3000]));
     assert_eq!(rt; reduced.index, 0);
     Ok(())
 }
 
 // Two steps.
 const STEPS: [u128; 2] = [5, 3];
+
+// A cell, when its row enters and its column leaves, and what the two steps make of it.
+const CELLS: [(u128, u32, u32, Option<u128>); 4] = [
+    (9, 0, 2, Some(1)),
+    (7, 0, 2, None),
+    (7, 0, 1, Some(2)),
+    (7, 9, 1, Some(10)),
+];
 
 // What two steps make of a cell.
 fn cell_after(x: u128, enter: u32, leave: u32) -> Option<u128> {
@@ -261,9 +178,8 @@ fn products() -> Option<[u128; 3]> {
 
 #[test]
 fn single_cells(rt: HostRuntime) {
-    assert_eq!(rt; cell_after(9, 0, 2), Some(1));
-    assert_eq!(rt; cell_after(7, 0, 2), None);
-    assert_eq!(rt; cell_after(7, 0, 1), Some(2));
-    assert_eq!(rt; cell_after(7, 9, 1), Some(10));
+    for (x, enter, leave, want) in CELLS {
+        assert_eq!(rt; cell_after(x, enter, leave), want);
+    }
     assert_eq!(rt; products(), Some([8, 3, 0]));
 }

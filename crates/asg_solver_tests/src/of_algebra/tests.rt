@@ -7,16 +7,15 @@ ghost use Rattle.asg_square.specs.Grid.{cell_at};
 ghost use Rattle.asg_algebra.specs.Ended.{last_of};
 ghost use Rattle.asg_algebra.specs.Rest.{IsRest};
 
-use crate::of_algebra::samples::{column_of, is_valued, put};
+use crate::of_algebra::desks::{Desk, desk_for, has_perfect};
+use crate::samples::{THREE, reduced_of};
 use asg_admit::Reduced;
-use asg_algebra::{Bench, NoMemory, Solved, solve};
+use asg_algebra::{NoMemory, Solved, solve};
 use asg_match::Matching;
-use asg_model::Cost;
-use asg_model::limits::MOST_SIDE;
 use asg_monoids::{Bounded, Graded, Greatest};
 use asg_order::DMonoid;
 use asg_pool::{Region, Trail};
-use asg_square::Square;
+use asg_samples::Fault;
 use std::alloc::Global;
 use std::test::Fail;
 
@@ -24,59 +23,40 @@ use std::test::Fail;
 #[derive(Drop)]
 struct Found<V: Copy> {
     reduced: Reduced<V>,
-    matching: Matching,
-    bench: Bench<V>,
-    region: Region<V>,
+    desk: Desk<V>,
     ended: Solved,
 }
 
-// Solves a square with these cells, with no column taken. None where a cell is no value.
+// Solves a square with these cells, with no column taken.
 fn solved<M: DMonoid>(
     alloc: Global,
     m: &M,
     side: u32,
     cells: &[Option<M::Value>],
-) -> Result<Option<Found<M::Value>>, NoMemory>
-    ensures rest { IfOk result (λ o. IfSome o (λ found. IsRest (M.monoid_of m.now)
-        found.reduced.now.side (cell_at found.reduced.now) found.reduced.index found.matching
-        × (found.bench.side ≡ found.reduced.now.side)
-        × (found.region.side ≡ found.reduced.now.side)
-        × IfSome (last_of found.ended) (IsLive found.region))) }
+) -> Result<Found<M::Value>, Fault>
+    ensures rest { IfOk result (λ found. IsRest (M.monoid_of m.now)
+        found.reduced.now.side (cell_at found.reduced.now) found.reduced.index
+        found.desk.matching) }
+    ensures bench { IfOk result (λ found. found.desk.bench.side ≡ found.reduced.now.side) }
+    ensures region { IfOk result (λ found. found.desk.region.side ≡ found.reduced.now.side) }
+    ensures live { IfOk result (λ found. IfSome (last_of found.ended) (IsLive found.desk.region)) }
 {
-    let unit = m.unit();
-    let inst = column_of(alloc, side)?;
-    if inst.side() > MOST_SIDE {
-        return Ok(None);
-    }
-    let mut square = Square::of(alloc, &inst, unit, &|_: Cost| unit)?;
-    put(&mut square, cells);
-    if !is_valued(m, &square) {
-        return Ok(None);
-    }
-    let side = square.side();
-    let mut reduced = Reduced {
-        now: square,
-        index: unit,
-    };
-    let mut matching = Matching::make(alloc, side)?;
-    let mut bench = Bench::make(alloc, side)?;
-    let mut region = Region::make(alloc, side)?;
-    region.reserve(side)?;
+    let mut reduced = reduced_of(alloc, m, side, cells)?;
+    let side = reduced.now.side();
+    let mut desk = desk_for(alloc, side)?;
     let ended = solve(
         m,
         &mut reduced,
-        &mut matching,
-        &mut bench,
-        &mut region,
+        &mut desk.matching,
+        &mut desk.bench,
+        &mut desk.region,
         None,
     );
-    Ok(Some(Found {
+    Ok(Found {
         reduced,
-        matching,
-        bench,
-        region,
+        desk,
         ended,
-    }))
+    })
 }
 
 // Takes its column from a row.
@@ -91,32 +71,24 @@ fn take_column(matching: &mut Matching, r: u32)
 
 // Takes its column from a row, and solves again.
 fn solve_again<M: DMonoid>(m: &M, found: &mut Found<M::Value>, r: u32) -> Result<(), NoMemory>
-    requires { IsRest (M.monoid_of m.now) found.old.reduced.now.side
-        (cell_at found.old.reduced.now) found.old.reduced.index found.old.matching
-        × (found.old.bench.side ≡ found.old.reduced.now.side)
-        × (found.old.region.side ≡ found.old.reduced.now.side)
-        × IfSome (last_of found.old.ended) (IsLive found.old.region) }
+    requires rest { IsRest (M.monoid_of m.now) found.old.reduced.now.side
+        (cell_at found.old.reduced.now) found.old.reduced.index found.old.desk.matching }
+    requires bench { found.old.desk.bench.side ≡ found.old.reduced.now.side }
+    requires region { found.old.desk.region.side ≡ found.old.reduced.now.side }
+    requires live { IfSome (last_of found.old.ended) (IsLive found.old.desk.region) }
 {
-    take_column(&mut found.matching, r);
-    let side = found.matching.side();
-    found.region.reserve(side)?;
+    take_column(&mut found.desk.matching, r);
+    let side = found.desk.matching.side();
+    found.desk.region.reserve(side)?;
     found.ended = solve(
         m,
         &mut found.reduced,
-        &mut found.matching,
-        &mut found.bench,
-        &mut found.region,
+        &mut found.desk.matching,
+        &mut found.desk.bench,
+        &mut found.desk.region,
         last(found.ended),
     );
     Ok(())
-}
-
-// Whether every row has a column.
-pub(crate) fn is_perfect(ended: Solved) -> bool {
-    match ended {
-        Solved::Perfect(_) => true,
-        Solved::Short(_) => false,
-    }
 }
 
 // The last trail.
@@ -129,57 +101,59 @@ fn last(ended: Solved) -> Option<Trail>
     }
 }
 
-// Whether each row has this column.
-pub(crate) fn has_columns(matching: &Matching, columns: &[u32]) -> bool {
-    for r in 0..matching.side() {
-        let want = columns.get(r as usize).copied();
-        if matching.column_of(r) != want {
-            return false;
-        }
-    }
-    true
+// What is told of what a solver came to: the index, whether every row has its column of those that
+// are expected, and how many records are spare.
+type Told<V> = (V, bool, u32);
+
+// What is told of what was found.
+fn told<V: Copy>(found: &Found<V>, columns: &[u32]) -> Told<V> {
+    let desk = &found.desk;
+    let is_expected = has_perfect(found.ended, &desk.matching, columns);
+    (found.reduced.index, is_expected, desk.region.spare())
 }
 
-// The cells `4 1 3 / 2 0 5 / 3 2 2`, each shifted by 10^9.
-const THREE: [Option<u128>; 9] = [
-    Some(1_000_000_004),
-    Some(1_000_000_001),
-    Some(1_000_000_003),
-    Some(1_000_000_002),
-    Some(1_000_000_000),
-    Some(1_000_000_005),
-    Some(1_000_000_003),
-    Some(1_000_000_002),
-    Some(1_000_000_002),
-];
+// What is told of a square with these cells once it is solved, with no column taken.
+fn told_of<M: DMonoid>(
+    alloc: Global,
+    m: &M,
+    side: u32,
+    cells: &[Option<M::Value>],
+    columns: &[u32],
+) -> Result<Told<M::Value>, Fault> {
+    let found = solved(alloc, m, side, cells)?;
+    Ok(told(&found, columns))
+}
+
+// The sums of the three rows.
+const SUMS: Bounded = Bounded { top: 1 << 120 };
+
+// The columns of the least assignment of the three rows.
+const COLUMNS: [u32; 3] = [1, 0, 2];
 
 #[test]
 fn sums_of_three_rows(rt: HostRuntime) -> Result<(), Fail> {
-    let m = Bounded { top: 1 << 120 };
-    let found = solved(rt.alloc(), &m, 3, &THREE)?.expect(&rt, "values");
-    assert!(rt; is_perfect(found.ended));
-    assert_eq!(rt; found.reduced.index, 3_000_000_005);
-    assert!(rt; has_columns(&found.matching, &[1, 0, 2]));
-    assert_eq!(rt; found.region.spare(), 0);
+    let told = told_of(rt.alloc(), &SUMS, 3, &THREE, &COLUMNS)?;
+    assert!(rt; told == (3_000_000_005, true, 0));
     Ok(())
 }
 
-// The phases of the three rows: the steps, and those at which rows enter and columns leave.
-const FIRST: ([u128; 1], [u32; 3], [u32; 3]) = ([1_000_000_001], [0, 1, 1], [1, 1, 1]);
+// The steps of a phase, and those at which rows enter and columns leave.
+type Phase = (&'static [u128], [u32; 3], [u32; 3]);
 
-const SECOND: ([u128; 2], [u32; 3], [u32; 3]) = ([1_000_000_000, 2], [1, 0, 2], [2, 1, 2]);
+// The phases of the three rows, the last one first.
+const PHASES: [Phase; 3] = [
+    (&[1_000_000_002], [1, 1, 0], [1, 1, 1]),
+    (&[1_000_000_000, 2], [1, 0, 2], [2, 1, 2]),
+    (&[1_000_000_001], [0, 1, 1], [1, 1, 1]),
+];
 
-const THIRD: ([u128; 1], [u32; 3], [u32; 3]) = ([1_000_000_002], [1, 1, 0], [1, 1, 1]);
-
-// The last phase of a trail.
-fn shown(region: &Region<u128>, trail: Trail) -> (&[u128], &[u32], &[u32])
+// Whether the last phase of a trail is this.
+fn is_phase(region: &Region<u128>, trail: Trail, phase: &Phase) -> bool
     requires { IsLive region.now trail }
 {
-    (
-        region.steps(trail),
-        region.enters(trail),
-        region.leaves(trail),
-    )
+    region.steps(trail) == phase.0
+        && region.enters(trail) == phase.1.as_slice()
+        && region.leaves(trail) == phase.2.as_slice()
 }
 
 // The trail that a trail grew on.
@@ -190,40 +164,49 @@ fn before(region: &Region<u128>, trail: Trail) -> Option<Trail>
     region.parent(trail)
 }
 
+// Whether the phases of a trail are these, the last one first.
+fn are_phases(region: &Region<u128>, last: Option<Trail>, phases: &[Phase]) -> bool
+    requires { IfSome last (IsLive region.now) }
+{
+    let mut next = last;
+    for phase in phases {
+        let Some(trail) = next else {
+            return false;
+        };
+        if !is_phase(region, trail, phase) {
+            return false;
+        }
+        next = before(region, trail);
+    }
+    next.is_none()
+}
+
+// Whether the three rows are solved by these phases, the last one first.
+fn is_solved_by(alloc: Global, phases: &[Phase]) -> Result<bool, Fault> {
+    let found = solved(alloc, &SUMS, 3, &THREE)?;
+    Ok(are_phases(&found.desk.region, last(found.ended), phases))
+}
+
 #[test]
 fn phases_of_three_rows(rt: HostRuntime) -> Result<(), Fail> {
-    let m = Bounded { top: 1 << 120 };
-    let found = solved(rt.alloc(), &m, 3, &THREE)?.expect(&rt, "values");
-    let third = last(found.ended).expect(&rt, "three phases");
-    let second = before(&found.region, third).expect(&rt, "two before");
-    let first = before(&found.region, second).expect(&rt, "one before");
-    assert!(rt; before(&found.region, first).is_none());
-    assert_eq!(rt;
-        shown(&found.region, first),
-        (&FIRST.0[..], &FIRST.1[..], &FIRST.2[..])
-    );
-    assert_eq!(rt;
-        shown(&found.region, second),
-        (&SECOND.0[..], &SECOND.1[..], &SECOND.2[..])
-    );
-    assert_eq!(rt;
-        shown(&found.region, third),
-        (&THIRD.0[..], &THIRD.1[..], &THIRD.2[..])
-    );
+    assert!(rt; is_solved_by(rt.alloc(), &PHASES)?);
     Ok(())
+}
+
+// Whether the last trail stays where the second of the three rows is solved again, and what is told
+// then.
+fn told_again(alloc: Global) -> Result<(bool, Told<u128>), Fault> {
+    let mut found = solved(alloc, &SUMS, 3, &THREE)?;
+    let trail = last(found.ended);
+    solve_again(&SUMS, &mut found, 1)?;
+    Ok((last(found.ended) == trail, told(&found, &COLUMNS)))
 }
 
 #[test]
 fn a_row_takes_its_free_column_again(rt: HostRuntime) -> Result<(), Fail> {
-    let m = Bounded { top: 1 << 120 };
-    let mut found = solved(rt.alloc(), &m, 3, &THREE)?.expect(&rt, "values");
-    let trail = last(found.ended);
-    solve_again(&m, &mut found, 1)?;
-    assert!(rt; is_perfect(found.ended));
-    assert!(rt; last(found.ended) == trail);
-    assert_eq!(rt; found.reduced.index, 3_000_000_005);
-    assert!(rt; has_columns(&found.matching, &[1, 0, 2]));
-    assert_eq!(rt; found.region.spare(), 3);
+    let (stays, told) = told_again(rt.alloc())?;
+    assert!(rt; stays);
+    assert!(rt; told == (3_000_000_005, true, 3));
     Ok(())
 }
 
@@ -240,13 +223,22 @@ const ONE_COLUMN: [Option<u64>; 9] = [
     Some(1),
 ];
 
+// Whether the first two rows are short.
+fn are_short(found: &Found<u64>) -> bool {
+    matches!(found.ended, Solved::Short(_)) && found.desk.bench.violator() == [1, 0].as_slice()
+}
+
+// Whether the rows with one column are found to be short; the index, and how many records are
+// spare.
+fn told_short(alloc: Global) -> Result<(bool, u64, u32), Fault> {
+    let found = solved(alloc, &Greatest, 3, &ONE_COLUMN)?;
+    let spare = found.desk.region.spare();
+    Ok((are_short(&found), found.reduced.index, spare))
+}
+
 #[test]
 fn rows_with_one_column_are_short(rt: HostRuntime) -> Result<(), Fail> {
-    let found = solved(rt.alloc(), &Greatest, 3, &ONE_COLUMN)?.expect(&rt, "values");
-    assert!(rt; !is_perfect(found.ended));
-    assert_eq!(rt; found.bench.violator(), [1, 0].as_slice());
-    assert_eq!(rt; found.reduced.index, 3);
-    assert_eq!(rt; found.region.spare(), 2);
+    assert!(rt; told_short(rt.alloc())? == (true, 3, 2));
     Ok(())
 }
 
@@ -258,23 +250,25 @@ fn grades_before_sums(rt: HostRuntime) -> Result<(), Fail> {
     let m = Graded {
         inner: Bounded { top: 100 },
     };
-    let found = solved(rt.alloc(), &m, 2, &GRADED)?.expect(&rt, "values");
-    assert!(rt; is_perfect(found.ended));
-    assert_eq!(rt; found.reduced.index, (1, 3));
-    assert!(rt; has_columns(&found.matching, &[1, 0]));
+    let (index, is_expected, _) = told_of(rt.alloc(), &m, 2, &GRADED, &[1, 0])?;
+    assert!(rt; index == (1, 3));
+    assert!(rt; is_expected);
     Ok(())
 }
 
 // Units alone: no step is taken.
 const UNITS: [Option<u64>; 4] = [Some(0), None, Some(0), Some(0)];
 
+// Whether there is no phase of units alone, and what is told.
+fn told_units(alloc: Global) -> Result<(bool, Told<u64>), Fault> {
+    let found = solved(alloc, &Greatest, 2, &UNITS)?;
+    Ok((last(found.ended).is_none(), told(&found, &[0, 1])))
+}
+
 #[test]
 fn units_take_no_step(rt: HostRuntime) -> Result<(), Fail> {
-    let found = solved(rt.alloc(), &Greatest, 2, &UNITS)?.expect(&rt, "values");
-    assert!(rt; is_perfect(found.ended));
-    assert!(rt; last(found.ended).is_none());
-    assert_eq!(rt; found.reduced.index, 0);
-    assert_eq!(rt; found.region.spare(), 2);
-    assert!(rt; has_columns(&found.matching, &[0, 1]));
+    let (is_still, told) = told_units(rt.alloc())?;
+    assert!(rt; is_still);
+    assert!(rt; told == (0, true, 2));
     Ok(())
 }

@@ -1,48 +1,57 @@
 //! Best choices, their values and phases, and Hall sets of squares of three rows, by hand.
 
-ghost use Rattle.std.specs.Prelude.{◌≤◌, IsTrue};
+ghost use Rattle.std.specs.Prelude.{◌≡◌, ◌≤◌};
 ghost use Rattle.asg_model.specs.Limits.{most_cost};
 ghost use Rattle.asg_model.specs.Objectives.{is_algebraic};
 
-use crate::of_objectives::samples::{NineCosts, square};
 use asg_algebra::SquareSolver;
 use asg_model::limits::MOST_SIDE;
-use asg_model::{Band, Choice, Instance, Objective, Value, is_hall, is_valid, negative, value};
+use asg_model::{
+    ABSENT, Band, Choice, Instance, Objective, Place, Value, is_hall, is_valid, negative, value,
+};
 use asg_monoids::{PeakKind, SumKind, TimeKind};
 use asg_objectives::{NoMemory, algebraic, algebraic_assignment};
 use asg_order::Kind;
 use asg_proof::{Outcome, Proof};
+use asg_samples::Sample;
 use std::alloc::Global;
 use std::test::Fail;
 
 // The square `4:1 1:7 3:2 / 2:5 0:3 5:6 / 3:4 2:8 2:9`, a cost being written `a:b`.
-const PLAIN: NineCosts = [
-    (4, 1),
-    (1, 7),
-    (3, 2),
-    (2, 5),
-    (0, 3),
-    (5, 6),
-    (3, 4),
-    (2, 8),
-    (2, 9),
-];
+const PLAIN: Sample<'static> = Sample {
+    rows: &[true, true, true],
+    columns: &[(1, true), (1, true), (1, true)],
+    firsts: &[4, 1, 3, 2, 0, 5, 3, 2, 2],
+    seconds: &[1, 7, 2, 5, 3, 6, 4, 8, 9],
+    place: Place::All,
+};
 
 // A square whose first two rows have the second column alone.
-const ONE_COLUMN: NineCosts = [
-    (999, 0),
-    (1, 7),
-    (999, 0),
-    (999, 0),
-    (0, 3),
-    (999, 0),
-    (3, 4),
-    (2, 8),
-    (2, 9),
+const ONE_COLUMN: Sample<'static> = Sample {
+    rows: &[true, true, true],
+    columns: &[(1, true), (1, true), (1, true)],
+    firsts: &[ABSENT, 1, ABSENT, ABSENT, 0, ABSENT, 3, 2, 2],
+    seconds: &[0, 7, 0, 0, 3, 0, 4, 8, 9],
+    place: Place::All,
+};
+
+// The columns of the best choices, and the value; where there is a second number, both are it.
+type Best = (&'static [[u32; 3]], i128, Option<i128>);
+
+// The best choices of the plain square for each objective. Two choices have the greatest least
+// cost.
+const BEST: [(Objective, Best); 7] = [
+    (Objective::Sum, (&[[1, 0, 2]], 5, None)),
+    (Objective::SumMax, (&[[0, 2, 1]], 11, None)),
+    (Objective::SumPair, (&[[1, 0, 2]], 5, Some(21))),
+    (Objective::Capped(6), (&[[1, 0, 2]], 5, None)),
+    (Objective::TimeCost, (&[[1, 0, 2]], 2, Some(14))),
+    (Objective::Bottleneck, (&[[1, 0, 2]], 2, None)),
+    (Objective::BottleneckMax, (&[[0, 2, 1], [2, 0, 1]], 2, None)),
 ];
 
 // Whether the choice has these columns.
-fn has_columns(choice: &Choice, columns: [u32; 3]) -> bool {
+fn has_columns(choice: &Choice, columns: &[u32; 3]) -> bool {
     if choice.len() != 3 {
         return false;
     }
@@ -60,40 +69,63 @@ fn is_value(found: &Value, first: i128, second: Option<i128>) -> bool {
     }
 }
 
-// Whether the outcome is a valid choice of these columns and this value, proved by one to three phases.
+// Whether the choice is valid and one of the best, and the value is this.
+fn is_best_choice(
+    alloc: Global,
+    objective: Objective,
+    inst: &Instance,
+    choice: &Choice,
+    best: Best,
+) -> Result<bool, NoMemory> {
+    let (columns, first, second) = best;
+    if !is_valid(inst, choice) || !columns.iter().any(|each| has_columns(choice, each)) {
+        return Ok(false);
+    }
+    let found = value(alloc, objective, inst, choice)?;
+    Ok(is_value(&found, first, second))
+}
+
+// Whether the outcome is a best choice that is proved by one to three phases.
 fn is_best(
     alloc: Global,
     objective: Objective,
     inst: &Instance,
     outcome: &Outcome,
-    columns: [u32; 3],
-    want: (i128, Option<i128>),
+    best: Best,
 ) -> Result<bool, NoMemory> {
     match outcome {
         Outcome::Best {
             choice,
             proof: Proof::Phases(phases),
         } => {
-            if !is_valid(inst, choice) || !has_columns(choice, columns) {
+            let count = phases.len();
+            if count < 1 || 3 < count {
                 return Ok(false);
             }
-            let found = value(alloc, objective, inst, choice)?;
-            let count = phases.len();
-            Ok(is_value(&found, want.0, want.1) && 1 <= count && count <= 3)
+            is_best_choice(alloc, objective, inst, choice, best)
         }
         _ => Ok(false),
     }
 }
 
-// The outcome of an objective, if it refuses no live cost and the side isn't too great.
+// Whether the objective is algebraic.
+fn has_monoid(objective: Objective) -> bool
+    ensures { result ≡ is_algebraic objective }
+{
+    !matches!(objective, Objective::Balanced | Objective::Lex)
+}
+
+// The outcome of an objective, if it is algebraic and refuses no live cost and the side isn't too
+// great.
 fn outcome_of(
     alloc: Global,
     objective: Objective,
     inst: &Instance,
-) -> Result<Option<Outcome>, NoMemory>
-    requires { IsTrue (is_algebraic objective) }
-{
+) -> Result<Option<Outcome>, NoMemory> {
     if inst.side() > MOST_SIDE || negative(objective, inst).is_some() {
+        return Ok(None);
+    }
+    if !has_monoid(objective) {
         return Ok(None);
     }
     Ok(Some(algebraic_assignment(alloc, objective, inst)?))
@@ -115,36 +147,27 @@ where
     Ok(Some(algebraic(alloc, kind, inst)?))
 }
 
-// Whether the outcome of an objective over the plain square has these columns and this value.
+// Whether the outcome of an objective is a best choice.
 fn gives(
     alloc: Global,
+    inst: &Instance,
     objective: Objective,
-    columns: [u32; 3],
-    want: (i128, Option<i128>),
-) -> Result<bool, NoMemory>
-    requires { IsTrue (is_algebraic objective) }
-{
-    let inst = square(alloc, &PLAIN)?;
-    match outcome_of(alloc, objective, &inst)? {
-        Some(outcome) => is_best(alloc, objective, &inst, &outcome, columns, want),
+    best: Best,
+) -> Result<bool, NoMemory> {
+    match outcome_of(alloc, objective, inst)? {
+        Some(outcome) => is_best(alloc, objective, inst, &outcome, best),
         None => Ok(false),
     }
 }
 
-// Whether the outcome by a kind over the plain square has these columns and this value.
-fn gives_by<K: Kind>(
-    alloc: Global,
-    kind: &K,
-    columns: [u32; 3],
-    want: (i128, Option<i128>),
-) -> Result<bool, NoMemory>
+// Whether the outcome by a kind is a best choice.
+fn gives_by<K: Kind>(alloc: Global, inst: &Instance, kind: &K, best: Best) -> Result<bool, NoMemory>
 where
     K::M: SquareSolver,
     requires { most_cost ≤ K.reach kind.now }
 {
-    let inst = square(alloc, &PLAIN)?;
-    match outcome_by(alloc, kind, &inst)? {
-        Some(outcome) => is_best(alloc, kind.objective(), &inst, &outcome, columns, want),
+    match outcome_by(alloc, kind, inst)? {
+        Some(outcome) => is_best(alloc, kind.objective(), inst, &outcome, best),
         None => Ok(false),
     }
 }
@@ -159,56 +182,50 @@ fn is_hall_set(inst: &Instance, outcome: &Outcome) -> bool {
     }
 }
 
-// Whether the outcome of an objective over the square with one column for two rows is a Hall set.
-fn gives_hall_set(alloc: Global, objective: Objective) -> Result<bool, NoMemory>
-    requires { IsTrue (is_algebraic objective) }
-{
-    let inst = square(alloc, &ONE_COLUMN)?;
-    match outcome_of(alloc, objective, &inst)? {
-        Some(outcome) => Ok(is_hall_set(&inst, &outcome)),
+// Whether the outcome of an objective is a Hall set of two rows.
+fn gives_hall_set(alloc: Global, inst: &Instance, objective: Objective) -> Result<bool, NoMemory> {
+    match outcome_of(alloc, objective, inst)? {
+        Some(outcome) => Ok(is_hall_set(inst, &outcome)),
         None => Ok(false),
     }
 }
 
 #[test]
-fn sums(rt: HostRuntime) -> Result<(), Fail> {
-    assert!(rt; gives(rt.alloc(), Objective::Sum, [1, 0, 2], (5, None))?);
-    assert!(rt; gives(rt.alloc(), Objective::SumMax, [0, 2, 1], (11, None))?);
-    assert!(rt; gives(rt.alloc(), Objective::SumPair, [1, 0, 2], (5, Some(21)))?);
-    assert!(rt; gives(rt.alloc(), Objective::Capped(6), [1, 0, 2], (5, None))?);
-    Ok(())
-}
-
-#[test]
-fn maxima_and_grades(rt: HostRuntime) -> Result<(), Fail> {
-    assert!(rt; gives(rt.alloc(), Objective::TimeCost, [1, 0, 2], (2, Some(14)))?);
-    assert!(rt; gives(rt.alloc(), Objective::Bottleneck, [1, 0, 2], (2, None))?);
-    Ok(())
-}
-
-// The greatest least cost is 2, of two choices.
-#[test]
-fn two_best_choices(rt: HostRuntime) -> Result<(), Fail> {
-    let first = gives(rt.alloc(), Objective::BottleneckMax, [0, 2, 1], (2, None))?;
-    let second = gives(rt.alloc(), Objective::BottleneckMax, [2, 0, 1], (2, None))?;
-    assert!(rt; first || second);
+fn finds_best_choices(rt: HostRuntime) -> Result<(), Fail> {
+    let inst = PLAIN.instance(rt.alloc())?;
+    for (objective, best) in &BEST {
+        assert!(rt;
+            gives(rt.alloc(), &inst, *objective, *best)?,
+            "{objective:?}"
+        );
+    }
     Ok(())
 }
 
 #[test]
 fn rows_with_one_column(rt: HostRuntime) -> Result<(), Fail> {
-    assert!(rt; gives_hall_set(rt.alloc(), Objective::Sum)?);
-    assert!(rt; gives_hall_set(rt.alloc(), Objective::BottleneckMax)?);
-    assert!(rt; gives_hall_set(rt.alloc(), Objective::TimeCost)?);
+    let inst = ONE_COLUMN.instance(rt.alloc())?;
+    for objective in [
+        Objective::Sum,
+        Objective::BottleneckMax,
+        Objective::TimeCost,
+    ] {
+        assert!(rt;
+            gives_hall_set(rt.alloc(), &inst, objective)?,
+            "{objective:?}"
+        );
+    }
     Ok(())
 }
 
 #[test]
 fn kinds(rt: HostRuntime) -> Result<(), Fail> {
+    let inst = PLAIN.instance(rt.alloc())?;
     let sum = SumKind::of(Objective::SumMax);
     let peak = PeakKind::of(Objective::Bottleneck);
-    assert!(rt; gives_by(rt.alloc(), &sum, [0, 2, 1], (11, None))?);
-    assert!(rt; gives_by(rt.alloc(), &peak, [1, 0, 2], (2, None))?);
-    assert!(rt; gives_by(rt.alloc(), &TimeKind::new(), [1, 0, 2], (2, Some(14)))?);
+    let time = TimeKind::new();
+    assert!(rt; gives_by(rt.alloc(), &inst, &sum, (&[[0, 2, 1]], 11, None))?);
+    assert!(rt; gives_by(rt.alloc(), &inst, &peak, (&[[1, 0, 2]], 2, None))?);
+    assert!(rt; gives_by(rt.alloc(), &inst, &time, (&[[1, 0, 2]], 2, Some(14)))?);
     Ok(())
 }

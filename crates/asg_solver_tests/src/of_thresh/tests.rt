@@ -11,14 +11,17 @@ use asg_model::{
     ABSENT, Band, Instance, NoMemory, Objective, Place, Value, is_hall, is_valid, value,
 };
 use asg_proof::{Outcome, Proof};
-use asg_samples::{Fours, ONE_COLUMN, PRODUCTS, SIGNED, THREE, TWO_COLUMNS, four_by_four};
+use asg_samples::{Fault, Fours, ONE_COLUMN, PRODUCTS, SIGNED, THREE, TWO_COLUMNS, four_by_four};
 use asg_thresh::bottleneck;
 use std::alloc::Global;
 use std::test::Fail;
 
-// The place rule, whether the second column holds three, whether the last row is active and the last
-// column open, the costs, and the values of `bottleneck` and `bottleneck-max`, if a choice is valid.
-const CASES: [(Place, bool, bool, Fours, Option<(i64, i64)>); 19] = [
+// The place rule, whether the second column holds three, whether the last row is active and the
+// last column open, the costs, and the values of `bottleneck` and `bottleneck-max`, if a choice is
+// valid.
+type Case = (Place, bool, bool, Fours, Option<(i64, i64)>);
+
+const CASES: [Case; 19] = [
     (All, false, true, [5; 16], Some((5, 5))),
     (All, false, true, SIGNED, Some((-2, 2))),
     (
@@ -54,7 +57,8 @@ fn better_cells(objective: Objective, cost: i64) -> Band {
     }
 }
 
-// Whether a proof is rows that are a Hall set of the cells with a strictly better cost than a value.
+// Whether a proof is rows that are a Hall set of the cells with a strictly better cost than a
+// value.
 fn is_proved(objective: Objective, inst: &Instance, cost: i64, proof: &Proof) -> bool {
     match proof {
         Proof::Below(rows) => is_hall(inst, better_cells(objective, cost), rows.as_slice()),
@@ -85,21 +89,25 @@ fn is_right(
     }
 }
 
+// Whether both objectives have the outcomes of a case.
+fn are_right(alloc: Global, case: &Case) -> Result<bool, Fault> {
+    let (place, wide, last, costs, want) = case;
+    let inst = four_by_four(alloc, *place, *wide, *last, costs)?;
+    if inst.side() > MOST_SIDE {
+        return Ok(false);
+    }
+    let low = want.map(|values| values.0);
+    if !is_right(alloc, Objective::Bottleneck, &inst, low)? {
+        return Ok(false);
+    }
+    let high = want.map(|values| values.1);
+    Ok(is_right(alloc, Objective::BottleneckMax, &inst, high)?)
+}
+
 #[test]
 fn finds_best_choices_and_hall_sets(rt: HostRuntime) -> Result<(), Fail> {
-    for (place, wide, last, costs, want) in CASES {
-        let inst = four_by_four(rt.alloc(), place, wide, last, &costs)?;
-        assert!(rt; inst.side() <= MOST_SIDE);
-        let low = want.map(|values| values.0);
-        let high = want.map(|values| values.1);
-        assert!(rt;
-            is_right(rt.alloc(), Objective::Bottleneck, &inst, low)?,
-            "{place:?} {want:?}"
-        );
-        assert!(rt;
-            is_right(rt.alloc(), Objective::BottleneckMax, &inst, high)?,
-            "{place:?} {want:?}"
-        );
+    for case in &CASES {
+        assert!(rt; are_right(rt.alloc(), case)?, "{:?} {:?}", case.0, case.4);
     }
     Ok(())
 }

@@ -18,9 +18,11 @@ const ONE_COST: Fours = [
     1, 5, 9, ABSENT, 2, 5, 8, ABSENT, 3, 5, 7, ABSENT, ABSENT, ABSENT, ABSENT, ABSENT,
 ];
 
-// The place rule, whether the second column holds three, whether the last row is active and the last
-// column open, the costs, and the value, if a choice is valid.
-const CASES: [(Place, bool, bool, Fours, Option<i64>); 17] = [
+// The place rule, whether the second column holds three, whether the last row is active and the
+// last column open, the costs, and the value, if a choice is valid.
+type Case = (Place, bool, bool, Fours, Option<i64>);
+
+const CASES: [Case; 17] = [
     (All, false, true, [5; 16], Some(0)),
     (All, false, true, SIGNED, Some(3)),
     (All, false, true, PRODUCTS, Some(2)),
@@ -93,12 +95,20 @@ fn is_right(alloc: Global, inst: &Instance, want: Option<i64>) -> Result<bool, F
     }
 }
 
+// Whether the instance of a case has its outcome.
+fn is_right_on(alloc: Global, case: &Case) -> Result<bool, Fail> {
+    let (place, wide, last, costs, want) = case;
+    let inst = four_by_four(alloc, *place, *wide, *last, costs)?;
+    if inst.side() > MOST_SIDE {
+        return Ok(false);
+    }
+    is_right(alloc, &inst, *want)
+}
+
 #[test]
 fn finds_best_choices_and_hall_sets(rt: HostRuntime) -> Result<(), Fail> {
-    for (place, wide, last, costs, want) in CASES {
-        let inst = four_by_four(rt.alloc(), place, wide, last, &costs)?;
-        assert!(rt; inst.side() <= MOST_SIDE);
-        assert!(rt; is_right(rt.alloc(), &inst, want)?, "{place:?} {want:?}");
+    for case in &CASES {
+        assert!(rt; is_right_on(rt.alloc(), case)?, "{:?} {:?}", case.0, case.4);
     }
     Ok(())
 }

@@ -3,7 +3,8 @@
 use crate::of_app::memory_runs::Case;
 
 // Requests to solve with their answers: each objective with its ties and its sign, fewer rows to be
-// placed, greater capacities, graphs, tables with absent cells, and instances without a valid choice.
+// placed, greater capacities, graphs, tables with absent cells, and instances without a valid
+// choice.
 pub(crate) const ALGEBRAIC: [Case; 24] = [
     (
         "sum",
@@ -44,7 +45,8 @@ pub(crate) const ALGEBRAIC: [Case; 24] = [
     (
         "sum",
         &["--format", "asn"],
-        "c a small instance\np asn 6 9\nn 1\nn 2\nn 3\na 1 4 4\na 1 5 1\na 1 6 3\na 2 4 2\na 2 5 0\na 2 6 5\na 3 4 3\na 3 5 2\na 3 6 2\n",
+        "c a small instance\np asn 6 9\nn 1\nn 2\nn 3\na 1 4 4\na 1 5 1\na 1 6 3\na 2 4 2\n\
+         a 2 5 0\na 2 6 5\na 3 4 3\na 3 5 2\na 3 6 2\n",
         0,
         "status best\nvalue 5\ncells 3\n1 5\n2 4\n3 6\n",
     ),

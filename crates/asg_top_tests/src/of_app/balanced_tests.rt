@@ -5,8 +5,8 @@ use crate::of_app::solve_tests::is_answered;
 use std::alloc::{AllocError, Global};
 use std::test::Fail;
 
-// Requests to solve with their answers: a square, fewer rows to be placed, a greater capacity, a table
-// with absent cells, a graph without a valid choice, and one cell, which needs no window.
+// Requests to solve with their answers: a square, fewer rows to be placed, a greater capacity, a
+// table with absent cells, a graph without a valid choice, and one cell, which needs no window.
 const BALANCED: [Case; 6] = [
     (
         "balanced",
@@ -62,11 +62,14 @@ fn balanced_documents(rt: HostRuntime) -> Result<(), Fail> {
 
 // What comes before the proof of an answer for the square `THREE`.
 const HEAD: &str =
-    "assignment 1\ncommand solve\nobjective balanced\nstatus best\nvalue 1\ncells 3\n1 2\n2 1\n3 3\n";
+    "assignment 1\ncommand solve\nobjective balanced\nstatus best\nvalue 1\ncells 3\n1 2\n2 1\n\
+     3 3\n";
 
-// Proofs of this answer, and what is told of them: without the second window no other one holds the
-// cost 2.
-const PROOFS: [(&str, u8, &str); 2] = [
+// A proof of this answer, the status, and what is told of it.
+type Judged = (&'static str, u8, &'static str);
+
+// Without the second window no other one holds the cost 2.
+const PROOFS: [Judged; 2] = [
     (
         "proof windows 3\nwindow 0 1 3\nwindow 2 2 1\nwindow 3 5 1 2 3\nend\n",
         0,
@@ -79,21 +82,19 @@ const PROOFS: [(&str, u8, &str); 2] = [
     ),
 ];
 
+// Whether this is told of a proof.
+fn is_told(alloc: Global, case: &Judged) -> Result<bool, AllocError> {
+    let proof = case.0;
+    let answer = format!(in alloc; "{HEAD}{proof}")?;
+    let files = held(THREE, answer.as_bytes());
+    let words = ["check", "balanced", "f", "g"];
+    ends(alloc, &words, &[], files, (case.1, case.2.as_bytes()))
+}
+
 #[test]
 fn windows_that_are_checked(rt: HostRuntime) -> Result<(), Fail> {
-    for (proof, code, text) in PROOFS {
-        let answer = format!(in rt.alloc(); "{HEAD}{proof}")?;
-        let words = ["check", "balanced", "f", "g"];
-        let want = (code, text.as_bytes());
-        assert!(rt;
-            ends(
-                rt.alloc(),
-                &words,
-                &[],
-                held(THREE, answer.as_bytes()),
-                want
-            )?
-        );
+    for case in &PROOFS {
+        assert!(rt; is_told(rt.alloc(), case)?, "{}", case.0);
     }
     Ok(())
 }
@@ -108,8 +109,8 @@ fn many_costs(alloc: Global) -> Result<String, AllocError> {
     Ok(file)
 }
 
-// Words and options with this square, and how they are refused: a request to solve `balanced` for its
-// costs, behind the refusals of the options and of the side; one to check for its answer alone.
+// Words and options with this square, and how they are refused: a request to solve `balanced` for
+// its costs, behind the refusals of the options and of the side; one to check for its answer alone.
 const MANY: [(&[&str], &[&str], u8, &str); 4] = [
     (
         &["solve", "balanced", "f"],

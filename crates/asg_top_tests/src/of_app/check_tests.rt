@@ -8,7 +8,8 @@ const CHECK: &[&str] = &["check", "bottleneck", "f", "g"];
 
 // The document that solves the square `THREE`.
 const SOLVED: &str =
-    "assignment 1\ncommand solve\nobjective bottleneck\nstatus best\nvalue 2\ncells 3\n1 2\n2 1\n3 3\nproof below 3\nend\n";
+    "assignment 1\ncommand solve\nobjective bottleneck\nstatus best\nvalue 2\ncells 3\n1 2\n2 1\n\
+     3 3\nproof below 3\nend\n";
 
 // What comes before the value of a best bottleneck answer.
 const HEAD: &str = "assignment 1\ncommand solve\nobjective bottleneck\nstatus best\n";
@@ -18,16 +19,19 @@ const CERTIFYING: [(&[u8], &str); 4] = [
     (THREE, SOLVED),
     (
         b"1\n-1000000000\n",
-        "assignment 1\ncommand solve\nobjective bottleneck\nstatus best\nvalue -1000000000\ncells 1\n1 1\nproof below 1\nend\n",
+        "assignment 1\ncommand solve\nobjective bottleneck\nstatus best\nvalue -1000000000\n\
+         cells 1\n1 1\nproof below 1\nend\n",
     ),
     // Another choice and another Hall set than those that are written by a request to solve.
     (
         b"2\n7 7\n-2 7",
-        "assignment 1\ncommand solve\nobjective bottleneck\nstatus best\nvalue 7\ncells 2\n1 2\n2 1\nproof below 1\nend\n",
+        "assignment 1\ncommand solve\nobjective bottleneck\nstatus best\nvalue 7\ncells 2\n1 2\n\
+         2 1\nproof below 1\nend\n",
     ),
     (
         b"2\n7 7\n-2 7",
-        "assignment 1\ncommand solve\nobjective bottleneck\nstatus best\nvalue 7\ncells 2\n1 1\n2 2\nproof below 2 1\nend\n",
+        "assignment 1\ncommand solve\nobjective bottleneck\nstatus best\nvalue 7\ncells 2\n1 1\n\
+         2 2\nproof below 2 1\nend\n",
     ),
 ];
 
@@ -111,11 +115,22 @@ fn is_told(alloc: Global, answer: &str, code: u8, text: &str) -> Result<bool, Al
     ends(alloc, CHECK, &[], files, (code, text.as_bytes()))
 }
 
+// Whether the same holds of the document of these two texts.
+fn are_told(
+    alloc: Global,
+    begin: &str,
+    rest: &str,
+    code: u8,
+    text: &str,
+) -> Result<bool, AllocError> {
+    let answer = format!(in alloc; "{begin}{rest}")?;
+    is_told(alloc, &answer, code, text)
+}
+
 #[test]
 fn best_answers_that_do_not_certify(rt: HostRuntime) -> Result<(), Fail> {
     for (rest, text) in BENT {
-        let answer = format!(in rt.alloc(); "{HEAD}{rest}")?;
-        assert!(rt; is_told(rt.alloc(), &answer, 6, text)?, "{rest}");
+        assert!(rt; are_told(rt.alloc(), HEAD, rest, 6, text)?, "{rest}");
     }
     Ok(())
 }
@@ -127,7 +142,8 @@ const OTHERS: [(&str, &str); 3] = [
         "no 1 5 0\n",
     ),
     (
-        "assignment 1\ncommand solve\nobjective bottleneck-max\nstatus best\nvalue 2\ncells 3\n1 2\n2 1\n3 3\nproof below 3\nend\n",
+        "assignment 1\ncommand solve\nobjective bottleneck-max\nstatus best\nvalue 2\ncells 3\n\
+         1 2\n2 1\n3 3\nproof below 3\nend\n",
         "no 1 1 0\n",
     ),
     (
@@ -167,9 +183,13 @@ fn answers_that_are_refused(rt: HostRuntime) -> Result<(), Fail> {
     for (answer, text) in NO_DOCUMENTS {
         assert!(rt; is_told(rt.alloc(), answer, 5, text)?, "{answer}");
     }
+    Ok(())
+}
+
+#[test]
+fn answers_that_are_refused_behind_a_document(rt: HostRuntime) -> Result<(), Fail> {
     for (more, text) in BEHIND {
-        let answer = format!(in rt.alloc(); "{SOLVED}{more}")?;
-        assert!(rt; is_told(rt.alloc(), &answer, 5, text)?, "{more}");
+        assert!(rt; are_told(rt.alloc(), SOLVED, more, 5, text)?, "{more}");
     }
     Ok(())
 }

@@ -4,8 +4,8 @@ use crate::of_app::memory_runs::{THREE, ends, held};
 use std::alloc::{AllocError, Global};
 use std::test::Fail;
 
-// An objective, a square file, what comes behind the objective of a document, the status, and what is
-// told of the document.
+// An objective, a square file, what comes behind the objective of a document, the status, and what
+// is told of the document.
 type Case = (&'static str, &'static [u8], &'static str, u8, &'static str);
 
 // The square of the times and costs 3:5 3:1 and 3:1 3:9.
@@ -16,14 +16,18 @@ const CASES: [Case; 22] = [
     (
         "sum",
         THREE,
-        "status best\nvalue 5\ncells 3\n1 2\n2 1\n3 3\nproof phases 3\nsteps 1000000001\nenters 0 1 1\nleaves 1 1 1\nsteps 1000000000 2\nenters 1 0 2\nleaves 2 1 2\nsteps 1000000002\nenters 1 1 0\nleaves 1 1 1\nend\n",
+        "status best\nvalue 5\ncells 3\n1 2\n2 1\n3 3\nproof phases 3\nsteps 1000000001\n\
+         enters 0 1 1\nleaves 1 1 1\nsteps 1000000000 2\nenters 1 0 2\nleaves 2 1 2\n\
+         steps 1000000002\nenters 1 1 0\nleaves 1 1 1\nend\n",
         0,
         "yes 1\n",
     ),
     (
         "sum",
         THREE,
-        "status best\nvalue 6\ncells 3\n1 2\n2 1\n3 3\nproof phases 3\nsteps 1000000001\nenters 0 1 1\nleaves 1 1 1\nsteps 1000000000 2\nenters 1 0 2\nleaves 2 1 2\nsteps 1000000002\nenters 1 1 0\nleaves 1 1 1\nend\n",
+        "status best\nvalue 6\ncells 3\n1 2\n2 1\n3 3\nproof phases 3\nsteps 1000000001\n\
+         enters 0 1 1\nleaves 1 1 1\nsteps 1000000000 2\nenters 1 0 2\nleaves 2 1 2\n\
+         steps 1000000002\nenters 1 1 0\nleaves 1 1 1\nend\n",
         6,
         "no 1 4 0\n",
     ),
@@ -31,7 +35,9 @@ const CASES: [Case; 22] = [
     (
         "sum",
         THREE,
-        "status best\nvalue 5\ncells 3\n1 2\n2 1\n3 3\nproof phases 3\nsteps 1000000001\nenters 0 1 1\nleaves 1 1 1\nsteps 1000000000 2\nenters 1 0 2\nleaves 2 1 2\nsteps 1000000002\nenters 1 1 0\nleaves 1 1 1\nen",
+        "status best\nvalue 5\ncells 3\n1 2\n2 1\n3 3\nproof phases 3\nsteps 1000000001\n\
+         enters 0 1 1\nleaves 1 1 1\nsteps 1000000000 2\nenters 1 0 2\nleaves 2 1 2\n\
+         steps 1000000002\nenters 1 1 0\nleaves 1 1 1\nen",
         5,
         "refused document 20\n",
     ),
@@ -39,7 +45,9 @@ const CASES: [Case; 22] = [
     (
         "sum",
         THREE,
-        "status best\nvalue 5\ncells 3\n1 2\n2 1\n3 3\nproof phases 3\nsteps 1000000002\nenters 0 1 1\nleaves 1 1 1\nsteps 1000000000 2\nenters 1 0 2\nleaves 2 1 2\nsteps 1000000002\nenters 1 1 0\nleaves 1 1 1\nend\n",
+        "status best\nvalue 5\ncells 3\n1 2\n2 1\n3 3\nproof phases 3\nsteps 1000000002\n\
+         enters 0 1 1\nleaves 1 1 1\nsteps 1000000000 2\nenters 1 0 2\nleaves 2 1 2\n\
+         steps 1000000002\nenters 1 1 0\nleaves 1 1 1\nend\n",
         6,
         "no 1 6 1\n",
     ),
@@ -47,7 +55,9 @@ const CASES: [Case; 22] = [
     (
         "sum",
         THREE,
-        "status best\nvalue 5\ncells 3\n1 2\n2 1\n3 3\nproof phases 3\nsteps 1000000001\nenters 0 1 1\nleaves 1 1 1\nsteps 1000000000 3\nenters 1 0 2\nleaves 2 1 2\nsteps 1000000002\nenters 1 1 0\nleaves 1 1 1\nend\n",
+        "status best\nvalue 5\ncells 3\n1 2\n2 1\n3 3\nproof phases 3\nsteps 1000000001\n\
+         enters 0 1 1\nleaves 1 1 1\nsteps 1000000000 3\nenters 1 0 2\nleaves 2 1 2\n\
+         steps 1000000002\nenters 1 1 0\nleaves 1 1 1\nend\n",
         6,
         "no 1 6 2\n",
     ),
@@ -55,7 +65,8 @@ const CASES: [Case; 22] = [
     (
         "sum",
         THREE,
-        "status best\nvalue 5\ncells 3\n1 2\n2 1\n3 3\nproof phases 2\nsteps 1000000001\nenters 0 1 1\nleaves 1 1 1\nsteps 1000000000 2\nenters 1 0 2\nleaves 2 1 2\nend\n",
+        "status best\nvalue 5\ncells 3\n1 2\n2 1\n3 3\nproof phases 2\nsteps 1000000001\n\
+         enters 0 1 1\nleaves 1 1 1\nsteps 1000000000 2\nenters 1 0 2\nleaves 2 1 2\nend\n",
         6,
         "no 1 7 0\n",
     ),
@@ -63,7 +74,9 @@ const CASES: [Case; 22] = [
     (
         "sum",
         THREE,
-        "status best\nvalue 5\ncells 3\n1 2\n2 1\n3 3\nproof phases 3\nsteps 1000000001\nenters 0 1\nleaves 1 1 1\nsteps 1000000000 2\nenters 1 0 2\nleaves 2 1 2\nsteps 1000000002\nenters 1 1 0\nleaves 1 1 1\nend\n",
+        "status best\nvalue 5\ncells 3\n1 2\n2 1\n3 3\nproof phases 3\nsteps 1000000001\n\
+         enters 0 1\nleaves 1 1 1\nsteps 1000000000 2\nenters 1 0 2\nleaves 2 1 2\n\
+         steps 1000000002\nenters 1 1 0\nleaves 1 1 1\nend\n",
         6,
         "no 1 6 1\n",
     ),
@@ -71,14 +84,20 @@ const CASES: [Case; 22] = [
     (
         "sum",
         THREE,
-        "status best\nvalue 5\ncells 3\n1 2\n2 1\n3 3\nproof phases 3\nsteps 340282366920938463463374607431768211455\nenters 0 1 1\nleaves 1 1 1\nsteps 1000000000 2\nenters 1 0 2\nleaves 2 1 2\nsteps 1000000002\nenters 1 1 0\nleaves 1 1 1\nend\n",
+        "status best\nvalue 5\ncells 3\n1 2\n2 1\n3 3\nproof phases 3\n\
+         steps 340282366920938463463374607431768211455\nenters 0 1 1\nleaves 1 1 1\n\
+         steps 1000000000 2\nenters 1 0 2\nleaves 2 1 2\nsteps 1000000002\nenters 1 1 0\n\
+         leaves 1 1 1\nend\n",
         6,
         "no 1 6 1\n",
     ),
     (
         "sum",
         THREE,
-        "status best\nvalue 5\ncells 3\n1 2\n2 1\n3 3\nproof phases 3\nsteps 340282366920938463463374607431768211456\nenters 0 1 1\nleaves 1 1 1\nsteps 1000000000 2\nenters 1 0 2\nleaves 2 1 2\nsteps 1000000002\nenters 1 1 0\nleaves 1 1 1\nend\n",
+        "status best\nvalue 5\ncells 3\n1 2\n2 1\n3 3\nproof phases 3\n\
+         steps 340282366920938463463374607431768211456\nenters 0 1 1\nleaves 1 1 1\n\
+         steps 1000000000 2\nenters 1 0 2\nleaves 2 1 2\nsteps 1000000002\nenters 1 1 0\n\
+         leaves 1 1 1\nend\n",
         5,
         "refused document 11\n",
     ),
@@ -86,7 +105,9 @@ const CASES: [Case; 22] = [
     (
         "sum",
         THREE,
-        "status best\nvalue 5\ncells 3\n1 2\n2 1\n3 3\nproof phases 4294967295\nsteps 1000000001\nenters 0 1 1\nleaves 1 1 1\nsteps 1000000000 2\nenters 1 0 2\nleaves 2 1 2\nsteps 1000000002\nenters 1 1 0\nleaves 1 1 1\nend\n",
+        "status best\nvalue 5\ncells 3\n1 2\n2 1\n3 3\nproof phases 4294967295\nsteps 1000000001\n\
+         enters 0 1 1\nleaves 1 1 1\nsteps 1000000000 2\nenters 1 0 2\nleaves 2 1 2\n\
+         steps 1000000002\nenters 1 1 0\nleaves 1 1 1\nend\n",
         5,
         "refused document 20\n",
     ),
@@ -102,21 +123,24 @@ const CASES: [Case; 22] = [
     (
         "bottleneck",
         THREE,
-        "status best\nvalue 2\ncells 3\n1 2\n2 1\n3 3\nproof phases 1\nsteps 1000000002\nenters 1 1 0\nleaves 1 1 1\nend\n",
+        "status best\nvalue 2\ncells 3\n1 2\n2 1\n3 3\nproof phases 1\nsteps 1000000002\n\
+         enters 1 1 0\nleaves 1 1 1\nend\n",
         0,
         "yes 1\n",
     ),
     (
         "bottleneck",
         THREE,
-        "status best\nvalue 2\ncells 3\n1 2\n2 1\n3 3\nproof phases 1\nsteps 1000000003\nenters 1 1 0\nleaves 1 1 1\nend\n",
+        "status best\nvalue 2\ncells 3\n1 2\n2 1\n3 3\nproof phases 1\nsteps 1000000003\n\
+         enters 1 1 0\nleaves 1 1 1\nend\n",
         6,
         "no 1 6 1\n",
     ),
     (
         "bottleneck",
         THREE,
-        "status best\nvalue 2\ncells 3\n1 2\n2 1\n3 3\nproof phases 1\nsteps 1000000001\nenters 1 1 0\nleaves 1 1 1\nend\n",
+        "status best\nvalue 2\ncells 3\n1 2\n2 1\n3 3\nproof phases 1\nsteps 1000000001\n\
+         enters 1 1 0\nleaves 1 1 1\nend\n",
         6,
         "no 1 7 0\n",
     ),
@@ -124,7 +148,8 @@ const CASES: [Case; 22] = [
     (
         "bottleneck",
         THREE,
-        "status best\nvalue 2\ncells 3\n1 2\n2 1\n3 3\nproof phases 1\nsteps 18446744073709551616\nenters 1 1 0\nleaves 1 1 1\nend\n",
+        "status best\nvalue 2\ncells 3\n1 2\n2 1\n3 3\nproof phases 1\nsteps 18446744073709551616\n\
+         enters 1 1 0\nleaves 1 1 1\nend\n",
         6,
         "no 1 6 1\n",
     ),
@@ -132,14 +157,16 @@ const CASES: [Case; 22] = [
     (
         "bottleneck-max",
         THREE,
-        "status best\nvalue 2\ncells 3\n1 1\n2 3\n3 2\nproof phases 1\nsteps 999999998\nenters 0 0 0\nleaves 0 1 0\nend\n",
+        "status best\nvalue 2\ncells 3\n1 1\n2 3\n3 2\nproof phases 1\nsteps 999999998\n\
+         enters 0 0 0\nleaves 0 1 0\nend\n",
         0,
         "yes 1\n",
     ),
     (
         "bottleneck-max",
         THREE,
-        "status best\nvalue 2\ncells 3\n1 1\n2 3\n3 2\nproof phases 1\nsteps 999999999\nenters 0 0 0\nleaves 0 1 0\nend\n",
+        "status best\nvalue 2\ncells 3\n1 1\n2 3\n3 2\nproof phases 1\nsteps 999999999\n\
+         enters 0 0 0\nleaves 0 1 0\nend\n",
         6,
         "no 1 6 1\n",
     ),
@@ -153,21 +180,24 @@ const CASES: [Case; 22] = [
     (
         "time-cost",
         TIMES,
-        "status best\nvalue 3:2\ncells 2\n1 2\n2 1\nproof phases 2\nsteps 1000000003:1\nenters 0 1\nleaves 1 1\nsteps 1000000003:1\nenters 1 0\nleaves 1 1\nend\n",
+        "status best\nvalue 3:2\ncells 2\n1 2\n2 1\nproof phases 2\nsteps 1000000003:1\n\
+         enters 0 1\nleaves 1 1\nsteps 1000000003:1\nenters 1 0\nleaves 1 1\nend\n",
         0,
         "yes 1\n",
     ),
     (
         "time-cost",
         TIMES,
-        "status best\nvalue 3:14\ncells 2\n1 1\n2 2\nproof phases 2\nsteps 1000000003:1\nenters 0 1\nleaves 1 1\nsteps 1000000003:1\nenters 1 0\nleaves 1 1\nend\n",
+        "status best\nvalue 3:14\ncells 2\n1 1\n2 2\nproof phases 2\nsteps 1000000003:1\n\
+         enters 0 1\nleaves 1 1\nsteps 1000000003:1\nenters 1 0\nleaves 1 1\nend\n",
         6,
         "no 1 7 0\n",
     ),
     (
         "time-cost",
         TIMES,
-        "status best\nvalue 3:2\ncells 2\n1 2\n2 1\nproof phases 2\nsteps 1000000003:2\nenters 0 1\nleaves 1 1\nsteps 1000000003:1\nenters 1 0\nleaves 1 1\nend\n",
+        "status best\nvalue 3:2\ncells 2\n1 2\n2 1\nproof phases 2\nsteps 1000000003:2\n\
+         enters 0 1\nleaves 1 1\nsteps 1000000003:1\nenters 1 0\nleaves 1 1\nend\n",
         6,
         "no 1 6 1\n",
     ),
@@ -175,7 +205,8 @@ const CASES: [Case; 22] = [
     (
         "time-cost",
         TIMES,
-        "status best\nvalue 3:2\ncells 2\n1 2\n2 1\nproof phases 1\nsteps 1000000003\nenters 0 1\nleaves 1 1\nend\n",
+        "status best\nvalue 3:2\ncells 2\n1 2\n2 1\nproof phases 1\nsteps 1000000003\nenters 0 1\n\
+         leaves 1 1\nend\n",
         5,
         "refused document 10\n",
     ),
@@ -200,7 +231,8 @@ fn documents_with_phases(rt: HostRuntime) -> Result<(), Fail> {
 
 // A document of one sum isn't one of another.
 const SEVEN: &[u8] =
-    b"assignment 1\ncommand solve\nobjective sum\nstatus best\nvalue 7\ncells 1\n1 1\nproof phases 1\nsteps 1000000007\nenters 0\nleaves 1\nend\n";
+    b"assignment 1\ncommand solve\nobjective sum\nstatus best\nvalue 7\ncells 1\n1 1\n\
+      proof phases 1\nsteps 1000000007\nenters 0\nleaves 1\nend\n";
 
 // The objective, the status, and what is told of the document.
 const OBJECTIVES: [(&str, u8, &str); 3] = [

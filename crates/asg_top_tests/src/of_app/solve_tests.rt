@@ -1,14 +1,15 @@
 //! Requests to solve, and words that are no request, as runs over memory.
 
 use crate::of_app::algebraic_runs::ALGEBRAIC;
+use crate::of_app::bottleneck_runs::BOTTLENECK;
 use crate::of_app::check_tests::{Faulty, is_stopped};
-use crate::of_app::memory_runs::{CASES, Case, Ran, THREE, ends, held, run_over, run_within};
+use crate::of_app::memory_runs::{Case, Ran, ends, held, run_over, run_within};
 use asg_app::Status;
 use std::alloc::{AllocError, Global};
 use std::test::Fail;
 
-const USAGE: &str =
-    "usage: asg solve OBJECTIVE INSTANCE | rank OBJECTIVE INSTANCE --count K | edit OBJECTIVE INSTANCE SCRIPT | check OBJECTIVE INSTANCE ANSWER | make SEED SIDE\n";
+const USAGE: &str = "usage: asg solve OBJECTIVE INSTANCE | rank OBJECTIVE INSTANCE --count K | \
+    edit OBJECTIVE INSTANCE SCRIPT | check OBJECTIVE INSTANCE ANSWER | make SEED SIDE\n";
 
 // Whether a run has the status of a case, and its document begins as the case says.
 fn is_written(alloc: Global, case: &Case, ran: &Ran) -> Result<bool, AllocError> {
@@ -42,7 +43,7 @@ pub(crate) fn is_answered(alloc: Global, case: &Case) -> Result<bool, AllocError
 
 #[test]
 fn bottleneck_documents(rt: HostRuntime) -> Result<(), Fail> {
-    for case in &CASES {
+    for case in &BOTTLENECK {
         assert!(rt; is_answered(rt.alloc(), case)?, "{}", case.2);
     }
     Ok(())
@@ -71,176 +72,6 @@ fn a_hall_set_of_two_rows(rt: HostRuntime) -> Result<(), Fail> {
         let words = ["solve", objective, "f"];
         let ran = run_over(rt.alloc(), &words, &["--format", "asn"], held(file, b""))?;
         assert!(rt; has_both_rows(&ran));
-    }
-    Ok(())
-}
-
-// Options and files, and how the files are refused.
-const REFUSED: [(&[&str], &str, &str); 16] = [
-    (&[], "0", "refused instance 10\n"),
-    (&[], "", "refused instance 11 1 0\n"),
-    (&[], "2\n1 2 3", "refused instance 11 4 3\n"),
-    (&[], "2\n1 2 3 x", "refused instance 12 5\n"),
-    (&[], "2\n1 2\n3 1:\n", "refused instance 12 5\n"),
-    (&[], "1001", "refused instance 9 1001 1001\n"),
-    (&[], "1\n1000000001\n", "refused instance 6 2\n"),
-    (
-        &["--format", "rect"],
-        "1 2\n1 2 3",
-        "refused instance 11 2 3\n",
-    ),
-    (
-        &["--place", "4"],
-        "3\n4 1 3\n2 0 5\n3 2 2\n",
-        "refused instance 13 4\n",
-    ),
-    (
-        &["--place", "3", "--format", "rect"],
-        "3 2\n1 1\n1 1\n1 1\n",
-        "refused instance 13 3\n",
-    ),
-    (
-        &["--each", "1000"],
-        "3\n4 1 3\n2 0 5\n3 2 2\n",
-        "refused instance 15 3000\n",
-    ),
-    (
-        &["--place", "4", "--each", "1000"],
-        "3\n4 1 3\n2 0 5\n3 2 2\n",
-        "refused instance 13 4\n",
-    ),
-    (&["--format", "asn"], "n 1\n", "refused instance 3 1\n"),
-    (&["--format", "asn"], "c\n", "refused instance 1\n"),
-    (
-        &["--format", "asn"],
-        "p asn 4 3\nn 1\nn 2\na 1 3 5\na 2 4 6\n",
-        "refused instance 8 3 2\n",
-    ),
-    (
-        &["--format", "asn"],
-        "p asn 4 2\nn 1\nn 2\na 1 3 5\na 1 3 6\n",
-        "refused instance 7 5\n",
-    ),
-];
-
-#[test]
-fn files_that_are_refused(rt: HostRuntime) -> Result<(), Fail> {
-    for (options, file, text) in REFUSED {
-        let files = held(file.as_bytes(), b"");
-        let words = ["solve", "bottleneck", "f"];
-        let want = (3, text.as_bytes());
-        assert!(rt; ends(rt.alloc(), &words, options, files, want)?, "{file}");
-    }
-    Ok(())
-}
-
-// Objectives, options and files, and how the files are refused by the objective: no objective but
-// `capped` and `time-cost` refuses a negative cost, and the refusal comes behind that of the options'
-// place and before that of the side.
-type RefusedCost = (
-    &'static str,
-    &'static [&'static str],
-    &'static str,
-    &'static str,
-);
-
-const REFUSED_COSTS: [RefusedCost; 12] = [
-    ("capped=5", &[], "1\n-1\n", "refused instance 14 1 1\n"),
-    (
-        "capped=5",
-        &[],
-        "3\n4 1 3\n2 0:-1 5\n-3 -2 2\n",
-        "refused instance 14 3 1\n",
-    ),
-    (
-        "time-cost",
-        &[],
-        "2\n-1 2\n-3 4:-1\n",
-        "refused instance 14 2 2\n",
-    ),
-    (
-        "capped=5",
-        &["--format", "asn"],
-        "p asn 9 3\nn 7\nn 5\na 7 9 1\na 5 9 0\na 5 8 -2\n",
-        "refused instance 14 5 8\n",
-    ),
-    (
-        "capped=5",
-        &[],
-        "1\n-1000000001\n",
-        "refused instance 6 2\n",
-    ),
-    (
-        "capped=5",
-        &["--place", "2"],
-        "1\n-1\n",
-        "refused instance 13 2\n",
-    ),
-    (
-        "capped=5",
-        &["--each", "1000"],
-        "3\n4 1 3\n2 -1 5\n3 2 2\n",
-        "refused instance 14 2 2\n",
-    ),
-    (
-        "capped=5",
-        &["--each", "1000"],
-        "3\n4 1 3\n2 0 5\n3 2 2\n",
-        "refused instance 15 3000\n",
-    ),
-    (
-        "sum",
-        &["--each", "1000"],
-        "3\n4 -1 3\n2 0:-1 5\n3 2 2\n",
-        "refused instance 15 3000\n",
-    ),
-    (
-        "sum",
-        &["--place", "4"],
-        "3\n4 1 3\n2 0 5\n3 2 2\n",
-        "refused instance 13 4\n",
-    ),
-    (
-        "sum",
-        &["--format", "asn"],
-        "p asn 4 3\nn 1\nn 2\na 1 3 5\na 2 4 6\n",
-        "refused instance 8 3 2\n",
-    ),
-    (
-        "sum",
-        &["--format", "asn"],
-        "p asn 4 2\nn 1\nn 2\na 1 3 5\na 1 3 6\n",
-        "refused instance 7 5\n",
-    ),
-];
-
-// Whether a request with these words and the options of a case refuses its file as it says.
-fn refuses(alloc: Global, words: &[&str], case: &RefusedCost) -> Result<bool, AllocError> {
-    let files = held(case.2.as_bytes(), b"");
-    ends(alloc, words, case.1, files, (3, case.3.as_bytes()))
-}
-
-#[test]
-fn costs_that_are_refused(rt: HostRuntime) -> Result<(), Fail> {
-    for case in &REFUSED_COSTS {
-        assert!(rt;
-            refuses(rt.alloc(), &["solve", case.0, "f"], case)?,
-            "{}",
-            case.2
-        );
-    }
-    Ok(())
-}
-
-// A request to check refuses an instance as one to solve does.
-#[test]
-fn costs_that_are_refused_while_checking(rt: HostRuntime) -> Result<(), Fail> {
-    for case in &REFUSED_COSTS {
-        assert!(rt;
-            refuses(rt.alloc(), &["check", case.0, "f", "g"], case)?,
-            "{}",
-            case.2
-        );
     }
     Ok(())
 }

@@ -3,10 +3,12 @@
 use crate::of_check::phase_cases::Listed;
 use crate::of_check::phase_tests::{claim, verdict};
 use crate::of_check::tests::judged;
-use asg_doc::Cells;
+use asg_check::NoMemory;
+use asg_doc::{Answer, Cells};
 use asg_model::Objective::TimeCost;
-use asg_model::{Place, Value};
+use asg_model::{Instance, Place, Value};
 use asg_samples::Sample;
+use std::alloc::Global;
 use std::test::Fail;
 
 // The instance.
@@ -24,7 +26,9 @@ const SECOND: Listed = (&[(1_000_000_003, 1)], &[1, 0], &[1, 1]);
 
 // The second part of the value, the columns of the rows in order, the phases, and the first reason
 // with its place: 0 and 0 where the document certifies.
-const TIMES: [(i128, (u32, u32), &'static [Listed], u8, i64); 7] = [
+type Judged = (i128, (u32, u32), &'static [Listed], u8, i64);
+
+const TIMES: [Judged; 7] = [
     (2, (2, 1), &[FIRST, SECOND], 0, 0),
     (2, (2, 1), &[FIRST], 7, 0),
     (14, (1, 2), &[FIRST, SECOND], 7, 0),
@@ -52,15 +56,29 @@ const TIMES: [(i128, (u32, u32), &'static [Listed], u8, i64); 7] = [
     (2, (2, 1), &[FIRST, FIRST, SECOND], 6, 2),
 ];
 
+// Whether the document of a case is judged so.
+fn is_judged(alloc: Global, inst: &Instance, case: Judged) -> Result<bool, NoMemory> {
+    let (second, columns, listed, reason, place) = case;
+    let cells = vec![in alloc; (1, columns.0), (2, columns.1)]?;
+    let answer = Answer {
+        value: Value::Two(3, second),
+        cells: Cells::from_vec(cells),
+    };
+    let claim = claim(alloc, answer, listed)?;
+    let found = judged(alloc, inst, TimeCost, TimeCost, claim)?;
+    Ok(found == Some(verdict(reason, place)))
+}
+
 #[test]
 fn judges_grades(rt: HostRuntime) -> Result<(), Fail> {
-    let alloc = rt.alloc();
-    let inst = SQUARE.instance(alloc)?;
-    for (second, columns, listed, reason, place) in TIMES {
-        let cells = Cells::from_vec(vec![in alloc; (1, columns.0), (2, columns.1)]?);
-        let claim = claim(alloc, Value::Two(3, second), cells, listed)?;
-        let found = judged(alloc, &inst, TimeCost, TimeCost, claim)?;
-        assert_eq!(rt; found, Some(verdict(reason, place)));
+    let inst = SQUARE.instance(rt.alloc())?;
+    for case in TIMES {
+        assert!(rt;
+            is_judged(rt.alloc(), &inst, case)?,
+            "{} {}",
+            case.3,
+            case.4
+        );
     }
     Ok(())
 }

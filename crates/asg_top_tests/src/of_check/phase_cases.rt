@@ -14,8 +14,8 @@ const SECOND: Listed = (&[(0, 1_000_000_000), (0, 2)], &[1, 0, 2], &[2, 1, 2]);
 
 const THIRD: Listed = (&[(0, 1_000_000_002)], &[1, 1, 0], &[1, 1, 1]);
 
-// The asked objective, the parts of the value, the columns of the rows in order, the phases, and the
-// first reason with its place: 0 and 0 where the document certifies.
+// The asked objective, the parts of the value, the columns of the rows in order, the phases, and
+// the first reason with its place: 0 and 0 where the document certifies.
 pub(crate) type Judged = (
     Objective,
     (i128, i128),

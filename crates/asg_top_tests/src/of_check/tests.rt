@@ -84,33 +84,71 @@ const ANSWERS: [Answered; 13] = [
     (Lex, Lex, 1, (1, 2), 1, Some(2)),
 ];
 
+// The claim that this cell is best, as this row shows.
+fn best(alloc: Global, value: i128, cell: (u32, u32), row: u32) -> Result<Claim, NoMemory> {
+    let cells = vec![in alloc; cell]?;
+    let rows = vec![in alloc; row]?;
+    let answer = Answer {
+        value: Value::One(value),
+        cells: Cells::from_vec(cells),
+    };
+    let proof = Proof::Below(Ids::from_vec(rows));
+    Ok(Claim::Best { answer, proof })
+}
+
+// Whether the document of a case is judged so.
+fn is_judged(alloc: Global, inst: &Instance, case: Answered) -> Result<bool, NoMemory> {
+    let (asked, objective, value, cell, row, want) = case;
+    let claim = best(alloc, value, cell, row)?;
+    let found = judged(alloc, inst, asked, objective, claim)?;
+    Ok(found == Some(verdict(want)))
+}
+
 #[test]
 fn judges_answers(rt: HostRuntime) -> Result<(), Fail> {
-    let alloc = rt.alloc();
-    let inst = instance(alloc, true)?;
-    for (asked, objective, value, cell, row, want) in ANSWERS {
-        let value = Value::One(value);
-        let cells = Cells::from_vec(vec![in alloc; cell]?);
-        let answer = Answer { value, cells };
-        let proof = Proof::Below(Ids::from_vec(vec![in alloc; row]?));
-        let claim = Claim::Best { answer, proof };
-        let found = judged(alloc, &inst, asked, objective, claim)?;
-        assert_eq!(rt; found, Some(verdict(want)));
+    let inst = instance(rt.alloc(), true)?;
+    for case in ANSWERS {
+        assert!(rt;
+            is_judged(rt.alloc(), &inst, case)?,
+            "{:?} {:?}",
+            case.0,
+            case.1
+        );
     }
     Ok(())
 }
 
+// Whether the document is judged so that says of the objective that no choice is valid.
+fn is_none_judged(
+    alloc: Global,
+    inst: &Instance,
+    objective: Objective,
+    want: Option<u8>,
+) -> Result<bool, NoMemory> {
+    let rows = Ids::from_vec(vec![in alloc; 1]?);
+    let claim = Claim::Nothing { rows };
+    let found = judged(alloc, inst, objective, objective, claim)?;
+    Ok(found == Some(verdict(want)))
+}
+
+// Whether the columns are open, an objective, and the number of what stands against the document.
+const EMPTY: [(bool, Objective, Option<u8>); 6] = [
+    (true, Bottleneck, Some(5)),
+    (true, Sum, Some(5)),
+    (true, Balanced, Some(5)),
+    (false, Bottleneck, None),
+    (false, Sum, None),
+    (false, Balanced, None),
+];
+
 #[test]
 fn judges_empty_answers(rt: HostRuntime) -> Result<(), Fail> {
-    let alloc = rt.alloc();
-    for (usable, want) in [(true, Some(5)), (false, None)] {
-        let inst = instance(alloc, usable)?;
-        for objective in [Bottleneck, Sum, Balanced] {
-            let rows = Ids::from_vec(vec![in alloc; 1]?);
-            let claim = Claim::Nothing { rows };
-            let found = judged(alloc, &inst, objective, objective, claim)?;
-            assert_eq!(rt; found, Some(verdict(want)));
-        }
+    for (usable, objective, want) in EMPTY {
+        let inst = instance(rt.alloc(), usable)?;
+        assert!(rt;
+            is_none_judged(rt.alloc(), &inst, objective, want)?,
+            "{objective:?}"
+        );
     }
     Ok(())
 }

@@ -95,25 +95,21 @@ const DOCUMENTS: [Judged; 16] = [
     (Sum, b"sum\nstatus best\nvalue 5\n", b"windows 0\n", 2, 0),
 ];
 
-// Documents of one row with the costs `3 1`, whose value is 0, with the reason and its place.
-const ROWS: [(&[u8], u8, i64); 4] = [
+// The lines of the cells 1-2, 2-1 and 3-3.
+const CELLS: &[u8] = b"cells 3\n1 2\n2 1\n3 3\n";
+
+// The lines of objective, status and value where there is no spread.
+const NO_SPREAD: &[u8] = b"balanced\nstatus best\nvalue 0\n";
+
+// Over one row with the costs `3 1`: the lines of the cell, the proof, and the reason and its
+// place.
+const ROWS: [(&[u8], &[u8], u8, i64); 4] = [
+    (b"cells 1\n1 1\n", b"windows 0\n", 0, 0),
+    (b"cells 1\n1 1\n", b"windows 1\nwindow 4 9 1\n", 0, 0),
+    (b"cells 1\n1 2\n", b"windows 1\nwindow 0 9 1\n", 5, 1),
     (
-        b"assignment 1\ncommand solve\nobjective balanced\nstatus best\nvalue 0\ncells 1\n1 1\nproof windows 0\nend\n",
-        0,
-        0,
-    ),
-    (
-        b"assignment 1\ncommand solve\nobjective balanced\nstatus best\nvalue 0\ncells 1\n1 1\nproof windows 1\nwindow 4 9 1\nend\n",
-        0,
-        0,
-    ),
-    (
-        b"assignment 1\ncommand solve\nobjective balanced\nstatus best\nvalue 0\ncells 1\n1 2\nproof windows 1\nwindow 0 9 1\nend\n",
-        5,
-        1,
-    ),
-    (
-        b"assignment 1\ncommand solve\nobjective balanced\nstatus best\nvalue 0\ncells 1\n1 2\nproof windows 2\nwindow 4 9 1\nwindow 1 1 1\nend\n",
+        b"cells 1\n1 2\n",
+        b"windows 2\nwindow 4 9 1\nwindow 1 1 1\n",
         5,
         2,
     ),
@@ -122,12 +118,14 @@ const ROWS: [(&[u8], u8, i64); 4] = [
 // A length that no text here reaches.
 const LONGEST_TEXT: usize = 1_000;
 
-// The text of a document with the cells 1-2, 2-1 and 3-3.
-fn text(alloc: Global, head: &[u8], proof: &[u8]) -> Result<Vec<u8>, NoMemory> {
+// The text of a document: its lines of objective, status and value, those of its cells, and the
+// proof.
+fn text(alloc: Global, parts: [&[u8]; 3]) -> Result<Vec<u8>, NoMemory> {
     let mut bytes = Vec::from_slice(alloc, b"assignment 1\ncommand solve\nobjective ")?;
-    bytes.extend_from_slice(head)?;
-    bytes.extend_from_slice(b"cells 3\n1 2\n2 1\n3 3\nproof ")?;
-    bytes.extend_from_slice(proof)?;
+    bytes.extend_from_slice(parts[0])?;
+    bytes.extend_from_slice(parts[1])?;
+    bytes.extend_from_slice(b"proof ")?;
+    bytes.extend_from_slice(parts[2])?;
     bytes.extend_from_slice(b"end\n")?;
     Ok(bytes)
 }
@@ -152,25 +150,41 @@ fn judged(
     }
 }
 
+// Whether the document of these parts is judged so.
+fn is_judged(
+    alloc: Global,
+    inst: &Instance,
+    asked: Objective,
+    parts: [&[u8]; 3],
+    want: Verdict,
+) -> Result<bool, NoMemory> {
+    let text = text(alloc, parts)?;
+    let found = judged(alloc, inst, asked, &text)?;
+    Ok(found == Some(want))
+}
+
 #[test]
 fn judges_windows(rt: HostRuntime) -> Result<(), Fail> {
-    let alloc = rt.alloc();
-    let inst = SQUARE.instance(alloc)?;
+    let inst = SQUARE.instance(rt.alloc())?;
     for (asked, head, proof, reason, place) in DOCUMENTS {
-        let text = text(alloc, head, proof)?;
-        let found = judged(alloc, &inst, asked, text.as_slice())?;
-        assert_eq!(rt; found, Some(verdict(reason, place)));
+        let (parts, want) = ([head, CELLS, proof], verdict(reason, place));
+        assert!(rt;
+            is_judged(rt.alloc(), &inst, asked, parts, want)?,
+            "{reason} {place}"
+        );
     }
     Ok(())
 }
 
 #[test]
 fn judges_windows_for_no_spread(rt: HostRuntime) -> Result<(), Fail> {
-    let alloc = rt.alloc();
-    let inst = instance(alloc, true)?;
-    for (text, reason, place) in ROWS {
-        let found = judged(alloc, &inst, Balanced, text)?;
-        assert_eq!(rt; found, Some(verdict(reason, place)));
+    let inst = instance(rt.alloc(), true)?;
+    for (cells, proof, reason, place) in ROWS {
+        let (parts, want) = ([NO_SPREAD, cells, proof], verdict(reason, place));
+        assert!(rt;
+            is_judged(rt.alloc(), &inst, Balanced, parts, want)?,
+            "{reason} {place}"
+        );
     }
     Ok(())
 }

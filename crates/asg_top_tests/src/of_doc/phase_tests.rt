@@ -12,24 +12,31 @@ use std::test::Fail;
 
 // Three phases that prove the least sum of three rows.
 const SUM: &[u8] =
-    b"assignment 1\ncommand solve\nobjective sum\nstatus best\nvalue 5\ncells 3\n1 2\n2 1\n3 3\nproof phases 3\n\
-steps 1000000001\nenters 0 1 1\nleaves 1 1 1\nsteps 1000000000 2\nenters 1 0 2\nleaves 2 1 2\n\
-steps 1000000002\nenters 1 1 0\nleaves 1 1 1\nend\n";
+    b"assignment 1\ncommand solve\nobjective sum\nstatus best\nvalue 5\ncells 3\n1 2\n2 1\n3 3\n\
+      proof phases 3\n\
+      steps 1000000001\nenters 0 1 1\nleaves 1 1 1\n\
+      steps 1000000000 2\nenters 1 0 2\nleaves 2 1 2\n\
+      steps 1000000002\nenters 1 1 0\nleaves 1 1 1\nend\n";
 
 // A phase with a grade in each step.
 const TIME: &[u8] =
-    b"assignment 1\ncommand solve\nobjective time-cost\nstatus best\nvalue -7:12\ncells 1\n4 5\nproof phases 1\n\
-steps 999999993:12 0:340282366920938463463374607431768211455\nenters 0\nleaves 4294967295\nend\n";
+    b"assignment 1\ncommand solve\nobjective time-cost\nstatus best\nvalue -7:12\ncells 1\n4 5\n\
+      proof phases 1\n\
+      steps 999999993:12 0:340282366920938463463374607431768211455\n\
+      enters 0\nleaves 4294967295\nend\n";
 
 // These, and one document of each other form, without phases.
 const WRITTEN: [&[u8]; 7] = [
     SUM,
     TIME,
-    b"assignment 1\ncommand solve\nobjective pair\nstatus best\nvalue 3:-4\ncells 1\n1 1\nproof phases 0\nend\n",
-    b"assignment 1\ncommand solve\nobjective capped=5\nstatus best\nvalue 5\ncells 1\n1 1\nproof phases 0\nend\n",
+    b"assignment 1\ncommand solve\nobjective pair\nstatus best\nvalue 3:-4\ncells 1\n1 1\n\
+      proof phases 0\nend\n",
+    b"assignment 1\ncommand solve\nobjective capped=5\nstatus best\nvalue 5\ncells 1\n1 1\n\
+      proof phases 0\nend\n",
     b"assignment 1\ncommand solve\nobjective capped=1000000000000\nstatus none\nhall 2\nend\n",
     b"assignment 1\ncommand solve\nobjective sum-max\nstatus none\nhall 1 2\nend\n",
-    b"assignment 1\ncommand solve\nobjective bottleneck\nstatus best\nvalue 2\ncells 1\n1 1\nproof phases 0\nend\n",
+    b"assignment 1\ncommand solve\nobjective bottleneck\nstatus best\nvalue 2\ncells 1\n1 1\n\
+      proof phases 0\nend\n",
 ];
 
 // The objective, a text behind its line, and the line in which it is refused; 0 where it is read.
@@ -95,7 +102,8 @@ const LINES: [(&[u8], &[u8], u32); 24] = [
     ),
     (
         b"sum",
-        b"status best\nvalue 3\ncells 1\n1 1\nproof phases 1\nsteps 340282366920938463463374607431768211456\n",
+        b"status best\nvalue 3\ncells 1\n1 1\nproof phases 1\n\
+          steps 340282366920938463463374607431768211456\n",
         9,
     ),
     (
@@ -115,7 +123,8 @@ const LINES: [(&[u8], &[u8], u32); 24] = [
     ),
     (
         b"sum",
-        b"status best\nvalue 3\ncells 1\n1 1\nproof phases 4294967295\nsteps 1\nenters 0\nleaves 1\nend\n",
+        b"status best\nvalue 3\ncells 1\n1 1\nproof phases 4294967295\n\
+          steps 1\nenters 0\nleaves 1\nend\n",
         12,
     ),
 ];

@@ -6,8 +6,8 @@ use asg_model::{Objective, Value};
 use asg_proof::Proof;
 use std::test::Fail;
 
-const BEST: &[u8] =
-    b"assignment 1\ncommand solve\nobjective bottleneck\nstatus best\nvalue 2\ncells 3\n1 2\n2 1\n3 3\nproof below 3\nend\n";
+const BEST: &[u8] = b"assignment 1\ncommand solve\nobjective bottleneck\nstatus best\nvalue 2\n\
+      cells 3\n1 2\n2 1\n3 3\nproof below 3\nend\n";
 
 // Texts behind the objective, and the line in which they are refused.
 const CLAIMS: [(&[u8], u32); 18] = [
@@ -20,7 +20,8 @@ const CLAIMS: [(&[u8], u32); 18] = [
     (b"status none\nhall 1\nend\nassignment 2\n", 7),
     (b"status ranked\n", 4),
     (
-        b"status best\nvalue -170141183460469231731687303715884105728\ncells 1\n4294967295 0\nproof below 0\nend\n",
+        b"status best\nvalue -170141183460469231731687303715884105728\ncells 1\n4294967295 0\n\
+          proof below 0\nend\n",
         0,
     ),
     (
@@ -68,7 +69,8 @@ fn a_document_is_read(rt: HostRuntime) -> Result<(), Fail> {
     Ok(())
 }
 
-// Texts of which the first line or the second is refused, and the empty one, which is of no document.
+// Texts of which the first line or the second is refused, and the empty one, which is of no
+// document.
 const TEXTS: [(&[u8], u32); 3] = [
     (b"", 0),
     (b"assignment 1", 1),

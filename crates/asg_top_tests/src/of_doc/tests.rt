@@ -95,10 +95,12 @@ fn is_held(document: &Document, page: &mut Page, sink: &mut MemorySink) -> bool
     write(document, page, sink).is_ok() && sink.bytes().is_empty()
 }
 
-const TEXTS: &[u8] =
-    b"assignment 1\ncommand solve\nobjective bottleneck\nstatus best\nvalue 2\ncells 3\n1 2\n2 1\n3 3\nproof below 3\nend\n\
-assignment 1\ncommand solve\nobjective bottleneck-max\nstatus best\nvalue -7\ncells 1\n4294967295 0\nproof below 0 9\nend\n\
-assignment 1\ncommand solve\nobjective bottleneck-max\nstatus none\nhall 1 10 99 100 4294967295\nend\n";
+const TEXTS: &[u8] = b"assignment 1\ncommand solve\nobjective bottleneck\nstatus best\nvalue 2\n\
+      cells 3\n1 2\n2 1\n3 3\nproof below 3\nend\n\
+      assignment 1\ncommand solve\nobjective bottleneck-max\nstatus best\nvalue -7\n\
+      cells 1\n4294967295 0\nproof below 0 9\nend\n\
+      assignment 1\ncommand solve\nobjective bottleneck-max\nstatus none\n\
+      hall 1 10 99 100 4294967295\nend\n";
 
 // Whether the page is put, and these are all bytes.
 fn is_finished(page: &mut Page, sink: &mut MemorySink, bytes: &[u8]) -> bool {

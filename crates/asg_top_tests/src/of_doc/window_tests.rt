@@ -8,17 +8,20 @@ use std::alloc::{AllocError, Global};
 use std::test::Fail;
 
 // Three windows that prove the least spread of the costs `4 1 3 / 2 0 5 / 3 2 2`.
-const BALANCED: &[u8] =
-    b"assignment 1\ncommand solve\nobjective balanced\nstatus best\nvalue 1\ncells 3\n1 2\n2 1\n3 3\nproof windows 3\n\
-window 0 1 3\nwindow 2 2 1\nwindow 3 5 1 2 3\nend\n";
+const BALANCED: &[u8] = b"assignment 1\ncommand solve\nobjective balanced\nstatus best\nvalue 1\n\
+      cells 3\n1 2\n2 1\n3 3\nproof windows 3\n\
+      window 0 1 3\nwindow 2 2 1\nwindow 3 5 1 2 3\nend\n";
 
 // This, and documents with no window, with bounds that go down, and with the bounds of 64 bits.
 const WRITTEN: [&[u8]; 4] = [
     BALANCED,
-    b"assignment 1\ncommand solve\nobjective balanced\nstatus best\nvalue 0\ncells 1\n1 1\nproof windows 0\nend\n",
-    b"assignment 1\ncommand solve\nobjective bottleneck\nstatus best\nvalue 2\ncells 1\n1 1\nproof windows 1\nwindow 5 -5 0\nend\n",
-    b"assignment 1\ncommand solve\nobjective balanced\nstatus best\nvalue 2\ncells 1\n1 1\nproof windows 1\n\
-window -9223372036854775808 9223372036854775807 4294967295 4294967295\nend\n",
+    b"assignment 1\ncommand solve\nobjective balanced\nstatus best\nvalue 0\ncells 1\n1 1\n\
+      proof windows 0\nend\n",
+    b"assignment 1\ncommand solve\nobjective bottleneck\nstatus best\nvalue 2\ncells 1\n1 1\n\
+      proof windows 1\nwindow 5 -5 0\nend\n",
+    b"assignment 1\ncommand solve\nobjective balanced\nstatus best\nvalue 2\ncells 1\n1 1\n\
+      proof windows 1\n\
+      window -9223372036854775808 9223372036854775807 4294967295 4294967295\nend\n",
 ];
 
 // A text behind a proof by windows, and the line in which it is refused.

@@ -1,26 +1,17 @@
 //! The worked example, by dual variables.
 
-ghost use Rattle.std.specs.Prelude.{◌≡◌, ◌<◌, IfOk, IfSome, length};
+ghost use Rattle.std.specs.Prelude.{◌≡◌, IfOk, IfSome, length};
 ghost use Rattle.asg_admit.specs.Reduced.{IsReduced};
 ghost use Rattle.asg_monoids.specs.BoundedSums.{bounded_sums};
 
-use super::{
-    FIRST, FIRST_ENTERS, FIRST_INDEX, FIRST_LEAVES, SECOND, SECOND_ENTERS, SECOND_INDEX,
-    SECOND_LEAVES, THIRD, THIRD_ENTERS, THIRD_INDEX, THIRD_LEAVES, is_now,
+use crate::of_admit::worked_phases::{
+    Cells, FIRST, SECOND, SHIFT, START, SUMS, THIRD, WorkedPhase, is_now, worked,
 };
-use crate::of_admit::samples::{SHIFT, SUMS, worked};
 use asg_admit::{DualRow, DualSquare, Reduced, Replayed, admits, are_values};
 use asg_order::fold;
 use asg_square::NoMemory;
 use std::alloc::Global;
 use std::test::Fail;
-
-// The worked square before its phases.
-const START: [[u128; 3]; 3] = [
-    [1_000_000_004, 1_000_000_001, 1_000_000_003],
-    [1_000_000_002, 1_000_000_000, 1_000_000_005],
-    [1_000_000_003, 1_000_000_002, 1_000_000_002],
-];
 
 // Whether the row has these values.
 fn is_row(row: &DualRow<'_>, values: &[u128; 3]) -> bool
@@ -35,7 +26,7 @@ fn is_row(row: &DualRow<'_>, values: &[u128; 3]) -> bool
 }
 
 // Whether the square has these cells, and the index is this.
-fn is_dual_now(dual: &DualSquare, cells: &[[u128; 3]; 3], index: u128) -> bool {
+fn is_dual_now(dual: &DualSquare, cells: &Cells, index: u128) -> bool {
     if dual.side() != 3 {
         return false;
     }
@@ -50,19 +41,18 @@ fn is_dual_now(dual: &DualSquare, cells: &[[u128; 3]; 3], index: u128) -> bool {
     dual.index() == index
 }
 
-// The square after a phase that is settled by dual variables, where it is admitted and there is room.
+// The square after a phase of at most three steps that is settled by dual variables, where it is
+// admitted and there is room.
 fn settled(
     alloc: Global,
     reduced: Reduced<u128>,
-    steps: &[u128],
-    enters: &[u32; 3],
-    leaves: &[u32; 3],
+    phase: &WorkedPhase,
 ) -> Result<Option<Reduced<u128>>, NoMemory>
-    requires reduced { IsReduced (bounded_sums 1000000000000) reduced }
-    requires few { length steps.now < 4 }
+    requires { IsReduced (bounded_sums 1000000000000) reduced }
     ensures { IfOk result (λ o. IfSome o (IsReduced (bounded_sums 1000000000000))) }
 {
-    if !are_values(&SUMS, steps) {
+    let (steps, enters, leaves) = (phase.steps, &phase.enters, &phase.leaves);
+    if steps.len() > 3 || !are_values(&SUMS, steps) {
         return Ok(None);
     }
     if !admits(&SUMS, &reduced.now, steps, enters, leaves) {
@@ -77,129 +67,95 @@ fn settled(
     Ok(Some(dual.reduce()))
 }
 
-// Whether the square is there, with these cells and this index.
-fn is_some_now(reduced: &Option<Reduced<u128>>, cells: &[[u128; 3]; 3], index: u128) -> bool {
-    match reduced {
-        Some(reduced) => is_now(reduced, cells, index),
-        None => false,
+// The square after a phase that is settled by dual variables, where that and the index are the
+// phase's.
+fn settled_as(
+    alloc: Global,
+    reduced: Reduced<u128>,
+    phase: &WorkedPhase,
+) -> Result<Option<Reduced<u128>>, NoMemory>
+    requires { IsReduced (bounded_sums 1000000000000) reduced }
+    ensures { IfOk result (λ o. IfSome o (IsReduced (bounded_sums 1000000000000))) }
+{
+    let Some(reduced) = settled(alloc, reduced, phase)? else {
+        return Ok(None);
+    };
+    if is_now(&reduced, &phase.cells, phase.index) {
+        Ok(Some(reduced))
+    } else {
+        Ok(None)
     }
 }
 
 #[test]
 fn settles_the_phases_of_the_worked_example_by_dual_variables(rt: HostRuntime) -> Result<(), Fail> {
-    let Some(start) = worked(rt.alloc())? else {
-        assert!(rt; false);
-        return Ok(());
-    };
-    let first = settled(
-        rt.alloc(),
-        start,
-        &[SHIFT + 1],
-        &FIRST_ENTERS,
-        &FIRST_LEAVES,
-    )?;
-    assert!(rt; is_some_now(&first, &FIRST, FIRST_INDEX));
-    let Some(first) = first else {
-        return Ok(());
-    };
-    let second = settled(
-        rt.alloc(),
-        first,
-        &[SHIFT, 2],
-        &SECOND_ENTERS,
-        &SECOND_LEAVES,
-    )?;
-    assert!(rt; is_some_now(&second, &SECOND, SECOND_INDEX));
-    let Some(second) = second else {
-        return Ok(());
-    };
-    let third = settled(
-        rt.alloc(),
-        second,
-        &[SHIFT + 2],
-        &THIRD_ENTERS,
-        &THIRD_LEAVES,
-    )?;
-    assert!(rt; is_some_now(&third, &THIRD, THIRD_INDEX));
+    let start = worked(rt.alloc())?;
+    let first = settled_as(rt.alloc(), start, &FIRST)?.expect(&rt, "the first phase");
+    let second = settled_as(rt.alloc(), first, &SECOND)?.expect(&rt, "the second phase");
+    assert!(rt; settled_as(rt.alloc(), second, &THIRD)?.is_some());
     Ok(())
+}
+
+// What becomes of a phase; nothing is tried where it has more than three steps.
+fn replayed(
+    dual: &mut DualSquare,
+    steps: &[u128],
+    enters: &[u32],
+    leaves: &[u32],
+) -> Option<Replayed> {
+    let mut room = [0u128; 4];
+    if steps.len() > 3 {
+        return None;
+    }
+    Some(dual.replay(&SUMS, steps, enters, leaves, &mut room))
+}
+
+// Whether a phase is applied, and the square and the index are then its.
+fn replays(dual: &mut DualSquare, phase: &WorkedPhase) -> bool {
+    let told = replayed(dual, phase.steps, &phase.enters, &phase.leaves);
+    told == Some(Replayed::Applied) && is_dual_now(dual, &phase.cells, phase.index)
+}
+
+// Whether the three phases are applied, one after another.
+fn replays_all(dual: &mut DualSquare) -> bool {
+    replays(dual, &FIRST) && replays(dual, &SECOND) && replays(dual, &THIRD)
 }
 
 #[test]
 fn replays_the_phases_of_the_worked_example_by_dual_variables(rt: HostRuntime) -> Result<(), Fail> {
-    let Some(start) = worked(rt.alloc())? else {
-        assert!(rt; false);
-        return Ok(());
-    };
-    let mut dual = DualSquare::make(rt.alloc(), &SUMS, start)?;
-    let mut room = [0u128; 4];
+    let mut dual = DualSquare::make(rt.alloc(), &SUMS, worked(rt.alloc())?)?;
     assert!(rt; is_dual_now(&dual, &START, 0));
-    assert!(rt;
-        dual.replay(&SUMS, &[SHIFT + 1], &FIRST_ENTERS, &FIRST_LEAVES, &mut room)
-            == Replayed::Applied
-    );
-    assert!(rt; is_dual_now(&dual, &FIRST, FIRST_INDEX));
-    assert!(rt;
-        dual.replay(
-            &SUMS,
-            &[SHIFT, 2],
-            &SECOND_ENTERS,
-            &SECOND_LEAVES,
-            &mut room
-        ) == Replayed::Applied
-    );
-    assert!(rt; is_dual_now(&dual, &SECOND, SECOND_INDEX));
-    assert!(rt;
-        dual.replay(&SUMS, &[SHIFT + 2], &THIRD_ENTERS, &THIRD_LEAVES, &mut room)
-            == Replayed::Applied
-    );
-    assert!(rt; is_dual_now(&dual, &THIRD, THIRD_INDEX));
-    assert!(rt; is_now(&dual.reduce(), &THIRD, THIRD_INDEX));
+    assert!(rt; replays_all(&mut dual));
+    assert!(rt; is_now(&dual.reduce(), &THIRD.cells, THIRD.index));
     Ok(())
 }
 
-// A step greater than the least cell of both is refused, and so are marks that don't count as many rows as
-// columns and one more. Where sums come near the top nothing is tested. None of these changes anything.
+// Phases that aren't applied, and what becomes of them: a step greater than the least cell of both
+// is refused, and so are marks that don't count as many rows as columns and one more. Where sums
+// come near the top nothing is tested.
+const UNAPPLIED: [(&'static [u128], &'static [u32], &'static [u32], Replayed); 5] = [
+    (&[SHIFT + 2], &[0, 1, 1], &[1, 1, 1], Replayed::Refused),
+    (&[SHIFT], &[0, 1, 1], &[0, 1, 1], Replayed::Refused),
+    (&[SHIFT], &[0, 1], &[1, 1, 1], Replayed::Refused),
+    (&[SUMS.top - 5], &[0, 1, 1], &[1, 1, 1], Replayed::Full),
+    (&[SUMS.top, 1], &[0, 1, 1], &[1, 1, 1], Replayed::Full),
+];
+
+// Whether each of these phases isn't applied as is told of it.
+fn applies_none(dual: &mut DualSquare) -> bool {
+    for (steps, enters, leaves, want) in UNAPPLIED {
+        if replayed(dual, steps, enters, leaves) != Some(want) {
+            return false;
+        }
+    }
+    true
+}
+
 #[test]
 fn changes_nothing_unless_it_applies_a_phase(rt: HostRuntime) -> Result<(), Fail> {
-    let Some(start) = worked(rt.alloc())? else {
-        assert!(rt; false);
-        return Ok(());
-    };
-    let mut dual = DualSquare::make(rt.alloc(), &SUMS, start)?;
-    let mut room = [0u128; 4];
-    assert!(rt;
-        dual.replay(&SUMS, &[SHIFT + 2], &FIRST_ENTERS, &FIRST_LEAVES, &mut room)
-            == Replayed::Refused
-    );
-    assert!(rt;
-        dual.replay(&SUMS, &[SHIFT], &FIRST_ENTERS, &[0, 1, 1], &mut room) == Replayed::Refused
-    );
-    assert!(rt;
-        dual.replay(&SUMS, &[SHIFT], &[0, 1], &FIRST_LEAVES, &mut room) == Replayed::Refused
-    );
-    assert!(rt;
-        dual.replay(
-            &SUMS,
-            &[SUMS.top - 5],
-            &FIRST_ENTERS,
-            &FIRST_LEAVES,
-            &mut room
-        ) == Replayed::Full
-    );
-    assert!(rt;
-        dual.replay(
-            &SUMS,
-            &[SUMS.top, 1],
-            &FIRST_ENTERS,
-            &FIRST_LEAVES,
-            &mut room
-        ) == Replayed::Full
-    );
+    let mut dual = DualSquare::make(rt.alloc(), &SUMS, worked(rt.alloc())?)?;
+    assert!(rt; applies_none(&mut dual));
     assert!(rt; is_dual_now(&dual, &START, 0));
-    assert!(rt;
-        dual.replay(&SUMS, &[SHIFT + 1], &FIRST_ENTERS, &FIRST_LEAVES, &mut room)
-            == Replayed::Applied
-    );
-    assert!(rt; is_dual_now(&dual, &FIRST, FIRST_INDEX));
+    assert!(rt; replays(&mut dual, &FIRST));
     Ok(())
 }

@@ -15,4 +15,4 @@ Admits top phase reduced =
 -- the square that is made is the one that the phase was tested on
 pub settle-requires-clause-admitted : goal.settle-requires-clause-admitted
 settle-requires-clause-admitted c =
-    subst (Admits 1000000000000 (phase_of c.args.steps.now c.args.enters.now c.args.leaves.now)) (sym c.in_ok-square.ensures) (c.admits.ensures.0 c.if-not-admits.false)
+    subst (Admits 1000000000000 (phase_of c.args.phase.now.steps.now c.args.phase.now.enters c.args.phase.now.leaves)) (sym c.in_ok-square.ensures) (c.admits.ensures.0 c.if-not-admits.false)

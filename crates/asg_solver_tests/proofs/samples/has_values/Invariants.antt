@@ -1,6 +1,6 @@
 use Rattle.std.specs.Prelude.{ℕ, ◌<◌}
 use Rattle.asg_admit.specs.Settling.{HasValueAt}
-use Rattle.asg_solver_tests.proofs.of_admit.samples.has_values.Given as goal
+use Rattle.asg_solver_tests.proofs.samples.has_values.Given as goal
 
 -- the rows so far have values
 abbrev pub invariant-loop-row : goal.invariant-loop-row

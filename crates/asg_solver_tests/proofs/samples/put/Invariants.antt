@@ -1,5 +1,5 @@
 use Rattle.std.proofs.Common.{◌≡◌}
-use Rattle.asg_solver_tests.proofs.of_algebra.samples.put.Given as goal
+use Rattle.asg_solver_tests.proofs.samples.put.Given as goal
 
 -- the side stays
 abbrev pub invariant-loop-r : goal.invariant-loop-r

@@ -1,6 +1,6 @@
 use Rattle.std.specs.Prelude.{ℕ, ◌<◌}
 use Rattle.asg_admit.specs.Settling.{HasValueAt}
-use Rattle.asg_solver_tests.proofs.of_admit.samples.is_row_of_values.Given as goal
+use Rattle.asg_solver_tests.proofs.samples.is_row_of_values.Given as goal
 
 -- the cells so far are values
 abbrev pub invariant-loop-column : goal.invariant-loop-column

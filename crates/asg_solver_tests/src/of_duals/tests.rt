@@ -1,0 +1,153 @@
+//! Small squares, solved by hand: their assignments, and that their phases are few, are admitted,
+//! and end with cells of 0 on the assignment and an index that is its sum.
+
+ghost use Rattle.std.specs.Prelude.{◌≡◌};
+ghost use Rattle.asg_admit.specs.Reduced.{IsReduced};
+ghost use Rattle.asg_monoids.specs.BoundedSums.{bounded_sums, narrow_top};
+
+use crate::samples::reduced_of;
+use asg_admit::{NarrowSquare, Reduced, Replayed};
+use asg_duals::{Duals, short_phases, tight_duals};
+use asg_monoids::NarrowSums;
+use asg_proof::Phase;
+use asg_samples::Fault;
+use std::alloc::Global;
+use std::test::Fail;
+
+// The cells of a worked square, as costs enter: its least sum is 5 and what is added to three
+// costs.
+const WORKED: [Option<u64>; 9] = [
+    Some(1_000_000_004),
+    Some(1_000_000_001),
+    Some(1_000_000_003),
+    Some(1_000_000_002),
+    Some(1_000_000_000),
+    Some(1_000_000_005),
+    Some(1_000_000_003),
+    Some(1_000_000_002),
+    Some(1_000_000_002),
+];
+
+// Two rows that share their only column.
+const SHARED: [Option<u64>; 4] = [Some(1), None, Some(1), None];
+
+// Cells that numbers of 32 bits don't hold, and an absent one.
+const WIDE: [Option<u64>; 4] = [Some(1 << 40), Some(7), Some(1 << 41), None];
+
+// The product of each row's number and each column's, from 1 to 40, row by row.
+fn products(alloc: Global) -> Result<Vec<Option<u64>>, Fault> {
+    let mut cells = Vec::with_capacity(alloc, 1_600)?;
+    for place in 0..1_600u64 {
+        cells.push(Some((place / 40 + 1) * (place % 40 + 1)))?;
+    }
+    Ok(cells)
+}
+
+// Applies phases, where each is admitted; whether all were.
+fn all_apply(narrow: &mut NarrowSquare, phases: &[Phase<u64>], room: &mut [u64]) -> bool {
+    for k in 0..phases.len() {
+        let phase = &phases[k];
+        if phase.steps().len() >= room.len() {
+            return false;
+        }
+        match narrow.replay(phase.steps(), phase.enters(), phase.leaves(), room) {
+            Replayed::Applied => {}
+            Replayed::Refused => return false,
+            Replayed::Full => return false,
+        }
+    }
+    true
+}
+
+// Whether the cell of each row at its column is 0.
+fn are_zero(narrow: &NarrowSquare, columns: &[u32]) -> bool {
+    for row in 0..narrow.side() {
+        if row as usize >= columns.len() || columns[row as usize] >= narrow.side() {
+            return false;
+        }
+        if narrow.row(row).value(columns[row as usize]) != 0 {
+            return false;
+        }
+    }
+    true
+}
+
+// What the phases of dual variables add up to, where they are admitted one after the other and lead
+// to cells of 0 on the assignment.
+fn index_of(alloc: Global, reduced: Reduced<u64>, duals: &Duals) -> Result<Option<u64>, Fault>
+    requires { IsReduced (bounded_sums narrow_top) reduced }
+{
+    let phases = short_phases(alloc, duals)?;
+    let mut room = vec![in alloc; 0u64; duals.columns().len().saturating_add(1)]?;
+    let mut narrow = NarrowSquare::make(alloc, reduced)?;
+    if !all_apply(&mut narrow, phases.as_slice(), room.as_mut_slice()) {
+        return Ok(None);
+    }
+    Ok(if are_zero(&narrow, duals.columns()) {
+        Some(narrow.index())
+    } else {
+        None
+    })
+}
+
+// What the phases of the square of this side with these cells are and add up to: their number, the
+// column of the first row, and the index that they lead to. `None` where no assignment is found.
+fn solved(
+    alloc: Global,
+    side: u32,
+    cells: &[Option<u64>],
+) -> Result<Option<(usize, Option<u32>, Option<u64>)>, Fault> {
+    let reduced = reduced_of(alloc, &NarrowSums, side, cells)?;
+    let Some(duals) = tight_duals(alloc, &reduced.now)? else {
+        return Ok(None);
+    };
+    let count = short_phases(alloc, &duals)?.len();
+    let first = duals.columns().first().copied();
+    let index = index_of(alloc, reduced, &duals)?;
+    Ok(Some((count, first, index)))
+}
+
+// Whether the square of this side with these cells is solved by at most so many phases, which lead
+// to this sum, the first row by this column.
+fn is_solved(
+    alloc: Global,
+    side: u32,
+    cells: &[Option<u64>],
+    most: usize,
+    first: u32,
+    sum: u64,
+) -> Result<bool, Fault> {
+    Ok(match solved(alloc, side, cells)? {
+        Some((count, column, index)) => {
+            count <= most && column == Some(first) && index == Some(sum)
+        }
+        None => false,
+    })
+}
+
+#[test]
+fn turns_duals_of_the_worked_square_into_two_phases(rt: HostRuntime) -> Result<(), Fail> {
+    assert!(rt; is_solved(rt.alloc(), 3, &WORKED, 2, 1, 3_000_000_005)?);
+    Ok(())
+}
+
+#[test]
+fn finds_none_where_two_rows_share_a_column(rt: HostRuntime) -> Result<(), Fail> {
+    assert!(rt; solved(rt.alloc(), 2, &SHARED)?.is_none());
+    Ok(())
+}
+
+#[test]
+fn solves_wide_cells_in_64_bits(rt: HostRuntime) -> Result<(), Fail> {
+    assert!(rt; is_solved(rt.alloc(), 2, &WIDE, 2, 1, (1 << 41) + 7)?);
+    Ok(())
+}
+
+// Products of 40 rows and columns are solved from coarse to fine, each row by the column opposite
+// to it: the sum is 40 · 41 · 42 / 6.
+#[test]
+fn solves_products_from_coarse_to_fine(rt: HostRuntime) -> Result<(), Fail> {
+    let cells = products(rt.alloc())?;
+    assert!(rt; is_solved(rt.alloc(), 40, cells.as_slice(), 6, 39, 11_480)?);
+    Ok(())
+}

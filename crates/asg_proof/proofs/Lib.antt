@@ -13,3 +13,4 @@ pub mod CutPhases
 pub mod GradeAmountLemmas
 pub mod WorkedPhase
 pub mod WorkedWindows
+pub mod StepWordLemmas

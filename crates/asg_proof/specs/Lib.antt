@@ -3,6 +3,8 @@ pub mod Threshold
 pub mod Windows
 pub mod Steps
 pub mod Phases
+pub mod StepWords
+pub mod WrittenPhases
 pub mod GradeAmounts
 pub mod PhaseProofs
 pub mod FoldProofs

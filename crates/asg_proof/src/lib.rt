@@ -16,14 +16,18 @@ mod outcomes;
 mod phase_lists;
 mod phases;
 mod row_ids;
+mod step_words;
 mod windows;
+mod written_phases;
 
 pub use cuts::cut_steps;
 pub use outcomes::{Outcome, Proof};
 pub use phase_lists::Phases;
 pub use phases::{Phase, into_words, words};
 pub use row_ids::Ids;
+pub use step_words::StepWords;
 pub use windows::{Window, Windows};
+pub use written_phases::WrittenPhase;
 
 /// There was not enough memory.
 pub type NoMemory = std::alloc::AllocError;

@@ -4,7 +4,7 @@ ghost use Rattle.std.specs.Prelude.{◌≡◌, [], ◌∷◌, IfOk};
 
 use asg_monoids::Greatest;
 use asg_order::Word;
-use asg_proof::{Ids, Phase, Phases, Window, Windows, into_words, words};
+use asg_proof::{Ids, Phase, Phases, StepWords, Window, Windows, WrittenPhase, into_words, words};
 use std::alloc::{AllocError as NoMemory, Global};
 use std::test::Fail;
 
@@ -56,13 +56,69 @@ fn is_in_words(phase: &Phase<Word>) -> bool {
     phase.steps() == [word(5), word(3)].as_slice() && has_turns(phase)
 }
 
+// Whether the steps are these.
+fn are_steps(steps: &StepWords, want: &[Word]) -> bool {
+    if steps.len() != want.len() || steps.is_empty() != want.is_empty() {
+        return false;
+    }
+    for place in 0..want.len() {
+        if steps.get(place) != want[place] {
+            return false;
+        }
+    }
+    true
+}
+
+// Whether it is that phase as documents have it.
+fn is_written(phase: &WrittenPhase) -> bool {
+    are_steps(phase.steps(), &[word(5), word(3)])
+        && phase.enters() == [1, 0, 2].as_slice()
+        && phase.leaves() == [2, 1, 4].as_slice()
+}
+
 #[test]
 fn a_phase_in_words(rt: HostRuntime) -> Result<(), Fail> {
     let phase = phase(rt.alloc())?;
-    let written = words(rt.alloc(), &Greatest, &phase)?;
-    assert!(rt; is_in_words(&written));
-    let moved = into_words(rt.alloc(), &Greatest, phase)?;
-    assert!(rt; is_in_words(&moved));
+    let copied = words(rt.alloc(), &Greatest, &phase)?;
+    assert!(rt; is_in_words(&copied));
+    let written = into_words(rt.alloc(), &Greatest, phase)?;
+    assert!(rt; is_written(&written));
+    Ok(())
+}
+
+// Steps of which the first two are short, the next two aren't, and the last one again is.
+const MIXED: [Word; 5] = [
+    Word {
+        grade: 0,
+        amount: 7,
+    },
+    Word {
+        grade: 4294967295,
+        amount: 4294967295,
+    },
+    Word {
+        grade: 0,
+        amount: 4294967296,
+    },
+    Word {
+        grade: 4294967296,
+        amount: 1,
+    },
+    Word {
+        grade: 0,
+        amount: 0,
+    },
+];
+
+#[test]
+fn steps_of_any_length(rt: HostRuntime) -> Result<(), Fail> {
+    let mut steps = StepWords::none(rt.alloc());
+    assert!(rt; are_steps(&steps, &[]));
+    for step in &MIXED {
+        steps.push(*step)?;
+    }
+    steps.shrink();
+    assert!(rt; are_steps(&steps, &MIXED));
     Ok(())
 }
 
@@ -78,16 +134,17 @@ fn are_phases(phases: Phases, count: usize) -> bool {
 }
 
 // Whether the phase is of one step, at which the column leaves.
-fn is_one_step(phase: &Phase<Word>) -> bool {
-    phase.steps() == [word(5)].as_slice()
+fn is_one_step(phase: &WrittenPhase) -> bool {
+    are_steps(phase.steps(), &[word(5)])
         && phase.enters() == [0].as_slice()
         && phase.leaves() == [1].as_slice()
 }
 
 #[test]
 fn lists_of_phases(rt: HostRuntime) -> Result<(), Fail> {
-    let steps = vec![in rt.alloc(); word(5)]?;
-    let phase = Phase::of(steps, vec![in rt.alloc(); 0]?, vec![in rt.alloc(); 1]?);
+    let mut steps = StepWords::none(rt.alloc());
+    steps.push(word(5))?;
+    let phase = WrittenPhase::of(steps, vec![in rt.alloc(); 0]?, vec![in rt.alloc(); 1]?)?;
     assert!(rt; are_phases(Phases::from_vec(vec![in rt.alloc(); phase]?), 1));
     assert!(rt; are_phases(Phases::from_vec(Vec::new(rt.alloc())), 0));
     Ok(())

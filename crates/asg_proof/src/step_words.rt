@@ -1,0 +1,176 @@
+//! Steps as words, kept in few bytes.
+
+ghost use Rattle.std.specs.Prelude.{◌≡◌, ◌↔◌, ◌<◌, ◌^◌, ◌++◌, ◌∷◌, [], List, length, slice_index_or};
+ghost use Rattle.std.specs.Prelude.{IfOk, IfSome, IsTrue, OnErr, SomeIff};
+ghost use Rattle.asg_order.specs.declared.words.Word.{Word as W};
+ghost use Rattle.asg_proof.specs.StepWords.{far_grade, whole_word, told_word};
+ghost use Rattle.asg_proof.specs.StepWords.{as_words, IsTold, AreTold};
+
+use crate::NoMemory;
+use asg_order::Word;
+use std::alloc::{AllocError, Global};
+use std::marker::Model;
+
+// A word whose grade is below 2^32 - 1 and whose amount is below 2^32; or, with the grade 2^32 - 1,
+// the place of a long word.
+#[derive(Clone, Copy, Debug, PartialEq, Eq)]
+pub(crate) struct ShortWord {
+    grade: u32,
+    amount: u32,
+}
+
+// The grade of a short word that tells a place.
+const FAR: u32 = u32::MAX;
+
+// A grade where it is below 2^32 - 1.
+fn short_grade(grade: u64) -> Option<u32>
+    ensures { SomeIff result (grade < far_grade) grade }
+{
+    if grade < u64::from(FAR) {
+        Some(grade as u32)
+    } else {
+        None
+    }
+}
+
+// An amount where it is below 2^32.
+fn short_amount(amount: u128) -> Option<u32>
+    ensures { SomeIff result (amount < 2 ^ 32) amount }
+{
+    u32::try_from(amount).ok()
+}
+
+// The word in short, where it can be.
+fn shortened(word: Word) -> Option<ShortWord>
+    ensures word { IfSome result (λ short. whole_word short ≡ word) }
+    ensures near { IfSome result (λ short. short.grade < far_grade) }
+{
+    let grade = short_grade(word.grade)?;
+    let amount = short_amount(word.amount)?;
+    Some(ShortWord { grade, amount })
+}
+
+// The word that a short one holds.
+fn whole(short: ShortWord) -> Word
+    ensures { result ≡ whole_word short }
+{
+    Word {
+        grade: u64::from(short.grade),
+        amount: u128::from(short.amount),
+    }
+}
+
+// Appends a long word, and gives the short one that tells its place. The error is want of memory,
+// and 2^32 long words count as that.
+fn appended(long: &mut Vec<Word>, word: Word) -> Result<ShortWord, NoMemory>
+    ensures list { IfOk result (λ _. long.new.items ≡ long.old.items ++ word ∷ []) }
+    ensures grade { IfOk result (λ short. short.grade ≡ far_grade) }
+    ensures place { IfOk result (λ short. short.amount ≡ length long.old.items) }
+    ensures kept { OnErr result (long.new.items ≡ long.old.items) }
+{
+    let Ok(amount) = u32::try_from(long.len()) else {
+        return Err(AllocError);
+    };
+    long.push(word)?;
+    Ok(ShortWord { grade: FAR, amount })
+}
+
+// Appends the step to the long words if it needs one, and gives the short word that stands for it.
+// Short words before it stand for the same words as before. The error is want of memory.
+fn entry(long: &mut Vec<Word>, step: Word) -> Result<ShortWord, NoMemory>
+    ensures told { (short : List ShortWord) → AreTold short long.old.items
+        → AreTold short long.new.items }
+    ensures same { (short : List ShortWord) → AreTold short long.old.items
+        → as_words short long.new.items ≡ as_words short long.old.items }
+    ensures word { IfOk result (λ entry. told_word long.new.items entry ≡ step) }
+    ensures place { IfOk result (IsTold (length long.new.items)) }
+{
+    match shortened(step) {
+        Some(short) => Ok(short),
+        None => appended(long, step),
+    }
+}
+
+// The word that a short one stands for.
+fn told(long: &[Word], short: ShortWord) -> Word
+    requires { IsTold (length long.now) short }
+    ensures { result ≡ told_word long.now short }
+{
+    if short.grade == FAR {
+        long[short.amount as usize]
+    } else {
+        whole(short)
+    }
+}
+
+/// Steps as words, in order. Each takes 8 bytes; one with a grade of 2^32 - 1 or more, or an amount
+/// of 2^32 or more, those of a [`Word`] besides.
+#[derive(Debug, Drop)]
+pub struct StepWords {
+    short: Vec<ShortWord>,
+    long: Vec<Word>,
+}
+
+impl Model for StepWords {
+    ghost use Rattle.std.specs.Prelude.{List};
+    ghost use Rattle.asg_order.specs.declared.words.Word.{Word as W};
+    ghost use Rattle.asg_proof.specs.StepWords.{AreTold, as_words};
+
+    ghost Value = { List W };
+
+    ghost view = { λ steps. as_words steps.short.items steps.long.items };
+
+    ghost invariant = { λ steps. AreTold steps.short.items steps.long.items };
+}
+
+impl StepWords {
+    /// No steps. It takes no memory.
+    pub fn none(alloc: Global) -> StepWords
+        ensures { result ≡ [] }
+    {
+        StepWords {
+            short: Vec::new(alloc),
+            long: Vec::new(alloc),
+        }
+    }
+
+    /// Appends a step. The error is want of memory; the 2^32nd step that doesn't fit 8 bytes counts
+    /// as that.
+    pub fn push(&mut self, step: Word) -> Result<(), NoMemory>
+        ensures { IfOk result (λ _. self.new ≡ self.old ++ step ∷ []) }
+    {
+        let short = entry(&mut self.long, step)?;
+        self.short.push(short)?;
+        Ok(())
+    }
+
+    /// Gives back the room that no step takes.
+    pub fn shrink(&mut self)
+        ensures { self.new ≡ self.old }
+    {
+        self.short.shrink_to_fit();
+        self.long.shrink_to_fit();
+    }
+
+    /// The number of steps.
+    pub fn len(&self) -> usize
+        ensures { result ≡ length self.now }
+    {
+        self.short.len()
+    }
+
+    /// Whether there is no step.
+    pub fn is_empty(&self) -> bool
+        ensures { IsTrue result ↔ (self.now ≡ []) }
+    {
+        self.short.is_empty()
+    }
+
+    /// The step at a place, counted from 0.
+    pub fn get(&self, place: usize) -> Word
+        requires { place < length self.now }
+        ensures { (d : W) → result ≡ slice_index_or self.now place d }
+    {
+        told(self.long.as_slice(), self.short[place])
+    }
+}

@@ -1,7 +1,7 @@
 //! Hall sets of instances from the rows of a square that have too few columns.
 
 ghost use Rattle.std.specs.Prelude.{◌≡◌, ◌≢◌, ◌<◌, ◌≤◌, ◌+◌, [], ◌++◌, All, AllPairs, length, take};
-ghost use Rattle.std.specs.Prelude.{is_some, slice_get};
+ghost use Rattle.std.specs.Prelude.{IfOk, is_some, slice_get};
 ghost use Rattle.std.specs.List.{cons_option};
 ghost use Rattle.std.specs.Option.{option_map};
 ghost use Rattle.asg_match.specs.HallSets.{GivesHallSets, labelled_id, hall_ids};
@@ -9,9 +9,10 @@ ghost use Rattle.asg_match.specs.Deficient.{IsDeficient};
 ghost use Rattle.asg_square.specs.Grid.{HasLabelsOf};
 ghost use Rattle.asg_model.specs.Sums.{one};
 
-use crate::Allowed;
+use crate::{Allowed, NoMemory};
 use asg_model::Instance;
 use asg_square::Square;
+use std::alloc::Global;
 
 /// Writes a Hall set from rows of a square that together have fewer allowed columns than they are:
 /// the ids of the rows that they stand for, into the first places of `out`. The answer is how many
@@ -35,6 +36,26 @@ pub fn hall_of<V: Copy, A: Allowed>(
     let _ = allowed;
     let _rows = inst.rows();
     write_ids(square, inst, rows, out)
+}
+
+/// The ids that [`hall_of`] writes, as a list of their own. The error is want of memory.
+pub fn hall_list<V: Copy, A: Allowed>(
+    alloc: Global,
+    square: &Square<V>,
+    inst: &Instance,
+    allowed: &A,
+    rows: &[u32],
+) -> Result<Vec<u32>, NoMemory>
+    requires labels { HasLabelsOf inst.now square.now }
+    requires side { A.side allowed.now ≡ square.now.side }
+    requires short { IsDeficient (A.allows allowed.now) square.now.side rows.now }
+    ensures few { IfOk result (λ ids. length ids.items ≤ length inst.now.rows) }
+    ensures hall { IfOk result (λ ids. GivesHallSets inst.now (A.allows allowed.now) ids.items) }
+{
+    let _rows = inst.rows();
+    let mut ids = [0; 1001];
+    let count = hall_of(square, inst, allowed, rows, &mut ids);
+    Vec::from_slice(alloc, &ids[..count as usize])
 }
 
 // Writes the ids of the rows that square rows stand for.

@@ -24,7 +24,7 @@ pub use allowed::Allowed;
 pub use alternating_tree::{Branches, Tree};
 pub use augmentation::{Grown, augment};
 pub use column_set::remove;
-pub use hall_set::hall_of;
+pub use hall_set::{hall_list, hall_of};
 pub use matching::Matching;
 pub use path::flip;
 pub use perfect::{Pairing, Rows, complete, perfect_or_hall, short_or_perfect};

@@ -1,3 +1,4 @@
 //! Tests of `asg_match`.
 
+mod hall_tests;
 mod tests;

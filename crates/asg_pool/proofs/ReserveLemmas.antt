@@ -1,10 +1,12 @@
 -- A region after memory was taken.
-use Rattle.std.proofs.Common.{◌≡◌, ℕ, ◌+◌, ◌-◌, ◌≤◌, max, [], length, get_or, Result, Ok, Err, OnErr, ap, ◌∙◌, arith}
+use Rattle.std.proofs.Common.{◌≡◌, ℕ, ◌+◌, ◌-◌, ◌≤◌, max, [], length, get_or, Result, Ok, Err, OnOk, OnErr, ap, sym, subst, ◌∙◌, arith}
+use Rattle.std.specs.Prelude.{IsSome}
 use Rattle.asg_pool.specs.Forest.{Forest}
-use Rattle.asg_pool.specs.Links.{Table, spare_of}
-use Rattle.asg_pool.specs.Strips.{Rows, row_at}
+use Rattle.asg_pool.specs.Links.{Table, link_at, spare_of, most_room}
+use Rattle.asg_pool.specs.Strips.{Rows, row_at, IsWider}
 use Rattle.asg_proof.specs.Phases.{PhaseOf, phase_of}
-use Rattle.asg_pool.specs.Paths.{phase_at, forest_of}
+use Rattle.asg_proof.specs.PromisedProofs.{IsPhaseOver}
+use Rattle.asg_pool.specs.Paths.{phase_at, forest_of, AreRowsFor, IsRegion}
 
 module _ {V : Type 0} (side : ℕ) (L : Table) (steps steps_after : Rows V) (enters enters_after leaves leaves_after : Rows ℕ)
     (same_steps : steps_after.rows ≡ steps.rows) (same_enters : enters_after.rows ≡ enters.rows) (same_leaves : leaves_after.rows ≡ leaves.rows) where
@@ -17,6 +19,48 @@ module _ {V : Type 0} (side : ℕ) (L : Table) (steps steps_after : Rows V) (ent
   -- the same rows show the same forest
   pub shown_alike : forest_of side L (phase_at steps_after enters_after leaves_after) ≡ forest_of side L (phase_at steps enters leaves)
   shown_alike = ap (forest_of side L) same_phases
+
+-- wider strips still fit the table
+AreRowsFor-wider : {T : Type 0} (side : ℕ) (L : Table) (before after : Rows T) → IsWider before after → AreRowsFor side L before → AreRowsFor side L after
+AreRowsFor-wider side L before after w rows = record {
+  width = w.width ∙ rows.width;
+  count = ap length w.rows ∙ rows.count;
+  room = omega (arith, rows.room, w.room);
+}
+
+pub IsRegion-wider : {V : Type 0} (side : ℕ) (L : Table) (steps steps_after : Rows V) (enters enters_after leaves leaves_after : Rows ℕ) → IsWider steps steps_after → IsWider enters enters_after → IsWider leaves leaves_after → IsRegion side L steps enters leaves → IsRegion side L steps_after enters_after leaves_after
+IsRegion-wider side L steps steps_after enters enters_after leaves leaves_after s e l region = record {
+  rooted = region.rooted;
+  over = subst (λ phase. (k : ℕ) → IsSome (link_at L.slots k) → IsPhaseOver side (phase k)) (sym (same_phases side L steps steps_after enters enters_after leaves leaves_after s.rows e.rows l.rows)) region.over;
+  steps_rows = AreRowsFor-wider side L steps steps_after s region.steps_rows;
+  enters_rows = AreRowsFor-wider side L enters enters_after e region.enters_rows;
+  leaves_rows = AreRowsFor-wider side L leaves leaves_after l region.leaves_rows;
+  used = region.used;
+  most = region.most;
+}
+
+-- a table with more room still fits strips that have as much
+AreRowsFor-roomier : {T : Type 0} (side : ℕ) (L : Table) (S : Rows T) (room : ℕ) → room ≤ S.room → AreRowsFor side L S → AreRowsFor side (record L { room = max L.room room }) S
+AreRowsFor-roomier side L S room enough rows = record {
+  width = rows.width;
+  count = rows.count;
+  room = omega (arith, rows.room, enough);
+}
+
+pub IsRegion-roomier : {V T E : Type 0} (r : Result T E) (side : ℕ) (L M : Table) (steps : Rows V) (enters leaves : Rows ℕ) (room : ℕ) → OnOk r (M ≡ record L { room = max L.room room }) → OnErr r (M ≡ L) → room ≤ steps.room → room ≤ enters.room → room ≤ leaves.room → room ≤ most_room → IsRegion side L steps enters leaves → IsRegion side M steps enters leaves
+IsRegion-roomier (Ok done) side L M steps enters leaves room ok err s e l most region =
+    subst (λ T. IsRegion side T steps enters leaves) (sym ok)
+    (record {
+      rooted = region.rooted;
+      over = region.over;
+      steps_rows = AreRowsFor-roomier side L steps room s region.steps_rows;
+      enters_rows = AreRowsFor-roomier side L enters room e region.enters_rows;
+      leaves_rows = AreRowsFor-roomier side L leaves room l region.leaves_rows;
+      used = omega (arith, region.used);
+      most = omega (arith, region.most, most);
+    })
+IsRegion-roomier (Err fault) side L M steps enters leaves room ok err s e l most region =
+    subst (λ T. IsRegion side T steps enters leaves) (sym err) region
 
 pub on_err : {T E P : Type 0} (r : Result T E) → P → OnErr r P
 on_err (Ok x) h = tt

@@ -1,5 +1,5 @@
 -- Rows of values, each in a list of its own. No public clause cites this module.
-use Rattle.std.specs.Prelude.{ℕ, suc, ◌≤◌, List, [], ◌∷◌, ◌++◌, length, map, take, drop, All, Vec, vec_capacity, slice_index_or}
+use Rattle.std.specs.Prelude.{◌≡◌, ℕ, suc, ◌≤◌, List, [], ◌∷◌, ◌++◌, length, map, take, drop, All, Vec, vec_capacity, slice_index_or}
 use Rattle.std.specs.declared.alloc.Global.{Global}
 
 -- the rows, each at most so wide, and for how many there is memory
@@ -32,3 +32,9 @@ row_at S k = slice_index_or S.rows k []
 -- the rows with the one at place k, or next after the last, replaced
 abbrev pub with_row : {X : Type 0} → List X → ℕ → X → List X
 with_row rows k row = take k rows ++ row ∷ drop (suc k) rows
+
+-- the same rows, with memory for no fewer
+pub record IsWider {T : Type 0} (before after : Rows T) : Type 0 where
+  pub width : after.width ≡ before.width
+  pub room : before.room ≤ after.room
+  pub rows : after.rows ≡ before.rows

@@ -6,6 +6,7 @@ ghost use Rattle.asg_proof.specs.Phases.{phase_of};
 ghost use Rattle.asg_pool.specs.Forest.{Forest, Branch, trail_at, IsLive, parent_of, phases_of};
 ghost use Rattle.asg_pool.specs.Forest.{phases_to, last_phase, IsLeaf, Changes, IsForest, grown_on};
 ghost use Rattle.asg_pool.specs.Links.{most_room};
+ghost use Rattle.asg_pool.specs.Strips.{IsWider};
 
 use crate::NoMemory;
 use crate::links::Links;
@@ -70,9 +71,7 @@ impl<V: Copy> Region<V> {
             return Ok(());
         }
         let room = room_with(self.links.room(), records - spare)?;
-        self.steps.reserve(room)?;
-        self.enters.reserve(room)?;
-        self.leaves.reserve(room)?;
+        widen(&mut self.steps, &mut self.enters, &mut self.leaves, room)?;
         self.links.reserve(room)
     }
 
@@ -236,6 +235,24 @@ fn room_with(room: u32, more: u32) -> Result<u32, NoMemory>
         Some(n) if n < u32::MAX => Ok(n),
         _ => Err(AllocError),
     }
+}
+
+// Takes memory for so many rows in all of each of three strips. The error is want of memory.
+fn widen<V: Copy>(
+    steps: &mut Strips<V>,
+    enters: &mut Strips<u32>,
+    leaves: &mut Strips<u32>,
+    room: u32,
+) -> Result<(), NoMemory>
+    ensures steps { IsWider steps.old steps.new }
+    ensures enters { IsWider enters.old enters.new }
+    ensures leaves { IsWider leaves.old leaves.new }
+    ensures ok { OnOk result
+        ((room ≤ steps.new.room) × (room ≤ enters.new.room) × (room ≤ leaves.new.room)) }
+{
+    steps.reserve(room)?;
+    enters.reserve(room)?;
+    leaves.reserve(room)
 }
 
 // The number of a trail.

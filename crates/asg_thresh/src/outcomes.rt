@@ -1,7 +1,6 @@
 //! The outcome of a bottleneck objective: a best choice with its proof, or a Hall set.
 
 ghost use Rattle.std.specs.Prelude.{◌≡◌, ◌*◌, ◌≤◌, IfOk, length, unsigned_abs};
-ghost use Rattle.asg_match.specs.Deficient.{IsDeficient};
 ghost use Rattle.asg_match.specs.HallSets.{GivesHallSets};
 ghost use Rattle.asg_model.specs.Limits.{most_cost, most_side};
 ghost use Rattle.asg_proof.specs.Outcomes.{IsOutcome};
@@ -17,7 +16,7 @@ use crate::NoMemory;
 use crate::cells_under::CellsUnder;
 use crate::grades::{FREE_GRADE, NO_GRADE, grade, grade_absent};
 use crate::thresholds::{Threshold, least_threshold};
-use asg_match::hall_of;
+use asg_match::hall_list;
 use asg_model::laws::{bottleneck_law, bottleneck_max_law};
 use asg_model::{Cost, Instance, Objective};
 use asg_proof::{Ids, Outcome, Proof};
@@ -42,15 +41,12 @@ fn hall_ids(
     ensures { IfOk result (GivesHallSets inst.now
         (IsUnder grades.now square.now.side found.now.limit)) }
 {
-    let _rows = inst.rows();
     let cells = CellsUnder {
         grades,
         side: square.side(),
         limit: found.limit,
     };
-    let mut ids = [0; 1001];
-    let count = hall_of(square, inst, &cells, found.rows.as_slice(), &mut ids);
-    let ids = Vec::from_slice(alloc, &ids[..count as usize])?;
+    let ids = hall_list(alloc, square, inst, &cells, found.rows.as_slice())?;
     Ok(Ids::from_vec(ids))
 }
 

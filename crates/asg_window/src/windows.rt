@@ -1,6 +1,6 @@
 //! Windows of costs from gaps.
 
-ghost use Rattle.std.specs.Prelude.{◌≡◌, ℕ, ◌+◌, ◌<◌, ◌≤◌, pos, All, IfOk, IsTrue, length};
+ghost use Rattle.std.specs.Prelude.{ℕ, ◌+◌, ◌<◌, ◌≤◌, pos, All, IfOk, IsTrue, length};
 ghost use Rattle.std.specs.Prelude.{slice_index_or};
 ghost use Rattle.asg_match.specs.Deficient.{IsDeficient};
 ghost use Rattle.asg_match.specs.HallSets.{GivesHallSets};
@@ -9,7 +9,7 @@ ghost use Rattle.asg_square.specs.Grid.{HasLabelsOf};
 ghost use Rattle.asg_window.specs.declared.gaps.Gap.{Gap as G};
 ghost use Rattle.asg_window.specs.Bands.{IsWithin};
 ghost use Rattle.asg_window.specs.CostWindows.{AddsWindow, IsWindowBy, IsBandWindow};
-ghost use Rattle.asg_window.specs.Gaps.{IsGap, ShowLeast, AreChained, low_at};
+ghost use Rattle.asg_window.specs.Gaps.{IsGap, ShowLeast, low_at};
 ghost use Rattle.asg_window.specs.Grades.{cost_of};
 ghost use Rattle.asg_window.specs.LiveCells.{IsAscending};
 
@@ -17,7 +17,7 @@ use crate::NoMemory;
 use crate::cells_within::CellsWithin;
 use crate::gaps::Gap;
 use crate::grades::{cost, cost_under};
-use asg_match::hall_of;
+use asg_match::hall_list;
 use asg_model::Instance;
 use asg_proof::{Ids, Window};
 use asg_square::Square;
@@ -36,10 +36,7 @@ pub(crate) fn hall_ids(
     ensures { IfOk result (GivesHallSets inst.now
         (IsWithin cells.now.square.now cells.now.low cells.now.high)) }
 {
-    let _rows = inst.rows();
-    let mut ids = [0; 1001];
-    let count = hall_of(cells.square, inst, cells, rows, &mut ids);
-    let ids = Vec::from_slice(alloc, &ids[..count as usize])?;
+    let ids = hall_list(alloc, cells.square, inst, cells, rows)?;
     Ok(Ids::from_vec(ids))
 }
 

@@ -1,1 +1,2 @@
 pub mod TightLemmas
+pub mod WordBits

@@ -12,6 +12,10 @@ pub record DualLists : Type 0 where
 abbrev pub IsAbove : DualLists → ℕ → ℕ → ℕ → Type 0
 IsAbove duals r c x = slice_index duals.falls r ≤ x + slice_index duals.rises c
 
+-- the value of a column with its rise is at least the fall
+abbrev pub Reaches : List ℕ → List ℕ → ℕ → ℕ → Type 0
+Reaches values rises fall c = fall ≤ slice_index values c + slice_index rises c
+
 -- the columns are a perfect assignment of the square, each present cell is at least 0 once all rows have
 -- fallen and all columns have risen, and each cell of the assignment is 0 then
 pub record AreTight (square : Grid ℕ) (duals : DualLists) : Type 0 where

@@ -4,7 +4,11 @@ ghost use Rattle.std.specs.Prelude.{◌≡◌, IfOk, IfSome};
 ghost use Rattle.asg_duals.specs.Tight.{AreTight};
 
 use crate::NoMemory;
+use crate::arc_duals::tight_by_arcs;
+use crate::arcs::arcs_of;
 use crate::bench::Bench;
+use crate::class_duals::tight_by_class;
+use crate::classes::classes_of;
 use crate::duals::Duals;
 use crate::numbers::{Number, value};
 use crate::places::{amount, at, name};
@@ -12,19 +16,10 @@ use crate::solving::solve;
 use crate::squares::{Ranges, ranges_of, table_of};
 use crate::tables::Table;
 use crate::tightness::tested;
+use crate::whole_squares::{near_base, near_table};
+use crate::widths::{is_narrow, is_settled_narrow, narrow_absent, wide_absent};
 use asg_square::Square;
 use std::alloc::Global;
-
-// The most by which cells of a row may differ for numbers of 32 bits: where no cell is absent, and
-// where some are.
-const MOST_WHOLE: u64 = 1 << 30;
-
-const MOST_HOLED: u64 = 1 << 28;
-
-// The greatest cells that stand for absent ones, in 32 bits and in 64.
-const ABSENT: u64 = 1 << 29;
-
-const WIDE_ABSENT: u64 = 1 << 60;
 
 // By how much each column may rise: all by so much that none falls.
 fn rises_of<N: Number>(alloc: Global, bench: &Bench<N>, side: usize) -> Result<Vec<u64>, NoMemory> {
@@ -76,24 +71,19 @@ fn attempt<N: Number>(
     Ok(tested(square, duals, bench.row_of.as_slice()))
 }
 
-// Whether numbers of 32 bits may do.
-fn is_narrow(ranges: &Ranges) -> bool {
-    let most = if ranges.is_whole {
-        MOST_WHOLE
-    } else {
-        MOST_HOLED
-    };
-    ranges.widest < most
-}
-
-// What stands for an absent cell: where it is not cut short, as much as all cells of the
-// assignment can be above the least ones, so that none is taken that need not be.
-fn absent_cell(ranges: &Ranges) -> u64 {
-    let rows = ranges.leasts.len() as u64;
-    ranges
-        .widest
-        .saturating_add(1)
-        .saturating_mul(rows.saturating_add(1))
+// Solves a square in numbers of 32 bits, where no cell is absent and all are near one another.
+fn attempt_near(alloc: Global, square: &Square<u64>) -> Result<Option<Duals>, NoMemory>
+    ensures { IfOk result (λ found. IfSome found (AreTight square.now)) }
+{
+    let base = near_base(square);
+    let table: Option<Table<i32>> = near_table(alloc, square, base)?;
+    match table {
+        Some(table) => {
+            let leasts = vec![in alloc; base; table.side]?;
+            attempt(alloc, square, table, leasts.as_slice())
+        }
+        None => Ok(None),
+    }
 }
 
 // Solves a square in numbers of 32 bits, where they may do.
@@ -108,7 +98,27 @@ fn attempt_narrow(
         return Ok(None);
     }
     let leasts = ranges.leasts.as_slice();
-    let table: Table<i32> = table_of(alloc, square, leasts, absent_cell(ranges).min(ABSENT))?;
+    let table: Table<i32> = table_of(alloc, square, leasts, narrow_absent(ranges))?;
+    attempt(alloc, square, table, leasts)
+}
+
+// Dual variables of a square all of whose rows and columns differ, in numbers of 32 bits where they
+// do, else of 64; `None` where none were found. The error is want of memory.
+fn tight_by_cell(alloc: Global, square: &Square<u64>) -> Result<Option<Duals>, NoMemory>
+    ensures { IfOk result (λ found. IfSome found (AreTight square.now)) }
+{
+    if let Some(duals) = attempt_near(alloc, square)? {
+        return Ok(Some(duals));
+    }
+    let ranges = ranges_of(alloc, square)?;
+    if let Some(duals) = attempt_narrow(alloc, square, &ranges)? {
+        return Ok(Some(duals));
+    }
+    if is_settled_narrow(&ranges) {
+        return Ok(None);
+    }
+    let leasts = ranges.leasts.as_slice();
+    let table: Table<i64> = table_of(alloc, square, leasts, wide_absent(&ranges))?;
     attempt(alloc, square, table, leasts)
 }
 
@@ -120,22 +130,26 @@ fn attempt_narrow(
 /// reduction transfer and augmenting row reduction give most rows a column, shortest augmenting
 /// paths the others; of columns that are equally near, one that no row has is taken first. Where
 /// the starts leave more than half of the rows free, or paths go through many rows, rows and
-/// columns enter from coarse to fine. It is done in numbers of 32 bits where cells of a row differ
-/// by less than 2^30, or 2^28 where cells are absent, and again in 64 where that came to nothing.
-/// Each answer was tested, in one pass over the cells. The time grows with the cube of the side at
-/// most. The error is want of memory.
+/// columns enter from coarse to fine. Each answer was tested, in one pass over the cells. The time
+/// grows with the cube of the side at most. The error is want of memory.
+///
+/// Rows that stand for none of the instance take the columns that are left, and columns that are
+/// copies of one column of it count as one, which leads paths on to all its rows once it is full.
+/// Where not all rows of the instance are placed, each path is the shortest from any of those that
+/// aren't. Where few cells are present, paths go over lists of them. Which rows and columns these
+/// are is told by their labels, so that little is found of a square whose cells were set otherwise.
+///
+/// It is done in numbers of 32 bits where cells of a row differ by less than 2^30, or 2^28 where
+/// cells are absent, and again in 64 where that came to nothing.
 pub fn tight_duals(alloc: Global, square: &Square<u64>) -> Result<Option<Duals>, NoMemory>
     ensures { IfOk result (λ found. IfSome found (AreTight square.now)) }
 {
-    let ranges = ranges_of(alloc, square)?;
-    if let Some(duals) = attempt_narrow(alloc, square, &ranges)? {
-        return Ok(Some(duals));
+    let classes = classes_of(alloc, square)?;
+    if let Some(arcs) = arcs_of(alloc, square, &classes)? {
+        return tight_by_arcs(alloc, square, &classes, &arcs);
     }
-    let absent = absent_cell(&ranges);
-    if is_narrow(&ranges) && absent <= ABSENT {
-        return Ok(None);
+    if classes.are_fewer(square.side() as usize) {
+        return tight_by_class(alloc, square, &classes);
     }
-    let leasts = ranges.leasts.as_slice();
-    let table: Table<i64> = table_of(alloc, square, leasts, absent.min(WIDE_ABSENT))?;
-    attempt(alloc, square, table, leasts)
+    tight_by_cell(alloc, square)
 }

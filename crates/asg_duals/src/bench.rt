@@ -3,9 +3,9 @@
 ghost use Rattle.std.specs.Prelude.{◌≡◌, length};
 
 use crate::NoMemory;
-use crate::numbers::Number;
+use crate::numbers::{Number, set};
 use crate::places::{NONE, at, mark, name, put};
-use crate::tables::Table;
+use crate::tables::{Table, padded};
 use std::alloc::Global;
 
 // The columns of rows so far, the dual variables of columns, and room for searches.
@@ -17,8 +17,11 @@ pub(crate) struct Bench<N: Number> {
     pub row_of: Vec<u32>,
     // A bit for each column that no row has.
     pub free: Vec<u64>,
-    // Of each column the shortest distance so far, and the row that it is reached from.
+    // Of each column the shortest distance so far, alone and with its dual variable, and the row
+    // that it is reached from; of each sixteen of columns the least distance, less one.
     pub keys: Vec<N>,
+    pub limits: Vec<N>,
+    pub blocks: Vec<N>,
     pub came: Vec<u32>,
     // The columns that are done in order, and the distance of each column that is.
     pub done: Vec<u32>,
@@ -41,6 +44,8 @@ impl<N: Number> Bench<N> {
             row_of: vec![in alloc; NONE; wide]?,
             free: vec![in alloc; 0; wide / 64 + 1]?,
             keys: vec![in alloc; N::zero(); wide]?,
+            limits: vec![in alloc; N::zero(); wide]?,
+            blocks: vec![in alloc; N::greatest(); padded(wide / 16)]?,
             came: vec![in alloc; 0; wide]?,
             done: vec![in alloc; 0; wide]?,
             reached: vec![in alloc; N::zero(); wide]?,
@@ -50,13 +55,16 @@ impl<N: Number> Bench<N> {
         })
     }
 
-    // Takes all columns from all rows.
+    // Takes all columns from all rows, and out of all searches.
     pub(crate) fn release(&mut self, side: usize) {
         for row in 0..self.column_of.len() {
             put(self.column_of.as_mut_slice(), row, NONE);
         }
         for column in 0..self.row_of.len() {
             put(self.row_of.as_mut_slice(), column, NONE);
+        }
+        for number in 0..self.blocks.len() {
+            set(self.blocks.as_mut_slice(), number, N::greatest());
         }
         for column in 0..side {
             mark(self.free.as_mut_slice(), column, true);
@@ -71,10 +79,10 @@ impl<N: Number> Bench<N> {
         mark(self.free.as_mut_slice(), column as usize, false);
     }
 
-    // Lists the rows that have no column as waiting, and tells how many there are.
-    pub(crate) fn list_waiting(&mut self) -> usize {
+    // Lists those of the first rows that have no column as waiting, and tells how many there are.
+    pub(crate) fn list_waiting(&mut self, rows: usize) -> usize {
         let mut count = 0;
-        for row in 0..self.column_of.len() {
+        for row in 0..rows.min(self.column_of.len()) {
             if at(self.column_of.as_slice(), row) == NONE {
                 put(self.waiting.as_mut_slice(), count, name(row));
                 count = count.saturating_add(1);

@@ -3,29 +3,52 @@
 ghost use Rattle.std.specs.Prelude.{◌≡◌, length};
 
 use crate::numbers::{Number, Two};
-use crate::places::sixteen;
+use crate::places::{name, sixteen};
 use std::simd::prelude::*;
 
-// The least of all lanes and the next, with the place of the first.
+// The two least of those so far and of sixteen values, the first of which is at a place.
 #[inline]
-fn two_of(leasts: i32x16, nexts: i32x16, places: u32x16) -> Two<i32> {
-    let leasts = leasts.to_array();
-    let nexts = nexts.to_array();
-    let places = places.to_array();
-    let mut two = Two {
-        least: i32::MAX,
-        next: i32::MAX,
-        place: 0,
-    };
+fn with_sixteen(two: Two<i32>, values: i32x16, first: usize) -> Two<i32> {
+    let values = values.to_array();
+    let mut two = two;
     for lane in 0..16usize {
-        let value = leasts[lane];
-        two.next = two.next.min(value.max(two.least)).min(nexts[lane]);
+        let value = values[lane];
         if value < two.least {
-            two.place = places[lane];
+            two.next = two.least;
             two.least = value;
+            two.place = name(first.wrapping_add(lane));
+        } else if value < two.next {
+            two.next = value;
         }
     }
     two
+}
+
+// The least of sixteen keys, less one; keys that are done count as the greatest.
+#[inline]
+fn least_of(keys: i32x16) -> i32 {
+    (keys - i32x16::splat(1)).reduce_min()
+}
+
+// A bit for each column of a sixteen that has a key, the first one's lowest.
+#[inline]
+fn equal_bits(keys: &[i32], number: usize, key: i32) -> u64 {
+    let first = number.saturating_mul(16);
+    if first < keys.len() && keys.len() - first >= 16 {
+        i32x16::from_slice(&keys[first..])
+            .simd_eq(i32x16::splat(key))
+            .to_bitmask()
+    } else {
+        0
+    }
+}
+
+// The column of the lowest of a sixteen's bits.
+#[inline]
+fn place_of(number: usize, bits: u64) -> usize {
+    number
+        .saturating_mul(16)
+        .saturating_add(bits.trailing_zeros() as usize)
 }
 
 impl Number for i32 {
@@ -86,12 +109,40 @@ impl Number for i32 {
             let first = 16 * number;
             let values = i32x16::from_slice(&row[first..]) - bases;
             let was = i32x16::from_slice(&leasts[first..]);
-            let who = u32x16::from_slice(&rows[first..]);
-            values.simd_min(was).copy_to_slice(&mut leasts[first..]);
-            values
-                .simd_lt(was)
-                .select(froms, who)
-                .copy_to_slice(&mut rows[first..]);
+            let is = values.simd_lt(was);
+            if is.to_bitmask() != 0 {
+                let who = u32x16::from_slice(&rows[first..]);
+                values.simd_min(was).copy_to_slice(&mut leasts[first..]);
+                is.select(froms, who).copy_to_slice(&mut rows[first..]);
+            }
+        }
+    }
+
+    fn open(
+        row: &[i32],
+        duals: &[i32],
+        keys: &mut [i32],
+        limits: &mut [i32],
+        blocks: &mut [i32],
+        came: &mut [u32],
+        wide: usize,
+        from: u32,
+    ) {
+        if row.len() < wide || duals.len() < wide || keys.len() < wide {
+            return;
+        }
+        if limits.len() < wide || came.len() < wide || blocks.len() < wide / 16 {
+            return;
+        }
+        let froms = u32x16::splat(from);
+        for number in 0..wide / 16 {
+            let first = 16 * number;
+            let reached = i32x16::from_slice(&row[first..]);
+            let key = reached - i32x16::from_slice(&duals[first..]);
+            reached.copy_to_slice(&mut limits[first..]);
+            key.copy_to_slice(&mut keys[first..]);
+            froms.copy_to_slice(&mut came[first..]);
+            blocks[number] = least_of(key);
         }
     }
 
@@ -99,55 +150,82 @@ impl Number for i32 {
         row: &[i32],
         duals: &[i32],
         keys: &mut [i32],
+        limits: &mut [i32],
+        blocks: &mut [i32],
         came: &mut [u32],
         wide: usize,
         base: i32,
         from: u32,
-    ) -> i32 {
-        if row.len() < wide || duals.len() < wide || keys.len() < wide || came.len() < wide {
-            return i32::MAX;
+    ) {
+        if row.len() < wide || duals.len() < wide || keys.len() < wide {
+            return;
+        }
+        if limits.len() < wide || came.len() < wide || blocks.len() < wide / 16 {
+            return;
         }
         let bases = i32x16::splat(base);
         let froms = u32x16::splat(from);
-        let one = i32x16::splat(1);
-        let mut least = i32x16::splat(i32::MAX);
         for number in 0..wide / 16 {
             let first = 16 * number;
-            let values = i32x16::from_slice(&row[first..]);
-            let reached = values - i32x16::from_slice(&duals[first..]) - bases;
-            let key = i32x16::from_slice(&keys[first..]);
-            let now = reached.simd_min(key);
-            now.copy_to_slice(&mut keys[first..]);
-            let was = u32x16::from_slice(&came[first..]);
-            let is = reached.simd_lt(key).select(froms, was);
-            is.copy_to_slice(&mut came[first..]);
-            least = least.simd_min(now - one);
+            let reached = i32x16::from_slice(&row[first..]) - bases;
+            let limit = i32x16::from_slice(&limits[first..]);
+            let is = reached.simd_lt(limit);
+            if is.to_bitmask() != 0 {
+                let was = i32x16::from_slice(&keys[first..]);
+                let key = is.select(reached - i32x16::from_slice(&duals[first..]), was);
+                let who = u32x16::from_slice(&came[first..]);
+                reached.simd_min(limit).copy_to_slice(&mut limits[first..]);
+                key.copy_to_slice(&mut keys[first..]);
+                is.select(froms, who).copy_to_slice(&mut came[first..]);
+                blocks[number] = least_of(key);
+            }
+        }
+    }
+
+    fn block(keys: &[i32], number: usize) -> i32 {
+        let first = number.saturating_mul(16);
+        if first < keys.len() && keys.len() - first >= 16 {
+            least_of(i32x16::from_slice(&keys[first..]))
+        } else {
+            i32::MAX
+        }
+    }
+
+    fn least(blocks: &[i32]) -> i32 {
+        let mut least = i32x16::splat(i32::MAX);
+        for number in 0..blocks.len() / 16 {
+            least = least.simd_min(i32x16::from_slice(&blocks[16 * number..]));
         }
         least.reduce_min()
     }
 
-    fn find(keys: &[i32], free: &[u64], key: i32, wide: usize, from: usize) -> usize {
-        let groups = wide.min(keys.len()) / 16;
-        let start = (from / 16).min(groups);
-        let wanted = i32x16::splat(key);
-        let mut found = wide;
+    fn find(keys: &[i32], blocks: &[i32], free: &[u64], key: i32, from: usize) -> usize {
+        let groups = blocks.len() / 16;
+        let start = (from / 256).min(groups);
+        let block = i32x16::splat(key.wrapping_sub(1));
+        let mut found = keys.len();
         for k in 0..groups {
-            let number = if k < groups - start {
+            let group = if k < groups - start {
                 start + k
             } else {
                 k - (groups - start)
             };
-            let first = 16 * number;
-            let bits = i32x16::from_slice(&keys[first..])
-                .simd_eq(wanted)
+            let mut rest = i32x16::from_slice(&blocks[16 * group..])
+                .simd_eq(block)
                 .to_bitmask();
-            if bits != 0 {
+            for _ in 0..16 {
+                if rest == 0 {
+                    break;
+                }
+                let number = (16 * group).wrapping_add(rest.trailing_zeros() as usize);
+                rest &= rest.wrapping_sub(1);
+                let bits = equal_bits(keys, number, key);
                 let open = sixteen(free, number) & bits;
                 if open != 0 {
-                    return first + open.trailing_zeros() as usize;
+                    return place_of(number, open);
                 }
-                if found == wide {
-                    found = first + bits.trailing_zeros() as usize;
+                if found == keys.len() && bits != 0 {
+                    found = place_of(number, bits);
                 }
             }
         }
@@ -156,20 +234,19 @@ impl Number for i32 {
 
     fn two_least(row: &[i32], duals: &[i32], wide: usize) -> Two<i32> {
         let groups = wide.min(row.len()).min(duals.len()) / 16;
-        let mut least = i32x16::splat(i32::MAX);
-        let mut next = least;
-        let mut places = u32x16::splat(0);
-        let mut now = u32x16::from_array([0, 1, 2, 3, 4, 5, 6, 7, 8, 9, 10, 11, 12, 13, 14, 15]);
-        let step = u32x16::splat(16);
+        let mut two = Two {
+            least: i32::MAX,
+            next: i32::MAX,
+            place: 0,
+        };
         for number in 0..groups {
             let first = 16 * number;
             let values = i32x16::from_slice(&row[first..]) - i32x16::from_slice(&duals[first..]);
-            places = values.simd_lt(least).select(now, places);
-            next = next.simd_min(values.simd_max(least));
-            least = least.simd_min(values);
-            now += step;
+            if values.simd_lt(i32x16::splat(two.next)).to_bitmask() != 0 {
+                two = with_sixteen(two, values, first);
+            }
         }
-        two_of(least, next, places)
+        two
     }
 
     fn find_tie(

@@ -46,23 +46,50 @@ pub(crate) trait Number: Copy {
         ensures leasts { length leasts.new ≡ length leasts.old }
         ensures rows { length rows.new ≡ length rows.old };
 
-    // Lessens each open column's key to what this row reaches, and tells the least of all open
-    // keys, less one. Columns that are done have the least number as their key.
+    // Opens each column at what this row reaches, and notes the row: `limits` are its numbers,
+    // `keys` these less those of the columns, and `blocks` the least key of each sixteen, less one.
+    fn open(
+        row: &[Self],
+        duals: &[Self],
+        keys: &mut [Self],
+        limits: &mut [Self],
+        blocks: &mut [Self],
+        came: &mut [u32],
+        wide: usize,
+        from: u32,
+    )
+        ensures keys { length keys.new ≡ length keys.old }
+        ensures limits { length limits.new ≡ length limits.old }
+        ensures blocks { length blocks.new ≡ length blocks.old }
+        ensures came { length came.new ≡ length came.old };
+
+    // Lessens each open column's key to what this row, with so much less, reaches. Columns that are
+    // done have the least number as their key and their limit.
     fn relax(
         row: &[Self],
         duals: &[Self],
         keys: &mut [Self],
+        limits: &mut [Self],
+        blocks: &mut [Self],
         came: &mut [u32],
         wide: usize,
         base: Self,
         from: u32,
-    ) -> Self
+    )
         ensures keys { length keys.new ≡ length keys.old }
+        ensures limits { length limits.new ≡ length limits.old }
+        ensures blocks { length blocks.new ≡ length blocks.old }
         ensures came { length came.new ≡ length came.old };
 
-    // The first free column with this key, else the first column with it, else a place past all:
-    // from the sixteen of a place on, and then from the start.
-    fn find(keys: &[Self], free: &[u64], key: Self, wide: usize, from: usize) -> usize;
+    // The least key of a sixteen, less one; keys that are done count as the greatest.
+    fn block(keys: &[Self], number: usize) -> Self;
+
+    // The least of the blocks.
+    fn least(blocks: &[Self]) -> Self;
+
+    // The first free column with this key, which is that of a block, else the first column with it,
+    // else a place past all: from near a place on, and then from the start.
+    fn find(keys: &[Self], blocks: &[Self], free: &[u64], key: Self, from: usize) -> usize;
 
     // The least of the row's numbers less those of the columns, and the next.
     fn two_least(row: &[Self], duals: &[Self], wide: usize) -> Two<Self>;

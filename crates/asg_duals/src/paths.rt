@@ -13,78 +13,98 @@ struct Reach<N: Number> {
     count: usize,
 }
 
-// Opens the first columns to a search; those behind them, in the last sixteen, count as done.
-fn open<N: Number>(bench: &mut Bench<N>, side: usize, wide: usize) {
-    for column in 0..side {
-        set(bench.keys.as_mut_slice(), column, N::greatest());
-    }
+// Takes a column out of a search.
+pub(crate) fn close<N: Number>(bench: &mut Bench<N>, column: usize) {
+    set(bench.keys.as_mut_slice(), column, N::done());
+    set(bench.limits.as_mut_slice(), column, N::done());
+    let block = N::block(bench.keys.as_slice(), column / 16);
+    set(bench.blocks.as_mut_slice(), column / 16, block);
+}
+
+// Opens the first columns to a search from a row; those behind them, in the last sixteen, count as
+// done.
+pub(crate) fn open<N: Number>(
+    bench: &mut Bench<N>,
+    table: &Table<N>,
+    side: usize,
+    wide: usize,
+    root: u32,
+) {
+    N::open(
+        table.row(root),
+        bench.duals.as_slice(),
+        bench.keys.as_mut_slice(),
+        bench.limits.as_mut_slice(),
+        bench.blocks.as_mut_slice(),
+        bench.came.as_mut_slice(),
+        wide,
+        root,
+    );
     for column in side..wide {
-        set(bench.keys.as_mut_slice(), column, N::done());
+        close(bench, column);
     }
 }
 
-// Takes a column as done, at its distance. By how much more than the distance the cells of its row
-// are.
+// Takes a column as done, at its distance, and goes on to what its row reaches.
 fn settle<N: Number>(
     bench: &mut Bench<N>,
     table: &Table<N>,
     column: usize,
     row: u32,
     distance: N,
-    count: usize,
-) -> N {
+    wide: usize,
+) {
     set(bench.reached.as_mut_slice(), column, distance);
-    set(bench.keys.as_mut_slice(), column, N::done());
-    put(bench.done.as_mut_slice(), count, name(column));
+    close(bench, column);
+    let numbers = table.row(row);
     let dual = value(bench.duals.as_slice(), column);
-    value(table.row(row), column).minus(dual).minus(distance)
+    N::relax(
+        numbers,
+        bench.duals.as_slice(),
+        bench.keys.as_mut_slice(),
+        bench.limits.as_mut_slice(),
+        bench.blocks.as_mut_slice(),
+        bench.came.as_mut_slice(),
+        wide,
+        value(numbers, column).minus(dual).minus(distance),
+        row,
+    );
+    bench.scans = bench.scans.wrapping_add(1);
 }
 
 // Grows a tree of shortest paths from a row to a free one of the first columns. Of columns that are
 // equally near a free one comes first, then those behind the column that was done last.
 fn search<N: Number>(bench: &mut Bench<N>, table: &Table<N>, side: usize, root: u32) -> Reach<N> {
     let wide = padded(side).min(table.wide);
-    open(bench, side, wide);
-    let mut row = root;
-    let mut base = N::zero();
-    let mut count = 0;
+    open(bench, table, side, wide, root);
     let mut from = root as usize;
-    for _ in 0..side {
-        let least = N::relax(
-            table.row(row),
-            bench.duals.as_slice(),
-            bench.keys.as_mut_slice(),
-            bench.came.as_mut_slice(),
-            wide,
-            base,
-            row,
-        );
-        bench.scans = bench.scans.wrapping_add(1);
+    for count in 0..side {
+        let least = N::least(bench.blocks.as_slice());
         let distance = least.plus(N::of(1));
         let column = N::find(
             bench.keys.as_slice(),
+            bench.blocks.as_slice(),
             bench.free.as_slice(),
             distance,
-            wide,
             from,
         );
-        let end = if column < side { name(column) } else { NONE };
-        row = at(bench.row_of.as_slice(), column);
+        let row = at(bench.row_of.as_slice(), column);
         if row == NONE {
+            let end = if column < side { name(column) } else { NONE };
             return Reach {
                 end,
                 distance,
                 count,
             };
         }
-        base = settle(bench, table, column, row, distance, count);
-        count = count.saturating_add(1);
+        put(bench.done.as_mut_slice(), count, name(column));
+        settle(bench, table, column, row, distance, wide);
         from = column.saturating_add(16);
     }
     Reach {
         end: NONE,
-        distance: base,
-        count,
+        distance: N::zero(),
+        count: 0,
     }
 }
 

@@ -6,13 +6,13 @@ use crate::coarse_to_fine::refine;
 use crate::numbers::Number;
 use crate::paths::augment;
 use crate::places::at;
-use crate::starts::start;
+use crate::starts::{start, start_few};
 use crate::tables::Table;
 use std::alloc::Global;
 
 // How many rows the paths of all rows may go through for each row, before the table is solved from
 // coarse to fine.
-const MOST_SCANS: u64 = 16;
+const MOST_SCANS: u64 = 48;
 
 // Gives each row a column, and columns dual variables. Where the starts leave more than half of the
 // rows free, or paths go through many rows, it begins anew, from coarse to fine. Whether each row
@@ -36,4 +36,17 @@ pub(crate) fn solve<N: Number>(
         }
     }
     Ok(true)
+}
+
+// Gives each of so many rows one of the columns, of which there are no fewer, and columns dual
+// variables, which are 0 at those that no row has. Whether each row has a column.
+pub(crate) fn solve_few<N: Number>(bench: &mut Bench<N>, table: &Table<N>, rows: usize) -> bool {
+    let count = start_few(bench, table, rows);
+    for place in 0..count.min(rows) {
+        let root = at(bench.waiting.as_slice(), place);
+        if !augment(bench, table, table.side, root) {
+            return false;
+        }
+    }
+    true
 }

@@ -10,16 +10,19 @@ use crate::tables::{Table, padded};
 use asg_square::Square;
 use std::alloc::Global;
 
+// The greatest width of all cells for the least of all to be taken away from each row.
+const MOST_WIDTH: u64 = 1 << 28;
+
 // The least and the greatest of some cells, and whether none is absent.
 #[derive(Clone, Copy)]
-struct Range {
-    least: u64,
-    greatest: u64,
-    is_whole: bool,
+pub(crate) struct Range {
+    pub least: u64,
+    pub greatest: u64,
+    pub is_whole: bool,
 }
 
-// The rows of a square: the least cell of each, by how much the greatest of a row is above it at
-// most, and whether no cell is absent.
+// The rows of a square: what is taken away from each, by how much a cell is above that at most, and
+// whether no cell is absent. It is the least cell of all, or that of each row.
 #[derive(Drop)]
 pub(crate) struct Ranges {
     pub leasts: Vec<u64>,
@@ -54,7 +57,7 @@ fn with_word(range: Range, values: &[u64], number: usize, word: u64) -> Range {
 }
 
 // The range of the present cells of a row.
-fn row_range(values: &[u64], words: &[u64]) -> Range {
+pub(crate) fn row_range(values: &[u64], words: &[u64]) -> Range {
     let mut range = Range {
         least: u64::MAX,
         greatest: 0,
@@ -66,28 +69,77 @@ fn row_range(values: &[u64], words: &[u64]) -> Range {
     range
 }
 
+// The ranges of rows so far.
+#[derive(Clone, Copy)]
+pub(crate) struct Spread {
+    pub lowest: u64,
+    pub highest: u64,
+    pub widest: u64,
+    pub is_whole: bool,
+}
+
+impl Spread {
+    // Of no rows.
+    pub(crate) fn none() -> Spread {
+        Spread {
+            lowest: u64::MAX,
+            highest: 0,
+            widest: 0,
+            is_whole: true,
+        }
+    }
+
+    // The same with a row more.
+    pub(crate) fn with(self, range: Range) -> Spread {
+        let widest = range.greatest.saturating_sub(range.least);
+        Spread {
+            lowest: self.lowest.min(range.least),
+            highest: self.highest.max(range.greatest),
+            widest: self.widest.max(widest),
+            is_whole: self.is_whole && range.is_whole,
+        }
+    }
+
+    // By how much the greatest cell is above the least.
+    pub(crate) fn width(self) -> u64 {
+        self.highest.saturating_sub(self.lowest)
+    }
+}
+
+// The ranges of rows with these least cells: the least of all is taken away from each row where all
+// rows are to have one, or where numbers of 32 bits serve so.
+pub(crate) fn ranges_by(leasts: Vec<u64>, spread: Spread, is_one: bool) -> Ranges {
+    let mut leasts = leasts;
+    let mut widest = spread.widest;
+    if is_one || spread.width() < MOST_WIDTH {
+        widest = spread.width();
+        for row in 0..leasts.len() {
+            put_amount(leasts.as_mut_slice(), row, spread.lowest);
+        }
+    }
+    Ranges {
+        leasts,
+        widest,
+        is_whole: spread.is_whole,
+    }
+}
+
 // The ranges of all rows. The error is want of memory.
 pub(crate) fn ranges_of(alloc: Global, square: &Square<u64>) -> Result<Ranges, NoMemory> {
     let side = square.side();
     let mut leasts = vec![in alloc; 0; side as usize]?;
-    let mut widest = 0u64;
-    let mut is_whole = true;
+    let mut spread = Spread::none();
     for row in 0..side {
         let range = row_range(square.row_values(row), square.row_words(row));
         put_amount(leasts.as_mut_slice(), row as usize, range.least);
-        widest = widest.max(range.greatest.saturating_sub(range.least));
-        is_whole = is_whole && range.is_whole;
+        spread = spread.with(range);
     }
-    Ok(Ranges {
-        leasts,
-        widest,
-        is_whole,
-    })
+    Ok(ranges_by(leasts, spread, false))
 }
 
 // Writes the cells of a word with so much less, and this number for those that are absent.
 #[inline]
-fn put_word<N: Number>(
+pub(crate) fn put_word<N: Number>(
     cells: &mut [N],
     values: &[u64],
     number: usize,
@@ -118,8 +170,8 @@ fn put_word<N: Number>(
     }
 }
 
-// The table of a square: each cell is the row's least less, and an absent one is this number. The
-// error is want of memory.
+// The table of a square: each cell is what is taken away from its row less, and an absent one is
+// this number. The error is want of memory.
 pub(crate) fn table_of<N: Number>(
     alloc: Global,
     square: &Square<u64>,

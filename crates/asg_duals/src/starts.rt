@@ -74,7 +74,7 @@ fn transfer<N: Number>(bench: &mut Bench<N>, table: &Table<N>) -> usize {
 
 // What became of a waiting row.
 #[derive(Clone, Copy)]
-enum Served {
+pub(crate) enum Served {
     // It has a column, and no other row lost it.
     Alone,
     // It has a column at once at less than the next, and this row lost it.
@@ -171,5 +171,19 @@ pub(crate) fn start<N: Number>(bench: &mut Bench<N>, table: &Table<N>) -> usize 
     for _ in 0..2 {
         count = reduce_rows(bench, table, count);
     }
-    bench.list_waiting()
+    bench.list_waiting(table.side)
+}
+
+// The same for a table of so many rows, no more than columns: dual variables are 0 first, and stay
+// so at the columns that no row has.
+pub(crate) fn start_few<N: Number>(bench: &mut Bench<N>, table: &Table<N>, rows: usize) -> usize {
+    bench.release(table.side);
+    for row in 0..rows {
+        put(bench.waiting.as_mut_slice(), row, name(row));
+    }
+    let mut count = rows;
+    for _ in 0..2 {
+        count = reduce_rows(bench, table, count);
+    }
+    bench.list_waiting(rows)
 }

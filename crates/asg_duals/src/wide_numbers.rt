@@ -72,36 +72,85 @@ impl Number for i64 {
         }
     }
 
+    fn open(
+        row: &[i64],
+        duals: &[i64],
+        keys: &mut [i64],
+        limits: &mut [i64],
+        blocks: &mut [i64],
+        came: &mut [u32],
+        wide: usize,
+        from: u32,
+    ) {
+        if row.len() < wide || duals.len() < wide || keys.len() < wide {
+            return;
+        }
+        if limits.len() < wide || came.len() < wide || blocks.len() < wide / 16 {
+            return;
+        }
+        for column in 0..wide {
+            limits[column] = row[column];
+            keys[column] = row[column].wrapping_sub(duals[column]);
+            came[column] = from;
+        }
+        for number in 0..wide / 16 {
+            blocks[number] = i64::block(keys, number);
+        }
+    }
+
     fn relax(
         row: &[i64],
         duals: &[i64],
         keys: &mut [i64],
+        limits: &mut [i64],
+        blocks: &mut [i64],
         came: &mut [u32],
         wide: usize,
         base: i64,
         from: u32,
-    ) -> i64 {
-        if row.len() < wide || duals.len() < wide || keys.len() < wide || came.len() < wide {
-            return i64::MAX;
+    ) {
+        if row.len() < wide || duals.len() < wide || keys.len() < wide {
+            return;
         }
-        let mut least = i64::MAX;
+        if limits.len() < wide || came.len() < wide || blocks.len() < wide / 16 {
+            return;
+        }
         for column in 0..wide {
-            let reached = row[column].wrapping_sub(duals[column]).wrapping_sub(base);
-            let mut key = keys[column];
-            if reached < key {
-                key = reached;
-                keys[column] = reached;
+            let reached = row[column].wrapping_sub(base);
+            if reached < limits[column] {
+                limits[column] = reached;
+                keys[column] = reached.wrapping_sub(duals[column]);
                 came[column] = from;
+                let number = column / 16;
+                if number < blocks.len() {
+                    blocks[number] = blocks[number].min(keys[column].wrapping_sub(1));
+                }
             }
-            least = least.min(key.wrapping_sub(1));
+        }
+    }
+
+    fn block(keys: &[i64], number: usize) -> i64 {
+        let first = number.saturating_mul(16);
+        let end = first.saturating_add(16).min(keys.len());
+        let mut least = i64::MAX;
+        for column in first..end {
+            least = least.min(keys[column].wrapping_sub(1));
         }
         least
     }
 
-    fn find(keys: &[i64], free: &[u64], key: i64, wide: usize, from: usize) -> usize {
-        let count = wide.min(keys.len());
+    fn least(blocks: &[i64]) -> i64 {
+        let mut least = i64::MAX;
+        for number in 0..blocks.len() {
+            least = least.min(blocks[number]);
+        }
+        least
+    }
+
+    fn find(keys: &[i64], blocks: &[i64], free: &[u64], key: i64, from: usize) -> usize {
+        let count = keys.len().min(16 * (blocks.len() % (1 << 32)));
         let start = from.min(count);
-        let mut found = wide;
+        let mut found = keys.len();
         for k in 0..count {
             let column = if k < count - start {
                 start + k
@@ -112,7 +161,7 @@ impl Number for i64 {
                 if is_free(free, column) {
                     return column;
                 }
-                if found == wide {
+                if found == keys.len() {
                     found = column;
                 }
             }

@@ -1,0 +1,113 @@
+//! The present cells of few-celled squares, row by row.
+
+use crate::NoMemory;
+use crate::classes::Classes;
+use crate::places::{amount, at, name};
+use asg_square::Square;
+use std::alloc::Global;
+
+// Of so many cells of the counted rows at most one is present, for lists of arcs to serve.
+const SPARSE: usize = 8;
+
+// The present cells of counted rows: the place of the first one of each row, and behind the last
+// row the number of all; of each its column and its value.
+#[derive(Drop)]
+pub(crate) struct Arcs {
+    pub starts: Vec<u32>,
+    pub columns: Vec<u32>,
+    pub cells: Vec<i64>,
+}
+
+impl Arcs {
+    // The places of a row's arcs: the first, and that behind the last.
+    #[inline]
+    pub(crate) fn of_row(&self, row: u32) -> (usize, usize) {
+        let first = at(self.starts.as_slice(), row as usize) as usize;
+        let end = at(self.starts.as_slice(), (row as usize).wrapping_add(1)) as usize;
+        (first, end.min(self.columns.len()))
+    }
+
+    // The value of an arc.
+    #[inline]
+    pub(crate) fn cell(&self, arc: usize) -> i64 {
+        if arc < self.cells.len() {
+            self.cells[arc]
+        } else {
+            0
+        }
+    }
+}
+
+// How many cells of a row are present.
+fn count_row(square: &Square<u64>, row: u32) -> usize {
+    if row >= square.side() {
+        return 0;
+    }
+    let mut count = 0usize;
+    for word in square.row_words(row) {
+        count = count.saturating_add(word.count_ones() as usize);
+    }
+    count
+}
+
+// How many cells of the counted rows are present.
+fn count_all(square: &Square<u64>, rows: &[u32]) -> usize {
+    let mut count = 0usize;
+    for row in rows {
+        count = count.saturating_add(count_row(square, *row));
+    }
+    count
+}
+
+// Lists the present cells of a row.
+fn list_row(arcs: &mut Arcs, square: &Square<u64>, row: u32) -> Result<(), NoMemory> {
+    if row >= square.side() {
+        return Ok(());
+    }
+    let values = square.row_values(row);
+    let words = square.row_words(row);
+    for number in 0..words.len() {
+        let mut rest = words[number];
+        for _ in 0..64 {
+            if rest == 0 {
+                break;
+            }
+            let column = number
+                .wrapping_mul(64)
+                .wrapping_add(rest.trailing_zeros() as usize);
+            arcs.columns.push(name(column))?;
+            arcs.cells
+                .push((amount(values, column) % (1 << 62)) as i64)?;
+            rest &= rest.wrapping_sub(1);
+        }
+    }
+    Ok(())
+}
+
+// The present cells of the counted rows, where they are few and each column is a class of its own;
+// `None` otherwise. The error is want of memory.
+pub(crate) fn arcs_of(
+    alloc: Global,
+    square: &Square<u64>,
+    classes: &Classes,
+) -> Result<Option<Arcs>, NoMemory> {
+    if !classes.is_plain || classes.outside > 0 {
+        return Ok(None);
+    }
+    let rows = classes.rows.len();
+    let count = count_all(square, classes.rows.as_slice());
+    if count > rows.saturating_mul(classes.firsts.len()) / SPARSE {
+        return Ok(None);
+    }
+    let mut arcs = Arcs {
+        starts: Vec::with_capacity(alloc, rows.saturating_add(1))?,
+        columns: Vec::with_capacity(alloc, count)?,
+        cells: Vec::with_capacity(alloc, count)?,
+    };
+    for place in 0..rows {
+        arcs.starts.push(name(arcs.columns.len()))?;
+        list_row(&mut arcs, square, classes.rows[place])?;
+    }
+    arcs.starts.push(name(arcs.columns.len()))?;
+    Ok(Some(arcs))
+}

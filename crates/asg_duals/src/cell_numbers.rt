@@ -1,0 +1,92 @@
+//! The cells of squares, read as numbers.
+
+use crate::NoMemory;
+use crate::readings::{NO_NUMBER, Reading};
+use asg_square::Square;
+use std::alloc::Global;
+
+// The numbers of the cells of a square, row by row.
+#[derive(Drop)]
+pub(crate) struct Numbers {
+    pub side: u32,
+    pub cells: Vec<u64>,
+}
+
+impl Numbers {
+    // The numbers of a row, nothing where there is no such row.
+    #[inline]
+    pub(crate) fn row(&self, row: u32) -> &[u64] {
+        let side = self.side as usize;
+        let first = (row as usize).wrapping_mul(side);
+        let end = first.wrapping_add(side);
+        if first <= end && end <= self.cells.len() {
+            &self.cells[first..end]
+        } else {
+            &[]
+        }
+    }
+}
+
+// Reads the cells of a word of a row.
+#[inline]
+fn read_word<R: Reading>(
+    reading: &R,
+    row: u32,
+    values: &[R::Cell],
+    number: usize,
+    word: u64,
+    numbers: &mut [u64],
+) {
+    let first = number.saturating_mul(64);
+    let end = first
+        .saturating_add(64)
+        .min(values.len())
+        .min(numbers.len());
+    let mut rest = word;
+    for column in first..end {
+        let is_present = rest & 1 == 1;
+        let read = if is_present {
+            reading.read(row, column, values[column])
+        } else {
+            NO_NUMBER
+        };
+        numbers[column] = read;
+        rest >>= 1;
+    }
+}
+
+// Reads the cells of a row.
+fn read_row<R: Reading>(
+    reading: &R,
+    row: u32,
+    values: &[R::Cell],
+    words: &[u64],
+    numbers: &mut [u64],
+) {
+    for number in 0..words.len() {
+        read_word(reading, row, values, number, words[number], numbers);
+    }
+}
+
+// Reads the cells of a square. The error is want of memory.
+pub(crate) fn numbers_of<R: Reading>(
+    alloc: Global,
+    square: &Square<R::Cell>,
+    reading: &R,
+) -> Result<Numbers, NoMemory> {
+    let side = square.side();
+    let wide = side as usize;
+    let mut cells = Vec::with_capacity(alloc, wide.saturating_mul(wide))?;
+    let mut numbers = vec![in alloc; NO_NUMBER; wide]?;
+    for row in 0..side {
+        read_row(
+            reading,
+            row,
+            square.row_values(row),
+            square.row_words(row),
+            numbers.as_mut_slice(),
+        );
+        cells.extend_from_slice(numbers.as_slice())?;
+    }
+    Ok(Numbers { side, cells })
+}

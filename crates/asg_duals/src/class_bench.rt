@@ -1,0 +1,111 @@
+//! What the solver of classes keeps from row to row, with all its memory.
+
+ghost use Rattle.std.specs.Prelude.{◌≡◌, length};
+
+use crate::NoMemory;
+use crate::classes::Classes;
+use crate::numbers::Number;
+use crate::places::{NONE, at, mark, put};
+use crate::tables::{Table, padded};
+use std::alloc::Global;
+
+// The classes of rows so far, the dual variables of classes, and room for searches.
+#[derive(Drop)]
+pub(crate) struct ClassBench<N: Number> {
+    // The dual variable of each class: a cell is its number less it.
+    pub duals: Vec<N>,
+    pub class_of: Vec<u32>,
+    // The first row of each class, and of each row those before and behind it in its class.
+    pub first_rows: Vec<u32>,
+    pub earlier: Vec<u32>,
+    pub later: Vec<u32>,
+    // How many rows each class has room for, and a bit for each that has room.
+    pub rooms: Vec<u32>,
+    pub free: Vec<u64>,
+    // Of each class the shortest distance so far, alone and with its dual variable, and the row
+    // that it is reached from; of each sixteen of classes the least distance, less one.
+    pub keys: Vec<N>,
+    pub limits: Vec<N>,
+    pub blocks: Vec<N>,
+    pub came: Vec<u32>,
+    // The classes that are done in order, and the distance of each class that is.
+    pub done: Vec<u32>,
+    pub reached: Vec<N>,
+    // Of each class the least number of the rows that have no class, and its row; the dual variable
+    // of these rows.
+    pub leasts: Vec<N>,
+    pub least_rows: Vec<u32>,
+    pub level: N,
+}
+
+impl<N: Number> ClassBench<N> {
+    // A bench over a table; no row has a class. The error is want of memory.
+    pub(crate) fn make(
+        alloc: Global,
+        table: &Table<N>,
+        classes: &Classes,
+    ) -> Result<ClassBench<N>, NoMemory> {
+        let wide = table.wide;
+        let rows = classes.rows.len();
+        let mut free = vec![in alloc; 0; wide / 64 + 1]?;
+        for class in 0..table.side {
+            mark(free.as_mut_slice(), class, true);
+        }
+        Ok(ClassBench {
+            duals: vec![in alloc; N::zero(); wide]?,
+            class_of: vec![in alloc; NONE; rows]?,
+            first_rows: vec![in alloc; NONE; wide]?,
+            earlier: vec![in alloc; NONE; rows]?,
+            later: vec![in alloc; NONE; rows]?,
+            rooms: Vec::from_slice(alloc, classes.rooms.as_slice())?,
+            free,
+            keys: vec![in alloc; N::zero(); wide]?,
+            limits: vec![in alloc; N::zero(); wide]?,
+            blocks: vec![in alloc; N::greatest(); padded(wide / 16)]?,
+            came: vec![in alloc; 0; wide]?,
+            done: vec![in alloc; 0; wide]?,
+            reached: vec![in alloc; N::zero(); wide]?,
+            leasts: vec![in alloc; N::greatest(); wide]?,
+            least_rows: vec![in alloc; NONE; wide]?,
+            level: N::zero(),
+        })
+    }
+
+    // Gives a row that has no class one.
+    pub(crate) fn join(&mut self, row: u32, class: u32) {
+        let first = at(self.first_rows.as_slice(), class as usize);
+        put(self.first_rows.as_mut_slice(), class as usize, row);
+        put(self.earlier.as_mut_slice(), row as usize, NONE);
+        put(self.later.as_mut_slice(), row as usize, first);
+        put(self.earlier.as_mut_slice(), first as usize, row);
+        put(self.class_of.as_mut_slice(), row as usize, class);
+    }
+
+    // Takes its class from a row.
+    pub(crate) fn leave(&mut self, row: u32) {
+        let class = at(self.class_of.as_slice(), row as usize);
+        let earlier = at(self.earlier.as_slice(), row as usize);
+        let later = at(self.later.as_slice(), row as usize);
+        if earlier == NONE {
+            put(self.first_rows.as_mut_slice(), class as usize, later);
+        } else {
+            put(self.later.as_mut_slice(), earlier as usize, later);
+        }
+        put(self.earlier.as_mut_slice(), later as usize, earlier);
+        put(self.class_of.as_mut_slice(), row as usize, NONE);
+    }
+
+    // Whether a class has room.
+    pub(crate) fn has_room(&self, class: usize) -> bool {
+        class < self.rooms.len() && self.rooms[class] > 0
+    }
+
+    // Takes room for one row from a class.
+    pub(crate) fn fill(&mut self, class: u32) {
+        let room = at(self.rooms.as_slice(), class as usize).saturating_sub(1);
+        put(self.rooms.as_mut_slice(), class as usize, room);
+        if room == 0 {
+            mark(self.free.as_mut_slice(), class as usize, false);
+        }
+    }
+}

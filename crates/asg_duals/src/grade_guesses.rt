@@ -1,0 +1,78 @@
+//! Guesses for graded sums, and for maxima.
+
+use crate::NoMemory;
+use crate::cell_numbers::numbers_of;
+use crate::first_bounds::Bound;
+use crate::guesses::Guess;
+use crate::plain_guesses::plain_guess;
+use crate::readings::{AtGrade, Grades, Peaks};
+use crate::retold_phases::append_graded;
+use crate::thresholds::{Threshold, threshold_of};
+use asg_proof::Phase;
+use asg_square::Square;
+use std::alloc::Global;
+
+// The phase of one step, on the rows and columns that show a bound.
+fn bound_phase<V: Copy>(alloc: Global, step: V, bound: &Bound) -> Result<Phase<V>, NoMemory> {
+    let steps = vec![in alloc; step; 1]?;
+    let enters = Vec::from_slice(alloc, bound.enters.as_slice())?;
+    let leaves = Vec::from_slice(alloc, bound.leaves.as_slice())?;
+    Ok(Phase::of(steps, enters, leaves))
+}
+
+// The least grade within which each row has a column of its own, as a bound that shows it. The error
+// is want of memory.
+fn grade_bound(alloc: Global, square: &Square<(u64, u128)>) -> Result<Option<Bound>, NoMemory> {
+    let grades = numbers_of(alloc, square, &Grades)?;
+    let Some(threshold) = threshold_of(alloc, &grades)? else {
+        return Ok(None);
+    };
+    let Threshold { bound, columns } = threshold;
+    drop(columns);
+    Ok(Some(bound))
+}
+
+/// Phases and an assignment of least graded sum; `None` where none is guessed.
+///
+/// The greatest grade of such an assignment is the least one within which each row has a column of
+/// its own. Where it is above 0, a first phase of one step leads to it, on rows that have fewer
+/// columns below it than they are. Then the amounts at this grade are solved, as
+/// [`tight_duals`](crate::tight_duals) solves sums, where a lower grade counts as 0 and a higher
+/// one as absent. The error is want of memory.
+pub fn grade_guess(
+    alloc: Global,
+    square: &Square<(u64, u128)>,
+) -> Result<Option<Guess<(u64, u128)>>, NoMemory> {
+    let Some(bound) = grade_bound(alloc, square)? else {
+        return Ok(None);
+    };
+    let grade = bound.limit;
+    let Some(plain) = plain_guess(alloc, square, &AtGrade { grade })? else {
+        return Ok(None);
+    };
+    let mut phases = Vec::new(alloc);
+    if grade > 0 {
+        let step: (u64, u128) = (grade, 0);
+        phases.push(bound_phase(alloc, step, &bound)?)?;
+    }
+    append_graded(alloc, &mut phases, plain.phases(), grade)?;
+    let columns = Vec::from_slice(alloc, plain.columns())?;
+    Ok(Some(Guess::of(phases, columns)))
+}
+
+/// A phase of one step to the greatest number of an assignment, and an assignment by which it is
+/// least; no phase where it is 0, and `None` where none is guessed. The step is on rows that have
+/// fewer columns below that number than they are. The error is want of memory.
+pub fn peak_guess(alloc: Global, square: &Square<u64>) -> Result<Option<Guess<u64>>, NoMemory> {
+    let peaks = numbers_of(alloc, square, &Peaks)?;
+    let Some(threshold) = threshold_of(alloc, &peaks)? else {
+        return Ok(None);
+    };
+    let peak = threshold.bound.limit;
+    let mut phases = Vec::new(alloc);
+    if peak > 0 {
+        phases.push(bound_phase(alloc, peak, &threshold.bound)?)?;
+    }
+    let columns = Vec::from_slice(alloc, threshold.columns.as_slice())?;
+    Ok(Some(Guess::of(phases, columns)))
+}

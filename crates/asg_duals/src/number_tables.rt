@@ -1,0 +1,43 @@
+//! Tables of the numbers of squares.
+
+use crate::NoMemory;
+use crate::cell_numbers::Numbers;
+use crate::numbers::Number;
+use crate::places::amount;
+use crate::readings::NO_NUMBER;
+use crate::tables::{Table, padded};
+use std::alloc::Global;
+
+// Writes numbers with so much less, and for each that is missing what stands for it.
+#[inline]
+fn write_row<N: Number>(cells: &mut [N], numbers: &[u64], less: u64, missing: u64) {
+    for column in 0..numbers.len().min(cells.len()) {
+        let number = numbers[column];
+        let above = if number == NO_NUMBER {
+            missing
+        } else {
+            number.wrapping_sub(less)
+        };
+        cells[column] = N::of(above);
+    }
+}
+
+// The table of the numbers of a square: each is its row's least less, and so much stands for one
+// that is missing. The error is want of memory.
+pub(crate) fn table_by<N: Number>(
+    alloc: Global,
+    numbers: &Numbers,
+    leasts: &[u64],
+    missing: u64,
+) -> Result<Table<N>, NoMemory> {
+    let side = numbers.side as usize;
+    let wide = padded(side);
+    let mut cells = Vec::with_capacity(alloc, side.saturating_mul(wide))?;
+    let mut line = vec![in alloc; N::greatest(); wide]?;
+    for row in 0..numbers.side {
+        let less = amount(leasts, row as usize);
+        write_row(line.as_mut_slice(), numbers.row(row), less, missing);
+        cells.extend_from_slice(line.as_slice())?;
+    }
+    Ok(Table { side, wide, cells })
+}

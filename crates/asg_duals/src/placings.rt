@@ -1,0 +1,140 @@
+//! Dual variables of squares by those of classes of their columns.
+
+ghost use Rattle.std.specs.Prelude.{◌≡◌, IfOk, IfSome};
+ghost use Rattle.asg_duals.specs.Tight.{AreTight};
+
+use crate::NoMemory;
+use crate::classes::Classes;
+use crate::duals::Duals;
+use crate::numbers::{Number, value};
+use crate::places::{NONE, amount, at, name, put, put_amount};
+use crate::tightness::tested;
+use asg_square::Square;
+use std::alloc::Global;
+
+// The classes of the counted rows with their cells, which are 0 at rows without a class, with the
+// dual variables of classes, and by how much columns that are copies of none may rise.
+#[derive(Clone, Copy)]
+pub(crate) struct Placing<'a, N: Number> {
+    pub class_of: &'a [u32],
+    pub cells: &'a [u64],
+    pub duals: &'a [N],
+    pub outside: u64,
+}
+
+// By how much each column may rise: those of a class by as much as its dual variable is below 0,
+// and those that are copies of none by so much.
+fn rises_of<N: Number>(
+    alloc: Global,
+    side: usize,
+    classes: &Classes,
+    duals: &[N],
+    outside: u64,
+) -> Result<Vec<u64>, NoMemory> {
+    let mut rises = vec![in alloc; outside; side]?;
+    for class in 0..classes.firsts.len() {
+        let first = classes.firsts[class] as usize;
+        let end = first.saturating_add(at(classes.rooms.as_slice(), class) as usize);
+        let dual = value(duals, class).to_wide();
+        let rise = 0i64.wrapping_sub(dual).max(0) as u64;
+        for column in first..end {
+            put_amount(rises.as_mut_slice(), column, rise);
+        }
+    }
+    Ok(rises)
+}
+
+// The first column from one on that no row has.
+fn next_free(row_of: &[u32], from: usize) -> usize {
+    for column in from..row_of.len() {
+        if row_of[column] == NONE {
+            return column;
+        }
+    }
+    row_of.len()
+}
+
+// Gives rows the columns of their classes in order, and all others those that are left. The error
+// is want of memory.
+fn assign(
+    alloc: Global,
+    classes: &Classes,
+    class_of: &[u32],
+    column_of: &mut Vec<u32>,
+    row_of: &mut Vec<u32>,
+) -> Result<(), NoMemory> {
+    let mut nexts = Vec::from_slice(alloc, classes.firsts.as_slice())?;
+    let mut extra = classes.extra;
+    for place in 0..classes.rows.len() {
+        let row = classes.rows[place];
+        let class = at(class_of, place) as usize;
+        let mut column = extra;
+        if class < nexts.len() {
+            column = nexts[class];
+            nexts[class] = column.saturating_add(1);
+        } else {
+            extra = extra.saturating_add(1);
+        }
+        put(column_of.as_mut_slice(), row as usize, column);
+        put(row_of.as_mut_slice(), column as usize, row);
+    }
+    let mut column = 0;
+    for row in 0..column_of.len() {
+        if at(column_of.as_slice(), row) == NONE {
+            column = next_free(row_of.as_slice(), column);
+            put(column_of.as_mut_slice(), row, name(column));
+            put(row_of.as_mut_slice(), column, name(row));
+        }
+    }
+    Ok(())
+}
+
+// By how much each row may fall: a counted one by its cell and what its column may rise by, others
+// not at all.
+fn falls_of(
+    alloc: Global,
+    classes: &Classes,
+    cells: &[u64],
+    rises: &[u64],
+    column_of: &[u32],
+) -> Result<Vec<u64>, NoMemory> {
+    let mut falls = vec![in alloc; 0; column_of.len()]?;
+    for place in 0..classes.rows.len() {
+        let row = classes.rows[place] as usize;
+        let rise = amount(rises, at(column_of, row) as usize);
+        let cell = amount(cells, place);
+        put_amount(falls.as_mut_slice(), row, cell.wrapping_add(rise));
+    }
+    Ok(falls)
+}
+
+// The dual variables of a square by those of its classes, where they are tight.
+pub(crate) fn duals_of<N: Number>(
+    alloc: Global,
+    square: &Square<u64>,
+    classes: &Classes,
+    placing: Placing<'_, N>,
+) -> Result<Option<Duals>, NoMemory>
+    ensures { IfOk result (λ found. IfSome found (AreTight square.now)) }
+{
+    let side = square.side() as usize;
+    let mut column_of = vec![in alloc; NONE; side]?;
+    let mut row_of = vec![in alloc; NONE; side]?;
+    assign(
+        alloc,
+        classes,
+        placing.class_of,
+        &mut column_of,
+        &mut row_of,
+    )?;
+    let rises = rises_of(alloc, side, classes, placing.duals, placing.outside)?;
+    let falls = falls_of(
+        alloc,
+        classes,
+        placing.cells,
+        rises.as_slice(),
+        column_of.as_slice(),
+    )?;
+    let duals = Duals::of(column_of, falls, rises);
+    Ok(tested(square, duals, row_of.as_slice()))
+}

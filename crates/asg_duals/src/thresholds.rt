@@ -1,0 +1,62 @@
+//! The least limit within which each row has a column of its own.
+
+use crate::NoMemory;
+use crate::bench::Bench;
+use crate::cell_numbers::Numbers;
+use crate::extents::extents_of;
+use crate::first_bounds::{Bound, first_bound};
+use crate::limit_paths::{MISSING, lift, pair_at, serve};
+use crate::number_tables::table_by;
+use crate::numbers::Number;
+use crate::places::at;
+use crate::tables::Table;
+use std::alloc::Global;
+
+// The least limit within which there is an assignment, with the marks that show that there is none
+// below it, and the column of each row.
+#[derive(Drop)]
+pub(crate) struct Threshold {
+    pub bound: Bound,
+    pub columns: Vec<u32>,
+}
+
+// Gives each row a column within the least limit, to which the bound rises; whether each has one.
+fn serve_all(bench: &mut Bench<i32>, table: &mut Table<i32>, bound: &mut Bound) -> bool {
+    let limit = i32::of(bound.limit);
+    lift(table, limit);
+    bench.release(table.side);
+    pair_at(bench, table, limit);
+    let count = bench.list_waiting(table.side);
+    for place in 0..count.min(table.side) {
+        let root = at(bench.waiting.as_slice(), place);
+        if !serve(bench, table, bound, root) {
+            return false;
+        }
+    }
+    true
+}
+
+// The least limit within which each row of a square of numbers has a column of its own; `None`
+// where there is none, and where numbers are too great. The error is want of memory.
+//
+// This is the bottleneck assignment problem [Fulkerson, Glicksberg and Gross 1953]. It begins at
+// the greatest of the rows' and the columns' least numbers. Rows get columns by shortest augmenting
+// paths [Jonker and Volgenant 1987] whose length is their greatest number, and the limit rises
+// where a path needs more.
+pub(crate) fn threshold_of(
+    alloc: Global,
+    numbers: &Numbers,
+) -> Result<Option<Threshold>, NoMemory> {
+    let extents = extents_of(alloc, numbers)?;
+    let mut bound = first_bound(alloc, numbers, extents.leasts.as_slice())?;
+    if extents.greatest.max(bound.limit) >= MISSING {
+        return Ok(None);
+    }
+    let mut table: Table<i32> = table_by(alloc, numbers, &[], MISSING)?;
+    let mut bench = Bench::make(alloc, &table)?;
+    if !serve_all(&mut bench, &mut table, &mut bound) {
+        return Ok(None);
+    }
+    let columns = Vec::from_slice(alloc, bench.column_of.as_slice())?;
+    Ok(Some(Threshold { bound, columns }))
+}

@@ -17,7 +17,6 @@ use Rattle.asg_square.specs.CellTable.{AreValuesOf}
 use Rattle.asg_square.specs.Grid.{Grid, cell_at}
 use Rattle.asg_admit.specs.Admission.{AllowsRows, AreCounted, IsPhaseOver, cell_in_row}
 use Rattle.asg_admit.specs.Settled.{step_of, cell_after}
-use Rattle.asg_admit.specs.Settling.{SettlesWaiting}
 use Rattle.asg_admit.specs.laws.SettledCells.{square_after-cell}
 
 pub not_both : (b : Bool) → b ≡ true → b ≡ false → ⊥
@@ -107,17 +106,3 @@ module _ {V : Type 0} (M : Monoid V) (difference : V → V → V) (phase : Phase
 
   pub over_admitted : IsPhaseOver M Q.side phase → AllowsRows M difference phase Q → IsAdmittedPhase M difference Q.side phase (cell_at Q)
   over_admitted over allows = admitted_to over.rows over.columns over.values over.counted allows
-
-  -- what the rows that never enter are settled to doesn't count
-  module _ (R : Grid V) (settles : SettlesWaiting M difference phase Q R) where
-    pub allows_before : AllowsRows M difference phase R → AllowsRows M difference phase Q
-    allows_before allows = λ r hr k hk x is t below entered stays.
-        let enters : slice_index phase.enters r < length phase.steps = omega (arith, below, entered) in
-        allows r (subst (λ n. r < n) (sym settles.labels.side) hr) k (subst (λ n. k < n) (sym settles.labels.side) hk)
-        x (settles.entered r k enters ∙ is) t below entered stays
-
-    pub allows_between : AllowsRows M difference phase Q → AllowsRows M difference phase R
-    allows_between allows = λ r hr k hk x is t below entered stays.
-        let enters : slice_index phase.enters r < length phase.steps = omega (arith, below, entered) in
-        allows r (subst (λ n. r < n) settles.labels.side hr) k (subst (λ n. k < n) settles.labels.side hk)
-        x (sym (settles.entered r k enters) ∙ is) t below entered stays

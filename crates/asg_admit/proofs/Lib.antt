@@ -2,7 +2,6 @@ mod ProductLemmas
 mod SquareLemmas
 mod SettleLemmas
 mod SettledRows
-mod PartLemmas
 mod ReplayLemmas
 mod AdmissionLemmas
 mod GreatestLemmas
@@ -16,6 +15,9 @@ pub mod SegmentLemmas
 pub mod WalkLemmas
 pub mod ExchangedMarks
 mod CountLemmas
+mod LeastLemmas
+mod BlockLemmas
+mod JoinedLemmas
 mod LeftLemmas
 mod WordBits
 mod RowWords

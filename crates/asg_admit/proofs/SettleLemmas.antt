@@ -1,5 +1,5 @@
 -- Squares that a phase leaves, cell by cell.
-use Rattle.std.proofs.Common.{◌≡◌, ℕ, ◌<◌, ◌≤◌, min, List, length, Option, Some, None, refl, sym, ◌∙◌, ap, subst, arith, ⊎_elim}
+use Rattle.std.proofs.Common.{◌≡◌, ℕ, ◌<◌, ◌≤◌, min, List, length, Option, Some, None, inl, refl, sym, ◌∙◌, ap, subst, arith, ⊎_elim}
 use Rattle.std.specs.Prelude.{All, slice_index}
 use Rattle.std.specs.Option.{option_map}
 use Rattle.std.proofs.lemmas.Bool.{cases_lt}
@@ -9,12 +9,12 @@ use Rattle.asg_proof.specs.Phases.{PhaseOf, IsAdmittedPhase, after_phase}
 use Rattle.asg_proof.specs.laws.PhaseSteps.{HasValues-after}
 use Rattle.asg_square.specs.Grid.{Grid, IsGrid, cell_at}
 use Rattle.asg_admit.specs.declared.reduced.Reduced.{Reduced}
-use Rattle.asg_admit.specs.Reduced.{IsPhaseTo, IsReduced}
+use Rattle.asg_admit.specs.Reduced.{IsPhaseInPart, IsPhaseTo, IsReduced}
 use Rattle.asg_admit.specs.Settled.{step_of, settled}
-use Rattle.asg_admit.specs.Settling.{SettlesWaiting, SettlesEntered}
+use Rattle.asg_admit.specs.Settling.{SettlesWaiting, SettlesEntered, SettlesPhase}
 use Rattle.asg_admit.specs.laws.SettledCells.{IsTwice, cell_after-cut, after_phase-cell}
 use Rattle.asg_admit.proofs.ProductLemmas.{settled_equal}
-use Rattle.asg_admit.proofs.SquareLemmas.{chained_labels, everywhere}
+use Rattle.asg_admit.proofs.SquareLemmas.{same_labels, chained_labels, everywhere}
 
 pub map_same : {V : Type 0} (f : V → V) (o : Option V) → ((x : V) → o ≡ Some x → f x ≡ x) → option_map f o ≡ o
 map_same f None same = refl
@@ -64,38 +64,48 @@ module _ {V : Type 0} (M : Monoid V) (laws : IsOrderedMonoid M) (difference : V 
       ∙ cut_marks enter leave (length steps) (min leave (length steps)) (omega (arith, h)) refl o
 
 -- the rows that never enter and then those that enter are all rows
-pub all_rows : {V : Type 0} (M : Monoid V) (difference : V → V → V) (phase : PhaseOf V) (before between after : Grid V) → IsGrid before → IsGrid after → SettlesWaiting M difference phase before between → SettlesEntered M difference phase between after → (r k : ℕ) → cell_at after r k ≡ after_phase M difference phase (cell_at before) r k
-all_rows {V} M difference phase before between after grid grid_after first second r k =
-    everywhere before after grid grid_after (second.labels.side ∙ first.labels.side) f inside r k
-    ∙ sym (after_phase-cell M difference phase (cell_at before) r k)
+pub all_rows : {V : Type 0} (M : Monoid V) (difference : V → V → V) (phase : PhaseOf V) (before between after : Grid V) → SettlesWaiting M difference phase before between → SettlesEntered M difference phase between after → SettlesPhase M difference phase before after
+all_rows {V} M difference phase before between after first second = record {
+  labels = chained_labels before between after first.labels second.labels;
+  cells = λ r k hr hk.
+      ⊎_elim
+      (λ (enters : slice_index phase.enters r < length phase.steps).
+      second.entered r k (subst (λ n. r < n) (sym first.labels.side) hr) (subst (λ n. k < n) (sym first.labels.side) hk) enters
+      ∙ ap (option_map (settled M difference phase.steps (slice_index phase.enters r) (slice_index phase.leaves k))) (first.entered r k enters))
+      (λ (waits : length phase.steps ≤ slice_index phase.enters r).
+      second.waiting r k waits ∙ first.waiting r k hr hk waits)
+      (cases_lt (slice_index phase.enters r) (length phase.steps));
+}
+
+-- all rows were settled by an admitted phase, and the index was multiplied by all steps
+pub phase_by : {V : Type 0} (M : Monoid V) (laws : IsOrderedMonoid M) (difference : V → V → V) (has : HasDifferences M difference) (phase : PhaseOf V) (before after : Reduced V) → IsReduced M before → IsAdmittedPhase M difference before.now.side phase (cell_at before.now) → IsGrid before.now → IsGrid after.now → SettlesPhase M difference phase before.now after.now → after.index ≡ M.product before.index (fold_of M phase.steps) → IsValue M after.index → IsPhaseTo M difference phase before after
+phase_by {V} M laws difference has phase before after reduced admitted grid grid_after settles index is_value =
+    record {
+      cells = cells;
+      index = index;
+      labels = settles.labels;
+      reduced = record {
+        cells = λ r k x hr hk is.
+            HasValues-after M laws difference has before.now.side phase (cell_at before.now) (length phase.steps) reduced.cells admitted.admitted
+            r k x (subst (λ n. r < n) settles.labels.side hr) (subst (λ n. k < n) settles.labels.side hk) (sym (cells r k) ∙ is);
+        index = is_value;
+      };
+    }
   where
     f : ℕ → ℕ → V → V
     f i j = settled M difference phase.steps (slice_index phase.enters i) (slice_index phase.leaves j)
 
-    inside : (i j : ℕ) → i < before.side → j < before.side → cell_at after i j ≡ option_map (f i j) (cell_at before i j)
-    inside i j row column =
-        ⊎_elim
-        (λ (enters : slice_index phase.enters i < length phase.steps).
-        second.entered i j (subst (λ n. i < n) (sym first.labels.side) row) (subst (λ n. j < n) (sym first.labels.side) column) enters
-        ∙ ap (option_map (f i j)) (first.entered i j enters))
-        (λ (waits : length phase.steps ≤ slice_index phase.enters i).
-        second.waiting i j waits ∙ first.waiting i j row column waits)
-        (cases_lt (slice_index phase.enters i) (length phase.steps))
+    cells : (r k : ℕ) → cell_at after.now r k ≡ after_phase M difference phase (cell_at before.now) r k
+    cells r k =
+        everywhere before.now after.now grid grid_after settles.labels.side f settles.cells r k
+        ∙ sym (after_phase-cell M difference phase (cell_at before.now) r k)
 
--- the rows that never enter and then those that enter were settled by an admitted phase, and the index
--- was multiplied by all steps
+-- the rows that never enter and then those that enter were settled so
 pub phase_to : {V : Type 0} (M : Monoid V) (laws : IsOrderedMonoid M) (difference : V → V → V) (has : HasDifferences M difference) (phase : PhaseOf V) (before after : Reduced V) (between : Grid V) → IsReduced M before → IsAdmittedPhase M difference before.now.side phase (cell_at before.now) → IsGrid before.now → IsGrid after.now → SettlesWaiting M difference phase before.now between → SettlesEntered M difference phase between after.now → after.index ≡ M.product before.index (fold_of M phase.steps) → IsValue M after.index → IsPhaseTo M difference phase before after
-phase_to M laws difference has phase before after between reduced admitted grid grid_after first second index is_value =
-    let cells = all_rows M difference phase before.now between after.now grid grid_after first second in
-    let labels = chained_labels before.now between after.now first.labels second.labels in
-    record {
-      cells = cells;
-      index = index;
-      labels = labels;
-      reduced = record {
-        cells = λ r k x hr hk is.
-            HasValues-after M laws difference has before.now.side phase (cell_at before.now) (length phase.steps) reduced.cells admitted.admitted
-            r k x (subst (λ n. r < n) labels.side hr) (subst (λ n. k < n) labels.side hk) (sym (cells r k) ∙ is);
-        index = is_value;
-      };
-    }
+phase_to M laws difference has phase before after between reduced admitted grid grid_after first second =
+    phase_by M laws difference has phase before after reduced admitted grid grid_after (all_rows M difference phase before.now between after.now first second)
+
+-- nothing was changed
+pub unchanged : {V : Type 0} (M : Monoid V) (difference : V → V → V) (phase : PhaseOf V) (reduced : Reduced V) → IsReduced M reduced → IsPhaseInPart M difference phase reduced reduced
+unchanged M difference phase reduced is =
+    record { cells = λ r k hr hk. inl refl; index = refl; labels = same_labels reduced.now; reduced = is }

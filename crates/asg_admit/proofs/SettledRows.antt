@@ -2,14 +2,13 @@
 use Rattle.std.proofs.Common.{◌≡◌, ℕ, ◌+◌, ◌<◌, ◌≤◌, length, refl, sym, ◌∙◌, ap, subst, arith, inl, inr, ⊎_elim, below_more}
 use Rattle.std.specs.Prelude.{slice_index}
 use Rattle.std.specs.Option.{option_map}
-use Rattle.std.proofs.lemmas.Bool.{cases_lt}
 use Rattle.asg_order.specs.Monoid.{Monoid}
 use Rattle.asg_proof.specs.Phases.{PhaseOf}
 use Rattle.asg_square.specs.Grid.{Grid, cell_at}
 use Rattle.asg_admit.specs.MarkedCells.{SettlesWaitingRow}
 use Rattle.asg_admit.specs.Reduced.{KeepsLabels}
 use Rattle.asg_admit.specs.Settled.{settled, settled_at}
-use Rattle.asg_admit.specs.Settling.{SettlesEntered, SettlesEnteredRow, SettlesInPart, SettlesRow, SettlesWaiting}
+use Rattle.asg_admit.specs.Settling.{SettlesEntered, SettlesEnteredRow, SettlesRow, SettlesWaiting}
 use Rattle.asg_admit.proofs.SquareLemmas.{same_labels, chained_labels}
 
 -- the rows so far that enter are settled, and the others stand
@@ -52,21 +51,6 @@ module _ {V : Type 0} (M : Monoid V) (difference : V → V → V) (phase : Phase
   all_entered now row past to = record {
     labels = to.labels;
     entered = λ r k hr hk enters. to.done r k (omega (arith, hr, past)) hk enters;
-    waiting = to.waiting;
-  }
-
-  pub entered_in_part : (now : Grid V) (row : ℕ) → SettlesEnteredTo M difference phase before now row → SettlesInPart M difference phase before now
-  entered_in_part now row to = record {
-    labels = to.labels;
-    cells = λ r k hr hk.
-        ⊎_elim
-        (λ (done : r < row).
-        ⊎_elim
-        (λ (enters : slice_index phase.enters r < length phase.steps). inr (to.done r k done hk enters))
-        (λ (late : length phase.steps ≤ slice_index phase.enters r). inl (to.waiting r k late))
-        (cases_lt (slice_index phase.enters r) (length phase.steps)))
-        (λ (past : row ≤ r). inl (to.rest r k past))
-        (cases_lt r row);
     waiting = to.waiting;
   }
 

@@ -2,6 +2,8 @@ pub mod Settled
 pub mod Admission
 pub mod Settling
 pub mod LeftColumns
+pub mod LeastCells
+pub mod JoinedSteps
 pub mod Reduced
 pub mod Duals
 pub mod PhaseTotals

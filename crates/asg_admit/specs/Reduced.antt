@@ -1,5 +1,5 @@
 -- A square that phases have reduced, with the product of their steps.
-use Rattle.std.specs.Prelude.{◌≡◌, ◌⊎◌, ℕ, ◌<◌, List}
+use Rattle.std.specs.Prelude.{◌≡◌, ◌⊎◌, ℕ, ◌<◌}
 use Rattle.asg_order.specs.Monoid.{Monoid, IsValue, fold_of}
 pub use Rattle.asg_proof.specs.Phases.{phase_of}
 use Rattle.asg_proof.specs.Phases.{PhaseOf, after_phase}

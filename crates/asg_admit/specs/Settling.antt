@@ -57,15 +57,12 @@ pub record SettlesEntered {V : Type 0} (M : Monoid V) (difference : V → V → 
   pub waiting : (r k : ℕ) → length phase.steps ≤ slice_index phase.enters r
       → cell_at after r k ≡ cell_at before r k
 
--- some of the rows that enter are those after the phase, cell by cell, and all others stay
-pub record SettlesInPart {V : Type 0} (M : Monoid V) (difference : V → V → V) (phase : PhaseOf V)
+-- all rows are those after the phase
+pub record SettlesPhase {V : Type 0} (M : Monoid V) (difference : V → V → V) (phase : PhaseOf V)
     (before after : Grid V) : Type 0 where
   pub labels : KeepsLabels before after
   pub cells : (r k : ℕ) → r < before.side → k < before.side
-      → (cell_at after r k ≡ cell_at before r k)
-      ⊎ (cell_at after r k ≡ settled_at M difference phase (cell_at before) r k)
-  pub waiting : (r k : ℕ) → length phase.steps ≤ slice_index phase.enters r
-      → cell_at after r k ≡ cell_at before r k
+      → cell_at after r k ≡ settled_at M difference phase (cell_at before) r k
 
 -- a row is that after the phase, if it enters, and all others stay
 pub record SettlesEnteredRow {V : Type 0} (M : Monoid V) (difference : V → V → V)

@@ -96,7 +96,7 @@ fn rows_allow<M: DMonoid>(
 }
 
 // Whether each cell of a row allows the steps; none is met where the row never enters.
-pub(crate) fn row_allows<M: DMonoid>(
+fn row_allows<M: DMonoid>(
     m: &M,
     square: &Square<M::Value>,
     steps: &[M::Value],
@@ -129,7 +129,7 @@ pub(crate) fn row_allows<M: DMonoid>(
 
 // The cell at a column, by the values of a row and the words that say which of them are present.
 #[inline]
-fn stored_cell<V: Copy>(values: &[V], words: &[u64], column: usize) -> Option<V>
+pub(crate) fn stored_cell<V: Copy>(values: &[V], words: &[u64], column: usize) -> Option<V>
     requires values { column < length values.now }
     requires words { column / 64 < length words.now }
     ensures { result ≡ cell_in_row values.now words.now column }
@@ -152,7 +152,7 @@ fn is_set(word: u64, bit: usize) -> bool
 
 // Whether a cell allows the steps at which its row has entered and its column stays.
 #[inline]
-pub(crate) fn cell_allows<M: DMonoid>(
+fn cell_allows<M: DMonoid>(
     m: &M,
     cell: Option<M::Value>,
     steps: &[M::Value],

@@ -1,6 +1,7 @@
 //! Reduced squares of graded values that know their low cells.
 
 ghost use Rattle.std.specs.Prelude.{◌≡◌, ◌↔◌, ◌<◌, IfOk, IsTrue, false, is_some, length};
+ghost use Rattle.asg_admit.specs.MarkedCells.{AreAside, AreMarksOver};
 ghost use Rattle.asg_admit.specs.Reduced.{IsReduced, IsPhaseTo, phase_of};
 ghost use Rattle.asg_monoids.specs.BoundedSums.{bounded_sums, bounded_difference};
 ghost use Rattle.asg_monoids.specs.Grades.{graded, graded_difference};
@@ -10,10 +11,12 @@ ghost use Rattle.asg_square.specs.CellTable.{AreValuesOf};
 ghost use Rattle.asg_square.specs.Grid.{IsGrid, cell_at};
 
 use crate::admission::is_over;
+use crate::blocks::blocks_allow;
+use crate::joined_steps::is_long;
 use crate::low_cells::{find_low, raise_grade};
 use crate::marked_cells::settle_marked;
-use crate::marked_rows::marked_allow;
 use crate::reduced::Reduced;
+use crate::settling::settle;
 use asg_monoids::{Bounded, Graded};
 use asg_square::{BitRows, NoMemory};
 use std::alloc::Global;
@@ -116,12 +119,13 @@ impl GradedSquare {
         ensures room { length room.new ≡ length room.old }
     {
         self.grade = raise_grade(&self.reduced.now, steps, self.grade, &mut self.low);
-        settle_marked(m, &mut self.reduced, &self.low, steps, enters, leaves, room);
+        settle_cells(m, &mut self.reduced, &self.low, steps, enters, leaves, room);
     }
 
     /// Applies a phase where it is admitted, and tells whether it is, as [`replay`](crate::replay)
-    /// does to a [`Reduced`] square. Otherwise nothing is changed. `room` has more places than
-    /// there are steps, and what is in it before and afterwards means nothing. It takes no memory.
+    /// does to a [`Reduced`] square. Otherwise nothing is changed. The test looks once at each cell
+    /// of the rows that enter. `room` has more places than there are steps, and what is in it
+    /// before and afterwards means nothing. It takes no memory.
     pub fn replay(
         &mut self,
         m: &Graded<Bounded>,
@@ -148,11 +152,11 @@ impl GradedSquare {
         if !is_over(m, &self.reduced.now, steps, enters, leaves) {
             return false;
         }
-        self.grade = raise_grade(&self.reduced.now, steps, self.grade, &mut self.low);
-        if !marked_allow(m, &self.reduced.now, &self.low, steps, enters, leaves) {
+        if !blocks_allow(m, &self.reduced.now, steps, enters, leaves, room) {
             return false;
         }
-        settle_marked(m, &mut self.reduced, &self.low, steps, enters, leaves, room);
+        self.grade = raise_grade(&self.reduced.now, steps, self.grade, &mut self.low);
+        settle_cells(m, &mut self.reduced, &self.low, steps, enters, leaves, room);
         true
     }
 
@@ -162,4 +166,38 @@ impl GradedSquare {
     {
         self.reduced
     }
+}
+
+// Settles the marked cells, or all where there are so many steps that those from one mark to the
+// next are joined first.
+fn settle_cells(
+    m: &Graded<Bounded>,
+    reduced: &mut Reduced<(u64, u128)>,
+    marks: &BitRows,
+    steps: &[(u64, u128)],
+    enters: &[u32],
+    leaves: &[u32],
+    room: &mut [(u64, u128)],
+)
+    requires reduced { IsReduced (graded (bounded_sums m.now.inner.top)) reduced.old }
+    requires admitted { let phase = phase_of steps.now enters.now leaves.now in
+        let sums = bounded_sums m.now.inner.top in
+        IsAdmittedPhase (graded sums) (graded_difference sums bounded_difference)
+        reduced.old.now.side phase (cell_at reduced.old.now) }
+    requires room { length steps.now < length room.old }
+    requires marks { AreMarksOver reduced.old.now.side marks.now }
+    requires aside { let sums = bounded_sums m.now.inner.top in
+        AreAside (graded sums) (graded_difference sums bounded_difference) steps.now
+        reduced.old.now marks.now }
+    ensures phase { let phase = phase_of steps.now enters.now leaves.now in
+        let sums = bounded_sums m.now.inner.top in
+        IsPhaseTo (graded sums) (graded_difference sums bounded_difference) phase reduced.old
+        reduced.new }
+    ensures room { length room.new ≡ length room.old }
+{
+    if is_long(steps.len(), leaves.len()) {
+        settle(m, reduced, steps, enters, leaves, room);
+        return;
+    }
+    settle_marked(m, reduced, marks, steps, enters, leaves, room);
 }

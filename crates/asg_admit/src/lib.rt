@@ -17,7 +17,7 @@
 #![tactic(auto)]
 
 mod admission;
-mod allowed_rows;
+mod blocks;
 mod counting;
 mod dual_cells;
 mod dual_fits;
@@ -26,13 +26,14 @@ mod dual_squares;
 mod dual_sums;
 mod graded_squares;
 mod greatest_cells;
+mod held_cells;
+mod joined_steps;
 pub mod laws;
 mod left_columns;
 mod left_words;
 mod list_tests;
 mod low_cells;
 mod marked_cells;
-mod marked_rows;
 mod narrow_cells;
 mod narrow_fits;
 mod narrow_greatest;

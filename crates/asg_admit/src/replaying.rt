@@ -10,11 +10,11 @@ ghost use Rattle.asg_proof.specs.Steps.{HasValues};
 ghost use Rattle.asg_square.specs.Grid.{cell_at};
 
 use crate::admission::{admits, is_over};
-use crate::allowed_rows::settle_allowed;
+use crate::blocks::blocks_allow;
 use crate::products::product_of;
 use crate::reduced::Reduced;
 use crate::replayed_cells::{cut, settled_value};
-use crate::settling::{settle_cell, settle_waiting};
+use crate::settling::{settle, settle_cell};
 use asg_order::laws::differences;
 use asg_order::{DMonoid, fold};
 use asg_square::Square;
@@ -22,7 +22,8 @@ use asg_square::Square;
 /// Applies a phase where it is admitted from the square, and tells whether it is: the lists are
 /// over the rows and the columns, each step is a value, and each step in turn has one more row and
 /// column than the side and is at most each present cell of both. The index is then multiplied by
-/// all steps. Otherwise nothing is changed. It takes no memory.
+/// all steps. Otherwise nothing is changed. It takes no memory, and its time grows with the steps
+/// times the cells; that of [`replay_within`] doesn't.
 pub fn replay<M: DMonoid>(
     m: &M,
     reduced: &mut Reduced<M::Value>,
@@ -48,10 +49,11 @@ pub fn replay<M: DMonoid>(
 }
 
 /// Applies a phase where it is admitted from the square, and tells whether it is, as [`replay`]
-/// does, but in one pass: each row that enters is tested and then settled. So where the phase isn't
-/// admitted the square may be changed in part: each cell is as it was or as the phase makes it, and
-/// the side, the labels and the index stay. `room` has more places than there are steps, and what
-/// is in it before and afterwards means nothing. It takes no memory.
+/// does, but in a time that is that of the steps and of the cells, however many steps there are:
+/// those from one mark to the next are tested on the least cell of their rows and columns alone.
+/// Where the phase isn't admitted the square may be changed in part: each cell is as it was or as
+/// the phase makes it, and the side, the labels and the index stay. `room` has more places than
+/// there are steps, and what is in it before and afterwards means nothing. It takes no memory.
 pub fn replay_within<M: DMonoid>(
     m: &M,
     reduced: &mut Reduced<M::Value>,
@@ -79,12 +81,10 @@ pub fn replay_within<M: DMonoid>(
         return false;
     }
     reduced.now.side();
-    settle_waiting(m, &mut reduced.now, steps, enters, leaves, room);
-    if !settle_allowed(m, &mut reduced.now, steps, enters, leaves, room) {
+    if !blocks_allow(m, &reduced.now, steps, enters, leaves, room) {
         return false;
     }
-    reduced.now.side();
-    reduced.index = m.op(reduced.index, fold(m, steps));
+    settle(m, reduced, steps, enters, leaves, room);
     true
 }
 

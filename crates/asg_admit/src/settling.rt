@@ -5,12 +5,13 @@ ghost use Rattle.std.specs.Option.{option_map};
 ghost use Rattle.asg_admit.specs.Reduced.{IsReduced, IsPhaseTo, phase_of};
 ghost use Rattle.asg_admit.specs.Settled.{AreProducts, IsAcross, settled};
 ghost use Rattle.asg_admit.specs.LeftColumns.{ArePassed};
-ghost use Rattle.asg_admit.specs.Settling.{IsWritten, SettlesRow, SettlesWaiting, SettlesEntered, HasValueAt};
+ghost use Rattle.asg_admit.specs.Settling.{IsWritten, SettlesRow, SettlesPhase, SettlesWaiting, SettlesEntered, HasValueAt};
 ghost use Rattle.asg_order.specs.Monoid.{IsValue};
 ghost use Rattle.asg_proof.specs.Phases.{IsAdmittedPhase};
 ghost use Rattle.asg_proof.specs.Steps.{HasValues};
 ghost use Rattle.asg_square.specs.Grid.{cell_at};
 
+use crate::joined_steps::settle_square;
 use crate::left_columns::find_left;
 use crate::products::spread;
 use crate::reduced::Reduced;
@@ -31,8 +32,9 @@ const PLACES: usize = MOST_SIDE as usize + 1;
 ///
 /// A row that enters and a column that leaves change by the product of the steps between, not step
 /// by step, row by row, and where a row never enters only the cells of columns that leave before
-/// the end are visited: the time is that of the side times the number of rows that enter and
-/// columns that leave before the end.
+/// the end are visited; many steps are first joined, those from one mark to the next into one. So
+/// the time is that of the steps, and of the side times the number of rows that enter and columns
+/// that leave before the end.
 pub fn settle<M: DMonoid>(
     m: &M,
     reduced: &mut Reduced<M::Value>,
@@ -53,13 +55,34 @@ pub fn settle<M: DMonoid>(
     differences(m);
     reduced.now.side();
     reduced.index = m.op(reduced.index, fold(m, steps));
-    settle_waiting(m, &mut reduced.now, steps, enters, leaves, room);
-    settle_entered(m, &mut reduced.now, steps, enters, leaves, room);
+    settle_square(m, &mut reduced.now, steps, enters, leaves, room);
     reduced.now.side();
 }
 
+// Settles all rows, those that never enter first.
+pub(crate) fn settle_rows<M: DMonoid>(
+    m: &M,
+    square: &mut Square<M::Value>,
+    steps: &[M::Value],
+    enters: &[u32],
+    leaves: &[u32],
+    room: &mut [M::Value],
+)
+    requires room { length steps.now < length room.old }
+    requires values { All (IsValue (M.monoid_of m.now)) steps.now }
+    requires enters { length enters.now ≡ square.old.side }
+    requires leaves { length leaves.now ≡ square.old.side }
+    requires cells { HasValues (M.monoid_of m.now) square.old.side (cell_at square.old) }
+    ensures settled { let phase = phase_of steps.now enters.now leaves.now in
+        SettlesPhase (M.monoid_of m.now) (M.difference m.now) phase square.old square.new }
+    ensures room { length room.new ≡ length room.old }
+{
+    settle_waiting(m, square, steps, enters, leaves, room);
+    settle_entered(m, square, steps, enters, leaves, room);
+}
+
 // Settles the rows that never enter: there only the cells of columns that leave change.
-pub(crate) fn settle_waiting<M: DMonoid>(
+fn settle_waiting<M: DMonoid>(
     m: &M,
     square: &mut Square<M::Value>,
     steps: &[M::Value],
@@ -152,7 +175,7 @@ fn settle_entered<M: DMonoid>(
 }
 
 // Settles a row that enters at this step.
-pub(crate) fn settle_row<M: DMonoid>(
+fn settle_row<M: DMonoid>(
     m: &M,
     square: &mut Square<M::Value>,
     steps: &[M::Value],

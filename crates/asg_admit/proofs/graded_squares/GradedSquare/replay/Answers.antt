@@ -14,41 +14,36 @@ returns-then-not-is_over-clause-admitted c =
     (c.is_over.ensures.1 (over_from (graded sums) (graded_difference sums bounded_difference) phase c.self.inside.reduced.now (subst (Admits c.args.m.now.inner.top phase) (sym c.self.view_is) one)))
     c.if-not-is_over.true)
 
-pub marked_allow-requires-clause-aside : goal.marked_allow-requires-clause-aside
-marked_allow-requires-clause-aside c =
-    let raised = c.raise_grade-self-inside in
-    low_aside (bounded_sums c.args.m.now.inner.top) bounded_difference c.args.steps.now raised.result raised.ensures.steps c.self.inside.reduced.now raised.new.low raised.ensures.low
-
-pub returns-then-not-marked_allow-clause-admitted : goal.returns-then-not-marked_allow-clause-admitted
-returns-then-not-marked_allow-clause-admitted c =
+pub returns-then-not-blocks_allow-clause-admitted : goal.returns-then-not-blocks_allow-clause-admitted
+returns-then-not-blocks_allow-clause-admitted c =
     let sums = bounded_sums c.args.m.now.inner.top in
     let phase = phase_of c.args.steps.now c.args.enters.now c.args.leaves.now in
-    never (λ one. not_both c.marked_allow.result
-    (c.marked_allow.ensures.1 (allows_from (graded sums) (graded_difference sums bounded_difference) phase c.self.inside.reduced.now (subst (Admits c.args.m.now.inner.top phase) (sym c.self.view_is) one)))
-    c.if-not-marked_allow.true)
+    never (λ one. not_both c.blocks_allow.result
+    (c.blocks_allow.ensures.allowed.1 (allows_from (graded sums) (graded_difference sums bounded_difference) phase c.self.inside.reduced.now (subst (Admits c.args.m.now.inner.top phase) (sym c.self.view_is) one)))
+    c.if-not-blocks_allow.true)
 
-pub settle_marked-requires-clause-admitted : goal.settle_marked-requires-clause-admitted
-settle_marked-requires-clause-admitted c =
+pub settle_cells-requires-clause-admitted : goal.settle_cells-requires-clause-admitted
+settle_cells-requires-clause-admitted c =
     let sums = bounded_sums c.args.m.now.inner.top in
     over_admitted (graded sums) (graded_difference sums bounded_difference) (phase_of c.args.steps.now c.args.enters.now c.args.leaves.now) c.self.inside.reduced.now
-    (c.is_over.ensures.0 c.if-not-is_over.false) (c.marked_allow.ensures.0 c.if-not-marked_allow.false)
+    (c.is_over.ensures.0 c.if-not-is_over.false) (c.blocks_allow.ensures.allowed.0 c.if-not-blocks_allow.false)
 
-pub settle_marked-requires-clause-aside : goal.settle_marked-requires-clause-aside
-settle_marked-requires-clause-aside c =
+pub settle_cells-requires-clause-aside : goal.settle_cells-requires-clause-aside
+settle_cells-requires-clause-aside c =
     let raised = c.raise_grade-self-inside in
     low_aside (bounded_sums c.args.m.now.inner.top) bounded_difference c.args.steps.now raised.result raised.ensures.steps c.self.inside.reduced.now raised.new.low raised.ensures.low
 
-pub invariant_of-self-2 : goal.invariant_of-self-2
-invariant_of-self-2 c =
+pub invariant_of-self : goal.invariant_of-self
+invariant_of-self c =
     let raised = c.raise_grade-self-inside in
-    let phase = c.settle_marked.ensures.phase in
+    let phase = c.settle_cells.ensures.phase in
     low_after (bounded_sums c.args.m.now.inner.top) bounded_difference c.args.steps.now raised.result raised.ensures.steps c.args.enters.now c.args.leaves.now
-    c.self.inside.reduced.now c.settle_marked.new.reduced.now raised.new.low raised.ensures.low phase.labels.side phase.cells
+    c.self.inside.reduced.now c.settle_cells.new.reduced.now raised.new.low raised.ensures.low phase.labels.side phase.cells
 
 pub returns-clause-admitted : goal.returns-clause-admitted
 returns-clause-admitted c =
     let sums = bounded_sums c.args.m.now.inner.top in
     let phase = phase_of c.args.steps.now c.args.enters.now c.args.leaves.now in
     let admitted = over_admitted (graded sums) (graded_difference sums bounded_difference) phase c.self.inside.reduced.now
-    (c.is_over.ensures.0 c.if-not-is_over.false) (c.marked_allow.ensures.0 c.if-not-marked_allow.false) in
+    (c.is_over.ensures.0 c.if-not-is_over.false) (c.blocks_allow.ensures.allowed.0 c.if-not-blocks_allow.false) in
     (λ _. subst (Admits c.args.m.now.inner.top phase) c.self.view_is admitted, λ _. refl)

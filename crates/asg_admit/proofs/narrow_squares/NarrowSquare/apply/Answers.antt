@@ -186,3 +186,10 @@ returns-then-not-rows_fit-clause-applied c = λ top above h. absurd (false≢tru
 
 pub returns-clause-kept : goal.returns-clause-kept
 returns-clause-kept c = λ h. absurd (true≢false h)
+
+pub invariant_of-self : goal.invariant_of-self
+invariant_of-self c =
+    let s = c.self.inside in
+    subst (λ (xs : List ℕ). AreDuals narrow_top s.base s.rows.items xs s.index s.greatest)
+    (sym (lowered_back c.args.steps.now c.args.leaves.now s.columns.items c.raise.new.duals.items c.lower.new.duals.items c.raise.ensures c.lower.ensures))
+    c.self.invariant

@@ -1,5 +1,6 @@
 use Rattle.std.proofs.Common.{◌+◌, ◌≤◌, length, refl, subst, sym, ap, arith}
 use Rattle.std.specs.List.{sum}
+use Rattle.std.proofs.lemmas.Bool.{false≢true, true≢false}
 use Rattle.asg_monoids.specs.BoundedSums.{narrow_top}
 use Rattle.asg_proof.specs.Phases.{phase_of}
 use Rattle.asg_admit.specs.PhaseTotals.{Totals, AreOrdered, AreTotals, CanPrecede, CountsRight}
@@ -65,3 +66,32 @@ returns-clause-totals c = λ _ rest are.
     (λ r h. c.raise.ensures.each r h)
     (λ k h. c.raise-2.ensures.each k (omega (arith, h, c.self.invariant.count)))
     (omega (arith, c.in-Some.ensures.within))
+
+pub raise-requires-clause-fits : goal.raise-requires-clause-fits
+raise-requires-clause-fits c = λ i h.
+    let v = c.self.invariant in
+    let all = sum_all c.args.steps.now in
+    let within = v.rows_within i h in
+    omega (arith, within, all, c.in-Some.ensures.within, c.in-Some.ensures.small, v.sum_within)
+
+pub raise-requires-2-clause-fits : goal.raise-requires-2-clause-fits
+raise-requires-2-clause-fits c = λ i h.
+    let v = c.self.invariant in
+    let all = sum_all c.args.steps.now in
+    let within = v.columns_within i (omega (arith, h, v.count)) in
+    omega (arith, within, all, c.in-Some.ensures.within, c.in-Some.ensures.small, v.sum_within)
+
+pub returns-then-enters-side-clause-totals : goal.returns-then-enters-side-clause-totals
+returns-then-enters-side-clause-totals c = λ h. absurd (false≢true h)
+
+pub returns-then-leaves-side-clause-totals : goal.returns-then-leaves-side-clause-totals
+returns-then-leaves-side-clause-totals c = λ h. absurd (false≢true h)
+
+pub returns-then-not-are_counted-clause-totals : goal.returns-then-not-are_counted-clause-totals
+returns-then-not-are_counted-clause-totals c = λ h. absurd (false≢true h)
+
+pub returns-then-not-is_ordered-clause-totals : goal.returns-then-not-is_ordered-clause-totals
+returns-then-not-is_ordered-clause-totals c = λ h. absurd (false≢true h)
+
+pub returns-clause-kept : goal.returns-clause-kept
+returns-clause-kept c = λ h. absurd (true≢false h)

@@ -1,0 +1,14 @@
+use Rattle.std.proofs.Common.{◌≡◌, length}
+use Rattle.asg_square.specs.Grid.{cell_at}
+use Rattle.asg_admit.specs.LeastCells.{MergesRow, held_at, place_of}
+use Rattle.asg_admit.proofs.blocks.merge_row.Given as goal
+
+-- the cells so far were merged
+abbrev pub invariant-loop-column : goal.invariant-loop-column
+invariant-loop-column g l =
+    let M = g.M.Ordered.monoid_of l.m in
+    record {
+      room : length l.room ≡ length l.fn.room;
+      held : length l.held ≡ length l.fn.held;
+      merged : MergesRow M (cell_at l.square l.row) (place_of l.end l.leaves) l.column (held_at M l.fn.room l.fn.held) (held_at M l.room l.held);
+    }

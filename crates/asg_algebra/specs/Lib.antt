@@ -11,4 +11,3 @@ pub mod Solved
 pub mod Served
 pub mod Benches
 pub mod Ended
-pub mod Taken

@@ -1,6 +1,6 @@
 //! The memory of a solver.
 
-ghost use Rattle.std.specs.Prelude.{◌≡◌, ◌≢◌, ◌<◌, ◌≤◌, ◌^◌, []};
+ghost use Rattle.std.specs.Prelude.{◌≡◌, ◌≢◌, ◌+◌, ◌<◌, ◌≤◌, ◌^◌, []};
 ghost use Rattle.std.specs.Prelude.{IfOk, All, AllPairs, vec_len, vec_capacity};
 ghost use Rattle.asg_match.specs.ColumnSet.{word_count};
 
@@ -46,6 +46,42 @@ fn tree_for(alloc: Global, columns: usize) -> Result<Branches, NoMemory>
     })
 }
 
+// Room for the keys of so many columns, with which columns have one and the nearest column of each
+// word.
+fn keys_for<V: Copy>(
+    alloc: Global,
+    columns: usize,
+) -> Result<(Vec<V>, Vec<u64>, Vec<Option<u32>>), NoMemory>
+    requires { columns < 2 ^ 32 }
+    ensures keys { IfOk result (λ r. columns ≤ vec_capacity r.0) }
+    ensures keyed { IfOk result (λ r. vec_len r.1 ≡ word_count columns) }
+    ensures nearest { IfOk result (λ r. vec_len r.2 ≡ word_count columns) }
+{
+    let keys = Vec::with_capacity(alloc, columns)?;
+    let keyed = vec![in alloc; 0; columns.div_ceil(64)]?;
+    let nearest = vec![in alloc; None; columns.div_ceil(64)]?;
+    Ok((keys, keyed, nearest))
+}
+
+// Room for the phase of so many columns: the steps at which rows enter and columns leave, its steps,
+// and one place more than these.
+fn phase_for<V: Copy>(
+    alloc: Global,
+    columns: usize,
+) -> Result<(Vec<u32>, Vec<u32>, Vec<V>, Vec<V>), NoMemory>
+    requires { columns < 2 ^ 32 }
+    ensures enters { IfOk result (λ r. vec_len r.0 ≡ columns) }
+    ensures leaves { IfOk result (λ r. vec_len r.1 ≡ columns) }
+    ensures steps { IfOk result (λ r. columns ≤ vec_capacity r.2) }
+    ensures room { IfOk result (λ r. columns + 1 ≤ vec_capacity r.3) }
+{
+    let enters = vec![in alloc; 0; columns]?;
+    let leaves = vec![in alloc; 0; columns]?;
+    let steps = Vec::with_capacity(alloc, columns)?;
+    let room = Vec::with_capacity(alloc, columns + 1)?;
+    Ok((enters, leaves, steps, room))
+}
+
 impl<V: Copy> Bench<V> {
     /// A bench for a side, with no rows yet. The error is want of memory.
     pub fn make(alloc: Global, side: u32) -> Result<Bench<V>, NoMemory>
@@ -54,17 +90,21 @@ impl<V: Copy> Bench<V> {
     {
         let columns = side as usize;
         let tree = tree_for(alloc, columns)?;
+        let sums = Vec::with_capacity(alloc, columns)?;
+        let keys = keys_for(alloc, columns)?;
+        let (enters, leaves, steps, room) = phase_for(alloc, columns)?;
+        let (keys, keyed, nearest) = keys;
         Ok(Bench {
             growth: Growth {
                 tree,
-                sums: Vec::with_capacity(alloc, columns)?,
-                keys: Vec::with_capacity(alloc, columns)?,
-                keyed: vec![in alloc; 0; columns.div_ceil(64)]?,
-                nearest: vec![in alloc; None; columns.div_ceil(64)]?,
-                enters: vec![in alloc; 0; columns]?,
-                leaves: vec![in alloc; 0; columns]?,
-                steps: Vec::with_capacity(alloc, columns)?,
-                room: Vec::with_capacity(alloc, columns + 1)?,
+                sums,
+                keys,
+                keyed,
+                nearest,
+                enters,
+                leaves,
+                steps,
+                room,
             },
         })
     }

@@ -1,11 +1,28 @@
 //! Reduced squares of sums that are kept by dual variables.
 
+ghost use Rattle.std.specs.Prelude.{◌≡◌, ◌≤◌, ℕ, List, None, length, IfOk, IfSome, OnErr};
+ghost use Rattle.asg_admit.specs.Reduced.{IsReduced};
+ghost use Rattle.asg_match.specs.Matching.{AllAllowed, Matches};
+ghost use Rattle.asg_monoids.specs.BoundedSums.{bounded_sums, bounded_difference};
+ghost use Rattle.asg_pool.specs.Forest.{IsLive};
+ghost use Rattle.asg_square.specs.Grid.{cell_at};
+ghost use Rattle.asg_algebra.specs.Ended.{last_of, EndsIn};
+ghost use Rattle.asg_algebra.specs.Growing.{IsAbsorbed};
+ghost use Rattle.asg_algebra.specs.Solved.{HasSolved, unmatched};
+
+use crate::NoMemory;
+use crate::bench::Bench;
+use crate::given::solve_kept_given;
 use crate::reduced_squares::ReducedSquare;
-use crate::row_values::RowValues;
+use crate::row_values::{RowValues, is_present};
 use crate::scanning::scan;
-use asg_admit::{DualRow, DualSquare, Reduced};
+use crate::square_solvers::{SolvedSquare, SquareSolver, solve_kept};
+use asg_admit::{DualRow, DualSquare, Reduced, Replayed};
 use asg_match::Matching;
 use asg_monoids::Bounded;
+use asg_pool::{Region, Trail};
+use asg_proof::Phase;
+use std::alloc::Global;
 
 impl<'a> RowValues<Bounded> for DualRow<'a> {
     ghost values_of = { λ row. row };
@@ -28,6 +45,18 @@ impl ReducedSquare<Bounded> for DualSquare {
 
     fn side(&self) -> u32 {
         DualSquare::side(self)
+    }
+
+    fn index(&self) -> u128 {
+        DualSquare::index(self)
+    }
+
+    fn at(&self, row: u32, column: u32) -> Option<u128> {
+        if is_present(self.row_words(row), column) {
+            Some(self.row(row).value(column))
+        } else {
+            None
+        }
     }
 
     fn offer_row(
@@ -65,7 +94,88 @@ impl ReducedSquare<Bounded> for DualSquare {
         DualSquare::settle(self, m, steps, enters, leaves, room);
     }
 
+    fn replay(
+        &mut self,
+        m: &Bounded,
+        steps: &[u128],
+        enters: &[u32],
+        leaves: &[u32],
+        room: &mut [u128],
+    ) -> bool {
+        match DualSquare::replay(self, m, steps, enters, leaves, room) {
+            Replayed::Applied => true,
+            Replayed::Refused => false,
+            Replayed::Full => false,
+        }
+    }
+
     fn into_reduced(self) -> Reduced<u128> {
         self.reduce()
+    }
+}
+
+impl SquareSolver for Bounded {
+    fn solve_square(
+        &self,
+        alloc: Global,
+        reduced: Reduced<u128>,
+        matching: &mut Matching,
+        bench: &mut Bench<u128>,
+        region: &mut Region<u128>,
+        trail: Option<Trail>,
+    ) -> Result<SolvedSquare<u128>, NoMemory>
+        requires reduced { IsReduced (bounded_sums self.now.top) reduced }
+        requires matching_side { length matching.old ≡ reduced.now.side }
+        requires absorbed { AllAllowed (IsAbsorbed (bounded_sums self.now.top) reduced.index
+            (cell_at reduced.now)) matching.old }
+        requires bench_side { bench.old.side ≡ reduced.now.side }
+        requires region_side { region.old.side ≡ reduced.now.side }
+        requires spare { unmatched matching.old ≤ region.old.spare }
+        requires live { IfSome trail (IsLive region.old) }
+        ensures solved { IfOk result (λ s. HasSolved (bounded_sums self.now.top)
+            bounded_difference reduced s.reduced matching.old matching.new
+            region.old region.new trail (last_of s.ended)) }
+        ensures ends { IfOk result (λ s. EndsIn (bounded_sums self.now.top) s.reduced
+            matching.new bench.new.rows s.ended) }
+        ensures bench_side { bench.new.side ≡ bench.old.side }
+        ensures kept_matching { OnErr result (matching.new ≡ matching.old) }
+        ensures kept_region { OnErr result (region.new ≡ region.old) }
+        ensures kept_bench { OnErr result (bench.new ≡ bench.old) }
+    {
+        let square = DualSquare::make(alloc, self, reduced)?;
+        Ok(solve_kept(self, square, matching, bench, region, trail))
+    }
+
+    fn solve_given(
+        &self,
+        alloc: Global,
+        reduced: Reduced<u128>,
+        matching: &mut Matching,
+        region: &mut Region<u128>,
+        given: &[Phase<u128>],
+        columns: &[u32],
+    ) -> Result<Option<SolvedSquare<u128>>, NoMemory>
+        requires reduced { IsReduced (bounded_sums self.now.top) reduced }
+        requires matching_side { length matching.old ≡ reduced.now.side }
+        requires empty { (r c : ℕ) → Matches matching.old r c → ⊥ }
+        requires few { length given.now ≤ unmatched matching.old }
+        requires spare { length given.now ≤ region.old.spare }
+        requires region_side { region.old.side ≡ reduced.now.side }
+        ensures solved { IfOk result (λ found. IfSome found (λ s. HasSolved (bounded_sums self.now.top)
+            bounded_difference reduced s.reduced matching.old matching.new region.old
+            region.new None (last_of s.ended))) }
+        ensures ends { (rows : List ℕ) → IfOk result (λ found. IfSome found (λ s.
+            EndsIn (bounded_sums self.now.top) s.reduced matching.new rows s.ended)) }
+        ensures kept_matching { OnErr result (matching.new ≡ matching.old) }
+        ensures kept_region { OnErr result (region.new ≡ region.old) }
+    {
+        // Sums come to such a top, past which dual variables don't go.
+        if self.top < 1 << 62 {
+            return solve_kept_given(
+                alloc, self, reduced, matching, region, given, columns, false,
+            );
+        }
+        let square = DualSquare::make(alloc, self, reduced)?;
+        solve_kept_given(alloc, self, square, matching, region, given, columns, false)
     }
 }

@@ -13,6 +13,7 @@
 //! from the laws of a d-monoid alone. `asg_objectives` solves the squares of instances here.
 #![tactic(auto)]
 
+mod absorbed_cells;
 mod bench;
 mod dual_squares;
 mod given;
@@ -29,11 +30,10 @@ mod scanning;
 mod solving;
 mod square_solvers;
 mod taken;
+mod tested_lists;
 mod whole_words;
-mod zeros;
 
 pub use bench::Bench;
-pub use given::solve_given;
 pub use solving::{Solved, solve};
 pub use square_solvers::{SolvedSquare, SquareSolver};
 

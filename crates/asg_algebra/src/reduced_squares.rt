@@ -14,7 +14,7 @@ ghost use Rattle.asg_algebra.specs.Scanned.{AreValued};
 
 use crate::row_values::PlainRow;
 use crate::scanning::scan;
-use asg_admit::Reduced;
+use asg_admit::{Reduced, replay_within};
 use asg_match::Matching;
 use asg_order::DMonoid;
 
@@ -33,6 +33,16 @@ pub(crate) trait ReducedSquare<M: DMonoid> {
     fn side(&self) -> u32
         ensures side { result ≡ (as_reduced self.now).now.side }
         ensures grid { IsGrid (as_reduced self.now).now };
+
+    /// The product of the steps that led to it.
+    fn index(&self) -> M::Value
+        ensures { result ≡ (as_reduced self.now).index };
+
+    /// The cell at a row and a column.
+    fn at(&self, row: u32, column: u32) -> Option<M::Value>
+        requires row { row < (as_reduced self.now).now.side }
+        requires column { column < (as_reduced self.now).now.side }
+        ensures { result ≡ cell_at (as_reduced self.now).now row column };
 
     /// Offers each column of a set at which the row has a cell the product of a sum and this cell,
     /// from the row at a place. The column of the set with the least key, if one has a key; of
@@ -101,6 +111,27 @@ pub(crate) trait ReducedSquare<M: DMonoid> {
             (as_reduced self.new) }
         ensures room { length room.new ≡ length room.old };
 
+    /// Applies a phase where it is admitted, and multiplies the index by its steps; whether it did.
+    /// It doesn't where the phase isn't admitted, and may not where sums come near the top with it.
+    /// The square may then be changed in part, so that it serves no more.
+    fn replay(
+        &mut self,
+        m: &M,
+        steps: &[M::Value],
+        enters: &[u32],
+        leaves: &[u32],
+        room: &mut [M::Value],
+    ) -> bool
+        requires reduced { IsReduced (M.monoid_of m.now) (as_reduced self.old) }
+        requires room { length steps.now < length room.old }
+        ensures admitted { let phase = phase_of steps.now enters.now leaves.now in IsTrue result
+            → IsAdmittedPhase (M.monoid_of m.now) (M.difference m.now)
+            (as_reduced self.old).now.side phase (cell_at (as_reduced self.old).now) }
+        ensures phase { let phase = phase_of steps.now enters.now leaves.now in IsTrue result
+            → IsPhaseTo (M.monoid_of m.now) (M.difference m.now) phase (as_reduced self.old)
+            (as_reduced self.new) }
+        ensures room { length room.new ≡ length room.old };
+
     /// The reduced square with its cells written out.
     fn into_reduced(self) -> Reduced<M::Value>
         ensures { result ≡ as_reduced self };
@@ -117,6 +148,14 @@ impl<M: DMonoid> ReducedSquare<M> for Reduced<M::Value> {
 
     fn side(&self) -> u32 {
         self.now.side()
+    }
+
+    fn index(&self) -> M::Value {
+        self.index
+    }
+
+    fn at(&self, row: u32, column: u32) -> Option<M::Value> {
+        self.now.at(row, column)
     }
 
     fn offer_row(
@@ -156,6 +195,17 @@ impl<M: DMonoid> ReducedSquare<M> for Reduced<M::Value> {
         room: &mut [M::Value],
     ) {
         asg_admit::settle(m, self, steps, enters, leaves, room);
+    }
+
+    fn replay(
+        &mut self,
+        m: &M,
+        steps: &[M::Value],
+        enters: &[u32],
+        leaves: &[u32],
+        room: &mut [M::Value],
+    ) -> bool {
+        replay_within(m, self, steps, enters, leaves, room)
     }
 
     fn into_reduced(self) -> Reduced<M::Value> {

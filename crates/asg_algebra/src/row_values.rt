@@ -1,7 +1,8 @@
 //! The values of one row of a reduced square.
 
-ghost use Rattle.std.specs.Prelude.{◌≡◌, ◌+◌, ◌*◌, ◌<◌, ◌≤◌, ℕ, List, Some, length, slice_get};
+ghost use Rattle.std.specs.Prelude.{◌≡◌, ◌+◌, ◌*◌, ◌/◌, ◌%◌, ◌<◌, ◌≤◌, ℕ, List, Some, length, slice_get, slice_index};
 ghost use Rattle.asg_order.specs.Monoid.{IsValue};
+ghost use Rattle.asg_square.specs.BitTable.{is_bit_set};
 ghost use Rattle.asg_algebra.specs.Scanned.{TellsLesser};
 
 use asg_order::DMonoid;
@@ -47,4 +48,13 @@ impl<'a, M: DMonoid> RowValues<M> for PlainRow<'a, M::Value> {
     fn value_at(&self, column: u32) -> M::Value {
         self.values[column as usize]
     }
+}
+
+// Whether the bit of a column is set in the words of a row.
+#[inline]
+pub(crate) fn is_present(words: &[u64], column: u32) -> bool
+    requires { column / 64 < length words.now }
+    ensures { result ≡ is_bit_set (slice_index words.now (column / 64)) (column % 64) }
+{
+    words[(column / 64) as usize] >> (column % 64) & 1 == 1
 }

@@ -1,10 +1,8 @@
 //! The solver of each monoid.
 
-ghost use Rattle.std.specs.Prelude.{◌≡◌, ◌≤◌, ℕ, length, IfOk, IfSome, OnErr};
+ghost use Rattle.std.specs.Prelude.{◌≡◌, ◌≤◌, ℕ, List, None, length, IfOk, IfSome, OnErr};
 ghost use Rattle.asg_admit.specs.Reduced.{IsReduced};
-ghost use Rattle.asg_match.specs.Matching.{AllAllowed};
-ghost use Rattle.asg_monoids.specs.BoundedSums.{bounded_sums, bounded_difference, narrow_top};
-ghost use Rattle.asg_monoids.specs.Grades.{graded, graded_difference};
+ghost use Rattle.asg_match.specs.Matching.{AllAllowed, Matches};
 ghost use Rattle.asg_monoids.specs.Maxima.{maxima, maxima_difference};
 ghost use Rattle.asg_pool.specs.Forest.{IsLive};
 ghost use Rattle.asg_square.specs.Grid.{cell_at};
@@ -14,13 +12,15 @@ ghost use Rattle.asg_algebra.specs.Solved.{HasSolved, unmatched};
 
 use crate::NoMemory;
 use crate::bench::Bench;
+use crate::given::solve_kept_given;
 use crate::reduced_squares::ReducedSquare;
 use crate::solving::{Progress, Solved, serve_all, solve};
-use asg_admit::{DualSquare, GradedSquare, NarrowSquare, Reduced};
+use asg_admit::Reduced;
 use asg_match::Matching;
-use asg_monoids::{Bounded, Graded, Greatest, NarrowSums};
+use asg_monoids::Greatest;
 use asg_order::{DMonoid, Written};
 use asg_pool::{Region, Trail};
+use asg_proof::Phase;
 use std::alloc::Global;
 
 /// A reduced square that was solved, and what it came to.
@@ -66,6 +66,41 @@ pub trait SquareSolver: Written {
         ensures kept_matching { OnErr result (matching.new ≡ matching.old) }
         ensures kept_region { OnErr result (region.new ≡ region.old) }
         ensures kept_bench { OnErr result (bench.new ≡ bench.old) };
+
+    /// Solves a reduced square by phases and columns that are given, from wherever they come: what
+    /// [`solve_square`](SquareSolver::solve_square) gives where they solve it, and `None` where
+    /// they don't. Each phase is tested before it is applied and pushed; the first that isn't
+    /// admitted, or that hasn't 1 to side steps, ends it, and so may one with which sums come near
+    /// the top. Then each row gets its column of the list where no row before has it and the cell
+    /// is absorbed, and where every row gets one the square is solved.
+    ///
+    /// The matching is empty, no trail leads to the square, and the phases are at most as many as
+    /// the rows and as the records spare. After `None` phases may have been pushed, and rows may
+    /// have columns. The error is want of memory; then the matching and the region are as they
+    /// were. The time is that of the tests: at most the side's square for each phase of sums, and
+    /// for each step of other phases.
+    fn solve_given(
+        &self,
+        alloc: Global,
+        reduced: Reduced<Self::Value>,
+        matching: &mut Matching,
+        region: &mut Region<Self::Value>,
+        given: &[Phase<Self::Value>],
+        columns: &[u32],
+    ) -> Result<Option<SolvedSquare<Self::Value>>, NoMemory>
+        requires reduced { IsReduced (Self.monoid_of self.now) reduced }
+        requires matching_side { length matching.old ≡ reduced.now.side }
+        requires empty { (r c : ℕ) → Matches matching.old r c → ⊥ }
+        requires few { length given.now ≤ unmatched matching.old }
+        requires spare { length given.now ≤ region.old.spare }
+        requires region_side { region.old.side ≡ reduced.now.side }
+        ensures solved { IfOk result (λ found. IfSome found (λ s. HasSolved
+            (Self.monoid_of self.now) (Self.difference self.now) reduced s.reduced matching.old
+            matching.new region.old region.new None (last_of s.ended))) }
+        ensures ends { (rows : List ℕ) → IfOk result (λ found. IfSome found (λ s.
+            EndsIn (Self.monoid_of self.now) s.reduced matching.new rows s.ended)) }
+        ensures kept_matching { OnErr result (matching.new ≡ matching.old) }
+        ensures kept_region { OnErr result (region.new ≡ region.old) };
 }
 
 // Solves a square whose cells are rewritten after each phase.
@@ -96,9 +131,9 @@ fn solve_rewriting<M: DMonoid>(
     SolvedSquare { reduced, ended }
 }
 
-// Solves a square as it is kept, so long as it takes the phases. From the first that it doesn't
-// take on, its cells are written out and rewritten after each phase.
-fn solve_kept<M: DMonoid, S: ReducedSquare<M> + Drop>(
+/// Solves a square as it is kept, so long as it takes the phases. From the first that it doesn't
+/// take on, its cells are written out and rewritten after each phase.
+pub(crate) fn solve_kept<M: DMonoid, S: ReducedSquare<M> + Drop>(
     m: &M,
     square: S,
     matching: &mut Matching,
@@ -135,72 +170,6 @@ fn solve_kept<M: DMonoid, S: ReducedSquare<M> + Drop>(
     }
 }
 
-impl SquareSolver for Bounded {
-    fn solve_square(
-        &self,
-        alloc: Global,
-        reduced: Reduced<u128>,
-        matching: &mut Matching,
-        bench: &mut Bench<u128>,
-        region: &mut Region<u128>,
-        trail: Option<Trail>,
-    ) -> Result<SolvedSquare<u128>, NoMemory>
-        requires reduced { IsReduced (bounded_sums self.now.top) reduced }
-        requires matching_side { length matching.old ≡ reduced.now.side }
-        requires absorbed { AllAllowed (IsAbsorbed (bounded_sums self.now.top) reduced.index
-            (cell_at reduced.now)) matching.old }
-        requires bench_side { bench.old.side ≡ reduced.now.side }
-        requires region_side { region.old.side ≡ reduced.now.side }
-        requires spare { unmatched matching.old ≤ region.old.spare }
-        requires live { IfSome trail (IsLive region.old) }
-        ensures solved { IfOk result (λ s. HasSolved (bounded_sums self.now.top)
-            bounded_difference reduced s.reduced matching.old matching.new
-            region.old region.new trail (last_of s.ended)) }
-        ensures ends { IfOk result (λ s. EndsIn (bounded_sums self.now.top) s.reduced
-            matching.new bench.new.rows s.ended) }
-        ensures bench_side { bench.new.side ≡ bench.old.side }
-        ensures kept_matching { OnErr result (matching.new ≡ matching.old) }
-        ensures kept_region { OnErr result (region.new ≡ region.old) }
-        ensures kept_bench { OnErr result (bench.new ≡ bench.old) }
-    {
-        let square = DualSquare::make(alloc, self, reduced)?;
-        Ok(solve_kept(self, square, matching, bench, region, trail))
-    }
-}
-
-impl SquareSolver for NarrowSums {
-    fn solve_square(
-        &self,
-        alloc: Global,
-        reduced: Reduced<u64>,
-        matching: &mut Matching,
-        bench: &mut Bench<u64>,
-        region: &mut Region<u64>,
-        trail: Option<Trail>,
-    ) -> Result<SolvedSquare<u64>, NoMemory>
-        requires reduced { IsReduced (bounded_sums narrow_top) reduced }
-        requires matching_side { length matching.old ≡ reduced.now.side }
-        requires absorbed { AllAllowed (IsAbsorbed (bounded_sums narrow_top) reduced.index
-            (cell_at reduced.now)) matching.old }
-        requires bench_side { bench.old.side ≡ reduced.now.side }
-        requires region_side { region.old.side ≡ reduced.now.side }
-        requires spare { unmatched matching.old ≤ region.old.spare }
-        requires live { IfSome trail (IsLive region.old) }
-        ensures solved { IfOk result (λ s. HasSolved (bounded_sums narrow_top)
-            bounded_difference reduced s.reduced matching.old matching.new
-            region.old region.new trail (last_of s.ended)) }
-        ensures ends { IfOk result (λ s. EndsIn (bounded_sums narrow_top) s.reduced
-            matching.new bench.new.rows s.ended) }
-        ensures bench_side { bench.new.side ≡ bench.old.side }
-        ensures kept_matching { OnErr result (matching.new ≡ matching.old) }
-        ensures kept_region { OnErr result (region.new ≡ region.old) }
-        ensures kept_bench { OnErr result (bench.new ≡ bench.old) }
-    {
-        let square = NarrowSquare::make(alloc, reduced)?;
-        Ok(solve_kept(self, square, matching, bench, region, trail))
-    }
-}
-
 impl SquareSolver for Greatest {
     fn solve_square(
         &self,
@@ -232,39 +201,32 @@ impl SquareSolver for Greatest {
         let _ = alloc;
         Ok(solve_rewriting(self, reduced, matching, bench, region, trail))
     }
-}
 
-impl SquareSolver for Graded<Bounded> {
-    fn solve_square(
+    fn solve_given(
         &self,
         alloc: Global,
-        reduced: Reduced<(u64, u128)>,
+        reduced: Reduced<u64>,
         matching: &mut Matching,
-        bench: &mut Bench<(u64, u128)>,
-        region: &mut Region<(u64, u128)>,
-        trail: Option<Trail>,
-    ) -> Result<SolvedSquare<(u64, u128)>, NoMemory>
-        requires reduced { IsReduced (graded (bounded_sums self.now.inner.top)) reduced }
+        region: &mut Region<u64>,
+        given: &[Phase<u64>],
+        columns: &[u32],
+    ) -> Result<Option<SolvedSquare<u64>>, NoMemory>
+        requires reduced { IsReduced maxima reduced }
         requires matching_side { length matching.old ≡ reduced.now.side }
-        requires absorbed { AllAllowed
-            (IsAbsorbed (graded (bounded_sums self.now.inner.top)) reduced.index
-            (cell_at reduced.now)) matching.old }
-        requires bench_side { bench.old.side ≡ reduced.now.side }
+        requires empty { (r c : ℕ) → Matches matching.old r c → ⊥ }
+        requires few { length given.now ≤ unmatched matching.old }
+        requires spare { length given.now ≤ region.old.spare }
         requires region_side { region.old.side ≡ reduced.now.side }
-        requires spare { unmatched matching.old ≤ region.old.spare }
-        requires live { IfSome trail (IsLive region.old) }
-        ensures solved { let sums = bounded_sums self.now.inner.top in
-            IfOk result (λ s. HasSolved (graded sums)
-            (graded_difference sums bounded_difference) reduced s.reduced matching.old matching.new
-            region.old region.new trail (last_of s.ended)) }
-        ensures ends { IfOk result (λ s. EndsIn (graded (bounded_sums self.now.inner.top)) s.reduced
-            matching.new bench.new.rows s.ended) }
-        ensures bench_side { bench.new.side ≡ bench.old.side }
+        ensures solved { IfOk result (λ found. IfSome found (λ s. HasSolved maxima
+            maxima_difference reduced s.reduced matching.old matching.new region.old
+            region.new None (last_of s.ended))) }
+        ensures ends { (rows : List ℕ) → IfOk result (λ found. IfSome found (λ s.
+            EndsIn maxima s.reduced matching.new rows s.ended)) }
         ensures kept_matching { OnErr result (matching.new ≡ matching.old) }
         ensures kept_region { OnErr result (region.new ≡ region.old) }
-        ensures kept_bench { OnErr result (bench.new ≡ bench.old) }
     {
-        let square = GradedSquare::make(alloc, reduced)?;
-        Ok(solve_kept(self, square, matching, bench, region, trail))
+        solve_kept_given(
+            alloc, self, reduced, matching, region, given, columns, false,
+        )
     }
 }

@@ -1,12 +1,11 @@
-use Rattle.std.proofs.Common.{◌≡◌, length}
-use Rattle.asg_monoids.specs.BoundedSums.{bounded_sums, bounded_difference, narrow_top}
-use Rattle.asg_algebra.specs.Taken.{Takes}
+use Rattle.std.proofs.Common.{◌≡◌, length, take}
+use Rattle.asg_algebra.specs.Solved.{LeadTo}
 use Rattle.asg_algebra.proofs.taken.take_phases.Given as goal
 
--- the phases so far were taken or passed over
+-- the phases so far were taken
 abbrev pub invariant-phases : goal.invariant-phases
-invariant-phases l =
+invariant-phases g l =
     record {
-      takes : Takes (bounded_sums narrow_top) bounded_difference l.k l.fn.square l.square l.fn.region l.region l.fn.trail l.last;
+      lead : LeadTo (g.M.Ordered.monoid_of l.m) (g.M.DMonoid.difference l.m) (take l.k l.given) (g.S.ReducedSquare.as_reduced l.fn.square) (g.S.ReducedSquare.as_reduced l.square) l.fn.region l.region l.fn.last l.last;
       room : length l.room ≡ length l.fn.room;
     }

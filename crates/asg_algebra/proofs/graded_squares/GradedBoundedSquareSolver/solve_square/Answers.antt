@@ -4,7 +4,7 @@ use Rattle.asg_monoids.specs.BoundedSums.{bounded_sums, bounded_difference}
 use Rattle.asg_monoids.specs.Grades.{graded, graded_difference}
 use Rattle.asg_algebra.specs.Ended.{last_of}
 use Rattle.asg_algebra.specs.Solved.{HasSolved}
-use Rattle.asg_algebra.proofs.square_solvers.GradedBoundedSquareSolver.solve_square.Goals as goal
+use Rattle.asg_algebra.proofs.graded_squares.GradedBoundedSquareSolver.solve_square.Goals as goal
 
 pub solve_kept-requires-clause-reduced : goal.solve_kept-requires-clause-reduced
 solve_kept-requires-clause-reduced c =

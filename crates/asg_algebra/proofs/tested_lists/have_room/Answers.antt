@@ -1,0 +1,18 @@
+use Rattle.std.proofs.Common.{◌<◌, ◌∷◌, [], ◌++◌, length, take, sym, ◌∙◌, ap, subst, arith}
+use Rattle.std.specs.Prelude.{All}
+use Rattle.std.proofs.lemmas.List.{take_more, take_all}
+use Rattle.std.proofs.lemmas.List.Elements.{All-push}
+use Rattle.asg_algebra.proofs.tested_lists.have_room.Goals as goal
+
+pub phases-preserved : goal.phases-preserved
+phases-preserved c =
+    let k = c.phases.k in
+    let given = c.args.given.now in
+    let phase = c.index-given-k.result in
+    let one = take_more given k phase c.phases-test.true ∙ ap (λ p. take k given ++ p ∷ []) (sym c.index-given-k.is) in
+    let few : length phase.steps < c.args.places = omega (arith, c.if-steps-places.false, ap length c.steps.ensures) in
+    subst (All (λ p. length p.steps < c.args.places)) (sym one)
+    (All-push (λ p. length p.steps < c.args.places) (take k given) phase c.phases.invariant few)
+
+pub returns : goal.returns
+returns c = λ _. subst (All (λ p. length p.steps < c.args.places)) (take_all c.phases.k c.args.given.now c.phases-test.false) c.phases.invariant

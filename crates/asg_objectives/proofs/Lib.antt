@@ -1,5 +1,6 @@
 mod WordedPhases
 mod LedSquares
+mod EnteredOutcomes
 mod KindOutcomes
 mod MatchedColumns
 mod NarrowOutcomes

@@ -14,6 +14,7 @@ use Rattle.asg_model.specs.ValidChoice.{IsValid}
 use Rattle.asg_model.specs.Values.{costs_of}
 use Rattle.asg_monoids.specs.BoundedSums.{bounded_sums, bounded_difference, plain_word, narrow_top}
 use Rattle.asg_monoids.specs.Entered.{is_sum_objective, cost_reach, sum_entered}
+use Rattle.asg_monoids.specs.laws.Bounded.{bounded_laws}
 use Rattle.asg_order.specs.declared.words.Word.{Word}
 use Rattle.asg_order.specs.Bridge.{costs_fold, choice_fold}
 use Rattle.asg_order.specs.Entering.{MayEnter}
@@ -23,10 +24,16 @@ use Rattle.asg_proof.specs.declared.outcomes.Outcome.{Outcome}
 use Rattle.asg_proof.specs.FoldProofs.{ProvesFold, ProvesPhases}
 use Rattle.asg_proof.specs.laws.LiveCosts.{lies_within}
 use Rattle.asg_proof.specs.Outcomes.{IsOutcome}
+use Rattle.asg_proof.specs.PhaseProofs.{EntersValues}
 use Rattle.asg_proof.specs.Phases.{PhaseOf}
+use Rattle.asg_proof.specs.Steps.{HasValues}
+use Rattle.asg_square.specs.Grid.{Grid, cell_at, IsSquareOf}
 use Rattle.asg_objectives.specs.FoldOutcomes.{IsFoldOutcome}
+use Rattle.asg_objectives.specs.SolvedSquares.{IsSquareOutcome}
 use Rattle.asg_monoids.specs.NarrowObjectives.{is_narrow_objective}
+use Rattle.asg_objectives.proofs.EnteredOutcomes.{EntersValues-may}
 use Rattle.asg_objectives.proofs.KindOutcomes.{IsOutcome-from_fold}
+use Rattle.asg_objectives.proofs.LedSquares.{HasValues-of_square}
 
 -- sums of so few entered costs are the same by both tops, and below the lesser one
 abbrev pub FoldsNarrow : Objective → Type 0
@@ -69,7 +76,7 @@ pub is_sum-narrow : (objective : Objective) → is_narrow_objective objective �
 is_sum-narrow objective is = by_cases (λ o. IsTrue (is_sum_objective o)) objective is refl refl
 
 -- their costs enter as values
-pub enters_narrow : (objective : Objective) → is_narrow_objective objective ≡ true → EnterNarrow → (cost : Cost) → MayEnter objective cost_reach cost → IsValue (bounded_sums narrow_top) (sum_entered objective cost)
+enters_narrow : (objective : Objective) → is_narrow_objective objective ≡ true → EnterNarrow → (cost : Cost) → MayEnter objective cost_reach cost → IsValue (bounded_sums narrow_top) (sum_entered objective cost)
 enters_narrow objective is values =
     by_cases (λ o. (cost : Cost) → MayEnter o cost_reach cost → IsValue (bounded_sums narrow_top) (sum_entered o cost)) objective is
     (λ cost. (values cost).0) (λ cost. (values cost).1)
@@ -86,7 +93,7 @@ few_costs X instance choice valid =
     omega (arith, length-costs_of X choice valid, valid.counted, valid.over, count_by-le-length is_some choice, instance.well_formed.few_rows)
 
 -- what is proved by sums in 64 bits is proved by those that stop at the top of the objective
-pub IsOutcome-narrow : (objective : Objective) → is_narrow_objective objective ≡ true → FoldsNarrow Sum → FoldsNarrow SumMax → FoldsByTops → (X : Problem) → IsInstance X → PassesNegative objective X → (outcome : Outcome) → IsFoldOutcome (bounded_sums narrow_top) bounded_difference plain_word (sum_entered objective) X outcome → IsOutcome objective X outcome
+IsOutcome-narrow : (objective : Objective) → is_narrow_objective objective ≡ true → FoldsNarrow Sum → FoldsNarrow SumMax → FoldsByTops → (X : Problem) → IsInstance X → PassesNegative objective X → (outcome : Outcome) → IsFoldOutcome (bounded_sums narrow_top) bounded_difference plain_word (sum_entered objective) X outcome → IsOutcome objective X outcome
 IsOutcome-narrow objective is sum sum_max tops X instance passes outcome by =
     IsOutcome-from_fold (bounded_sums narrow_top) bounded_difference plain_word (sum_entered objective) objective X proves outcome by
   where
@@ -96,3 +103,18 @@ IsOutcome-narrow objective is sum sum_max tops X instance passes outcome by =
         let folds = by_cases FoldsNarrow objective is sum sum_max (costs_of X choice) (few_costs X instance choice valid) may in
         from_narrow objective is X choice words
         (tops narrow_top (2 ^ 120) plain_word (sum_entered objective) X choice words (omega arith) folds.1 (sym folds.0) proof)
+
+-- live costs of both objectives enter as values
+EntersValues-narrow : (objective : Objective) → is_narrow_objective objective ≡ true → EnterNarrow → (X : Problem) → IsInstance X → PassesNegative objective X → EntersValues (bounded_sums narrow_top) (sum_entered objective) X
+EntersValues-narrow objective is values X instance passes =
+    EntersValues-may (bounded_sums narrow_top) (sum_entered objective) objective cost_reach X (omega arith) instance passes (enters_narrow objective is values)
+
+-- so the square of the instance is of values
+pub HasValues-narrow : (objective : Objective) → is_narrow_objective objective ≡ true → EnterNarrow → (X : Problem) → IsInstance X → PassesNegative objective X → (Q : Grid ℕ) → IsSquareOf X 0 (sum_entered objective) Q → HasValues (bounded_sums narrow_top) Q.side (cell_at Q)
+HasValues-narrow objective is values X instance passes Q square =
+    HasValues-of_square (bounded_sums narrow_top) (bounded_laws narrow_top) X (sum_entered objective) Q square (EntersValues-narrow objective is values X instance passes)
+
+-- and what it comes to is an outcome of the objective
+pub IsOutcome-narrow_square : (objective : Objective) → is_narrow_objective objective ≡ true → EnterNarrow → FoldsNarrow Sum → FoldsNarrow SumMax → FoldsByTops → (X : Problem) → IsInstance X → PassesNegative objective X → (Q : Grid ℕ) → IsSquareOf X 0 (sum_entered objective) Q → (outcome : Outcome) → IsSquareOutcome (bounded_sums narrow_top) bounded_difference plain_word X Q outcome → IsOutcome objective X outcome
+IsOutcome-narrow_square objective is values sum sum_max tops X instance passes Q square outcome by =
+    IsOutcome-narrow objective is sum sum_max tops X instance passes outcome (by (sum_entered objective) square (EntersValues-narrow objective is values X instance passes))

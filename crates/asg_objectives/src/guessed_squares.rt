@@ -1,10 +1,9 @@
-//! Squares of sums that are solved by guessed phases, where these pass the tests.
+//! Squares that are solved by guessed phases and columns, where these pass the tests.
 
-ghost use Rattle.std.specs.Prelude.{◌≡◌, IfOk, IfSome};
-ghost use Rattle.asg_monoids.specs.BoundedSums.{bounded_sums, bounded_difference, narrow_top, plain_word};
+ghost use Rattle.std.specs.Prelude.{IfOk, IfSome};
 ghost use Rattle.asg_proof.specs.PromisedProofs.{GivesFewPhases};
 ghost use Rattle.asg_proof.specs.Steps.{HasValues};
-ghost use Rattle.asg_square.specs.Grid.{cell_at, HasLabelsOf};
+ghost use Rattle.asg_square.specs.Grid.{Grid, cell_at, HasLabelsOf};
 ghost use Rattle.asg_objectives.specs.SolvedFrom.{IsSolvedFrom};
 ghost use Rattle.asg_objectives.specs.SolvedSquares.{IsSquareOutcome};
 ghost use Rattle.asg_objectives.specs.Workspaces.{IsReady};
@@ -13,82 +12,110 @@ use crate::NoMemory;
 use crate::solved_squares::outcome_of;
 use crate::workspaces::Workspace;
 use asg_admit::Reduced;
-use asg_algebra::{SolvedSquare, solve_given};
-use asg_duals::{Duals, short_phases, tight_duals};
+use asg_algebra::{SolvedSquare, SquareSolver};
 use asg_model::Instance;
-use asg_monoids::NarrowSums;
-use asg_proof::Outcome;
+use asg_proof::{Outcome, Phase};
 use asg_square::Square;
 use std::alloc::Global;
 
-// Solves a square of sums in a workspace by phases from dual variables; `None` where they don't
+// Solves a square in a workspace by phases and columns that were guessed; `None` where they don't
 // solve it. It has the square from then on.
-fn solve_by_duals(
+fn solve_guessed<M: SquareSolver>(
     alloc: Global,
-    square: Square<u64>,
-    duals: &Duals,
-    workspace: &mut Workspace<u64>,
-) -> Result<Option<SolvedSquare<u64>>, NoMemory>
-    requires values { HasValues (bounded_sums narrow_top) square.side (cell_at square) }
+    m: &M,
+    square: Square<M::Value>,
+    workspace: &mut Workspace<M::Value>,
+    phases: &[Phase<M::Value>],
+    columns: &[u32],
+) -> Result<Option<SolvedSquare<M::Value>>, NoMemory>
+    requires values { HasValues (M.monoid_of m.now) square.side (cell_at square) }
     requires ready { IsReady square.side workspace.old }
     ensures { IfOk result (λ found. IfSome found (λ solved.
-        IsSolvedFrom (bounded_sums narrow_top) bounded_difference square solved workspace.new)) }
+        IsSolvedFrom (M.monoid_of m.now) (M.difference m.now) square solved workspace.new)) }
 {
-    let phases = short_phases(alloc, duals)?;
     if phases.len() > square.side() as usize {
         return Ok(None);
     }
     let reduced = Reduced {
         now: square,
-        index: 0,
+        index: m.unit(),
     };
-    solve_given(
+    m.solve_given(
         alloc,
         reduced,
         &mut workspace.matching,
         &mut workspace.region,
-        phases.as_slice(),
-        duals.columns(),
+        phases,
+        columns,
     )
 }
 
-// The outcome of the square of an instance by phases from dual variables; `None` where they don't
-// solve it.
-fn outcome_by_duals(
+// The outcome of the square of an instance that was solved in a workspace, as one that was found.
+fn found_outcome<M: SquareSolver>(
     alloc: Global,
+    m: &M,
     inst: &Instance,
-    square: Square<u64>,
-    duals: &Duals,
+    solved: SolvedSquare<M::Value>,
+    workspace: Workspace<M::Value>,
 ) -> Result<Option<Outcome>, NoMemory>
-    requires labels { HasLabelsOf inst.now square }
-    requires values { HasValues (bounded_sums narrow_top) square.side (cell_at square) }
-    ensures outcome { IfOk result (λ found. IfSome found (IsSquareOutcome (bounded_sums narrow_top)
-        bounded_difference plain_word inst.now square)) }
-    ensures phases { IfOk result (λ found. IfSome found (GivesFewPhases square.side)) }
+    requires { (Q : Grid M.Value) × HasLabelsOf inst.now Q
+        × IsSolvedFrom (M.monoid_of m.now) (M.difference m.now) Q solved workspace }
+    ensures outcome { (Q : Grid M.Value)
+        → IsSolvedFrom (M.monoid_of m.now) (M.difference m.now) Q solved workspace
+        → IfOk result (λ found. IfSome found (IsSquareOutcome (M.monoid_of m.now)
+        (M.difference m.now) (M.word_of m.now) inst.now Q)) }
+    ensures phases { (Q : Grid M.Value)
+        → IsSolvedFrom (M.monoid_of m.now) (M.difference m.now) Q solved workspace
+        → IfOk result (λ found. IfSome found (GivesFewPhases Q.side)) }
 {
-    let mut workspace = Workspace::make(alloc, square.side())?;
-    match solve_by_duals(alloc, square, duals, &mut workspace)? {
-        Some(solved) => Ok(Some(outcome_of(alloc, &NarrowSums, inst, solved, workspace)?)),
+    Ok(Some(outcome_of(alloc, m, inst, solved, workspace)?))
+}
+
+// The outcome of the square of an instance that may have been solved in a workspace; `None` where
+// it wasn't.
+fn outcome_if_solved<M: SquareSolver>(
+    alloc: Global,
+    m: &M,
+    inst: &Instance,
+    found: Option<SolvedSquare<M::Value>>,
+    workspace: Workspace<M::Value>,
+) -> Result<Option<Outcome>, NoMemory>
+    requires { (Q : Grid M.Value) × HasLabelsOf inst.now Q × IfSome found (λ solved.
+        IsSolvedFrom (M.monoid_of m.now) (M.difference m.now) Q solved workspace) }
+    ensures outcome { (Q : Grid M.Value)
+        → IfSome found (λ solved. IsSolvedFrom (M.monoid_of m.now) (M.difference m.now) Q solved
+        workspace)
+        → IfOk result (λ outcome. IfSome outcome (IsSquareOutcome (M.monoid_of m.now)
+        (M.difference m.now) (M.word_of m.now) inst.now Q)) }
+    ensures phases { (Q : Grid M.Value)
+        → IfSome found (λ solved. IsSolvedFrom (M.monoid_of m.now) (M.difference m.now) Q solved
+        workspace)
+        → IfOk result (λ outcome. IfSome outcome (GivesFewPhases Q.side)) }
+{
+    match found {
+        Some(solved) => found_outcome(alloc, m, inst, solved, workspace),
         None => Ok(None),
     }
 }
 
-/// The outcome of the square of an instance by few phases, which are guessed from the dual
-/// variables of an assignment of least sum; `None` where no such is found, or where the phases or
-/// the assignment don't pass the tests. The error is want of memory.
-pub(crate) fn guessed_outcome(
+/// The outcome of the square of an instance, whose present cells are values and whose free cells
+/// are units, by phases and columns that were guessed; `None` where they don't pass the tests or
+/// don't solve it. The error is want of memory.
+pub(crate) fn guessed_outcome<M: SquareSolver>(
     alloc: Global,
+    m: &M,
     inst: &Instance,
-    square: Square<u64>,
+    square: Square<M::Value>,
+    phases: &[Phase<M::Value>],
+    columns: &[u32],
 ) -> Result<Option<Outcome>, NoMemory>
     requires labels { HasLabelsOf inst.now square }
-    requires values { HasValues (bounded_sums narrow_top) square.side (cell_at square) }
-    ensures outcome { IfOk result (λ found. IfSome found (IsSquareOutcome (bounded_sums narrow_top)
-        bounded_difference plain_word inst.now square)) }
+    requires values { HasValues (M.monoid_of m.now) square.side (cell_at square) }
+    ensures outcome { IfOk result (λ found. IfSome found (IsSquareOutcome (M.monoid_of m.now)
+        (M.difference m.now) (M.word_of m.now) inst.now square)) }
     ensures phases { IfOk result (λ found. IfSome found (GivesFewPhases square.side)) }
 {
-    match tight_duals(alloc, &square)? {
-        Some(duals) => outcome_by_duals(alloc, inst, square, &duals),
-        None => Ok(None),
-    }
+    let mut workspace = Workspace::make(alloc, square.side())?;
+    let found = solve_guessed(alloc, m, square, &mut workspace, phases, columns)?;
+    outcome_if_solved(alloc, m, inst, found, workspace)
 }

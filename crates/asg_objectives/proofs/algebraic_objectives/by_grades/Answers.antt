@@ -11,9 +11,9 @@ use Rattle.asg_objectives.proofs.algebraic_objectives.by_grades.Goals as goal
 pub returns-clause-outcome : goal.returns-clause-outcome
 returns-clause-outcome c =
     let X = c.args.inst.now in
-    let top = c.new.result.monoid.inner.top in
-    IfOk-weaker c.algebraic.result
+    let top = c.new-kind.result.monoid.inner.top in
+    IfOk-weaker c.guessed_algebraic.result
     (IsFoldOutcome (graded (bounded_sums top)) (graded_difference (bounded_sums top) bounded_difference) graded_word time_entered X)
     (IsOutcome TimeCost X)
-    (λ outcome by. IsOutcome-grades top c.new.ensures X outcome by)
-    c.algebraic.ensures.outcome
+    (λ outcome by. IsOutcome-grades top c.new-kind.ensures X outcome by)
+    c.guessed_algebraic.ensures.outcome

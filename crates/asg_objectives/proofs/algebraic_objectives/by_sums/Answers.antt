@@ -8,15 +8,18 @@ use Rattle.asg_objectives.specs.FoldOutcomes.{IsFoldOutcome}
 use Rattle.asg_objectives.proofs.KindOutcomes.{IsOutcome-sums}
 use Rattle.asg_objectives.proofs.algebraic_objectives.by_sums.Goals as goal
 
-pub algebraic-requires-clause-passes : goal.algebraic-requires-clause-passes
-algebraic-requires-clause-passes c = subst (λ o. PassesNegative o c.args.inst.now) (sym c.of.ensures.objective) c.requires.passes
+pub entered_square-requires-clause-passes : goal.entered_square-requires-clause-passes
+entered_square-requires-clause-passes c = subst (λ o. PassesNegative o c.args.inst.now) (sym c.of-kind.ensures.objective) c.requires.passes
+
+pub guessed_algebraic-requires-clause-passes : goal.guessed_algebraic-requires-clause-passes
+guessed_algebraic-requires-clause-passes c = subst (λ o. PassesNegative o c.args.inst.now) (sym c.of-kind.ensures.objective) c.requires.passes
 
 pub returns-clause-outcome : goal.returns-clause-outcome
 returns-clause-outcome c =
     let X = c.args.inst.now in
-    let kind = c.of.result in
-    IfOk-weaker c.algebraic.result
+    let kind = c.of-kind.result in
+    IfOk-weaker c.guessed_algebraic.result
     (IsFoldOutcome (bounded_sums kind.monoid.top) bounded_difference plain_word (sum_entered kind.objective) X)
     (IsOutcome c.args.objective X)
-    (λ outcome by. IsOutcome-sums kind.objective c.args.objective kind.monoid.top c.of.ensures.objective c.of.ensures.stops c.requires.objective X outcome by)
-    c.algebraic.ensures.outcome
+    (λ outcome by. IsOutcome-sums kind.objective c.args.objective kind.monoid.top c.of-kind.ensures.objective c.of-kind.ensures.stops c.requires.objective X outcome by)
+    c.guessed_algebraic.ensures.outcome

@@ -35,10 +35,11 @@ windows_more windows i window within =
     flat_map_more (λ line. line ++ 10 ∷ []) [] (map window_line (take i windows)) (window_line last)
     ∙ ap ended (sym (map-append window_line (take i windows) (last ∷ [])) ∙ ap (map window_line) (sym (take_more windows i window within)))
 
-pub steps_more : (graded : Bool) (steps : List Word) (i : ℕ) (step : Word) → i < length steps
-    → spaced_steps graded (take i steps) ++ 32 ∷ step_text graded (get_or steps i step) ≡ spaced_steps graded (take (i + 1) steps)
-steps_more graded steps i step within =
-    flat_map_more (λ one. 32 ∷ step_text graded one) [] (take i steps) (get_or steps i step) ∙ ap (spaced_steps graded) (sym (take_more steps i step within))
+pub steps_more : (graded : Bool) (steps : List Word) (i : ℕ) (step found : Word) → i < length steps → found ≡ get_or steps i step
+    → spaced_steps graded (take i steps) ++ 32 ∷ step_text graded found ≡ spaced_steps graded (take (i + 1) steps)
+steps_more graded steps i step found within is =
+    ap (λ one. spaced_steps graded (take i steps) ++ 32 ∷ step_text graded one) is
+    ∙ flat_map_more (λ one. 32 ∷ step_text graded one) [] (take i steps) (get_or steps i step) ∙ ap (spaced_steps graded) (sym (take_more steps i step within))
 
 pub phases_more : (graded : Bool) (phases : List (PhaseOf Word)) (i : ℕ) (phase : PhaseOf Word) → i < length phases
     → ended (flat_map (phase_lines graded) (take i phases)) ++ ended (phase_lines graded (get_or phases i phase)) ≡ ended (flat_map (phase_lines graded) (take (i + 1) phases))

@@ -7,10 +7,9 @@ ghost use Rattle.asg_parts.specs.Reading.{ReadsOrFails};
 ghost use Rattle.asg_parts.specs.Spellings.{Spells, SpellsOrFails, ListsNext, listed};
 ghost use Rattle.asg_doc.specs.DocumentParts.{step_spelling, steps_part, phase_part};
 
-use crate::step_lists::Steps;
 use asg_order::Word;
 use asg_parts::{Fault, Lines, after, cut, graded, next_graded, next_long, wide_number};
-use asg_proof::{Phase, Phases};
+use asg_proof::{Phases, StepWords, WrittenPhase};
 use std::alloc::Global;
 
 // The step without a grade that a word spells.
@@ -113,10 +112,10 @@ fn next_step(has_grades: bool, text: &[u8]) -> Option<(Word, &[u8])>
 }
 
 // The steps that a text lists, each after a space: at least one. They alone take memory.
-fn steps_of(alloc: Global, has_grades: bool, text: &[u8]) -> Result<Steps, Fault>
+fn steps_of(alloc: Global, has_grades: bool, text: &[u8]) -> Result<StepWords, Fault>
     ensures { SpellsOrFails (listed (step_spelling has_grades)) text.now result }
 {
-    let mut steps = Vec::new(alloc);
+    let mut steps = StepWords::none(alloc);
     let mut rest = text;
     'listed: while let Some((step, left)) = next_step(has_grades, rest) {
         steps.push(step)?;
@@ -125,11 +124,12 @@ fn steps_of(alloc: Global, has_grades: bool, text: &[u8]) -> Result<Steps, Fault
     if steps.is_empty() || !rest.is_empty() {
         return Err(Fault::Refused);
     }
-    Ok(Steps::from_vec(steps))
+    steps.shrink();
+    Ok(steps)
 }
 
 // The line of steps.
-fn steps(alloc: Global, has_grades: bool, lines: &mut Lines) -> Result<Steps, Fault>
+fn steps(alloc: Global, has_grades: bool, lines: &mut Lines) -> Result<StepWords, Fault>
     ensures { ReadsOrFails (steps_part has_grades) lines.old lines.new result }
 {
     let (text, left) = lines.next_behind(b"steps")?;
@@ -139,13 +139,14 @@ fn steps(alloc: Global, has_grades: bool, lines: &mut Lines) -> Result<Steps, Fa
 }
 
 // A phase: its three lines.
-fn phase(alloc: Global, has_grades: bool, lines: &mut Lines) -> Result<Phase<Word>, Fault>
+fn phase(alloc: Global, has_grades: bool, lines: &mut Lines) -> Result<WrittenPhase, Fault>
     ensures { ReadsOrFails (phase_part has_grades) lines.old lines.new result }
 {
     let steps = steps(alloc, has_grades, lines)?;
     let enters = lines.numbers(alloc, b"enters")?;
     let leaves = lines.numbers(alloc, b"leaves")?;
-    Ok(Phase::of(steps.into_vec(), enters.into_vec(), leaves.into_vec()))
+    let phase = WrittenPhase::of(steps, enters.into_vec(), leaves.into_vec())?;
+    Ok(phase)
 }
 
 // As many phases as the count says. The count takes no memory, only the phases that are read.

@@ -11,7 +11,7 @@ use crate::line_writer::emit_list;
 use crate::page_buffer::{Page, emit};
 use asg_io::Sink;
 use asg_order::Word;
-use asg_proof::Phase;
+use asg_proof::{StepWords, WrittenPhase};
 use itoa::Buffer;
 
 // Appends the grade of a step.
@@ -45,18 +45,18 @@ fn emit_step<K: Sink>(has_grades: bool, step: Word, page: &mut Page, out: &mut K
 }
 
 // Appends steps, each after a space.
-fn emit_steps<K: Sink>(has_grades: bool, steps: &[Word], page: &mut Page, out: &mut K)
+fn emit_steps<K: Sink>(has_grades: bool, steps: &StepWords, page: &mut Page, out: &mut K)
     ensures { Wrote K.written K.faults out.old out.new page.old page.new
         (spaced_steps has_grades steps.now) }
 {
-    'steps: for step in steps {
+    'steps: for place in 0..steps.len() {
         emit(b" ", page, out);
-        emit_step(has_grades, *step, page, out);
+        emit_step(has_grades, steps.get(place), page, out);
     }
 }
 
 // Appends the line of steps.
-fn emit_step_line<K: Sink>(has_grades: bool, steps: &[Word], page: &mut Page, out: &mut K)
+fn emit_step_line<K: Sink>(has_grades: bool, steps: &StepWords, page: &mut Page, out: &mut K)
     ensures { Wrote K.written K.faults out.old out.new page.old page.new
         ((codes "steps" ++ spaced_steps has_grades steps.now) ++ 10 ∷ []) }
 {
@@ -66,7 +66,7 @@ fn emit_step_line<K: Sink>(has_grades: bool, steps: &[Word], page: &mut Page, ou
 }
 
 // Appends the lines of a phase.
-fn emit_phase<K: Sink>(has_grades: bool, phase: &Phase<Word>, page: &mut Page, out: &mut K)
+fn emit_phase<K: Sink>(has_grades: bool, phase: &WrittenPhase, page: &mut Page, out: &mut K)
     ensures { Wrote K.written K.faults out.old out.new page.old page.new
         (ended (phase_lines has_grades phase.now)) }
 {
@@ -78,7 +78,7 @@ fn emit_phase<K: Sink>(has_grades: bool, phase: &Phase<Word>, page: &mut Page, o
 // Appends the lines of phases.
 pub(crate) fn emit_phases<K: Sink>(
     has_grades: bool,
-    phases: &[Phase<Word>],
+    phases: &[WrittenPhase],
     page: &mut Page,
     out: &mut K,
 )

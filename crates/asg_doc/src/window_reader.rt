@@ -46,7 +46,9 @@ fn window_of(alloc: Global, text: &[u8]) -> Result<Window, Fault>
         return Err(Fault::Refused);
     };
     let rows = numbers(alloc, rows)?;
-    let rows = Ids::from_vec(rows.into_vec());
+    let mut ids = rows.into_vec();
+    ids.shrink_to_fit();
+    let rows = Ids::from_vec(ids);
     Ok(Window { lo, hi, rows })
 }
 

@@ -1,18 +1,18 @@
-use Rattle.std.proofs.Common.{length, sym, ap, arith}
-use Rattle.std.proofs.lemmas.Bool.{eqb-true, eqb-false}
+use Rattle.std.proofs.Common.{length, refl, sym, ap, arith}
+use Rattle.std.proofs.lemmas.Bool.{eqb-false}
 use Rattle.asg_parts.specs.laws.ListLaws.{AreListed-more, AreListed-all}
 use Rattle.asg_doc.proofs.Leaves.{step_word}
 use Rattle.asg_doc.proofs.phase_reader.steps_of.Goals as goal
 use Rattle.asg_doc.proofs.phase_reader.steps_of.Goals.{then-is_empty-via-then-is_empty, then-is_empty-via-else-is_empty+then-not-is_empty}
 
 pub listed-preserved : goal.listed-preserved
-listed-preserved c = rw c.in_ok-push.ensures.items
-    (AreListed-more (step_word c.args.has_grades) c.args.text.now c.listed.steps.items c.listed.rest.now c.in-Some.left.now c.in-Some.step c.listed.invariant c.in-Some.ensures)
+listed-preserved c = rw c.in_ok-push.ensures
+    (AreListed-more (step_word c.args.has_grades) c.args.text.now c.listed.steps c.listed.rest.now c.in-Some.left.now c.in-Some.step c.listed.invariant c.in-Some.ensures)
 
 pub returns-then-is_empty : goal.returns-then-is_empty
 returns-then-is_empty c = λ all list is.
-    let read = AreListed-all (step_word c.args.has_grades) c.args.text.now c.listed.steps.items c.listed.rest.now all c.listed.invariant c.in_default.ensures list is in
+    let read = AreListed-all (step_word c.args.has_grades) c.args.text.now c.listed.steps c.listed.rest.now all c.listed.invariant c.in_default.ensures list is in
     elim c.then-is_empty.branch [
-      | then-is_empty-via-then-is_empty w ↦ absurd (omega (arith, read.0, eqb-true c.listed.steps.len 0 (sym w.if-is_empty.ensures), c.listed.steps.ok))
+      | then-is_empty-via-then-is_empty w ↦ absurd (omega (arith, read.0, ap length (w.if-is_empty.ensures.0 refl)))
       | then-is_empty-via-else-is_empty+then-not-is_empty w ↦ eqb-false (length c.listed.rest.now) 0 (sym w.if-not-is_empty.ensures) (ap length read.1)
     ]

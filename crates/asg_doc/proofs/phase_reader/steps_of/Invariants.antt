@@ -4,7 +4,7 @@ use Rattle.asg_doc.specs.DocumentParts.{step_spelling}
 use Rattle.asg_doc.proofs.phase_reader.steps_of.Given as goal
 
 abbrev pub invariant-listed : goal.invariant-listed
-invariant-listed l = AreListed (step_spelling l.has_grades) l.text l.steps.items l.rest
+invariant-listed l = AreListed (step_spelling l.has_grades) l.text l.steps l.rest
 
 abbrev pub decreases-listed : goal.decreases-listed
 decreases-listed l = length l.rest

@@ -9,5 +9,6 @@ pub mod ByObjective
 pub mod LiveCosts
 pub mod PhaseTold
 pub mod WindowGaps
+pub mod WindowOrder
 pub mod WindowTold
 pub mod Certified

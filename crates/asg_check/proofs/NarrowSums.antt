@@ -1,33 +1,55 @@
--- Sums in 64 bits are sums below a greater top.
-use Rattle.std.proofs.Common.{◌≡◌, ◌⊎◌, ◌≤◌, ℕ, inl, inr, sym, ap, subst, ◌∙◌, arith}
+-- Sums in 64 bits are sums below a greater top, and sums that stop at a cap are sums in 64 bits.
+use Rattle.std.proofs.Common.{◌≡◌, ◌⊎◌, ◌≤◌, ℕ, List, Option, inl, inr, sym, ap, subst, ◌∙◌, arith}
+use Rattle.std.specs.Prelude.{min}
 use Rattle.std.proofs.lemmas.Bool.Decides.{nat_tests}
 use Rattle.asg_model.specs.Problem.{Problem}
 use Rattle.asg_model.specs.declared.parts.Cost.{Cost}
 use Rattle.asg_model.specs.declared.objectives.Objective.{Objective}
 use Rattle.asg_model.specs.declared.objectives.Objective.TheVariants.{Sum, SumMax}
 use Rattle.asg_order.specs.Entering.{MayEnter}
+use Rattle.asg_order.specs.declared.words.Word.{Word}
 use Rattle.asg_order.specs.Monoid.{IsValue}
-use Rattle.asg_monoids.specs.BoundedSums.{bounded_sums, narrow_top}
+use Rattle.asg_monoids.specs.BoundedSums.{bounded_sums, bounded_difference, narrow_top, plain_word}
 use Rattle.asg_monoids.specs.Entered.{cost_reach, sum_entered, top_of}
 use Rattle.asg_admit.specs.declared.reduced.Reduced.{Reduced}
 use Rattle.asg_admit.specs.Reduced.{IsReduced}
+use Rattle.asg_proof.specs.Phases.{PhaseOf, AreAdmittedPhases, index_of}
 use Rattle.asg_check.specs.Replays.{IsStart}
+use Rattle.asg_check.specs.WholeLists.{HaveIndex}
 
-module _ (top : ℕ) (wide : narrow_top ≤ top) where
+-- what holds where sums stop at a top holds where they stop at one that is no less
+module _ (low top : ℕ) (wide : low ≤ top) where
   -- values
-  pub value_up : (x : ℕ) → IsValue (bounded_sums narrow_top) x → IsValue (bounded_sums top) x
+  pub value_up : (x : ℕ) → IsValue (bounded_sums low) x → IsValue (bounded_sums top) x
   value_up x is = grind (arith, nat_tests)
 
   -- reduced squares
-  pub reduced_up : (reduced : Reduced ℕ) → IsReduced (bounded_sums narrow_top) reduced → IsReduced (bounded_sums top) reduced
+  pub reduced_up : (reduced : Reduced ℕ) → IsReduced (bounded_sums low) reduced → IsReduced (bounded_sums top) reduced
   reduced_up reduced is = record {
     cells = λ r k x hr hk at. value_up x (is.cells r k x hr hk at);
     index = value_up reduced.index is.index;
   }
 
   -- squares of an instance
-  pub start_up : (enter : Cost → ℕ) (X : Problem) (start : Reduced ℕ) → IsStart (bounded_sums narrow_top) enter X start → IsStart (bounded_sums top) enter X start
+  pub start_up : (enter : Cost → ℕ) (X : Problem) (start : Reduced ℕ) → IsStart (bounded_sums low) enter X start → IsStart (bounded_sums top) enter X start
   start_up enter X start is = record { square = is.square; index = is.index; reduced = reduced_up start is.reduced }
+
+-- a number cut at a cap is at most the cap
+pub capped_value : (x cap : ℕ) → IsValue (bounded_sums cap) (min x cap)
+capped_value x cap = grind (arith, nat_tests)
+
+-- where their index is at most a lesser top, phases have it where sums stop there
+pub lesser_index : (low high side : ℕ) (square : ℕ → ℕ → Option ℕ) (words : List (PhaseOf Word)) (index : ℕ)
+    → ((phases : List (PhaseOf ℕ)) → index_of (bounded_sums high) phases ≤ low → AreAdmittedPhases (bounded_sums high) bounded_difference side phases square → AreAdmittedPhases (bounded_sums low) bounded_difference side phases square)
+    → ((phases : List (PhaseOf ℕ)) → index_of (bounded_sums high) phases ≤ low → index_of (bounded_sums low) phases ≡ index_of (bounded_sums high) phases)
+    → index ≤ low → HaveIndex (bounded_sums high) bounded_difference plain_word side square index words → HaveIndex (bounded_sums low) bounded_difference plain_word side square index words
+lesser_index low high side square words index admits keeps few have =
+    let phases = have.admitted.phases in
+    let at : index_of (bounded_sums high) phases ≤ low = omega (arith, few, have.same) in
+    record {
+      admitted = record { phases = phases; written = have.admitted.written; admitted = admits phases at have.admitted.admitted };
+      same = keeps phases at ∙ have.same;
+    }
 
 -- costs of `sum` and `sum-max` enter as sums in 64 bits
 pub narrow_values : (objective : Objective) → (objective ≡ Sum) ⊎ (objective ≡ SumMax)

@@ -11,7 +11,7 @@ use Rattle.std.proofs.lemmas.List.Elements.{All-nil, All-cons, All-head, All-tai
 use Rattle.std.proofs.lemmas.List.Folds.{list_any_at, list_any_none}
 use Rattle.std.proofs.lemmas.List.FromFn.{length-range_with_len, get_or-range_with_len}
 use Rattle.std.proofs.lemmas.Cmp.{int_cmp_total}
-use Rattle.std.proofs.lemmas.List.Sorted.{All-permutation, list_any-IsPermutation, IsPermutation-sym, sorted_far, ranks_by}
+use Rattle.std.proofs.lemmas.List.Sorted.{All-permutation, IsPermutation-sym, sorted_far, ranks_by}
 use Rattle.std.specs.Borrow.{Bor}
 use Rattle.std.proofs.lemmas.Fn.{always_returns_same}
 use Rattle.std.specs.Fn.{Mut, Called, ComputesKey}
@@ -140,23 +140,23 @@ spans_held d v (window ∷ windows) =
     ap (λ b. (int_le window.lo v && b) || in_spans (map (span_of d) windows) v) (same_end v d window.hi)
     ∙ ap (λ b. holds_from d v window || b) (spans_held d v windows)
 
--- the first of the costs that no span has is the least gap
-pub IsLeastGap-from_outside : (X : Problem) (d : ℤ) (windows : List Window) (costs : List ℤ) (spans : List Span) (found : Option ℤ) → IsPermutation (live_parts X (length X.rows)) costs → IsPermutation (map (span_of d) windows) spans
-    → IsFirstOutside costs spans found → IsLeastGap X d windows found
-IsLeastGap-from_outside X d windows costs spans found all_costs all_spans outside = by found outside
+-- the first of the costs that no span of a window has is the least gap
+pub IsLeastGap-from_outside : (X : Problem) (d : ℤ) (windows : List Window) (costs : List ℤ) (found : Option ℤ) → IsPermutation (live_parts X (length X.rows)) costs
+    → IsFirstOutside costs (map (span_of d) windows) found → IsLeastGap X d windows found
+IsLeastGap-from_outside X d windows costs found all_costs outside = by found outside
   where
-    held : (v : ℤ) → in_spans spans v ≡ is_held windows d v
-    held v = sym (list_any-IsPermutation (in_span v) (map (span_of d) windows) spans all_spans) ∙ spans_held d v windows
+    held : (v : ℤ) → in_spans (map (span_of d) windows) v ≡ is_held windows d v
+    held v = spans_held d v windows
 
     back : (P : ℤ → Type 0) → All P costs → (v : ℤ) → IsLiveCost X v → P v
     back P all = part_holds X P (All-permutation P costs (live_parts X (length X.rows)) (IsPermutation-sym (live_parts X (length X.rows)) costs all_costs) all)
 
-    by : (found : Option ℤ) → IsFirstOutside costs spans found → IsLeastGap X d windows found
-    by None all = λ v live. sym (held v) ∙ back (λ w. in_spans spans w ≡ true) all v live
+    by : (found : Option ℤ) → IsFirstOutside costs (map (span_of d) windows) found → IsLeastGap X d windows found
+    by None all = λ v live. sym (held v) ∙ back (λ w. in_spans (map (span_of d) windows) w ≡ true) all v live
     by (Some v) (there, out, least) = (
       All-contains (IsLiveCost X) costs v (All-permutation (IsLiveCost X) (live_parts X (length X.rows)) costs all_costs (parts_live X (length X.rows))) there,
       sym (held v) ∙ out,
-      λ w live unheld. back (λ x. in_spans spans x ≡ false → v ≤ℤ x) least w live (held w ∙ unheld),
+      λ w live unheld. back (λ x. in_spans (map (span_of d) windows) x ≡ false → v ≤ℤ x) least w live (held w ∙ unheld),
     )
 
 -- ---- sorted costs and sorted spans

@@ -41,6 +41,11 @@ abbrev pub AreSpansUp : List Span → Type 0
 AreSpansUp spans = (i j : ℕ) (d : Span) → i < j → j < length spans
     → (slice_index_or spans i d).lo ≤ℤ (slice_index_or spans j d).lo
 
+-- no window of the list begins above a later one
+abbrev pub AreWindowsUp : List Window → Type 0
+AreWindowsUp windows = (i j : ℕ) (d : Window) → i < j → j < length windows
+    → (slice_index_or windows i d).lo ≤ℤ (slice_index_or windows j d).lo
+
 -- the first of the costs that no span has, or none
 abbrev pub IsFirstOutside : List ℤ → List Span → Option ℤ → Type 0
 IsFirstOutside costs spans None = All (λ v. in_spans spans v ≡ true) costs

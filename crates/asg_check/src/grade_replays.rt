@@ -12,8 +12,7 @@ use crate::NoMemory;
 use crate::replays::{make_room, read_steps};
 use asg_admit::GradedSquare;
 use asg_monoids::{Bounded, Graded};
-use asg_order::Word;
-use asg_proof::Phase;
+use asg_proof::WrittenPhase;
 use std::alloc::Global;
 
 // Applies a phase where it is admitted, and tells whether it is. Its steps are read into the list
@@ -23,7 +22,7 @@ fn replay_grades(
     square: &mut GradedSquare,
     values: &mut Vec<(u64, u128)>,
     room: &mut Vec<(u64, u128)>,
-    phase: &Phase<Word>,
+    phase: &WrittenPhase,
 ) -> Result<bool, NoMemory>
     requires { IsReduced (graded (bounded_sums m.now.inner.top)) square.old }
     ensures applied { let sums = bounded_sums m.now.inner.top in
@@ -53,7 +52,7 @@ pub(crate) fn first_bad_grade(
     alloc: Global,
     m: &Graded<Bounded>,
     square: &mut GradedSquare,
-    phases: &[Phase<Word>],
+    phases: &[WrittenPhase],
 ) -> Result<Option<usize>, NoMemory>
     requires { IsReduced (graded (bounded_sums m.now.inner.top)) square.old }
     ensures { let sums = bounded_sums m.now.inner.top in

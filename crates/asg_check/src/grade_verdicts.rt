@@ -15,8 +15,7 @@ use crate::square_verdicts::index_verdict;
 use crate::verdicts::{Reason, Verdict};
 use asg_admit::{GradedSquare, Reduced};
 use asg_monoids::{Bounded, Graded};
-use asg_order::Word;
-use asg_proof::Phase;
+use asg_proof::WrittenPhase;
 use std::alloc::Global;
 
 // The verdict on phases that are to be admitted in turn from the square, of which no step was taken
@@ -25,7 +24,7 @@ pub(crate) fn grade_verdict(
     alloc: Global,
     m: &Graded<Bounded>,
     start: Reduced<(u64, u128)>,
-    phases: &[Phase<Word>],
+    phases: &[WrittenPhase],
     value: (u64, u128),
 ) -> Result<Verdict, NoMemory>
     requires reduced { IsReduced (graded (bounded_sums m.now.inner.top)) start }
@@ -44,7 +43,7 @@ fn replay_verdict(
     alloc: Global,
     m: &Graded<Bounded>,
     square: &mut GradedSquare,
-    phases: &[Phase<Word>],
+    phases: &[WrittenPhase],
     value: (u64, u128),
 ) -> Result<Verdict, NoMemory>
     requires reduced { IsReduced (graded (bounded_sums m.now.inner.top)) square.old }

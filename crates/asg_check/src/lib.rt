@@ -3,13 +3,14 @@
 //!
 //! It trusts nothing that the document says: it reads the cells as a choice, tests that the choice
 //! is valid and has the written value, and tests the proof by the definition of its kind: phases
-//! are replayed on a square of the instance, and their index compared with the choice's fold; the
-//! rows of windows are tested as Hall sets, and the windows for gaps. Contracts see a document by
-//! what it claims, and an instance by its rows, columns and costs; a law says that what certifies
-//! is true. It stands on no solver: a user can trust an answer without one (certifying
-//! algorithms, [McConnell et al. 2011]).
+//! are tested on a square of the instance, all in one pass over its cells or one after the other,
+//! and their index is compared with the choice's fold; the rows of windows are tested as Hall sets,
+//! and the windows for gaps. Contracts see a document by what it claims, and an instance by its
+//! rows, columns and costs; a law says that what certifies is true. It stands on no solver: a user
+//! can trust an answer without one (certifying algorithms, [McConnell et al. 2011]).
 #![tactic(auto)]
 
+mod capped_verdicts;
 mod checker;
 mod claims;
 mod document_forms;
@@ -24,6 +25,7 @@ mod sum_replays;
 mod sum_squares;
 mod sum_verdicts;
 mod verdicts;
+mod whole_lists;
 mod window_gaps;
 mod window_verdicts;
 mod written_choices;

@@ -1,7 +1,7 @@
 //! The square of an instance in 64 bits, where sums of its costs fit.
 
-ghost use Rattle.std.specs.Prelude.{◌≡◌, ◌⊎◌, ◌≤◌, IfOk};
-ghost use Rattle.asg_model.specs.declared.objectives.Objective.TheVariants.{Sum, SumMax};
+ghost use Rattle.std.specs.Prelude.{◌≡◌, ◌⊎◌, ◌≤◌, IfOk, false, int_lt, min, pos, unsigned_abs};
+ghost use Rattle.asg_model.specs.declared.objectives.Objective.TheVariants.{Capped, Sum, SumMax};
 ghost use Rattle.asg_model.specs.Limits.{most_side};
 ghost use Rattle.asg_model.specs.Refused.{PassesNegative};
 ghost use Rattle.asg_model.specs.Shapes.{square_side};
@@ -38,4 +38,31 @@ pub(crate) fn narrow_start(
     { narrow_entry(objective, cost) };
     let now = Square::of(alloc, inst, 0, &enter)?;
     Ok(Reduced { now, index: 0 })
+}
+
+// The same for `capped`, whose costs enter as sums that stop at the cap.
+pub(crate) fn capped_start(
+    alloc: Global,
+    cap: u64,
+    inst: &Instance,
+) -> Result<Reduced<u64>, NoMemory>
+    requires side { square_side inst.now ≤ most_side }
+    requires near { LiesWithin cost_reach inst.now }
+    requires passes { PassesNegative (Capped cap) inst.now }
+    ensures { IfOk result (IsStart (bounded_sums cap) (sum_entered (Capped cap)) inst.now) }
+{
+    let enter = |cost: Cost| -> u64
+        requires { MayEnter (Capped cap) cost_reach cost }
+        ensures { result ≡ sum_entered (Capped cap) cost }
+    { capped(cost.a, cap) };
+    let now = Square::of(alloc, inst, 0, &enter)?;
+    Ok(Reduced { now, index: 0 })
+}
+
+// A part from 0 on, cut at the cap.
+fn capped(part: i64, cap: u64) -> u64
+    requires { int_lt part (pos 0) ≡ false }
+    ensures { result ≡ min (unsigned_abs part) cap }
+{
+    (part as u64).min(cap)
 }

@@ -1,7 +1,7 @@
 //! What stands against phases for a choice of an instance.
 
 ghost use Rattle.std.specs.Prelude.{◌≡◌, ◌≤◌, ◌<◌, IsTrue, IfOk, IfSome, MatchOption, length};
-ghost use Rattle.asg_model.specs.declared.objectives.Objective.TheVariants.{TimeCost};
+ghost use Rattle.asg_model.specs.declared.objectives.Objective.TheVariants.{Capped, TimeCost};
 ghost use Rattle.asg_model.specs.Instances.{IsInstance};
 ghost use Rattle.asg_model.specs.Limits.{most_side};
 ghost use Rattle.asg_model.specs.Refused.{PassesNegative};
@@ -16,16 +16,17 @@ ghost use Rattle.asg_check.specs.Reasons.{Tells, phase_reasons};
 ghost use Rattle.asg_check.specs.Replays.{IsStart, StandsFor, StandsOver};
 
 use crate::NoMemory;
+use crate::capped_verdicts::capped_verdict;
 use crate::grade_verdicts::grade_verdict;
-use crate::narrow_starts::narrow_start;
+use crate::narrow_starts::{capped_start, narrow_start};
 use crate::square_verdicts::square_verdict;
 use crate::sum_verdicts::{narrow_verdict, sum_verdict};
 use crate::verdicts::Verdict;
 use asg_admit::Reduced;
 use asg_model::{Choice, Cost, Instance, Objective};
 use asg_monoids::{PeakKind, SumKind, TimeKind};
-use asg_order::{Kind, Ordered, Word};
-use asg_proof::Phase;
+use asg_order::{Kind, Ordered};
+use asg_proof::WrittenPhase;
 use asg_square::Square;
 use std::alloc::Global;
 
@@ -36,7 +37,7 @@ pub(crate) fn phases_verdict(
     objective: Objective,
     inst: &Instance,
     choice: &Choice,
-    phases: &[Phase<Word>],
+    phases: &[WrittenPhase],
 ) -> Result<Verdict, NoMemory>
     requires algebraic { IsTrue (is_algebraic objective) }
     requires side { square_side inst.now ≤ most_side }
@@ -64,7 +65,7 @@ fn summed_verdict(
     objective: Objective,
     inst: &Instance,
     choice: &Choice,
-    phases: &[Phase<Word>],
+    phases: &[WrittenPhase],
 ) -> Result<Verdict, NoMemory>
     requires sums { IsTrue (is_sum_objective objective) }
     requires instance { IsInstance inst.now }
@@ -83,13 +84,14 @@ fn summed_verdict(
     Ok(verdict)
 }
 
-// The same where sums in 64 bits tell it: for `sum` and `sum-max`, while none comes near 2^62.
+// The same where sums in 64 bits tell it: for `sum` and `sum-max`, while none comes near 2^62, and
+// for `capped`, where the steps add up to its cap at most.
 fn narrow_told(
     alloc: Global,
     objective: Objective,
     inst: &Instance,
     choice: &Choice,
-    phases: &[Phase<Word>],
+    phases: &[WrittenPhase],
 ) -> Result<Option<Verdict>, NoMemory>
     requires sums { IsTrue (is_sum_objective objective) }
     requires instance { IsInstance inst.now }
@@ -106,8 +108,33 @@ fn narrow_told(
             let told = narrow_verdict(alloc, kind.monoid(), start, phases, fold)?;
             Ok(told)
         }
+        Objective::Capped(cap) => capped_told(alloc, cap, inst, choice, phases),
         _ => Ok(None),
     }
+}
+
+// The same for `capped`, where the cap is below 2^62.
+fn capped_told(
+    alloc: Global,
+    cap: u64,
+    inst: &Instance,
+    choice: &Choice,
+    phases: &[WrittenPhase],
+) -> Result<Option<Verdict>, NoMemory>
+    requires instance { IsInstance inst.now }
+    requires side { square_side inst.now ≤ most_side }
+    requires passes { PassesNegative (Capped cap) inst.now }
+    ensures { IfOk result (λ told. IfSome told (Tells
+        (StandsFor (Capped cap) inst.now choice.now phases.now) phase_reasons)) }
+{
+    if cap >= 1 << 62 {
+        return Ok(None);
+    }
+    let kind = SumKind::of(Objective::Capped(cap));
+    let start = capped_start(alloc, cap, inst)?;
+    let fold = chosen_fold(&kind, inst, choice);
+    let told = capped_verdict(alloc, kind.monoid(), start, phases, fold)?;
+    Ok(told)
 }
 
 // The same of `time-cost`.
@@ -116,7 +143,7 @@ fn timed_verdict(
     objective: Objective,
     inst: &Instance,
     choice: &Choice,
-    phases: &[Phase<Word>],
+    phases: &[WrittenPhase],
 ) -> Result<Verdict, NoMemory>
     requires times { objective ≡ TimeCost }
     requires instance { IsInstance inst.now }
@@ -138,7 +165,7 @@ fn replayed_verdict<K: Kind>(
     kind: &K,
     inst: &Instance,
     choice: &Choice,
-    phases: &[Phase<Word>],
+    phases: &[WrittenPhase],
 ) -> Result<Verdict, NoMemory>
     requires side { square_side inst.now ≤ most_side }
     requires near { LiesWithin (K.reach kind.now) inst.now }

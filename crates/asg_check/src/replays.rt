@@ -9,15 +9,15 @@ ghost use Rattle.asg_check.specs.Replays.{IsAdmittedFrom, IsBadFrom, IsReplayed,
 
 use crate::NoMemory;
 use asg_admit::{Reduced, replay_within};
-use asg_order::{Ordered, Word, Written};
-use asg_proof::Phase;
+use asg_order::{Ordered, Written};
+use asg_proof::{StepWords, WrittenPhase};
 use std::alloc::Global;
 
 // Reads the values that have the words, in order, into the list in place of what it had, and tells
 // whether each word has one. The error is want of memory.
 pub(crate) fn read_steps<M: Written>(
     m: &M,
-    words: &[Word],
+    words: &StepWords,
     values: &mut Vec<M::Value>,
 ) -> Result<bool, NoMemory>
     ensures words { IfOk result (λ is. IsTrue is
@@ -28,8 +28,8 @@ pub(crate) fn read_steps<M: Written>(
         All (IsValue (M.monoid_of m.now)) others → map (M.word_of m.now) others ≢ words.now) }
 {
     values.clear();
-    for word in words {
-        let Some(value) = m.from_word(*word) else {
+    for place in 0..words.len() {
+        let Some(value) = m.from_word(words.get(place)) else {
             return Ok(false);
         };
         values.push(value)?;
@@ -60,7 +60,7 @@ fn replay_words<M: Written>(
     reduced: &mut Reduced<M::Value>,
     values: &mut Vec<M::Value>,
     room: &mut Vec<M::Value>,
-    phase: &Phase<Word>,
+    phase: &WrittenPhase,
 ) -> Result<bool, NoMemory>
     requires { IsReduced (M.monoid_of m.now) reduced.old }
     ensures applied { IfOk result (λ is. IsTrue is → IsReplayed (M.monoid_of m.now)
@@ -90,7 +90,7 @@ pub(crate) fn first_bad<M: Written>(
     alloc: Global,
     m: &M,
     reduced: &mut Reduced<M::Value>,
-    phases: &[Phase<Word>],
+    phases: &[WrittenPhase],
     from: usize,
 ) -> Result<Option<usize>, NoMemory>
     requires reduced { IsReduced (M.monoid_of m.now) reduced.old }

@@ -9,8 +9,8 @@ use crate::NoMemory;
 use crate::replays::first_bad;
 use crate::verdicts::{Reason, Verdict};
 use asg_admit::Reduced;
-use asg_order::{Ordered, Word, Written};
-use asg_proof::Phase;
+use asg_order::{Ordered, Written};
+use asg_proof::WrittenPhase;
 use std::alloc::Global;
 
 // The verdict on phases that are to have the value as their index, of which those before a place
@@ -19,7 +19,7 @@ pub(crate) fn square_verdict<M: Written>(
     alloc: Global,
     m: &M,
     before: Reduced<M::Value>,
-    phases: &[Phase<Word>],
+    phases: &[WrittenPhase],
     from: usize,
     value: M::Value,
 ) -> Result<Verdict, NoMemory>

@@ -9,8 +9,7 @@ use crate::NoMemory;
 use crate::sum_squares::SumSquare;
 use asg_admit::Replayed;
 use asg_monoids::Bounded;
-use asg_order::Word;
-use asg_proof::Phase;
+use asg_proof::WrittenPhase;
 use std::alloc::Global;
 
 // Where phases stop that are applied in turn.
@@ -30,7 +29,7 @@ pub(crate) fn first_stop<S: SumSquare>(
     alloc: Global,
     m: &Bounded,
     square: &mut S,
-    phases: &[Phase<Word>],
+    phases: &[WrittenPhase],
 ) -> Result<Stop, NoMemory>
     requires reduced { IsReduced (bounded_sums m.now.top) (S.as_reduced square.old) }
     requires top { S.least_top ≤ m.now.top }

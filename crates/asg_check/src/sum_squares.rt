@@ -12,8 +12,7 @@ use crate::NoMemory;
 use crate::replays::{make_room, read_steps};
 use asg_admit::{DualSquare, NarrowSquare, Replayed};
 use asg_monoids::{Bounded, NarrowSums};
-use asg_order::Word;
-use asg_proof::Phase;
+use asg_proof::WrittenPhase;
 
 // A reduced square of sums.
 pub(crate) trait SumSquare {
@@ -34,7 +33,7 @@ pub(crate) trait SumSquare {
         m: &Bounded,
         values: &mut Vec<Self::Sum>,
         room: &mut Vec<Self::Sum>,
-        phase: &Phase<Word>,
+        phase: &WrittenPhase,
     ) -> Result<Replayed, NoMemory>
         requires { least_top ≤ m.now.top }
         ensures applied { IfOk result (λ came. came ≡ Applied → IsReplayed
@@ -59,7 +58,7 @@ impl SumSquare for DualSquare {
         m: &Bounded,
         values: &mut Vec<u128>,
         room: &mut Vec<u128>,
-        phase: &Phase<Word>,
+        phase: &WrittenPhase,
     ) -> Result<Replayed, NoMemory> {
         if !read_steps(m, phase.steps(), values)? {
             return Ok(Replayed::Refused);
@@ -90,7 +89,7 @@ impl SumSquare for NarrowSquare {
         m: &Bounded,
         values: &mut Vec<u64>,
         room: &mut Vec<u64>,
-        phase: &Phase<Word>,
+        phase: &WrittenPhase,
     ) -> Result<Replayed, NoMemory> {
         if !read_steps(&NarrowSums, phase.steps(), values)? {
             return Ok(Replayed::Full);

@@ -13,10 +13,10 @@ use crate::NoMemory;
 use crate::square_verdicts::{index_verdict, square_verdict};
 use crate::sum_replays::{Stop, first_stop};
 use crate::verdicts::{Reason, Verdict};
+use crate::whole_lists::list_index;
 use asg_admit::{DualSquare, NarrowSquare, Reduced};
 use asg_monoids::Bounded;
-use asg_order::Word;
-use asg_proof::Phase;
+use asg_proof::WrittenPhase;
 use std::alloc::Global;
 
 // The verdict on phases that are to be admitted in turn from the square, of which no step was taken
@@ -26,7 +26,7 @@ pub(crate) fn sum_verdict(
     alloc: Global,
     m: &Bounded,
     start: Reduced<u128>,
-    phases: &[Phase<Word>],
+    phases: &[WrittenPhase],
     value: u128,
 ) -> Result<Verdict, NoMemory>
     requires reduced { IsReduced (bounded_sums m.now.top) start }
@@ -44,7 +44,7 @@ fn dual_verdict(
     alloc: Global,
     m: &Bounded,
     mut dual: DualSquare,
-    phases: &[Phase<Word>],
+    phases: &[WrittenPhase],
     value: u128,
 ) -> Result<Verdict, NoMemory>
     requires reduced { IsReduced (bounded_sums m.now.top) dual }
@@ -60,13 +60,36 @@ fn dual_verdict(
     }
 }
 
-// The same from a square in 64 bits, where no sum comes near 2^62 with any of the phases. Otherwise
+// The same from a square in 64 bits, where no sum comes near 2^62 with any of the phases: by one
+// pass over the cells for all of them, and where that doesn't tell it phase by phase. Otherwise
 // nothing is told.
 pub(crate) fn narrow_verdict(
     alloc: Global,
     m: &Bounded,
     start: Reduced<u64>,
-    phases: &[Phase<Word>],
+    phases: &[WrittenPhase],
+    value: u128,
+) -> Result<Option<Verdict>, NoMemory>
+    requires reduced { IsReduced (bounded_sums narrow_top) start }
+    requires top { narrow_top ≤ m.now.top }
+    requires unit { start.index ≡ 0 }
+    requires value { IsValue (bounded_sums m.now.top) value }
+    ensures { IfOk result (λ told. IfSome told (Tells (StandsFrom (bounded_sums m.now.top)
+        bounded_difference plain_word start.now.side (cell_at start.now) value phases.now)
+        phase_reasons)) }
+{
+    match list_index(alloc, &start.now, phases)? {
+        Some(index) => Ok(Some(index_verdict(m, index as u128, value))),
+        None => narrow_replays_verdict(alloc, m, start, phases, value),
+    }
+}
+
+// The same phase by phase.
+fn narrow_replays_verdict(
+    alloc: Global,
+    m: &Bounded,
+    start: Reduced<u64>,
+    phases: &[WrittenPhase],
     value: u128,
 ) -> Result<Option<Verdict>, NoMemory>
     requires reduced { IsReduced (bounded_sums narrow_top) start }
@@ -86,7 +109,7 @@ fn narrow_dual_verdict(
     alloc: Global,
     m: &Bounded,
     narrow: &mut NarrowSquare,
-    phases: &[Phase<Word>],
+    phases: &[WrittenPhase],
     value: u128,
 ) -> Result<Option<Verdict>, NoMemory>
     requires reduced { IsReduced (bounded_sums m.now.top) narrow.old }

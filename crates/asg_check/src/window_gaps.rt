@@ -1,12 +1,14 @@
 //! Where windows leave a gap: the least cost of a live cell from which none holds enough costs.
 //!
-//! The costs of the live cells and the windows are sorted, and one pass over both finds it.
+//! The costs of the live cells are sorted, and where the windows don't begin in order they too, and
+//! one pass over both finds it.
 
 ghost use Rattle.std.specs.Prelude.{◌≡◌, ◌↔◌, ◌<◌, ◌≤◌, ◌*◌, ◌++◌, ℕ, ℤ, pos, ◌≤ℤ◌, ◌<ℤ◌};
 ghost use Rattle.std.specs.Prelude.{length, map, option_to_list, slice_get, slice_index_or};
 ghost use Rattle.std.specs.Prelude.{IfOk, IsTrue};
 ghost use Rattle.asg_model.specs.Limits.{most_cost};
-ghost use Rattle.asg_check.specs.Spans.{AreCostsUp, AreSpansUp, IsFirstOutside, span_of};
+ghost use Rattle.asg_check.specs.Spans.{AreCostsUp, AreSpansUp, AreWindowsUp, IsFirstOutside};
+ghost use Rattle.asg_check.specs.Spans.{span_of};
 ghost use Rattle.asg_check.specs.Spans.{live_part, live_parts, row_parts};
 ghost use Rattle.asg_check.specs.WindowReasons.{IsLeastGap};
 
@@ -137,6 +139,66 @@ fn first_outside(costs: &[i64], spans: &[Span]) -> Option<i64>
     cost_at(costs, place)
 }
 
+// The first of sorted costs from which no window holds as many costs as the spread, where the
+// windows begin in order.
+fn first_in_order(costs: &[i64], spread: i128, windows: &[Window]) -> Option<i64>
+    requires costs { AreCostsUp costs.now }
+    requires windows { AreWindowsUp windows.now }
+    requires some { pos 0 ≤ℤ spread }
+    requires few { spread ≤ℤ pos (2 * most_cost) }
+    ensures { IsFirstOutside costs.now (map (span_of spread) windows.now) result }
+{
+    let mut place = 0;
+    'windows: for window in windows {
+        let span = span_of(spread, window);
+        if is_below(costs, place, &span) {
+            return cost_at(costs, place);
+        }
+        place = past(costs, place, &span);
+    }
+    cost_at(costs, place)
+}
+
+// Whether a window begins below another one.
+fn begins_below(window: &Window, other: &Window) -> bool
+    ensures { IsTrue result ↔ (window.now.lo <ℤ other.now.lo) }
+{
+    window.lo < other.lo
+}
+
+// Whether no window begins above a later one.
+fn are_up(windows: &[Window]) -> bool
+    ensures { IsTrue result → AreWindowsUp windows.now }
+{
+    for place in 1..windows.len() {
+        if begins_below(&windows[place], &windows[place - 1]) {
+            return false;
+        }
+    }
+    true
+}
+
+// The same of windows in any order; where they begin in order it takes no memory. The error is want
+// of memory.
+fn first_unheld(
+    alloc: Global,
+    costs: &[i64],
+    spread: i128,
+    windows: &[Window],
+) -> Result<Option<i64>, NoMemory>
+    requires costs { AreCostsUp costs.now }
+    requires some { pos 0 ≤ℤ spread }
+    requires few { spread ≤ℤ pos (2 * most_cost) }
+    ensures { IfOk result (IsFirstOutside costs.now (map (span_of spread) windows.now)) }
+{
+    if are_up(windows) {
+        return Ok(first_in_order(costs, spread, windows));
+    }
+    let mut spans = spans_of(alloc, spread, windows)?;
+    spans.sort_unstable_by_key(beginning);
+    Ok(first_outside(costs, spans.as_slice()))
+}
+
 // The least cost of a live cell from which no window holds as many costs as the spread. The error
 // is want of memory.
 pub(crate) fn first_gap(
@@ -151,7 +213,6 @@ pub(crate) fn first_gap(
 {
     let mut costs = live_costs(alloc, inst)?;
     costs.sort_unstable();
-    let mut spans = spans_of(alloc, spread, windows)?;
-    spans.sort_unstable_by_key(beginning);
-    Ok(first_outside(costs.as_slice(), spans.as_slice()))
+    let found = first_unheld(alloc, costs.as_slice(), spread, windows)?;
+    Ok(found)
 }

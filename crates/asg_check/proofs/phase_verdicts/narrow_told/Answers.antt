@@ -1,11 +1,13 @@
 use Rattle.std.proofs.Common.{sym, subst, arith}
+use Rattle.std.specs.Prelude.{IfOk, IfSome}
 use Rattle.std.proofs.lemmas.Option.{IfSome_then}
+use Rattle.asg_model.specs.Refused.{PassesNegative}
 use Rattle.asg_monoids.specs.BoundedSums.{bounded_sums, bounded_difference, narrow_top, plain_word}
 use Rattle.asg_monoids.specs.Entered.{cost_reach, sum_entered}
 use Rattle.asg_square.specs.Grid.{cell_at}
 use Rattle.asg_proof.specs.laws.LiveCosts.{lies_within}
 use Rattle.asg_check.specs.Reasons.{Tells, phase_reasons}
-use Rattle.asg_check.specs.Replays.{IsStart, StandsFrom}
+use Rattle.asg_check.specs.Replays.{IsStart, StandsFor, StandsFrom}
 use Rattle.asg_check.proofs.NarrowSums.{start_up, wide_top}
 use Rattle.asg_check.proofs.PhaseTold.{told_over, told_sums}
 use Rattle.asg_check.proofs.phase_verdicts.narrow_told.Goals as goal
@@ -29,5 +31,12 @@ returns-in_ok-told-in-Sum c =
     IfSome_then c.in_ok-told-in-Sum.told c.in_ok-told-in-Sum.ensures
     (λ verdict told.
     told_sums X c.args.choice.now words verdict c.args.objective own top c.of-kind.result.is_sum c.of-kind.ensures.objective c.of-kind.ensures.stops
-    (told_over (bounded_sums top) bounded_difference plain_word (sum_entered own) X start fold c.args.choice.now words verdict (start_up top wide (sum_entered own) X start at) c.chosen_fold-fold.ensures.fold
+    (told_over (bounded_sums top) bounded_difference plain_word (sum_entered own) X start fold c.args.choice.now words verdict (start_up narrow_top top wide (sum_entered own) X start at) c.chosen_fold-fold.ensures.fold
     (subst (λ n. Tells (StandsFrom (bounded_sums n.top) bounded_difference plain_word start.now.side (cell_at start.now) fold words) phase_reasons verdict) c.monoid.ensures told)))
+
+pub capped_told-requires-clause-passes : goal.capped_told-requires-clause-passes
+capped_told-requires-clause-passes c = subst (λ o. PassesNegative o c.args.inst.now) c.in-Capped.is c.requires.passes
+
+pub returns-in-Capped : goal.returns-in-Capped
+returns-in-Capped c =
+    subst (λ o. IfOk c.capped_told.result (λ told. IfSome told (Tells (StandsFor o c.args.inst.now c.args.choice.now c.args.phases.now) phase_reasons))) (sym c.in-Capped.is) c.capped_told.ensures

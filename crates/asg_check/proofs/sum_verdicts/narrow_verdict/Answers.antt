@@ -1,26 +1,17 @@
-use Rattle.std.proofs.Common.{◌≡◌, ℕ, sym, subst}
-use Rattle.std.specs.Prelude.{IfOk, IfSome}
-use Rattle.asg_admit.specs.Reduced.{IsReduced}
-use Rattle.asg_admit.specs.declared.reduced.Reduced.{Reduced}
-use Rattle.asg_monoids.specs.BoundedSums.{bounded_sums, bounded_difference, plain_word}
-use Rattle.asg_square.specs.Grid.{cell_at}
-use Rattle.asg_check.specs.Reasons.{Tells, phase_reasons}
-use Rattle.asg_check.specs.Replays.{StandsFrom}
-use Rattle.asg_check.proofs.NarrowSums.{reduced_up}
+use Rattle.asg_monoids.specs.BoundedSums.{bounded_sums, bounded_difference, bounded_value, plain_word}
+use Rattle.asg_monoids.specs.laws.Bounded.{bounded_laws, bounded_word_laws}
+use Rattle.asg_check.proofs.PhaseTold.{index_value, told_have}
 use Rattle.asg_check.proofs.sum_verdicts.narrow_verdict.Goals as goal
 
-pub narrow_dual_verdict-requires-clause-reduced : goal.narrow_dual_verdict-requires-clause-reduced
-narrow_dual_verdict-requires-clause-reduced c =
+pub index_verdict-requires-clause-index : goal.index_verdict-requires-clause-index
+index_verdict-requires-clause-index c =
     let top = c.args.m.now.top in
-    subst (IsReduced (bounded_sums top)) (sym c.in_ok-narrow.ensures) (reduced_up top c.requires.top c.args.start c.requires.reduced)
+    let have = rw c.in-Some.is at c.in_ok-index.ensures in
+    index_value (bounded_sums top) (bounded_laws top) bounded_difference plain_word c.args.start c.args.value c.args.phases.now c.in-Some.index (have top c.requires.top)
 
-pub narrow_dual_verdict-requires-clause-unit : goal.narrow_dual_verdict-requires-clause-unit
-narrow_dual_verdict-requires-clause-unit c = subst (λ (before : Reduced ℕ). before.index ≡ 0) (sym c.in_ok-narrow.ensures) c.requires.unit
-
-pub returns : goal.returns
-returns c =
-    subst
-    (λ (before : Reduced ℕ).
-    IfOk c.narrow_dual_verdict.result
-    (λ told. IfSome told (Tells (StandsFrom (bounded_sums c.args.m.now.top) bounded_difference plain_word before.now.side (cell_at before.now) c.args.value c.args.phases.now) phase_reasons)))
-    c.in_ok-narrow.ensures c.narrow_dual_verdict.ensures
+pub returns-in-Some : goal.returns-in-Some
+returns-in-Some c =
+    let top = c.args.m.now.top in
+    let have = rw c.in-Some.is at c.in_ok-index.ensures in
+    told_have (bounded_sums top) (bounded_laws top) bounded_difference plain_word c.args.start c.args.value c.args.phases.now c.in-Some.index (have top c.requires.top)
+    (bounded_value top) (bounded_word_laws top) c.index_verdict.result c.index_verdict.ensures

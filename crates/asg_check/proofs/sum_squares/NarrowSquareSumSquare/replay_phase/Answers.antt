@@ -31,6 +31,6 @@ returns-clause-refused c =
     λ off.
     refused-words (bounded_sums top) bounded_difference plain_word (bounded_value top) (bounded_word_laws top) c.args.self.now.now.side (cell_at c.args.self.now.now) c.args.phase.now phase
     (subst (All (IsValue (bounded_sums top))) (sym c.as_slice.ensures.value)
-    (All-weaker (IsValue (bounded_sums narrow_top)) (IsValue (bounded_sums top)) (value_up top c.requires) c.read_steps.new.values.items (c.in_ok-read_steps.ensures.values c.if-not-branch.false)))
+    (All-weaker (IsValue (bounded_sums narrow_top)) (IsValue (bounded_sums top)) (value_up narrow_top top c.requires) c.read_steps.new.values.items (c.in_ok-read_steps.ensures.values c.if-not-branch.false)))
     (phase-words plain_word _ _ _ c.args.phase.now (ap (λ xs. map plain_word xs) c.as_slice.ensures.value ∙ spelled ∙ c.steps.ensures) c.enters.ensures.enters c.leaves.ensures.leaves)
     (λ admitted. applied_not_refused c.replay.result ((c.replay.ensures.tested top c.requires (refused_not_full c.replay.result off)).1 admitted) off)

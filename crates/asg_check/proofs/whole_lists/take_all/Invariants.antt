@@ -1,0 +1,10 @@
+use Rattle.std.proofs.Common.{◌≡◌, ◌-◌, drop, length}
+use Rattle.asg_check.specs.WholeLists.{AreTotalsOf}
+use Rattle.asg_check.proofs.whole_lists.take_all.Given as goal
+
+-- the totals are those of the phases from here on
+abbrev pub invariant-phases : goal.invariant-phases
+invariant-phases l = record {
+  taken : AreTotalsOf (drop (length l.phases - l.back) l.phases) l.totals;
+  side : length l.totals.rows ≡ length l.fn.totals.rows;
+}

@@ -14,6 +14,9 @@ const SECOND: Listed = (&[(0, 1_000_000_000), (0, 2)], &[1, 0, 2], &[2, 1, 2]);
 
 const THIRD: Listed = (&[(0, 1_000_000_002)], &[1, 1, 0], &[1, 1, 1]);
 
+// The second phase, whose last step is more than a cell has left.
+const FAULTY: Listed = (&[(0, 1_000_000_000), (0, 3)], &[1, 0, 2], &[2, 1, 2]);
+
 // The asked objective, the parts of the value, the columns of the rows in order, the phases, and
 // the first reason with its place: 0 and 0 where the document certifies.
 pub(crate) type Judged = (
@@ -31,8 +34,11 @@ const LEAST: (u32, u32, u32) = (2, 1, 3);
 // A choice of the greatest least cost.
 const WIDEST: (u32, u32, u32) = (3, 1, 2);
 
-pub(crate) const SUMS: [Judged; 20] = [
+pub(crate) const SUMS: [Judged; 24] = [
     (Sum, (5, 0), LEAST, &[FIRST, SECOND, THIRD], 0, 0),
+    (Sum, (5, 0), LEAST, &[FIRST, FAULTY, THIRD], 6, 2),
+    (Sum, (5, 0), LEAST, &[FIRST, THIRD, SECOND], 0, 0),
+    (Sum, (5, 0), LEAST, &[FIRST, THIRD, FAULTY], 6, 3),
     (
         Sum,
         (5, 0),
@@ -181,6 +187,18 @@ pub(crate) const SUMS: [Judged; 20] = [
         LEAST,
         &[(&[(0, 1)], &[0, 1, 1], &[1, 1, 1])],
         7,
+        0,
+    ),
+    (
+        Capped(3),
+        (3, 0),
+        LEAST,
+        &[
+            (&[(0, 1)], &[0, 1, 1], &[1, 1, 1]),
+            (&[(0, 2)], &[1, 1, 0], &[1, 1, 1]),
+            (&[(0, 0), (0, 2)], &[1, 0, 2], &[2, 1, 2]),
+        ],
+        0,
         0,
     ),
     (

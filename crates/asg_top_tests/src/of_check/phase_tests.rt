@@ -10,7 +10,7 @@ use asg_doc::{Answer, Cells, Claim};
 use asg_model::Objective::SumPair;
 use asg_model::{Instance, Objective, Place, Value};
 use asg_order::Word;
-use asg_proof::{Phase, Phases, Proof};
+use asg_proof::{Phases, Proof, StepWords, WrittenPhase};
 use asg_samples::Sample;
 use std::alloc::Global;
 use std::test::Fail;
@@ -25,17 +25,17 @@ pub(crate) const SQUARE: Sample<'static> = Sample {
 };
 
 // A phase of words.
-fn phase(alloc: Global, listed: Listed) -> Result<Phase<Word>, NoMemory>
+fn phase(alloc: Global, listed: Listed) -> Result<WrittenPhase, NoMemory>
     ensures { IfOk result (λ phase. IsPhase phase) }
 {
-    let mut steps = Vec::new(alloc);
+    let mut steps = StepWords::none(alloc);
     for step in listed.0 {
         let (grade, amount) = *step;
         steps.push(Word { grade, amount })?;
     }
     let enters = Vec::from_slice(alloc, listed.1)?;
     let leaves = Vec::from_slice(alloc, listed.2)?;
-    Ok(Phase::of(steps, enters, leaves))
+    WrittenPhase::of(steps, enters, leaves)
 }
 
 // The claim of an answer with phases.

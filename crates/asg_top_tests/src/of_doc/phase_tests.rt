@@ -6,7 +6,7 @@ use asg_doc::*;
 use asg_io::MemorySink;
 use asg_model::{Objective, Value};
 use asg_order::Word;
-use asg_proof::{Phase, Proof};
+use asg_proof::{Proof, StepWords, WrittenPhase};
 use std::alloc::{AllocError, Global};
 use std::test::Fail;
 
@@ -22,7 +22,7 @@ const SUM: &[u8] =
 const TIME: &[u8] =
     b"assignment 1\ncommand solve\nobjective time-cost\nstatus best\nvalue -7:12\ncells 1\n4 5\n\
       proof phases 1\n\
-      steps 999999993:12 0:340282366920938463463374607431768211455\n\
+      steps 999999993:12 0:340282366920938463463374607431768211455 1:7\n\
       enters 0\nleaves 4294967295\nend\n";
 
 // These, and one document of each other form, without phases.
@@ -205,14 +205,24 @@ const FIRST: Word = Word {
     amount: 12,
 };
 
-const LAST: Word = Word {
+const GREATEST: Word = Word {
     grade: 0,
     amount: u128::MAX,
 };
 
+const LAST: Word = Word {
+    grade: 1,
+    amount: 7,
+};
+
+// Whether these are the steps of `TIME`.
+fn are_times(steps: &StepWords) -> bool {
+    steps.len() == 3 && steps.get(0) == FIRST && steps.get(1) == GREATEST && steps.get(2) == LAST
+}
+
 // Whether this is the phase of `TIME`.
-fn is_time(phase: &Phase<Word>) -> bool {
-    phase.steps() == [FIRST, LAST].as_slice()
+fn is_time(phase: &WrittenPhase) -> bool {
+    are_times(phase.steps())
         && phase.enters() == [0].as_slice()
         && phase.leaves() == [4294967295].as_slice()
 }

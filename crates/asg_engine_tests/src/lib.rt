@@ -1,0 +1,11 @@
+//! Tests of the crates below.
+#![tactic(auto)]
+
+#[cfg(test)]
+mod of_admit;
+#[cfg(test)]
+mod of_algebra;
+#[cfg(test)]
+mod of_duals;
+#[cfg(test)]
+mod samples;

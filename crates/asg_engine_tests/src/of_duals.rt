@@ -1,0 +1,4 @@
+//! Tests of `asg_duals`.
+
+mod guess_tests;
+mod tests;

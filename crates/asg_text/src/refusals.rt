@@ -38,31 +38,47 @@ pub enum TextRefusal {
     NoMemory,
 }
 
+// What is said of a line.
+fn say_of_line<W: fmt::Write>(f: &mut fmt::Formatter<W>, line: u64, words: &str) -> fmt::Result {
+    write!(f, "line {line}: {words}")
+}
+
+// How many of these were told, and how many are there.
+fn say_counts<W: fmt::Write>(
+    f: &mut fmt::Formatter<W>,
+    told: u64,
+    words: &str,
+    found: u64,
+) -> fmt::Result {
+    write!(f, "{told} {words}, {found} there")
+}
+
 impl fmt::Display for TextRefusal {
     fn fmt<W: fmt::Write>(&self, f: &mut fmt::Formatter<W>) -> fmt::Result {
-        match self {
-            TextRefusal::NoProblemLine => write!(f, "there is no problem line"),
-            TextRefusal::SecondProblemLine(line) => write!(f, "line {line}: a second problem line"),
-            TextRefusal::BadLine(line) => write!(
+        match *self {
+            TextRefusal::NoProblemLine => f.write_str("there is no problem line"),
+            TextRefusal::SecondProblemLine(line) => say_of_line(f, line, "a second problem line"),
+            TextRefusal::BadLine(line) => say_of_line(
                 f,
-                "line {line}: no line of this form may stand here"
+                line,
+                "no line of this form may stand here",
             ),
-            TextRefusal::BadNode(line) => write!(f, "line {line}: no node line may say this"),
-            TextRefusal::BadArc(line) => write!(f, "line {line}: no arc line may say this"),
+            TextRefusal::BadNode(line) => say_of_line(f, line, "no node line may say this"),
+            TextRefusal::BadArc(line) => say_of_line(f, line, "no arc line may say this"),
             TextRefusal::CostRange(place) => write!(f, "{place}: a cost out of range"),
-            TextRefusal::ArcTwice(line) => write!(f, "line {line}: an earlier arc at another cost"),
-            TextRefusal::ArcCount(told, found) => write!(f, "{told} arcs are told, {found} there"),
+            TextRefusal::ArcTwice(line) => say_of_line(f, line, "an earlier arc at another cost"),
+            TextRefusal::ArcCount(told, found) => say_counts(f, told, "arcs are told", found),
             TextRefusal::TooLarge(rows, columns) => write!(
                 f,
                 "too large: {rows} rows, {columns} columns"
             ),
-            TextRefusal::NoRows => write!(f, "there is no row"),
-            TextRefusal::TokenCount(due, found) => write!(f, "{due} tokens are due, {found} there"),
+            TextRefusal::NoRows => f.write_str("there is no row"),
+            TextRefusal::TokenCount(due, found) => say_counts(f, due, "tokens are due", found),
             TextRefusal::BadToken(token) => write!(
                 f,
                 "token {token} has no form that may stand here"
             ),
-            TextRefusal::NoMemory => write!(f, "out of memory"),
+            TextRefusal::NoMemory => f.write_str("out of memory"),
         }
     }
 }

@@ -91,6 +91,22 @@ fn entry(long: &mut Vec<Word>, step: Word) -> Result<ShortWord, NoMemory>
     }
 }
 
+// How many short words fill the least room that is given out.
+const FEW: usize = 3;
+
+// Appends a short word, in no more room than it takes while they are few. The error is want of
+// memory.
+fn append(short: &mut Vec<ShortWord>, word: ShortWord) -> Result<(), NoMemory>
+    ensures list { IfOk result (λ _. short.new.items ≡ short.old.items ++ word ∷ []) }
+    ensures kept { OnErr result (short.new.items ≡ short.old.items) }
+{
+    if short.len() < FEW {
+        short.reserve_exact(1)?;
+    }
+    short.push(word)?;
+    Ok(())
+}
+
 // The word that a short one stands for.
 fn told(long: &[Word], short: ShortWord) -> Word
     requires { IsTold (length long.now) short }
@@ -140,7 +156,7 @@ impl StepWords {
         ensures { IfOk result (λ _. self.new ≡ self.old ++ step ∷ []) }
     {
         let short = entry(&mut self.long, step)?;
-        self.short.push(short)?;
+        append(&mut self.short, short)?;
         Ok(())
     }
 

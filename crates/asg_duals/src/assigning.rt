@@ -4,122 +4,26 @@ ghost use Rattle.std.specs.Prelude.{◌≡◌, IfOk, IfSome};
 ghost use Rattle.asg_duals.specs.Tight.{AreTight};
 
 use crate::NoMemory;
-use crate::arc_duals::tight_by_arcs;
-use crate::arcs::arcs_of;
-use crate::bench::Bench;
-use crate::class_duals::tight_by_class;
-use crate::classes::classes_of;
 use crate::duals::Duals;
-use crate::numbers::{Number, value};
-use crate::places::{amount, at, name};
-use crate::solving::solve;
-use crate::squares::{Ranges, ranges_of, table_of};
-use crate::tables::Table;
 use crate::tightness::tested;
-use crate::whole_squares::{near_base, near_table};
-use crate::widths::{is_narrow, is_settled_narrow, narrow_absent, wide_absent};
+use asg_dual_search::{Found, Search};
 use asg_square::Square;
 use std::alloc::Global;
 
-// By how much each column may rise: all by so much that none falls.
-fn rises_of<N: Number>(alloc: Global, bench: &Bench<N>, side: usize) -> Result<Vec<u64>, NoMemory> {
-    let mut greatest = i64::MIN;
-    for column in 0..side {
-        greatest = greatest.max(value(bench.duals.as_slice(), column).to_wide());
-    }
-    let mut rises = Vec::with_capacity(alloc, side)?;
-    for column in 0..side {
-        let dual = value(bench.duals.as_slice(), column).to_wide();
-        rises.push(greatest.wrapping_sub(dual).max(0) as u64)?;
-    }
-    Ok(rises)
-}
+// A search finds no more than so many.
+pub(crate) const MOST_FOUND: usize = 3;
 
-// The dual variables that a bench came to, with the least cells of rows that were taken away.
-fn duals_of<N: Number>(
-    alloc: Global,
-    bench: &Bench<N>,
-    table: &Table<N>,
-    leasts: &[u64],
-) -> Result<Duals, NoMemory> {
-    let rises = rises_of(alloc, bench, table.side)?;
-    let columns = Vec::from_slice(alloc, bench.column_of.as_slice())?;
-    let mut falls = Vec::with_capacity(alloc, table.side)?;
-    for row in 0..table.side {
-        let column = at(columns.as_slice(), row) as usize;
-        let cell = value(table.row(name(row)), column).to_wide().max(0) as u64;
-        let rise = amount(rises.as_slice(), column);
-        falls.push(cell.wrapping_add(amount(leasts, row)).wrapping_add(rise))?;
-    }
-    Ok(Duals::of(columns, falls, rises))
-}
-
-// Solves a square in numbers of one width, where this number stands for absent cells.
-fn attempt<N: Number>(
-    alloc: Global,
-    square: &Square<u64>,
-    table: Table<N>,
-    leasts: &[u64],
-) -> Result<Option<Duals>, NoMemory>
-    ensures { IfOk result (λ found. IfSome found (AreTight square.now)) }
+// What was found, where it is tight.
+fn tested_found(square: &Square<u64>, found: Found) -> Option<Duals>
+    ensures { IfSome result (AreTight square.now) }
 {
-    let mut bench = Bench::make(alloc, &table)?;
-    if !solve(alloc, &mut bench, &table)? {
-        return Ok(None);
-    }
-    let duals = duals_of(alloc, &bench, &table, leasts)?;
-    Ok(tested(square, duals, bench.row_of.as_slice()))
-}
-
-// Solves a square in numbers of 32 bits, where no cell is absent and all are near one another.
-fn attempt_near(alloc: Global, square: &Square<u64>) -> Result<Option<Duals>, NoMemory>
-    ensures { IfOk result (λ found. IfSome found (AreTight square.now)) }
-{
-    let base = near_base(square);
-    let table: Option<Table<i32>> = near_table(alloc, square, base)?;
-    match table {
-        Some(table) => {
-            let leasts = vec![in alloc; base; table.side]?;
-            attempt(alloc, square, table, leasts.as_slice())
-        }
-        None => Ok(None),
-    }
-}
-
-// Solves a square in numbers of 32 bits, where they may do.
-fn attempt_narrow(
-    alloc: Global,
-    square: &Square<u64>,
-    ranges: &Ranges,
-) -> Result<Option<Duals>, NoMemory>
-    ensures { IfOk result (λ found. IfSome found (AreTight square.now)) }
-{
-    if !is_narrow(ranges) {
-        return Ok(None);
-    }
-    let leasts = ranges.leasts.as_slice();
-    let table: Table<i32> = table_of(alloc, square, leasts, narrow_absent(ranges))?;
-    attempt(alloc, square, table, leasts)
-}
-
-// Dual variables of a square all of whose rows and columns differ, in numbers of 32 bits where they
-// do, else of 64; `None` where none were found. The error is want of memory.
-fn tight_by_cell(alloc: Global, square: &Square<u64>) -> Result<Option<Duals>, NoMemory>
-    ensures { IfOk result (λ found. IfSome found (AreTight square.now)) }
-{
-    if let Some(duals) = attempt_near(alloc, square)? {
-        return Ok(Some(duals));
-    }
-    let ranges = ranges_of(alloc, square)?;
-    if let Some(duals) = attempt_narrow(alloc, square, &ranges)? {
-        return Ok(Some(duals));
-    }
-    if is_settled_narrow(&ranges) {
-        return Ok(None);
-    }
-    let leasts = ranges.leasts.as_slice();
-    let table: Table<i64> = table_of(alloc, square, leasts, wide_absent(&ranges))?;
-    attempt(alloc, square, table, leasts)
+    let Found {
+        columns,
+        rows,
+        falls,
+        rises,
+    } = found;
+    tested(square, Duals::of(columns, falls, rises), rows.as_slice())
 }
 
 /// An assignment of a square of sums with dual variables that are tight on it, so that no other has
@@ -144,12 +48,15 @@ fn tight_by_cell(alloc: Global, square: &Square<u64>) -> Result<Option<Duals>, N
 pub fn tight_duals(alloc: Global, square: &Square<u64>) -> Result<Option<Duals>, NoMemory>
     ensures { IfOk result (λ found. IfSome found (AreTight square.now)) }
 {
-    let classes = classes_of(alloc, square)?;
-    if let Some(arcs) = arcs_of(alloc, square, &classes)? {
-        return tight_by_arcs(alloc, square, &classes, &arcs);
+    let mut search = Search::of_square(alloc, square)?;
+    'found: for _ in 0..MOST_FOUND {
+        let Some(found) = search.next(alloc)? else {
+            return Ok(None);
+        };
+        let tight = tested_found(square, found);
+        if tight.is_some() {
+            return Ok(tight);
+        }
     }
-    if classes.are_fewer(square.side() as usize) {
-        return tight_by_class(alloc, square, &classes);
-    }
-    tight_by_cell(alloc, square)
+    Ok(None)
 }

@@ -1,31 +1,10 @@
 //! The cells of squares, read as numbers.
 
 use crate::NoMemory;
-use crate::readings::{NO_NUMBER, Reading};
+use crate::readings::Reading;
+use asg_dual_search::{NO_NUMBER, Numbers};
 use asg_square::Square;
 use std::alloc::Global;
-
-// The numbers of the cells of a square, row by row.
-#[derive(Drop)]
-pub(crate) struct Numbers {
-    pub side: u32,
-    pub cells: Vec<u64>,
-}
-
-impl Numbers {
-    // The numbers of a row, nothing where there is no such row.
-    #[inline]
-    pub(crate) fn row(&self, row: u32) -> &[u64] {
-        let side = self.side as usize;
-        let first = (row as usize).wrapping_mul(side);
-        let end = first.wrapping_add(side);
-        if first <= end && end <= self.cells.len() {
-            &self.cells[first..end]
-        } else {
-            &[]
-        }
-    }
-}
 
 // Reads the cells of a word of a row.
 #[inline]

@@ -2,12 +2,11 @@
 
 use crate::NoMemory;
 use crate::cell_numbers::numbers_of;
-use crate::first_bounds::Bound;
 use crate::guesses::Guess;
 use crate::plain_guesses::plain_guess;
 use crate::readings::{AtGrade, Grades, Peaks};
 use crate::retold_phases::append_graded;
-use crate::thresholds::{Threshold, threshold_of};
+use asg_dual_search::{Bound, Threshold, threshold_of};
 use asg_proof::Phase;
 use asg_square::Square;
 use std::alloc::Global;

@@ -2,10 +2,10 @@
 
 use crate::NoMemory;
 use crate::guesses::Guess;
-use crate::phase_moves::moves_of;
 use crate::plain_guesses::plain_guess;
 use crate::readings::{FIRST_UNIT, Firsts, Seconds};
 use crate::retold_phases::append_multiplied;
+use asg_dual_search::moves_of;
 use asg_square::Square;
 use std::alloc::Global;
 

@@ -1,13 +1,52 @@
 //! Guesses for plain sums of the numbers as which cells are read.
 
 use crate::NoMemory;
+use crate::assigning::MOST_FOUND;
 use crate::cell_numbers::numbers_of;
 use crate::conversion::short_phases;
+use crate::duals::Duals;
 use crate::guesses::Guess;
-use crate::number_duals::duals_by;
-use crate::readings::Reading;
+use crate::readings::{Reading, amount};
+use asg_dual_search::{Found, Numbers, Search};
 use asg_square::Square;
 use std::alloc::Global;
+
+// Whether no number of a row is below 0 once the row has fallen and the columns have risen.
+fn row_is_above(numbers: &[u64], rises: &[u64], fall: u64) -> bool {
+    let mut is_above = true;
+    for column in 0..numbers.len().min(rises.len()) {
+        is_above = is_above && numbers[column].saturating_add(rises[column]) >= fall;
+    }
+    is_above
+}
+
+// Whether, once all rows have fallen and all columns have risen, the number of each row at its
+// column is 0, and none is below 0.
+fn are_tight_on(numbers: &Numbers, found: &Found) -> bool {
+    if found.columns.len() < numbers.side as usize {
+        return false;
+    }
+    for row in 0..numbers.side {
+        let fall = amount(found.falls.as_slice(), row as usize);
+        let column = found.columns[row as usize] as usize;
+        let rise = amount(found.rises.as_slice(), column);
+        if amount(numbers.row(row), column).wrapping_add(rise) != fall {
+            return false;
+        }
+        if !row_is_above(numbers.row(row), found.rises.as_slice(), fall) {
+            return false;
+        }
+    }
+    true
+}
+
+// The phases and the assignment of what was found.
+fn guess_of(alloc: Global, found: Found) -> Result<Guess<u64>, NoMemory> {
+    let duals = Duals::of(found.columns, found.falls, found.rises);
+    let phases = short_phases(alloc, &duals)?;
+    let columns = Vec::from_slice(alloc, duals.columns())?;
+    Ok(Guess::of(phases, columns))
+}
 
 // Phases of plain sums and an assignment of least sum of the numbers as which cells are read;
 // `None` where none is guessed. The error is want of memory.
@@ -17,10 +56,14 @@ pub(crate) fn plain_guess<R: Reading>(
     reading: &R,
 ) -> Result<Option<Guess<u64>>, NoMemory> {
     let numbers = numbers_of(alloc, square, reading)?;
-    let Some(duals) = duals_by(alloc, &numbers)? else {
-        return Ok(None);
-    };
-    let phases = short_phases(alloc, &duals)?;
-    let columns = Vec::from_slice(alloc, duals.columns())?;
-    Ok(Some(Guess::of(phases, columns)))
+    let mut search = Search::of_numbers(alloc, square, &numbers)?;
+    for _ in 0..MOST_FOUND {
+        let Some(found) = search.next(alloc)? else {
+            return Ok(None);
+        };
+        if are_tight_on(&numbers, &found) {
+            return Ok(Some(guess_of(alloc, found)?));
+        }
+    }
+    Ok(None)
 }

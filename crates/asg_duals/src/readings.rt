@@ -1,9 +1,6 @@
 //! Ways to read the cells of a square as numbers.
 
-use crate::places::amount;
-
-// Stands for no number: an absent cell.
-pub(crate) const NO_NUMBER: u64 = u64::MAX;
+use asg_dual_search::NO_NUMBER;
 
 // Stands for all numbers from it on.
 const TOO_GREAT: u64 = 1 << 63;
@@ -27,6 +24,16 @@ pub(crate) fn narrow(number: u128) -> u64 {
         number as u64
     } else {
         TOO_GREAT
+    }
+}
+
+// The amount at a place, 0 outside.
+#[inline]
+pub(crate) fn amount(amounts: &[u64], place: usize) -> u64 {
+    if place < amounts.len() {
+        amounts[place]
+    } else {
+        0
     }
 }
 

@@ -3,7 +3,7 @@
 use crate::NoMemory;
 use crate::classes::Classes;
 use crate::places::{amount, at, name};
-use asg_square::Square;
+use crate::sums::Sums;
 use std::alloc::Global;
 
 // Of so many cells of the counted rows at most one is present, for lists of arcs to serve.
@@ -39,33 +39,27 @@ impl Arcs {
 }
 
 // How many cells of a row are present.
-fn count_row(square: &Square<u64>, row: u32) -> usize {
-    if row >= square.side() {
-        return 0;
-    }
+fn count_row(sums: &Sums<'_>, row: u32) -> usize {
     let mut count = 0usize;
-    for word in square.row_words(row) {
+    for word in sums.row_words(row) {
         count = count.saturating_add(word.count_ones() as usize);
     }
     count
 }
 
 // How many cells of the counted rows are present.
-fn count_all(square: &Square<u64>, rows: &[u32]) -> usize {
+fn count_all(sums: &Sums<'_>, rows: &[u32]) -> usize {
     let mut count = 0usize;
     for row in rows {
-        count = count.saturating_add(count_row(square, *row));
+        count = count.saturating_add(count_row(sums, *row));
     }
     count
 }
 
 // Lists the present cells of a row.
-fn list_row(arcs: &mut Arcs, square: &Square<u64>, row: u32) -> Result<(), NoMemory> {
-    if row >= square.side() {
-        return Ok(());
-    }
-    let values = square.row_values(row);
-    let words = square.row_words(row);
+fn list_row(arcs: &mut Arcs, sums: &Sums<'_>, row: u32) -> Result<(), NoMemory> {
+    let values = sums.row_values(row);
+    let words = sums.row_words(row);
     for number in 0..words.len() {
         let mut rest = words[number];
         for _ in 0..64 {
@@ -88,14 +82,14 @@ fn list_row(arcs: &mut Arcs, square: &Square<u64>, row: u32) -> Result<(), NoMem
 // `None` otherwise. The error is want of memory.
 pub(crate) fn arcs_of(
     alloc: Global,
-    square: &Square<u64>,
+    sums: &Sums<'_>,
     classes: &Classes,
 ) -> Result<Option<Arcs>, NoMemory> {
     if !classes.is_plain || classes.outside > 0 {
         return Ok(None);
     }
     let rows = classes.rows.len();
-    let count = count_all(square, classes.rows.as_slice());
+    let count = count_all(sums, classes.rows.as_slice());
     if count > rows.saturating_mul(classes.firsts.len()) / SPARSE {
         return Ok(None);
     }
@@ -106,7 +100,7 @@ pub(crate) fn arcs_of(
     };
     for place in 0..rows {
         arcs.starts.push(name(arcs.columns.len()))?;
-        list_row(&mut arcs, square, classes.rows[place])?;
+        list_row(&mut arcs, sums, classes.rows[place])?;
     }
     arcs.starts.push(name(arcs.columns.len()))?;
     Ok(Some(arcs))

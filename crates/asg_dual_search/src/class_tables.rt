@@ -1,19 +1,17 @@
 //! Tables of squares by classes: a row for each row that stands for one of the instance, a place
 //! for each class.
 
-ghost use Rattle.std.specs.Prelude.{◌≡◌, length};
-
 use crate::NoMemory;
 use crate::classes::Classes;
+use crate::near_cells::{are_present, put_near};
 use crate::numbers::Number;
 use crate::places::{amount, at, put_amount};
-use crate::squares::{Ranges, Spread, put_word, ranges_by, row_range};
+use crate::ranges::{Ranges, Spread, put_word, ranges_by, row_range};
+use crate::sums::Sums;
 use crate::tables::{Table, padded};
-use crate::whole_squares::{are_present, put_near};
-use asg_square::Square;
 use std::alloc::Global;
 
-// The cells of a row at the first columns of classes, with a bit for each that is present.
+// Room for the cells of a row at the first columns of classes, with a bit for each that is present.
 #[derive(Drop)]
 pub(crate) struct ClassRow {
     values: Vec<u64>,
@@ -33,36 +31,33 @@ fn present_bits(words: &[u64], firsts: &[u32], number: usize) -> u64 {
     bits
 }
 
-// Copies as many amounts as both lists have.
-fn copy_amounts(from: &[u64], to: &mut [u64])
-    ensures { length to.new ≡ length to.old }
-{
-    for place in 0..from.len().min(to.len()) {
-        to[place] = from[place];
+// The first amounts, all where there are fewer.
+#[inline]
+fn first_amounts(amounts: &[u64], count: usize) -> &[u64] {
+    if count < amounts.len() {
+        &amounts[..count]
+    } else {
+        amounts
     }
 }
 
 impl ClassRow {
-    // Room for the cells of a row at so many classes. The error is want of memory.
-    pub(crate) fn make(alloc: Global, count: usize) -> Result<ClassRow, NoMemory> {
+    // Room for the cells of a row. The error is want of memory.
+    pub(crate) fn make(alloc: Global, classes: &Classes) -> Result<ClassRow, NoMemory> {
+        let count = classes.firsts.len();
         Ok(ClassRow {
             values: vec![in alloc; 0; count]?,
             words: vec![in alloc; 0; count / 64 + 1]?,
         })
     }
 
-    // Reads a row of a square.
-    fn read(&mut self, square: &Square<u64>, classes: &Classes, row: u32) {
-        if row >= square.side() {
-            return;
-        }
-        let values = square.row_values(row);
-        let words = square.row_words(row);
+    // Reads a row, where its cells don't stand in their places.
+    fn read(&mut self, sums: &Sums<'_>, classes: &Classes, row: u32) {
         if classes.is_plain {
-            copy_amounts(values, self.values.as_mut_slice());
-            copy_amounts(words, self.words.as_mut_slice());
             return;
         }
+        let values = sums.row_values(row);
+        let words = sums.row_words(row);
         let firsts = classes.firsts.as_slice();
         for place in 0..firsts.len() {
             let cell = amount(values, firsts[place] as usize);
@@ -78,13 +73,33 @@ impl ClassRow {
             put_amount(self.words.as_mut_slice(), number, bits);
         }
     }
+
+    // The cells of a row that was read.
+    #[inline]
+    fn values<'b>(&'b self, sums: &'b Sums<'_>, classes: &Classes, row: u32) -> &'b [u64] {
+        if classes.is_plain {
+            first_amounts(sums.row_values(row), classes.firsts.len())
+        } else {
+            self.values.as_slice()
+        }
+    }
+
+    // The bits of its present cells; behind them some may be set.
+    #[inline]
+    fn words<'b>(&'b self, sums: &'b Sums<'_>, classes: &Classes, row: u32) -> &'b [u64] {
+        if classes.is_plain {
+            sums.row_words(row)
+        } else {
+            self.words.as_slice()
+        }
+    }
 }
 
 // The ranges of the rows. Where rows may take columns that are copies of none, all rows have one
 // range. The error is want of memory.
 pub(crate) fn class_ranges(
     alloc: Global,
-    square: &Square<u64>,
+    sums: &Sums<'_>,
     classes: &Classes,
     room: &mut ClassRow,
 ) -> Result<Ranges, NoMemory> {
@@ -92,20 +107,30 @@ pub(crate) fn class_ranges(
     let mut leasts = vec![in alloc; 0; count]?;
     let mut spread = Spread::none();
     for place in 0..count {
-        room.read(square, classes, at(classes.rows.as_slice(), place));
-        let range = row_range(room.values.as_slice(), room.words.as_slice());
+        let row = at(classes.rows.as_slice(), place);
+        room.read(sums, classes, row);
+        let range = row_range(
+            room.values(&*sums, classes, row),
+            room.words(&*sums, classes, row),
+        );
         put_amount(leasts.as_mut_slice(), place, range.least);
         spread = spread.with(range);
     }
     Ok(ranges_by(leasts, spread, classes.outside > 0))
 }
 
+// Writes the cells of a row with so much less, and this number for those that are absent.
+fn put_cells<N: Number>(numbers: &mut [N], values: &[u64], words: &[u64], least: u64, absent: u64) {
+    for number in 0..words.len() {
+        put_word(numbers, values, number, words[number], least, absent);
+    }
+}
+
 // The table of the rows: each cell is what is taken away from its row less, and an absent one is
-// this number. The
-// error is want of memory.
+// this number. The error is want of memory.
 pub(crate) fn class_table<N: Number>(
     alloc: Global,
-    square: &Square<u64>,
+    sums: &Sums<'_>,
     classes: &Classes,
     leasts: &[u64],
     absent: u64,
@@ -117,48 +142,25 @@ pub(crate) fn class_table<N: Number>(
     let mut cells = Vec::with_capacity(alloc, count.saturating_mul(wide))?;
     let mut numbers = vec![in alloc; N::greatest(); wide]?;
     for place in 0..count {
-        room.read(square, classes, at(classes.rows.as_slice(), place));
-        let least = amount(leasts, place);
-        for number in 0..room.words.len() {
-            put_word(
-                numbers.as_mut_slice(),
-                room.values.as_slice(),
-                number,
-                room.words[number],
-                least,
-                absent,
-            );
-        }
+        let row = at(classes.rows.as_slice(), place);
+        room.read(sums, classes, row);
+        put_cells(
+            numbers.as_mut_slice(),
+            room.values(&*sums, classes, row),
+            room.words(&*sums, classes, row),
+            amount(leasts, place),
+            absent,
+        );
         cells.extend_from_slice(numbers.as_slice())?;
     }
     Ok(Table { side, wide, cells })
-}
-
-// Writes the cells of a row with so much less. Whether all are present and near.
-fn put_row<N: Number>(
-    numbers: &mut Vec<N>,
-    square: &Square<u64>,
-    classes: &Classes,
-    row: u32,
-    base: u64,
-    room: &mut ClassRow,
-) -> bool {
-    if row >= square.side() || !are_present(square.row_words(row), classes.room) {
-        return false;
-    }
-    let count = classes.firsts.len();
-    if classes.is_plain {
-        return put_near(numbers.as_mut_slice(), square.row_values(row), count, base);
-    }
-    room.read(square, classes, row);
-    put_near(numbers.as_mut_slice(), room.values.as_slice(), count, base)
 }
 
 // The table of the rows with so much less; `None` where a cell is absent, or not near. The error is
 // want of memory.
 pub(crate) fn near_class_table<N: Number>(
     alloc: Global,
-    square: &Square<u64>,
+    sums: &Sums<'_>,
     classes: &Classes,
     base: u64,
     room: &mut ClassRow,
@@ -170,7 +172,12 @@ pub(crate) fn near_class_table<N: Number>(
     let mut numbers = vec![in alloc; N::greatest(); wide]?;
     for place in 0..count {
         let row = at(classes.rows.as_slice(), place);
-        if !put_row(&mut numbers, square, classes, row, base, room) {
+        if !are_present(sums.row_words(row), classes.room) {
+            return Ok(None);
+        }
+        room.read(sums, classes, row);
+        let values = room.values(&*sums, classes, row);
+        if !put_near(numbers.as_mut_slice(), values, side, base) {
             return Ok(None);
         }
         cells.extend_from_slice(numbers.as_slice())?;

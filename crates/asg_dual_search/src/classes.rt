@@ -2,7 +2,9 @@
 //! the instance are alike, and so are all rows that stand for no row of it.
 
 use crate::NoMemory;
+use crate::near_cells::are_present;
 use crate::places::{NONE, at, put};
+use crate::sums::Sums;
 use asg_square::Square;
 use std::alloc::Global;
 
@@ -24,6 +26,26 @@ pub(crate) struct Classes {
 }
 
 impl Classes {
+    // Of a square of this side each row and each column by itself. The error is want of memory.
+    pub(crate) fn apart(alloc: Global, side: u32) -> Result<Classes, NoMemory> {
+        let count = side as usize;
+        let mut rows = Vec::with_capacity(alloc, count)?;
+        let mut firsts = Vec::with_capacity(alloc, count)?;
+        for place in 0..side {
+            rows.push(place)?;
+            firsts.push(place)?;
+        }
+        Ok(Classes {
+            rows,
+            firsts,
+            rooms: vec![in alloc; 1; count]?,
+            extra: side,
+            outside: 0,
+            room: count,
+            is_plain: true,
+        })
+    }
+
     // Whether some rows or columns of a square of this side are alike.
     pub(crate) fn are_fewer(&self, side: usize) -> bool {
         self.rows.len() < side || self.firsts.len() < side
@@ -31,7 +53,7 @@ impl Classes {
 }
 
 // The rows of a square that stand for rows of the instance.
-fn counted_rows(alloc: Global, square: &Square<u64>) -> Result<Vec<u32>, NoMemory> {
+fn counted_rows<V: Copy>(alloc: Global, square: &Square<V>) -> Result<Vec<u32>, NoMemory> {
     let side = square.side();
     let mut rows = Vec::with_capacity(alloc, side as usize)?;
     for row in 0..side {
@@ -51,14 +73,11 @@ fn widen(rooms: &mut Vec<u32>) {
 
 // How many of the rows take columns that are copies of none, of which there are so many: as many,
 // where the first row has a cell in the first of them.
-fn outside_of(square: &Square<u64>, rows: &[u32], extra: u32, extras: usize) -> usize {
-    let row = at(rows, 0);
-    if row >= square.side() || extra >= square.side() {
-        return 0;
-    }
-    match square.at(row, extra) {
-        Some(_) => extras.min(rows.len()),
-        None => 0,
+fn outside_of(sums: &Sums<'_>, rows: &[u32], extra: u32, extras: usize) -> usize {
+    if sums.has(at(rows, 0), extra) {
+        extras.min(rows.len())
+    } else {
+        0
     }
 }
 
@@ -72,8 +91,13 @@ fn are_plain(firsts: &[u32], rooms: &[u32]) -> bool {
     true
 }
 
-// The rows and columns of a square by what they stand for. The error is want of memory.
-pub(crate) fn classes_of(alloc: Global, square: &Square<u64>) -> Result<Classes, NoMemory> {
+// The rows and columns of a square by what they stand for, where its cells are these sums. The
+// error is want of memory.
+pub(crate) fn classes_of<V: Copy>(
+    alloc: Global,
+    square: &Square<V>,
+    sums: &Sums<'_>,
+) -> Result<Classes, NoMemory> {
     let side = square.side();
     let rows = counted_rows(alloc, square)?;
     let mut firsts = Vec::with_capacity(alloc, side as usize)?;
@@ -94,7 +118,7 @@ pub(crate) fn classes_of(alloc: Global, square: &Square<u64>) -> Result<Classes,
             last = label;
         }
     }
-    let outside = outside_of(square, rows.as_slice(), extra, extras);
+    let outside = outside_of(sums, rows.as_slice(), extra, extras);
     let is_plain = are_plain(firsts.as_slice(), rooms.as_slice());
     let room = (side as usize).saturating_sub(extras);
     Ok(Classes {
@@ -106,4 +130,30 @@ pub(crate) fn classes_of(alloc: Global, square: &Square<u64>) -> Result<Classes,
         room,
         is_plain,
     })
+}
+
+// Whether a row may take each of the columns that are copies of none, or none of them, as told.
+fn is_even(sums: &Sums<'_>, row: u32, extra: u32, takes: bool) -> bool {
+    for column in extra..sums.side {
+        if sums.has(row, column) != takes {
+            return false;
+        }
+    }
+    true
+}
+
+// Whether all counted rows may take columns that are copies of none, or no such row may, and all
+// other rows any of the others. So it is in squares of instances.
+pub(crate) fn are_even<V: Copy>(square: &Square<V>, sums: &Sums<'_>, classes: &Classes) -> bool {
+    for row in 0..square.side() {
+        let is_good = if square.row_label(row).is_some() {
+            is_even(sums, row, classes.extra, classes.outside > 0)
+        } else {
+            are_present(sums.row_words(row), classes.room)
+        };
+        if !is_good {
+            return false;
+        }
+    }
+    true
 }

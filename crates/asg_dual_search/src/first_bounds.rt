@@ -1,18 +1,20 @@
 //! Lower bounds of the greatest number of an assignment, from rows and from columns.
 
 use crate::NoMemory;
-use crate::cell_numbers::Numbers;
+use crate::cell_numbers::{NO_NUMBER, Numbers};
 use crate::places::put;
-use crate::readings::NO_NUMBER;
 use std::alloc::Global;
 
-// A limit below which there is no assignment, with the marks that show it. The rows that enter at 0
-// have, below the limit, columns alone that leave at 0, and are one more than these; each other row
-// and column has the mark 1.
+/// A limit below which there is no assignment, with the marks that show it. The rows that enter at 0
+/// have, below the limit, columns alone that leave at 0, and are one more than these; each other row
+/// and column has the mark 1.
 #[derive(Drop)]
-pub(crate) struct Bound {
+pub struct Bound {
+    /// The limit.
     pub limit: u64,
+    /// The mark of each row.
     pub enters: Vec<u32>,
+    /// The mark of each column.
     pub leaves: Vec<u32>,
 }
 

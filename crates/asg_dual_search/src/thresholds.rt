@@ -12,11 +12,13 @@ use crate::places::at;
 use crate::tables::Table;
 use std::alloc::Global;
 
-// The least limit within which there is an assignment, with the marks that show that there is none
-// below it, and the column of each row.
+/// The least limit within which there is an assignment, and such an assignment, as a search found
+/// them: nothing of it is tested.
 #[derive(Drop)]
-pub(crate) struct Threshold {
+pub struct Threshold {
+    /// The limit, with the marks that show that there is no assignment below it.
     pub bound: Bound,
+    /// The column of each row.
     pub columns: Vec<u32>,
 }
 
@@ -36,23 +38,20 @@ fn serve_all(bench: &mut Bench<i32>, table: &mut Table<i32>, bound: &mut Bound) 
     true
 }
 
-// The least limit within which each row of a square of numbers has a column of its own; `None`
-// where there is none, and where numbers are too great. The error is want of memory.
-//
-// This is the bottleneck assignment problem [Fulkerson, Glicksberg and Gross 1953]. It begins at
-// the greatest of the rows' and the columns' least numbers. Rows get columns by shortest augmenting
-// paths [Jonker and Volgenant 1987] whose length is their greatest number, and the limit rises
-// where a path needs more.
-pub(crate) fn threshold_of(
-    alloc: Global,
-    numbers: &Numbers,
-) -> Result<Option<Threshold>, NoMemory> {
+/// The least limit within which each row of a square of numbers has a column of its own; `None`
+/// where there is none, and where numbers are too great. The error is want of memory.
+///
+/// This is the bottleneck assignment problem [Fulkerson, Glicksberg and Gross 1953]. It begins at
+/// the greatest of the rows' and the columns' least numbers. Rows get columns by shortest augmenting
+/// paths [Jonker and Volgenant 1987] whose length is their greatest number, and the limit rises
+/// where a path needs more.
+pub fn threshold_of(alloc: Global, numbers: &Numbers) -> Result<Option<Threshold>, NoMemory> {
     let extents = extents_of(alloc, numbers)?;
     let mut bound = first_bound(alloc, numbers, extents.leasts.as_slice())?;
     if extents.greatest.max(bound.limit) >= MISSING {
         return Ok(None);
     }
-    let mut table: Table<i32> = table_by(alloc, numbers, &[], MISSING)?;
+    let mut table: Table<i32> = table_by(alloc, numbers, MISSING)?;
     let mut bench = Bench::make(alloc, &table)?;
     if !serve_all(&mut bench, &mut table, &mut bound) {
         return Ok(None);

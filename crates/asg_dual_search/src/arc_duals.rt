@@ -1,17 +1,13 @@
 //! Dual variables of squares with few present cells.
 
-ghost use Rattle.std.specs.Prelude.{◌≡◌, IfOk, IfSome};
-ghost use Rattle.asg_duals.specs.Tight.{AreTight};
-
 use crate::NoMemory;
 use crate::arc_bench::ArcBench;
 use crate::arc_paths::solve_arcs;
 use crate::arcs::Arcs;
 use crate::classes::Classes;
-use crate::duals::Duals;
+use crate::found::Found;
 use crate::places::{at, put_amount};
-use crate::placings::{Placing, duals_of};
-use asg_square::Square;
+use crate::placings::{Placing, found_by};
 use std::alloc::Global;
 
 // The cells of rows by the arcs by which they have their columns.
@@ -25,21 +21,19 @@ fn cells_of(alloc: Global, arcs: &Arcs, arc_of: &[u32]) -> Result<Vec<u64>, NoMe
     Ok(cells)
 }
 
-// Dual variables of a square by the arcs of its counted rows; `None` where none were found. The
-// error is want of memory.
-pub(crate) fn tight_by_arcs(
+// An assignment of a square of this side with dual variables, by the arcs of its counted rows;
+// `None` where none was found. The error is want of memory.
+pub(crate) fn found_by_arcs(
     alloc: Global,
-    square: &Square<u64>,
+    side: u32,
     classes: &Classes,
     arcs: &Arcs,
-) -> Result<Option<Duals>, NoMemory>
-    ensures { IfOk result (λ found. IfSome found (AreTight square.now)) }
-{
-    let side = classes.firsts.len();
-    if classes.rows.len() > side {
+) -> Result<Option<Found>, NoMemory> {
+    let columns = classes.firsts.len();
+    if classes.rows.len() > columns {
         return Ok(None);
     }
-    let mut bench = ArcBench::make(alloc, arcs, side)?;
+    let mut bench = ArcBench::make(alloc, arcs, columns)?;
     if !solve_arcs(&mut bench, arcs) {
         return Ok(None);
     }
@@ -48,7 +42,8 @@ pub(crate) fn tight_by_arcs(
         class_of: bench.column_of.as_slice(),
         cells: cells.as_slice(),
         duals: bench.duals.as_slice(),
+        greatest: 0,
         outside: 0,
     };
-    duals_of(alloc, square, classes, placing)
+    Ok(Some(found_by(alloc, side, classes, placing)?))
 }

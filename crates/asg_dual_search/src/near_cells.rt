@@ -2,12 +2,9 @@
 
 ghost use Rattle.std.specs.Prelude.{◌≡◌, length};
 
-use crate::NoMemory;
 use crate::numbers::Number;
 use crate::places::amount;
-use crate::tables::{Table, padded};
-use asg_square::Square;
-use std::alloc::Global;
+use crate::sums::Sums;
 
 // How far below the first cell the numbers of a table begin; near cells are less than twice as far
 // above that.
@@ -38,32 +35,6 @@ pub(crate) fn put_near<N: Number>(cells: &mut [N], values: &[u64], count: usize,
 }
 
 // What is taken away from the cells of a square that are near the first one.
-pub(crate) fn near_base(square: &Square<u64>) -> u64 {
-    if square.side() == 0 {
-        return 0;
-    }
-    amount(square.row_values(0), 0).saturating_sub(NEAR)
-}
-
-// The table of a square with so much less; `None` where a cell is absent, or not near. The error is
-// want of memory.
-pub(crate) fn near_table<N: Number>(
-    alloc: Global,
-    square: &Square<u64>,
-    base: u64,
-) -> Result<Option<Table<N>>, NoMemory> {
-    let side = square.side() as usize;
-    let wide = padded(side);
-    let mut cells = Vec::with_capacity(alloc, side.saturating_mul(wide))?;
-    let mut numbers = vec![in alloc; N::greatest(); wide]?;
-    for row in 0..square.side() {
-        if !are_present(square.row_words(row), side) {
-            return Ok(None);
-        }
-        if !put_near(numbers.as_mut_slice(), square.row_values(row), side, base) {
-            return Ok(None);
-        }
-        cells.extend_from_slice(numbers.as_slice())?;
-    }
-    Ok(Some(Table { side, wide, cells }))
+pub(crate) fn near_base(sums: &Sums<'_>) -> u64 {
+    amount(sums.values, 0).saturating_sub(NEAR)
 }

@@ -1,14 +1,9 @@
-//! Squares of sums as tables: from each row its least cell is taken away.
+//! How far the cells of rows reach, and cells as numbers of which so much is taken away.
 
-ghost use Rattle.std.specs.Prelude.{◌≡◌, length, IfOk};
-ghost use Rattle.asg_square.specs.Grid.{IsGrid};
+ghost use Rattle.std.specs.Prelude.{◌≡◌, length};
 
-use crate::NoMemory;
-use crate::numbers::{Number, set};
-use crate::places::{name, put_amount};
-use crate::tables::{Table, padded};
-use asg_square::Square;
-use std::alloc::Global;
+use crate::numbers::Number;
+use crate::places::put_amount;
 
 // The greatest width of all cells for the least of all to be taken away from each row.
 const MOST_WIDTH: u64 = 1 << 28;
@@ -124,19 +119,6 @@ pub(crate) fn ranges_by(leasts: Vec<u64>, spread: Spread, is_one: bool) -> Range
     }
 }
 
-// The ranges of all rows. The error is want of memory.
-pub(crate) fn ranges_of(alloc: Global, square: &Square<u64>) -> Result<Ranges, NoMemory> {
-    let side = square.side();
-    let mut leasts = vec![in alloc; 0; side as usize]?;
-    let mut spread = Spread::none();
-    for row in 0..side {
-        let range = row_range(square.row_values(row), square.row_words(row));
-        put_amount(leasts.as_mut_slice(), row as usize, range.least);
-        spread = spread.with(range);
-    }
-    Ok(ranges_by(leasts, spread, false))
-}
-
 // Writes the cells of a word with so much less, and this number for those that are absent.
 #[inline]
 pub(crate) fn put_word<N: Number>(
@@ -168,39 +150,4 @@ pub(crate) fn put_word<N: Number>(
         cells[column] = N::of(cell);
         rest >>= 1;
     }
-}
-
-// The table of a square: each cell is what is taken away from its row less, and an absent one is
-// this number. The error is want of memory.
-pub(crate) fn table_of<N: Number>(
-    alloc: Global,
-    square: &Square<u64>,
-    leasts: &[u64],
-    absent: u64,
-) -> Result<Table<N>, NoMemory> {
-    let side = square.side() as usize;
-    let wide = padded(side);
-    let mut cells = Vec::with_capacity(alloc, side.saturating_mul(wide))?;
-    let mut numbers = vec![in alloc; N::greatest(); wide]?;
-    for row in 0..square.side() {
-        let values = square.row_values(row);
-        let words = square.row_words(row);
-        let least = if (row as usize) < leasts.len() {
-            leasts[row as usize]
-        } else {
-            0
-        };
-        for number in 0..words.len() {
-            put_word(
-                numbers.as_mut_slice(),
-                values,
-                number,
-                words[number],
-                least,
-                absent,
-            );
-        }
-        cells.extend_from_slice(numbers.as_slice())?;
-    }
-    Ok(Table { side, wide, cells })
 }

@@ -1,42 +1,38 @@
 //! Dual variables of squares by those of classes of their columns.
 
-ghost use Rattle.std.specs.Prelude.{◌≡◌, IfOk, IfSome};
-ghost use Rattle.asg_duals.specs.Tight.{AreTight};
-
 use crate::NoMemory;
 use crate::classes::Classes;
-use crate::duals::Duals;
+use crate::found::Found;
 use crate::numbers::{Number, value};
 use crate::places::{NONE, amount, at, name, put, put_amount};
-use crate::tightness::tested;
-use asg_square::Square;
 use std::alloc::Global;
 
 // The classes of the counted rows with their cells, which are 0 at rows without a class, with the
-// dual variables of classes, and by how much columns that are copies of none may rise.
+// dual variables of classes and a number that is no less, and by how much columns that are copies of
+// none may rise.
 #[derive(Clone, Copy)]
 pub(crate) struct Placing<'a, N: Number> {
     pub class_of: &'a [u32],
     pub cells: &'a [u64],
     pub duals: &'a [N],
+    pub greatest: i64,
     pub outside: u64,
 }
 
-// By how much each column may rise: those of a class by as much as its dual variable is below 0,
-// and those that are copies of none by so much.
+// By how much each column may rise: those of a class by as much as its dual variable is below the
+// greatest, and those that are copies of none by so much.
 fn rises_of<N: Number>(
     alloc: Global,
     side: usize,
     classes: &Classes,
-    duals: &[N],
-    outside: u64,
+    placing: Placing<'_, N>,
 ) -> Result<Vec<u64>, NoMemory> {
-    let mut rises = vec![in alloc; outside; side]?;
+    let mut rises = vec![in alloc; placing.outside; side]?;
     for class in 0..classes.firsts.len() {
         let first = classes.firsts[class] as usize;
         let end = first.saturating_add(at(classes.rooms.as_slice(), class) as usize);
-        let dual = value(duals, class).to_wide();
-        let rise = 0i64.wrapping_sub(dual).max(0) as u64;
+        let dual = value(placing.duals, class).to_wide();
+        let rise = placing.greatest.wrapping_sub(dual).max(0) as u64;
         for column in first..end {
             put_amount(rises.as_mut_slice(), column, rise);
         }
@@ -108,33 +104,30 @@ fn falls_of(
     Ok(falls)
 }
 
-// The dual variables of a square by those of its classes, where they are tight.
-pub(crate) fn duals_of<N: Number>(
+// The assignment of a square of this side, and its dual variables, by those of its classes. The
+// error is want of memory.
+pub(crate) fn found_by<N: Number>(
     alloc: Global,
-    square: &Square<u64>,
+    side: u32,
     classes: &Classes,
     placing: Placing<'_, N>,
-) -> Result<Option<Duals>, NoMemory>
-    ensures { IfOk result (λ found. IfSome found (AreTight square.now)) }
-{
-    let side = square.side() as usize;
-    let mut column_of = vec![in alloc; NONE; side]?;
-    let mut row_of = vec![in alloc; NONE; side]?;
-    assign(
-        alloc,
-        classes,
-        placing.class_of,
-        &mut column_of,
-        &mut row_of,
-    )?;
-    let rises = rises_of(alloc, side, classes, placing.duals, placing.outside)?;
+) -> Result<Found, NoMemory> {
+    let side = side as usize;
+    let mut columns = vec![in alloc; NONE; side]?;
+    let mut rows = vec![in alloc; NONE; side]?;
+    assign(alloc, classes, placing.class_of, &mut columns, &mut rows)?;
+    let rises = rises_of(alloc, side, classes, placing)?;
     let falls = falls_of(
         alloc,
         classes,
         placing.cells,
         rises.as_slice(),
-        column_of.as_slice(),
+        columns.as_slice(),
     )?;
-    let duals = Duals::of(column_of, falls, rises);
-    Ok(tested(square, duals, row_of.as_slice()))
+    Ok(Found {
+        columns,
+        rows,
+        falls,
+        rises,
+    })
 }

@@ -5,10 +5,12 @@ use crate::places::{amount, put_amount};
 use asg_proof::Phase;
 use std::alloc::Global;
 
-// By how much each row falls and each column rises.
+/// By how much each row falls and each column rises.
 #[derive(Drop)]
-pub(crate) struct Moves {
+pub struct Moves {
+    /// By how much each row falls.
     pub falls: Vec<u64>,
+    /// By how much each column rises.
     pub rises: Vec<u64>,
 }
 
@@ -32,13 +34,9 @@ fn add_from(amounts: &mut [u64], marks: &[u32], sums: &[u64]) {
     }
 }
 
-// By how much each row falls, and each column rises, by all of these phases of a square of this
-// side. The error is want of memory.
-pub(crate) fn moves_of(
-    alloc: Global,
-    phases: &[Phase<u64>],
-    side: usize,
-) -> Result<Moves, NoMemory> {
+/// By how much each row falls, and each column rises, by all of these phases of a square of this
+/// side. The error is want of memory.
+pub fn moves_of(alloc: Global, phases: &[Phase<u64>], side: usize) -> Result<Moves, NoMemory> {
     let mut moves = Moves {
         falls: vec![in alloc; 0; side]?,
         rises: vec![in alloc; 0; side]?,

@@ -1,0 +1,100 @@
+//! Squares of sums, as they are searched.
+
+use crate::NoMemory;
+use crate::cell_numbers::{NO_NUMBER, Numbers};
+use asg_square::Square;
+use std::alloc::Global;
+
+// The cells of a square, row by row, and of each row the bits of those that are present, in so many
+// words.
+#[derive(Drop)]
+pub(crate) struct Sums<'a> {
+    pub side: u32,
+    pub values: &'a [u64],
+    pub words: Vec<u64>,
+    pub wide: usize,
+}
+
+// The part of a list from a multiple of a width on, of that width; nothing outside.
+#[inline]
+pub(crate) fn part(list: &[u64], number: u32, wide: usize) -> &[u64] {
+    let first = (number as usize).wrapping_mul(wide);
+    let end = first.wrapping_add(wide);
+    if first <= end && end <= list.len() {
+        &list[first..end]
+    } else {
+        &[]
+    }
+}
+
+// The bits of the numbers that are there, of a word of a row.
+#[inline]
+fn word_of(numbers: &[u64], number: usize) -> u64 {
+    let first = number.saturating_mul(64);
+    let end = first.saturating_add(64).min(numbers.len());
+    let mut word = 0u64;
+    let mut bit = 1u64;
+    for column in first..end {
+        if numbers[column] != NO_NUMBER {
+            word |= bit;
+        }
+        bit = bit.wrapping_shl(1);
+    }
+    word
+}
+
+impl<'a> Sums<'a> {
+    // The sums of a square. The error is want of memory.
+    pub(crate) fn of_square(alloc: Global, square: &'a Square<u64>) -> Result<Sums<'a>, NoMemory> {
+        let side = square.side();
+        let wide = (side as usize).saturating_add(63) / 64;
+        let mut words = Vec::with_capacity(alloc, wide.saturating_mul(side as usize))?;
+        for row in 0..side {
+            words.extend_from_slice(square.row_words(row))?;
+        }
+        Ok(Sums {
+            side,
+            values: square.values(),
+            words,
+            wide,
+        })
+    }
+
+    // Numbers as sums. The error is want of memory.
+    pub(crate) fn of_numbers(alloc: Global, numbers: &'a Numbers) -> Result<Sums<'a>, NoMemory> {
+        let side = numbers.side;
+        let wide = (side as usize).saturating_add(63) / 64;
+        let mut words = Vec::with_capacity(alloc, wide.saturating_mul(side as usize))?;
+        for row in 0..side {
+            let cells = numbers.row(row);
+            for number in 0..wide {
+                words.push(word_of(cells, number))?;
+            }
+        }
+        Ok(Sums {
+            side,
+            values: numbers.cells.as_slice(),
+            words,
+            wide,
+        })
+    }
+
+    // The cells of a row, nothing where there is no such row.
+    #[inline]
+    pub(crate) fn row_values(&self, row: u32) -> &[u64] {
+        part(self.values, row, self.side as usize)
+    }
+
+    // The bits of the present cells of a row, nothing where there is no such row.
+    #[inline]
+    pub(crate) fn row_words(&self, row: u32) -> &[u64] {
+        part(self.words.as_slice(), row, self.wide)
+    }
+
+    // Whether a cell is present.
+    pub(crate) fn has(&self, row: u32, column: u32) -> bool {
+        let words = self.row_words(row);
+        let number = (column / 64) as usize;
+        column < self.side && number < words.len() && words[number] >> (column % 64) & 1 == 1
+    }
+}

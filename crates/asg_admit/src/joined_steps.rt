@@ -75,12 +75,38 @@ fn settle_joined<M: DMonoid>(
         SettlesPhase (M.monoid_of m.now) (M.difference m.now) phase square.old square.new }
     ensures room { length room.new ≡ length room.old }
 {
-    differences(m);
     square.side();
     let mut row_places = [0; PLACES];
     let mut column_places = [0; PLACES];
     let rows = &mut row_places[..enters.len()];
     let columns = &mut column_places[..leaves.len()];
+    settle_by_joints(m, square, steps, enters, leaves, room, rows, columns);
+}
+
+// The same with a place for each mark.
+fn settle_by_joints<M: DMonoid>(
+    m: &M,
+    square: &mut Square<M::Value>,
+    steps: &[M::Value],
+    enters: &[u32],
+    leaves: &[u32],
+    room: &mut [M::Value],
+    rows: &mut [u32],
+    columns: &mut [u32],
+)
+    requires room { length steps.now < length room.old }
+    requires few { length steps.now < 2 ^ 32 }
+    requires values { All (IsValue (M.monoid_of m.now)) steps.now }
+    requires enters { length enters.now ≡ square.old.side }
+    requires leaves { length leaves.now ≡ square.old.side }
+    requires rows { length rows.old ≡ square.old.side }
+    requires columns { length columns.old ≡ square.old.side }
+    requires cells { HasValues (M.monoid_of m.now) square.old.side (cell_at square.old) }
+    ensures settled { let phase = phase_of steps.now enters.now leaves.now in
+        SettlesPhase (M.monoid_of m.now) (M.difference m.now) phase square.old square.new }
+    ensures room { length room.new ≡ length room.old }
+{
+    differences(m);
     let count = join_steps(m, steps, enters, leaves, room, rows, columns);
     if room.len() - count <= count {
         settle_rows(m, square, steps, enters, leaves, room);

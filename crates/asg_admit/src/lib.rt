@@ -45,6 +45,7 @@ mod products;
 mod reduced;
 mod replayed_cells;
 mod replaying;
+mod segments;
 mod settling;
 mod stepping;
 

@@ -1,7 +1,7 @@
 use Rattle.std.proofs.Common.{ℕ, List, ◌<◌, subst, arith}
 use Rattle.std.specs.Prelude.{slice_index}
 use Rattle.asg_admit.proofs.AdmissionLemmas.{never, not_both}
-use Rattle.asg_admit.proofs.list_tests.segment_ends_well.Goals as goal
+use Rattle.asg_admit.proofs.segments.segment_ends_well.Goals as goal
 
 pub returns-then-not-lowered_row_ends_well : goal.returns-then-not-lowered_row_ends_well
 returns-then-not-lowered_row_ends_well c =

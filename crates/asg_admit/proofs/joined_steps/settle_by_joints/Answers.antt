@@ -2,7 +2,7 @@ use Rattle.std.proofs.Common.{◌≡◌, ℕ, ◌<◌, get_or, ◌∙◌, ap}
 use Rattle.std.proofs.lemmas.List.{get_or-take}
 use Rattle.asg_admit.specs.Settled.{step_of}
 use Rattle.asg_admit.proofs.JoinedLemmas.{joints_are_values, joined_phase}
-use Rattle.asg_admit.proofs.joined_steps.settle_joined.Goals as goal
+use Rattle.asg_admit.proofs.joined_steps.settle_by_joints.Goals as goal
 
 pub settle_rows-requires-2-clause-values : goal.settle_rows-requires-2-clause-values
 settle_rows-requires-2-clause-values g c =

@@ -1,7 +1,7 @@
 use Rattle.std.proofs.Common.{◌≡◌, ℕ, ◌+◌, ◌<◌, ◌≤◌, Some}
 use Rattle.std.specs.Prelude.{slice_index}
 use Rattle.asg_square.specs.Grid.{cell_at}
-use Rattle.asg_admit.proofs.list_tests.segment_ends_well.Given as goal
+use Rattle.asg_admit.proofs.segments.segment_ends_well.Given as goal
 
 -- the cells of the rows so far are so
 abbrev pub invariant-loop-row : goal.invariant-loop-row

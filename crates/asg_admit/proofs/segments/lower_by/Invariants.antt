@@ -1,6 +1,6 @@
 use Rattle.std.proofs.Common.{◌≡◌, ℕ, ◌+◌, ◌<◌, ◌≤◌, length}
 use Rattle.std.specs.Prelude.{slice_index}
-use Rattle.asg_admit.proofs.list_tests.lower_by.Given as goal
+use Rattle.asg_admit.proofs.segments.lower_by.Given as goal
 
 -- the numbers so far are less by the part, and the others as they were
 abbrev pub invariant-loop-i : goal.invariant-loop-i

@@ -3,7 +3,7 @@ use Rattle.std.proofs.lemmas.Bool.{false≢true, true≢false}
 use Rattle.asg_square.specs.Grid.{cell_at}
 use Rattle.asg_admit.specs.PhaseTotals.{EndsSegment, IsLoweredBy}
 use Rattle.asg_admit.proofs.AdmissionLemmas.{not_both}
-use Rattle.asg_admit.proofs.list_tests.close_segment.Goals as goal
+use Rattle.asg_admit.proofs.segments.close_segment.Goals as goal
 
 pub returns-then-is_ordered-clause-closed : goal.returns-then-is_ordered-clause-closed
 returns-then-is_ordered-clause-closed c = λ _. inl (c.is_ordered.ensures.0 c.if-is_ordered.true, refl, refl, refl)

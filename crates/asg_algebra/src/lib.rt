@@ -25,6 +25,7 @@ mod narrow_squares;
 mod nearest;
 mod phases;
 mod reduced_squares;
+mod roots;
 mod row_values;
 mod scanning;
 mod solving;

@@ -14,8 +14,9 @@ ghost use Rattle.asg_algebra.specs.Rest.{cut, IsRestOf};
 ghost use Rattle.asg_algebra.specs.Served.{made_of, Serves};
 ghost use Rattle.asg_algebra.specs.Solved.{ArePushed};
 
-use crate::growth::{Growth, grow, plant, refill};
+use crate::growth::{Growth, grow};
 use crate::reduced_squares::ReducedSquare;
+use crate::roots::{plant, refill};
 use asg_match::{Exit, Matching, flip};
 use asg_order::DMonoid;
 use asg_pool::{Region, Trail};

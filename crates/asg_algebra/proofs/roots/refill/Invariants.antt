@@ -1,6 +1,6 @@
 use Rattle.std.proofs.Common.{◌≡◌, replicate}
 use Rattle.std.specs.Prelude.{vec_capacity}
-use Rattle.asg_algebra.proofs.growth.refill.Given as goal
+use Rattle.asg_algebra.proofs.roots.refill.Given as goal
 
 -- the value stands there so many times
 abbrev pub invariant-loop : goal.invariant-loop

@@ -35,7 +35,7 @@ use Rattle.asg_square.specs.Grid.{Grid, cell_at, HasLabelsOf, IsSquareOf, IsWith
 use Rattle.asg_square.specs.Presence.{has_cell}
 use Rattle.asg_objectives.specs.FoldOutcomes.{IsFoldOutcome}
 use Rattle.asg_proof.specs.PromisedProofs.{AreFewPhases, GivesFewPhases, IsPhaseOver}
-use Rattle.asg_objectives.specs.SolvedSquares.{AreOfValues, IsChoiceBy, IsBestBy, IsNothingBy}
+use Rattle.asg_objectives.specs.SolvedSquares.{AreOfValues, IsChoiceBy, IsBestBy, IsNothingBy, IsSquareOutcome}
 
 -- the square of an instance, whose live costs enter as values, is of values
 pub HasValues-of_square : {V : Type 0} (M : Monoid V) → IsOrderedMonoid M → (X : Problem) (enter : Cost → V) (Q : Grid V) → IsSquareOf X M.unit enter Q → EntersValues M enter X → HasValues M Q.side (cell_at Q)
@@ -199,3 +199,10 @@ GivesFewPhases-best Q matching words side (Nothing rows) few by = tt
 pub GivesFewPhases-nothing : {V : Type 0} (X : Problem) (Q : Grid V) (side : ℕ) (outcome : Outcome) → IsNothingBy X Q outcome → GivesFewPhases side outcome
 GivesFewPhases-nothing X Q side (Best choice proof) by = absurd by
 GivesFewPhases-nothing X Q side (Nothing rows) by = tt
+
+-- rows with fewer present cells of the square than they are give a Hall set of the instance
+pub IsSquareOutcome-nothing : {V : Type 0} (M : Monoid V) (difference : V → V → V) (word_of : V → Word) (X : Problem) (Q : Grid V) → ((X : Problem) (free : V) (enter : Cost → V) (r c : ℕ) → is_some (square_cell X free enter r c) ≡ has_cell X Whole r c) → (outcome : Outcome) → IsNothingBy X Q outcome → IsSquareOutcome M difference word_of X Q outcome
+IsSquareOutcome-nothing M difference word_of X Q presence (Best choice proof) by enter square live = absurd by
+IsSquareOutcome-nothing M difference word_of X Q presence (Nothing rows) gives enter square live =
+    let present : (r k : ℕ) → is_some (cell_at Q r k) ≡ has_cell X Whole r k = λ r k. ap is_some (square.cells r k) ∙ presence X M.unit enter r k in
+    gives X Whole refl refl refl (λ r k. (λ h. sym (present r k) ∙ h, λ h. present r k ∙ h))

@@ -4,3 +4,5 @@ mod EnteredOutcomes
 mod KindOutcomes
 mod MatchedColumns
 mod NarrowOutcomes
+mod PresentWords
+mod CappedSums

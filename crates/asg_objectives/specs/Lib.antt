@@ -2,3 +2,4 @@ pub mod FoldOutcomes
 pub mod SolvedSquares
 pub mod Workspaces
 pub mod SolvedFrom
+pub mod CappedOutcomes

@@ -1,7 +1,7 @@
 //! The outcome of an algebraic objective: a best choice with its phases, or a Hall set.
 
 ghost use Rattle.std.specs.Prelude.{◌≤◌, IsTrue, IfOk};
-ghost use Rattle.asg_model.specs.declared.objectives.Objective.TheVariants.{TimeCost};
+ghost use Rattle.asg_model.specs.declared.objectives.Objective.TheVariants.{Capped, TimeCost};
 ghost use Rattle.asg_model.specs.Limits.{most_side};
 ghost use Rattle.asg_model.specs.Objectives.{is_algebraic, is_bottleneck};
 ghost use Rattle.asg_model.specs.Refused.{PassesNegative};
@@ -11,6 +11,7 @@ ghost use Rattle.asg_proof.specs.Outcomes.{IsOutcome};
 ghost use Rattle.asg_proof.specs.PromisedProofs.{GivesFewPhases};
 
 use crate::NoMemory;
+use crate::capped_squares::by_uncut_sums;
 use crate::entered_squares::{entered_square, guessed_algebraic};
 use crate::narrow_squares::by_narrow_sums;
 use asg_duals::{Guess, capped_guess, grade_guess, pair_guess, peak_guess};
@@ -47,6 +48,20 @@ fn by_sums(alloc: Global, objective: Objective, inst: &Instance) -> Result<Outco
     guessed_algebraic(alloc, &kind, inst, square, guess)
 }
 
+// The outcome of `capped`: by sums in 64 bits where those of its choice stay below the cap, and
+// otherwise in 128.
+fn by_capped_sums(alloc: Global, cap: u64, inst: &Instance) -> Result<Outcome, NoMemory>
+    requires side { square_side inst.now ≤ most_side }
+    requires passes { PassesNegative (Capped cap) inst.now }
+    ensures outcome { IfOk result (IsOutcome (Capped cap) inst.now) }
+    ensures phases { IfOk result (GivesFewPhases (square_side inst.now)) }
+{
+    match by_uncut_sums(alloc, cap, inst)? {
+        Some(found) => Ok(found),
+        None => by_sums(alloc, Objective::Capped(cap), inst),
+    }
+}
+
 // The outcome of an objective whose costs enter maxima.
 fn by_maxima(alloc: Global, objective: Objective, inst: &Instance) -> Result<Outcome, NoMemory>
     requires objective { IsTrue (is_bottleneck objective) }
@@ -80,7 +95,7 @@ fn by_grades(alloc: Global, inst: &Instance) -> Result<Outcome, NoMemory>
 /// instance (`asg_model::negative`), and the side is at most 2,000. The error is want of memory.
 /// Few phases are guessed first and tested (`asg_duals`); where no guess passes the tests, the
 /// method and its time are those of [`algebraic`]. The sums of `sum` and `sum-max` are taken in 64
-/// bits.
+/// bits, and those of `capped` where they stay below the cap.
 ///
 /// [`algebraic`]: crate::algebraic
 pub fn algebraic_assignment(
@@ -96,7 +111,8 @@ pub fn algebraic_assignment(
 {
     match objective {
         Objective::Sum | Objective::SumMax => by_narrow_sums(alloc, objective, inst),
-        Objective::SumPair | Objective::Capped(_) => by_sums(alloc, objective, inst),
+        Objective::SumPair => by_sums(alloc, objective, inst),
+        Objective::Capped(cap) => by_capped_sums(alloc, cap, inst),
         Objective::Bottleneck | Objective::BottleneckMax => by_maxima(alloc, objective, inst),
         Objective::TimeCost => by_grades(alloc, inst),
         Objective::Balanced | Objective::Lex => unreachable!(),

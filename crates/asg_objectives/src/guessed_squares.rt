@@ -1,6 +1,6 @@
 //! Squares that are solved by guessed phases and columns, where these pass the tests.
 
-ghost use Rattle.std.specs.Prelude.{IfOk, IfSome};
+ghost use Rattle.std.specs.Prelude.{◌≤◌, length, IfOk, IfSome};
 ghost use Rattle.asg_proof.specs.PromisedProofs.{GivesFewPhases};
 ghost use Rattle.asg_proof.specs.Steps.{HasValues};
 ghost use Rattle.asg_square.specs.Grid.{Grid, cell_at, HasLabelsOf};
@@ -29,13 +29,11 @@ fn solve_guessed<M: SquareSolver>(
     columns: &[u32],
 ) -> Result<Option<SolvedSquare<M::Value>>, NoMemory>
     requires values { HasValues (M.monoid_of m.now) square.side (cell_at square) }
-    requires ready { IsReady square.side workspace.old }
+    requires few { length phases.now ≤ square.side }
+    requires ready { IsReady square.side (length phases.now) workspace.old }
     ensures { IfOk result (λ found. IfSome found (λ solved.
         IsSolvedFrom (M.monoid_of m.now) (M.difference m.now) square solved workspace.new)) }
 {
-    if phases.len() > square.side() as usize {
-        return Ok(None);
-    }
     let reduced = Reduced {
         now: square,
         index: m.unit(),
@@ -98,6 +96,29 @@ fn outcome_if_solved<M: SquareSolver>(
     }
 }
 
+// The outcome of the square of an instance in a workspace, by phases and columns that were guessed.
+fn guessed_outcome_in<M: SquareSolver>(
+    alloc: Global,
+    m: &M,
+    inst: &Instance,
+    square: Square<M::Value>,
+    workspace: Workspace<M::Value>,
+    phases: &[Phase<M::Value>],
+    columns: &[u32],
+) -> Result<Option<Outcome>, NoMemory>
+    requires labels { HasLabelsOf inst.now square }
+    requires values { HasValues (M.monoid_of m.now) square.side (cell_at square) }
+    requires few { length phases.now ≤ square.side }
+    requires ready { IsReady square.side (length phases.now) workspace }
+    ensures outcome { IfOk result (λ found. IfSome found (IsSquareOutcome (M.monoid_of m.now)
+        (M.difference m.now) (M.word_of m.now) inst.now square)) }
+    ensures phases { IfOk result (λ found. IfSome found (GivesFewPhases square.side)) }
+{
+    let mut workspace = workspace;
+    let found = solve_guessed(alloc, m, square, &mut workspace, phases, columns)?;
+    outcome_if_solved(alloc, m, inst, found, workspace)
+}
+
 /// The outcome of the square of an instance, whose present cells are values and whose free cells
 /// are units, by phases and columns that were guessed; `None` where they don't pass the tests or
 /// don't solve it. The error is want of memory.
@@ -115,7 +136,10 @@ pub(crate) fn guessed_outcome<M: SquareSolver>(
         (M.difference m.now) (M.word_of m.now) inst.now square)) }
     ensures phases { IfOk result (λ found. IfSome found (GivesFewPhases square.side)) }
 {
-    let mut workspace = Workspace::make(alloc, square.side())?;
-    let found = solve_guessed(alloc, m, square, &mut workspace, phases, columns)?;
-    outcome_if_solved(alloc, m, inst, found, workspace)
+    let side = square.side();
+    if phases.len() > side as usize {
+        return Ok(None);
+    }
+    let workspace = Workspace::make(alloc, side, phases.len() as u32)?;
+    guessed_outcome_in(alloc, m, inst, square, workspace, phases, columns)
 }

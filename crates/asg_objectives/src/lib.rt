@@ -10,6 +10,7 @@
 #![tactic(auto)]
 
 mod algebraic_objectives;
+mod capped_squares;
 mod entered_squares;
 mod guessed_squares;
 mod narrow_squares;

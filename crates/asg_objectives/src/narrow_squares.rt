@@ -2,6 +2,7 @@
 //! what they come to.
 
 ghost use Rattle.std.specs.Prelude.{◌≡◌, ◌≤◌, IsTrue, IfOk, IfSome};
+ghost use Rattle.asg_model.specs.declared.objectives.Objective.TheVariants.{Sum, SumMax};
 ghost use Rattle.asg_model.specs.Limits.{most_side};
 ghost use Rattle.asg_model.specs.Refused.{PassesNegative};
 ghost use Rattle.asg_model.specs.Shapes.{square_side};
@@ -24,7 +25,36 @@ use asg_proof::laws::tops_law;
 use asg_square::Square;
 use std::alloc::Global;
 
-// The square of an instance whose live costs enter for `sum` or `sum-max`, in 64 bits.
+// The square of an instance whose live costs enter for `sum`, in 64 bits.
+fn sum_square(alloc: Global, inst: &Instance) -> Result<Square<u64>, NoMemory>
+    requires side { square_side inst.now ≤ most_side }
+    requires passes { PassesNegative Sum inst.now }
+    ensures { IfOk result (IsSquareOf inst.now 0 (sum_entered Sum)) }
+{
+    let _rows = inst.rows();
+    let enter = |cost: Cost| -> u64
+        requires { MayEnter Sum cost_reach cost }
+        ensures { result ≡ sum_entered Sum cost }
+    { narrow_entry(Objective::Sum, cost) };
+    Square::of(alloc, inst, 0, &enter)
+}
+
+// The same for `sum-max`.
+fn sum_max_square(alloc: Global, inst: &Instance) -> Result<Square<u64>, NoMemory>
+    requires side { square_side inst.now ≤ most_side }
+    requires passes { PassesNegative SumMax inst.now }
+    ensures { IfOk result (IsSquareOf inst.now 0 (sum_entered SumMax)) }
+{
+    let _rows = inst.rows();
+    let enter = |cost: Cost| -> u64
+        requires { MayEnter SumMax cost_reach cost }
+        ensures { result ≡ sum_entered SumMax cost }
+    { narrow_entry(Objective::SumMax, cost) };
+    Square::of(alloc, inst, 0, &enter)
+}
+
+// The square of an instance whose live costs enter for `sum` or `sum-max`, in 64 bits. Each has a
+// loop of its own over the cells, in which the objective is known.
 fn narrow_square(
     alloc: Global,
     objective: Objective,
@@ -35,12 +65,11 @@ fn narrow_square(
     requires passes { PassesNegative objective inst.now }
     ensures { IfOk result (IsSquareOf inst.now 0 (sum_entered objective)) }
 {
-    let _rows = inst.rows();
-    let enter = |cost: Cost| -> u64
-        requires { IsTrue (is_narrow_objective objective) × MayEnter objective cost_reach cost }
-        ensures { result ≡ sum_entered objective cost }
-    { narrow_entry(objective, cost) };
-    Square::of(alloc, inst, 0, &enter)
+    match objective {
+        Objective::Sum => sum_square(alloc, inst),
+        Objective::SumMax => sum_max_square(alloc, inst),
+        _ => unreachable!(),
+    }
 }
 
 // The outcome of the square of an instance whose live costs entered for `sum` or `sum-max`, by sums

@@ -25,5 +25,13 @@ impl<V: Copy> Allowed for PresentCells<'_, V> {
         self.square.at(r, c).is_some()
     }
 
+    #[inline]
+    fn among(&self, r: u32, number: u32, columns: u64) -> u64 {
+        if columns == 0 {
+            return 0;
+        }
+        self.square.row_words(r)[number as usize] & columns
+    }
+
     ghost within = { λ s r c h. HasSide-cell_at s.square.now s.grid r c h };
 }

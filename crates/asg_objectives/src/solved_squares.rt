@@ -22,7 +22,7 @@ use crate::workspaces::Workspace;
 use asg_admit::Reduced;
 use asg_algebra::laws::fold_law;
 use asg_algebra::{Solved, SolvedSquare, SquareSolver};
-use asg_match::{Matching, hall_of};
+use asg_match::{Matching, Pairing, hall_list, perfect_or_hall};
 use asg_model::{Choice, Instance};
 use asg_order::Written;
 use asg_pool::{Region, Trail};
@@ -129,14 +129,28 @@ fn nothing<V: Copy>(
     ensures { IfOk result (IsNothingBy inst.now square.now) }
 {
     let _side = square.side();
-    let _rows = inst.rows();
     let cells = PresentCells { square };
-    let mut ids = [0; 1001];
-    let count = hall_of(square, inst, &cells, rows, &mut ids);
-    let ids = Vec::from_slice(alloc, &ids[..count as usize])?;
+    let ids = hall_list(alloc, square, inst, &cells, rows)?;
     Ok(Outcome::Nothing {
         rows: Ids::from_vec(ids),
     })
+}
+
+// The Hall set of rows that have fewer present cells than they are, where there are such rows.
+fn shortage<V: Copy>(
+    alloc: Global,
+    inst: &Instance,
+    square: &Square<V>,
+) -> Result<Option<Outcome>, NoMemory>
+    requires { HasLabelsOf inst.now square.now }
+    ensures { IfOk result (λ found. IfSome found (IsNothingBy inst.now square.now)) }
+{
+    let side = square.side();
+    let cells = PresentCells { square };
+    match perfect_or_hall(alloc, side, &cells)? {
+        Pairing::Perfect(_) => Ok(None),
+        Pairing::Short(rows) => Ok(Some(nothing(alloc, inst, square, rows.as_slice())?)),
+    }
 }
 
 // Solves a square in a workspace. It has the square from then on.
@@ -147,7 +161,7 @@ fn solve_in<M: SquareSolver>(
     workspace: &mut Workspace<M::Value>,
 ) -> Result<SolvedSquare<M::Value>, NoMemory>
     requires values { HasValues (M.monoid_of m.now) square.side (cell_at square) }
-    requires ready { IsReady square.side workspace.old }
+    requires ready { IsReady square.side square.side workspace.old }
     ensures { IfOk result (λ found. IsSolvedFrom (M.monoid_of m.now) (M.difference m.now) square
         found workspace.new) }
 {
@@ -204,7 +218,7 @@ fn outcome_in<M: SquareSolver>(
 ) -> Result<Outcome, NoMemory>
     requires labels { HasLabelsOf inst.now square }
     requires values { HasValues (M.monoid_of m.now) square.side (cell_at square) }
-    requires ready { IsReady square.side workspace }
+    requires ready { IsReady square.side square.side workspace }
     ensures outcome { IfOk result (IsSquareOutcome (M.monoid_of m.now) (M.difference m.now)
         (M.word_of m.now) inst.now square) }
     ensures phases { IfOk result (GivesFewPhases square.side) }
@@ -215,8 +229,8 @@ fn outcome_in<M: SquareSolver>(
 }
 
 /// Solves the square of an instance, whose present cells are values and whose free cells are units:
-/// a valid choice with phases that prove its fold, or a Hall set of the whole instance. The error
-/// is want of memory.
+/// a valid choice with phases that prove its fold, or a Hall set of the whole instance. Whether some
+/// rows have too few present cells is told first. The error is want of memory.
 pub(crate) fn outcome<M: SquareSolver>(
     alloc: Global,
     m: &M,
@@ -229,6 +243,11 @@ pub(crate) fn outcome<M: SquareSolver>(
         (M.word_of m.now) inst.now square) }
     ensures phases { IfOk result (GivesFewPhases square.side) }
 {
-    let workspace = Workspace::make(alloc, square.side())?;
+    square_law::<M::Value>();
+    if let Some(found) = shortage(alloc, inst, &square)? {
+        return Ok(found);
+    }
+    let side = square.side();
+    let workspace = Workspace::make(alloc, side, side)?;
     outcome_in(alloc, m, inst, square, workspace)
 }

@@ -1,15 +1,33 @@
 //! The phases of a trail, with each step as its word.
 
-ghost use Rattle.std.specs.Prelude.{◌≡◌, map, IfOk, IfSome};
+ghost use Rattle.std.specs.Prelude.{◌≡◌, ◌++◌, ◌∷◌, [], All, map, IfOk, IfSome};
+ghost use Rattle.asg_order.specs.Monoid.{IsValue};
 ghost use Rattle.asg_pool.specs.Forest.{IsLive, phases_to};
-ghost use Rattle.asg_proof.specs.Phases.{worded};
+ghost use Rattle.asg_proof.specs.Phases.{worded, IsPhase};
 ghost use Rattle.asg_objectives.specs.SolvedSquares.{AreOfValues};
 
 use crate::NoMemory;
 use asg_order::Written;
 use asg_pool::{Region, Trail};
-use asg_proof::{Phase, Phases, into_words};
+use asg_proof::{Phase, Phases, WrittenPhase, into_words};
 use std::alloc::Global;
+
+// Puts a phase behind others, with each step as its word.
+fn push_words<M: Written>(
+    alloc: Global,
+    m: &M,
+    words: &mut Vec<WrittenPhase>,
+    phase: Phase<M::Value>,
+) -> Result<(), NoMemory>
+    requires { All (IsValue (M.monoid_of m.now)) phase.steps }
+    ensures words { IfOk result (λ _. words.new.items
+        ≡ words.old.items ++ worded (M.word_of m.now) phase ∷ []) }
+    ensures phase { IfOk result (λ _. IsPhase (worded (M.word_of m.now) phase)) }
+{
+    let written = into_words(alloc, m, phase)?;
+    words.push(written)?;
+    Ok(())
+}
 
 // The phases with each step as its word.
 fn words_of<M: Written>(
@@ -22,7 +40,7 @@ fn words_of<M: Written>(
 {
     let mut words = Vec::with_capacity(alloc, phases.len())?;
     for phase in phases {
-        words.push(into_words(alloc, m, phase)?)?;
+        push_words(alloc, m, &mut words, phase)?;
     }
     Ok(Phases::from_vec(words))
 }

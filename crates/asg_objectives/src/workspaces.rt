@@ -17,23 +17,23 @@ pub(crate) struct Workspace<V: Copy> {
     pub(crate) region: Region<V>,
 }
 
-// A region without trails, with a record spare for each row.
-fn spare_region<V: Copy>(alloc: Global, side: u32) -> Result<Region<V>, NoMemory>
-    ensures { IfOk result (λ r. r ≡ record { side = side; spare = side; trails = [] }) }
+// A region without trails, with so many records spare.
+fn spare_region<V: Copy>(alloc: Global, side: u32, records: u32) -> Result<Region<V>, NoMemory>
+    ensures { IfOk result (λ r. r ≡ record { side = side; spare = records; trails = [] }) }
 {
     let mut region = Region::make(alloc, side)?;
-    region.reserve(side)?;
+    region.reserve(records)?;
     Ok(region)
 }
 
 impl<V: Copy> Workspace<V> {
-    /// A workspace for a side: no row has a column, no phase was pushed, and there is a record
-    /// spare for each row. The error is want of memory.
-    pub(crate) fn make(alloc: Global, side: u32) -> Result<Workspace<V>, NoMemory>
-        ensures { IfOk result (IsReady side) }
+    /// A workspace for a side: no row has a column, no phase was pushed, and so many records are
+    /// spare, one for each phase. The error is want of memory.
+    pub(crate) fn make(alloc: Global, side: u32, records: u32) -> Result<Workspace<V>, NoMemory>
+        ensures { IfOk result (IsReady side records) }
     {
         let matching = Matching::make(alloc, side)?;
-        let region = spare_region(alloc, side)?;
+        let region = spare_region(alloc, side, records)?;
         let bench = Bench::make(alloc, side)?;
         Ok(Workspace {
             matching,

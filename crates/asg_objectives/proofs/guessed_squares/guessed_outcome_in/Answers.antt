@@ -1,4 +1,4 @@
-use Rattle.asg_objectives.proofs.guessed_squares.guessed_outcome.Goals as goal
+use Rattle.asg_objectives.proofs.guessed_squares.guessed_outcome_in.Goals as goal
 
 pub outcome_if_solved-requires : goal.outcome_if_solved-requires
 outcome_if_solved-requires g c = (c.args.square, c.requires.labels, c.in_ok-found.ensures)

@@ -1,0 +1,22 @@
+use Rattle.std.proofs.Common.{◌≡◌, arith}
+use Rattle.std.proofs.lemmas.Result.{IfOk-weaker}
+use Rattle.asg_model.specs.declared.objectives.Objective.TheVariants.{Sum}
+use Rattle.asg_model.specs.declared.parts.Cost.{Cost}
+use Rattle.asg_monoids.specs.Entered.{cost_reach, sum_entered}
+use Rattle.asg_square.specs.Grid.{IsSquareBy, IsSquareOf}
+use Rattle.asg_proof.specs.laws.LiveCosts.{costs_may_enter}
+use Rattle.asg_objectives.proofs.narrow_squares.sum_square.Goals as goal
+
+pub of-requires-clause-enters : goal.of-requires-clause-enters
+of-requires-clause-enters c r d =
+    costs_may_enter Sum cost_reach c.args.inst.now (omega arith) c.rows-rows.ensures.instance c.requires.passes r d
+
+pub returns : goal.returns
+returns c =
+    let X = c.args.inst.now in
+    let enter = sum_entered Sum in
+    IfOk-weaker c.of.result
+    (IsSquareBy X 0 (λ cost v. Cost × (v ≡ enter cost)))
+    (IsSquareOf X 0 enter)
+    (λ Q by. by enter (λ r d cost v at entered. entered.1))
+    c.of.ensures.square

@@ -1,0 +1,10 @@
+use Rattle.std.proofs.Common.{◌∷◌, [], ◌++◌, ◌∙◌, ap, subst}
+use Rattle.asg_proof.specs.Phases.{IsPhase}
+use Rattle.asg_objectives.proofs.trail_phases.push_words.Goals as goal
+
+pub returns-clause-words : goal.returns-clause-words
+returns-clause-words g c =
+    c.in_ok-push.ensures.items ∙ ap (λ p. c.args.words.now.items ++ p ∷ []) c.in_ok-written.ensures.words
+
+pub returns-clause-phase : goal.returns-clause-phase
+returns-clause-phase g c = subst IsPhase c.in_ok-written.ensures.words c.in_ok-written.ensures.phase

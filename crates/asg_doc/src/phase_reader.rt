@@ -162,5 +162,6 @@ pub(crate) fn phases(
     for _ in 0..count {
         phases.push(phase(alloc, has_grades, lines)?)?;
     }
+    phases.shrink_to_fit();
     Ok(Phases::from_vec(phases))
 }

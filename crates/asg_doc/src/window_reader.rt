@@ -70,5 +70,6 @@ pub(crate) fn windows(alloc: Global, count: u32, lines: &mut Lines) -> Result<Wi
     for _ in 0..count {
         windows.push(window(alloc, lines)?)?;
     }
+    windows.shrink_to_fit();
     Ok(Windows::from_vec(windows))
 }

@@ -8,7 +8,7 @@ returns-in_err-window c = ReadsOrFails-err c.from_residual.result c.from_residua
     (Halts-counted window_law c.loop.invariant (omega arith) c.in_err-window.ensures)
 
 pub from_vec-requires : goal.from_vec-requires
-from_vec-requires c = AreWindows-from_text c.loop.windows.items c.loop.invariant.has.1
+from_vec-requires c = rw c.shrink_to_fit.ensures.items (AreWindows-from_text c.loop.windows.items c.loop.invariant.has.1)
 
 pub loop-preserved : goal.loop-preserved
 loop-preserved c = rw c.in_ok-push.ensures.items (IsRead-more c.loop.invariant c.in_ok-window.ensures)

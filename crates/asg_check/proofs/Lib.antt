@@ -3,6 +3,7 @@ pub mod ToldReasons
 pub mod Decisions
 pub mod PhaseWords
 pub mod Replaying
+pub mod PhaseParts
 pub mod Outcomes
 pub mod NarrowSums
 pub mod ByObjective

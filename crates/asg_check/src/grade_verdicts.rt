@@ -11,7 +11,8 @@ ghost use Rattle.asg_check.specs.Replays.{StandsFrom};
 
 use crate::NoMemory;
 use crate::grade_replays::first_bad_grade;
-use crate::square_verdicts::index_verdict;
+use crate::replays::has_long;
+use crate::square_verdicts::{index_verdict, square_verdict};
 use crate::verdicts::{Reason, Verdict};
 use asg_admit::{GradedSquare, Reduced};
 use asg_monoids::{Bounded, Graded};
@@ -19,7 +20,8 @@ use asg_proof::WrittenPhase;
 use std::alloc::Global;
 
 // The verdict on phases that are to be admitted in turn from the square, of which no step was taken
-// yet, and to have the value as their index. The error is want of memory.
+// yet, and to have the value as their index. Where a phase is long nothing is known of low cells.
+// The error is want of memory.
 pub(crate) fn grade_verdict(
     alloc: Global,
     m: &Graded<Bounded>,
@@ -34,6 +36,9 @@ pub(crate) fn grade_verdict(
         IfOk result (Tells (StandsFrom (graded sums) (graded_difference sums bounded_difference)
         graded_word start.now.side (cell_at start.now) value phases.now) phase_reasons) }
 {
+    if has_long(phases, start.now.side()) {
+        return square_verdict(alloc, m, start, phases, 0, value);
+    }
     let mut square = GradedSquare::make(alloc, start)?;
     replay_verdict(alloc, m, &mut square, phases, value)
 }

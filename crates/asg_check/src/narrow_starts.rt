@@ -18,7 +18,40 @@ use asg_monoids::narrow_entry;
 use asg_square::Square;
 use std::alloc::Global;
 
-// The square of the instance for `sum` or `sum-max`, before any step. The error is want of memory.
+// The square of the instance for `sum`, before any step.
+fn sum_start(alloc: Global, inst: &Instance) -> Result<Reduced<u64>, NoMemory>
+    requires side { square_side inst.now ≤ most_side }
+    requires near { LiesWithin cost_reach inst.now }
+    requires passes { PassesNegative Sum inst.now }
+    ensures { IfOk result (IsStart (bounded_sums narrow_top) (sum_entered Sum) inst.now) }
+{
+    narrow_sums();
+    let enter = |cost: Cost| -> u64
+        requires { MayEnter Sum cost_reach cost }
+        ensures { result ≡ sum_entered Sum cost }
+    { narrow_entry(Objective::Sum, cost) };
+    let now = Square::of(alloc, inst, 0, &enter)?;
+    Ok(Reduced { now, index: 0 })
+}
+
+// The same for `sum-max`.
+fn sum_max_start(alloc: Global, inst: &Instance) -> Result<Reduced<u64>, NoMemory>
+    requires side { square_side inst.now ≤ most_side }
+    requires near { LiesWithin cost_reach inst.now }
+    requires passes { PassesNegative SumMax inst.now }
+    ensures { IfOk result (IsStart (bounded_sums narrow_top) (sum_entered SumMax) inst.now) }
+{
+    narrow_sums();
+    let enter = |cost: Cost| -> u64
+        requires { MayEnter SumMax cost_reach cost }
+        ensures { result ≡ sum_entered SumMax cost }
+    { narrow_entry(Objective::SumMax, cost) };
+    let now = Square::of(alloc, inst, 0, &enter)?;
+    Ok(Reduced { now, index: 0 })
+}
+
+// The square of the instance for `sum` or `sum-max`, before any step. Each has a loop of its own
+// over the cells, in which the objective is known. The error is want of memory.
 pub(crate) fn narrow_start(
     alloc: Global,
     objective: Objective,
@@ -30,14 +63,11 @@ pub(crate) fn narrow_start(
     requires passes { PassesNegative objective inst.now }
     ensures { IfOk result (IsStart (bounded_sums narrow_top) (sum_entered objective) inst.now) }
 {
-    narrow_sums();
-    let enter = |cost: Cost| -> u64
-        requires narrow { (objective ≡ Sum) ⊎ (objective ≡ SumMax) }
-        requires may { MayEnter objective cost_reach cost }
-        ensures { result ≡ sum_entered objective cost }
-    { narrow_entry(objective, cost) };
-    let now = Square::of(alloc, inst, 0, &enter)?;
-    Ok(Reduced { now, index: 0 })
+    match objective {
+        Objective::Sum => sum_start(alloc, inst),
+        Objective::SumMax => sum_max_start(alloc, inst),
+        _ => unreachable!(),
+    }
 }
 
 // The same for `capped`, whose costs enter as sums that stop at the cap.

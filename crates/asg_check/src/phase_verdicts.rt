@@ -19,6 +19,7 @@ use crate::NoMemory;
 use crate::capped_verdicts::capped_verdict;
 use crate::grade_verdicts::grade_verdict;
 use crate::narrow_starts::{capped_start, narrow_start};
+use crate::replays::has_long;
 use crate::square_verdicts::square_verdict;
 use crate::sum_verdicts::{narrow_verdict, sum_verdict};
 use crate::verdicts::Verdict;
@@ -84,8 +85,8 @@ fn summed_verdict(
     Ok(verdict)
 }
 
-// The same where sums in 64 bits tell it: for `sum` and `sum-max`, while none comes near 2^62, and
-// for `capped`, where the steps add up to its cap at most.
+// The same where no phase is long and sums in 64 bits tell it: for `sum` and `sum-max`, while none
+// comes near 2^62, and for `capped`, where the steps add up to its cap at most.
 fn narrow_told(
     alloc: Global,
     objective: Objective,
@@ -100,6 +101,9 @@ fn narrow_told(
     ensures { IfOk result (λ told. IfSome told (Tells
         (StandsFor objective inst.now choice.now phases.now) phase_reasons)) }
 {
+    if has_long(phases, inst.side()) {
+        return Ok(None);
+    }
     match objective {
         Objective::Sum | Objective::SumMax => {
             let kind = SumKind::of(objective);

@@ -1,10 +1,12 @@
 //! Phases, replayed on the square of an instance.
 
-ghost use Rattle.std.specs.Prelude.{◌≡◌, ◌≢◌, ◌<◌, ◌≤◌, ◌^◌, false, None, List, length, map, take};
-ghost use Rattle.std.specs.Prelude.{All, IsTrue, IfOk, IfSome};
+ghost use Rattle.std.specs.Prelude.{◌≡◌, ◌≢◌, ◌-◌, ◌<◌, ◌≤◌, ◌^◌, false, None, List, length};
+ghost use Rattle.std.specs.Prelude.{All, IsTrue, IfOk, IfSome, map, take};
 ghost use Rattle.asg_admit.specs.Reduced.{IsReduced};
 ghost use Rattle.asg_order.specs.Monoid.{IsValue};
+ghost use Rattle.asg_proof.specs.Phases.{phase_of};
 ghost use Rattle.asg_square.specs.Grid.{cell_at};
+ghost use Rattle.asg_check.specs.PhaseParts.{counted_from, first_part, part_of, steps_between};
 ghost use Rattle.asg_check.specs.Replays.{IsAdmittedFrom, IsBadFrom, IsReplayed, LeadOn};
 
 use crate::NoMemory;
@@ -27,8 +29,29 @@ pub(crate) fn read_steps<M: Written>(
     ensures none { IfOk result (λ is. is ≡ false → (others : List M.Value) →
         All (IsValue (M.monoid_of m.now)) others → map (M.word_of m.now) others ≢ words.now) }
 {
+    read_between(m, words, 0, words.len(), values)
+}
+
+// Reads those of the words from one place up to and without another. The error is want of memory.
+fn read_between<M: Written>(
+    m: &M,
+    words: &StepWords,
+    from: usize,
+    to: usize,
+    values: &mut Vec<M::Value>,
+) -> Result<bool, NoMemory>
+    requires order { from ≤ to }
+    requires within { to ≤ length words.now }
+    ensures words { IfOk result (λ is. IsTrue is
+        → map (M.word_of m.now) values.new.items ≡ steps_between from to words.now) }
+    ensures values { IfOk result (λ is. IsTrue is
+        → All (IsValue (M.monoid_of m.now)) values.new.items) }
+    ensures none { IfOk result (λ is. is ≡ false → (others : List M.Value) →
+        All (IsValue (M.monoid_of m.now)) others
+        → map (M.word_of m.now) others ≢ steps_between from to words.now) }
+{
     values.clear();
-    for place in 0..words.len() {
+    for place in from..to {
         let Some(value) = m.from_word(words.get(place)) else {
             return Ok(false);
         };
@@ -52,10 +75,160 @@ pub(crate) fn make_room<M: Ordered>(
     room.resize(count + 1, m.unit())
 }
 
+// How many steps of a phase are replayed at a time on a square of this side: more than phases need,
+// and so many that the time is that of the steps and of the cells.
+fn most_steps(side: u32) -> usize
+    ensures { 0 < result }
+{
+    (1 << 14) + (side as usize).saturating_mul(side as usize) / 4
+}
+
+// Whether some phase has more steps than are replayed at a time on a square of this side.
+pub(crate) fn has_long(phases: &[WrittenPhase], side: u32) -> bool {
+    let most = most_steps(side);
+    phases.iter().any(|phase| phase.steps().len() > most)
+}
+
+// The place of so many steps after a place, or that of the end.
+fn end_of(from: usize, most: usize, count: usize) -> usize
+    requires from { from ≤ count }
+    ensures order { from ≤ result }
+    ensures within { result ≤ count }
+    ensures more { 0 < most → from < count → from < result }
+{
+    from + most.min(count - from)
+}
+
+// The mark, where steps are counted from a place on.
+fn counted(mark: u32, from: usize) -> u32
+    ensures { result ≡ mark - from }
+{
+    (mark as usize).saturating_sub(from) as u32
+}
+
+// The marks, where steps are counted from a place on. The error is want of memory.
+fn marks_from(alloc: Global, marks: &[u32], from: usize) -> Result<Vec<u32>, NoMemory>
+    ensures { IfOk result (λ later. later.items ≡ counted_from from marks.now) }
+{
+    let mut later = Vec::with_capacity(alloc, marks.len())?;
+    for place in 0..marks.len() {
+        later.push(counted(marks[place], from))?;
+    }
+    Ok(later)
+}
+
+// Applies the phase of the words from one place up to and without another, and of these marks,
+// where it is admitted, and tells whether it is; where it isn't, the square means nothing more. The
+// steps are read into the list of values, which keeps its room, as the other list does. The error
+// is want of memory.
+fn replay_between<M: Written>(
+    m: &M,
+    reduced: &mut Reduced<M::Value>,
+    values: &mut Vec<M::Value>,
+    room: &mut Vec<M::Value>,
+    words: &StepWords,
+    from: usize,
+    to: usize,
+    enters: &[u32],
+    leaves: &[u32],
+) -> Result<bool, NoMemory>
+    requires reduced { IsReduced (M.monoid_of m.now) reduced.old }
+    requires order { from ≤ to }
+    requires within { to ≤ length words.now }
+    ensures applied { let part = phase_of (steps_between from to words.now) enters.now leaves.now in
+        IfOk result (λ is. IsTrue is → IsReplayed (M.monoid_of m.now)
+        (M.difference m.now) (M.word_of m.now) part reduced.old reduced.new) }
+    ensures refused { let part = phase_of (steps_between from to words.now) enters.now leaves.now in
+        IfOk result (λ is. is ≡ false → ¬ IsAdmittedFrom (M.monoid_of m.now)
+        (M.difference m.now) (M.word_of m.now) reduced.old.now.side (cell_at reduced.old.now)
+        part) }
+{
+    if !read_between(m, words, from, to, values)? {
+        return Ok(false);
+    }
+    make_room(m, room, values.len())?;
+    Ok(replay_within(
+        m,
+        reduced,
+        values.as_slice(),
+        enters,
+        leaves,
+        room.as_mut_slice(),
+    ))
+}
+
+// The same of the first so many steps of a phase.
+fn replay_first<M: Written>(
+    m: &M,
+    reduced: &mut Reduced<M::Value>,
+    values: &mut Vec<M::Value>,
+    room: &mut Vec<M::Value>,
+    phase: &WrittenPhase,
+    to: usize,
+) -> Result<bool, NoMemory>
+    requires reduced { IsReduced (M.monoid_of m.now) reduced.old }
+    requires within { to ≤ length phase.now.steps }
+    ensures applied { IfOk result (λ is. IsTrue is → IsReplayed (M.monoid_of m.now)
+        (M.difference m.now) (M.word_of m.now) (first_part to phase.now) reduced.old
+        reduced.new) }
+    ensures refused { IfOk result (λ is. is ≡ false → ¬ IsAdmittedFrom (M.monoid_of m.now)
+        (M.difference m.now) (M.word_of m.now) reduced.old.now.side (cell_at reduced.old.now)
+        (first_part to phase.now)) }
+{
+    replay_between(
+        m,
+        reduced,
+        values,
+        room,
+        phase.steps(),
+        0,
+        to,
+        phase.enters(),
+        phase.leaves(),
+    )
+}
+
+// The same of the steps of a phase from one place up to and without another.
+fn replay_part<M: Written>(
+    alloc: Global,
+    m: &M,
+    reduced: &mut Reduced<M::Value>,
+    values: &mut Vec<M::Value>,
+    room: &mut Vec<M::Value>,
+    phase: &WrittenPhase,
+    from: usize,
+    to: usize,
+) -> Result<bool, NoMemory>
+    requires reduced { IsReduced (M.monoid_of m.now) reduced.old }
+    requires order { from ≤ to }
+    requires within { to ≤ length phase.now.steps }
+    ensures applied { IfOk result (λ is. IsTrue is → IsReplayed (M.monoid_of m.now)
+        (M.difference m.now) (M.word_of m.now) (part_of from to phase.now) reduced.old
+        reduced.new) }
+    ensures refused { IfOk result (λ is. is ≡ false → ¬ IsAdmittedFrom (M.monoid_of m.now)
+        (M.difference m.now) (M.word_of m.now) reduced.old.now.side (cell_at reduced.old.now)
+        (part_of from to phase.now)) }
+{
+    let enters = marks_from(alloc, phase.enters(), from)?;
+    let leaves = marks_from(alloc, phase.leaves(), from)?;
+    replay_between(
+        m,
+        reduced,
+        values,
+        room,
+        phase.steps(),
+        from,
+        to,
+        enters.as_slice(),
+        leaves.as_slice(),
+    )
+}
+
 // Applies a phase where it is admitted, and tells whether it is; where it isn't, the square means
-// nothing more. Its steps are read into the list of values, which keeps its room from phase to
-// phase, as the other list does. The error is want of memory.
+// nothing more. A long one is applied by parts, so that its values never stand in memory all at
+// once. The error is want of memory.
 fn replay_words<M: Written>(
+    alloc: Global,
     m: &M,
     reduced: &mut Reduced<M::Value>,
     values: &mut Vec<M::Value>,
@@ -69,18 +242,20 @@ fn replay_words<M: Written>(
         (M.difference m.now) (M.word_of m.now) reduced.old.now.side (cell_at reduced.old.now)
         phase.now) }
 {
-    if !read_steps(m, phase.steps(), values)? {
+    let count = phase.steps().len();
+    let most = most_steps(reduced.now.side());
+    let mut to = end_of(0, most, count);
+    if !replay_first(m, reduced, values, room, phase, to)? {
         return Ok(false);
     }
-    make_room(m, room, values.len())?;
-    Ok(replay_within(
-        m,
-        reduced,
-        values.as_slice(),
-        phase.enters(),
-        phase.leaves(),
-        room.as_mut_slice(),
-    ))
+    'parts: while to < count {
+        let end = end_of(to, most, count);
+        if !replay_part(alloc, m, reduced, values, room, phase, to, end)? {
+            return Ok(false);
+        }
+        to = end;
+    }
+    Ok(true)
 }
 
 // Applies the phases from a place on in turn, up to the first that isn't admitted after those
@@ -107,7 +282,7 @@ pub(crate) fn first_bad<M: Written>(
     let mut values = Vec::new(alloc);
     let mut room = Vec::new(alloc);
     for place in from..phases.len() {
-        if !replay_words(m, reduced, &mut values, &mut room, &phases[place])? {
+        if !replay_words(alloc, m, reduced, &mut values, &mut room, &phases[place])? {
             return Ok(Some(place));
         }
     }

@@ -10,6 +10,7 @@ ghost use Rattle.asg_check.specs.Reasons.{Tells, phase_reasons};
 ghost use Rattle.asg_check.specs.Replays.{StandsFrom};
 
 use crate::NoMemory;
+use crate::replays::has_long;
 use crate::square_verdicts::{index_verdict, square_verdict};
 use crate::sum_replays::{Stop, first_stop};
 use crate::verdicts::{Reason, Verdict};
@@ -21,7 +22,7 @@ use std::alloc::Global;
 
 // The verdict on phases that are to be admitted in turn from the square, of which no step was taken
 // yet, and to have the value as their index. Dual variables serve while no sum comes near the top;
-// from there on the cells are rewritten. The error is want of memory.
+// from there on, and where a phase is long, the cells are rewritten. The error is want of memory.
 pub(crate) fn sum_verdict(
     alloc: Global,
     m: &Bounded,
@@ -35,6 +36,9 @@ pub(crate) fn sum_verdict(
     ensures { IfOk result (Tells (StandsFrom (bounded_sums m.now.top) bounded_difference plain_word
         start.now.side (cell_at start.now) value phases.now) phase_reasons) }
 {
+    if has_long(phases, start.now.side()) {
+        return square_verdict(alloc, m, start, phases, 0, value);
+    }
     let dual = DualSquare::make(alloc, m, start)?;
     dual_verdict(alloc, m, dual, phases, value)
 }

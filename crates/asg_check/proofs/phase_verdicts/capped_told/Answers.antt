@@ -1,4 +1,4 @@
-use Rattle.std.proofs.Common.{sym, subst, ap, ◌∙◌, arith}
+use Rattle.std.proofs.Common.{sym, subst, arith}
 use Rattle.std.proofs.lemmas.Option.{IfSome_then}
 use Rattle.asg_model.specs.declared.objectives.Objective.TheVariants.{Capped}
 use Rattle.asg_monoids.specs.BoundedSums.{bounded_sums, bounded_difference, narrow_top, plain_word}

@@ -1,41 +1,45 @@
-use Rattle.std.proofs.Common.{map, sym, subst, ap, ◌∙◌}
-use Rattle.std.specs.Prelude.{All}
-use Rattle.std.proofs.lemmas.Bool.{false≢true}
-use Rattle.asg_order.specs.Monoid.{IsValue}
-use Rattle.asg_proof.specs.Phases.{phase_of}
+use Rattle.std.proofs.Common.{subst, ap, ◌∙◌, ◌≤◌, length, arith}
 use Rattle.asg_square.specs.Grid.{cell_at}
-use Rattle.asg_check.proofs.Replaying.{phase-words, refused-words, unread-words}
+use Rattle.asg_check.specs.Replays.{IsReplayed}
+use Rattle.asg_check.proofs.PhaseParts.{refused-first, refused-part, replayed-part, whole-part}
 use Rattle.asg_check.proofs.replays.replay_words.Goals as goal
 
 pub returns-then-not-branch-clause-refused : goal.returns-then-not-branch-clause-refused
 returns-then-not-branch-clause-refused g c =
     let m = c.args.m.now in
-    λ off.
-    unread-words (g.M.Ordered.monoid_of m) (g.M.DMonoid.difference m) (g.M.Written.word_of m) (g.M.Written.value_of m) (g.met.M.Written.word_laws m) c.args.reduced.now.now.side (cell_at c.args.reduced.now.now) c.args.phase.now
-    (λ values vs same. c.in_ok-read_steps.ensures.none c.if-not-branch.true values vs (same ∙ sym c.steps.ensures))
+    let before = c.args.reduced.now in
+    λ _. refused-first (g.M.Ordered.monoid_of m) (g.M.DMonoid.difference m) (g.M.Written.word_of m) (g.M.Written.value_of m) (g.met.M.Written.word_laws m) c.args.phase.now
+    c.end_of-to.result before.now.side (cell_at before.now) (c.in_ok-replay_first.ensures.refused c.if-not-branch.true)
+
+pub parts-init : goal.parts-init
+parts-init g c = record {
+  count = c.len-count.ensures ∙ ap length c.steps.ensures;
+  within = c.end_of-to.ensures.within;
+  led = c.in_ok-replay_first.ensures.applied c.if-not-branch.false;
+}
+
+pub returns-then-not-branch-2-clause-refused : goal.returns-then-not-branch-2-clause-refused
+returns-then-not-branch-2-clause-refused g c =
+    let m = c.args.m.now in
+    let many : c.end_of-end.result ≤ length c.args.phase.now.steps = omega (arith, c.end_of-end.ensures.within, c.parts.invariant.count) in
+    λ _. refused-part (g.M.Ordered.monoid_of m) (g.M.DMonoid.difference m) (g.M.Written.word_of m) (g.M.Written.value_of m) (g.met.M.Written.word_laws m) c.args.phase.now
+    c.parts.to c.end_of-end.result c.end_of-end.ensures.order many c.args.reduced.now c.parts.reduced c.parts.invariant.led
+    (c.in_ok-replay_part.ensures.refused c.if-not-branch-2.true)
+
+pub parts-preserved : goal.parts-preserved
+parts-preserved g c =
+    let m = c.args.m.now in
+    let many : c.end_of-end.result ≤ length c.args.phase.now.steps = omega (arith, c.end_of-end.ensures.within, c.parts.invariant.count) in
+    record {
+      count = c.parts.invariant.count;
+      within = c.end_of-end.ensures.within;
+      led = replayed-part (g.M.Ordered.monoid_of m) (g.met.M.Ordered.laws m) (g.M.DMonoid.difference m) (g.M.Written.word_of m) c.args.phase.now
+          c.parts.to c.end_of-end.result c.end_of-end.ensures.order many c.args.reduced.now c.parts.reduced c.replay_part.new.reduced c.requires c.parts.invariant.led
+          (c.in_ok-replay_part.ensures.applied c.if-not-branch-2.false);
+    }
 
 pub returns-clause-applied : goal.returns-clause-applied
 returns-clause-applied g c =
-    let word_of = g.M.Written.word_of c.args.m.now in
-    let spelled = c.in_ok-read_steps.ensures.words c.if-not-branch.false in
-    λ is. record {
-      first = record {
-        phase = phase_of c.as_slice.result.now c.enters.result.now c.leaves.result.now;
-        written = phase-words word_of _ _ _ c.args.phase.now (ap (λ xs. map word_of xs) c.as_slice.ensures.value ∙ spelled ∙ c.steps.ensures) c.enters.ensures.enters c.leaves.ensures.leaves;
-        admitted = c.replay_within.ensures.admitted.0 is;
-      };
-      leads = c.replay_within.ensures.applied is;
-    }
-
-pub returns-clause-refused : goal.returns-clause-refused
-returns-clause-refused g c =
     let m = c.args.m.now in
-    let M = g.M.Ordered.monoid_of m in
-    let word_of = g.M.Written.word_of m in
-    let phase = phase_of c.as_slice.result.now c.enters.result.now c.leaves.result.now in
-    let spelled = c.in_ok-read_steps.ensures.words c.if-not-branch.false in
-    λ off.
-    refused-words M (g.M.DMonoid.difference m) word_of (g.M.Written.value_of m) (g.met.M.Written.word_laws m) c.args.reduced.now.now.side (cell_at c.args.reduced.now.now) c.args.phase.now phase
-    (subst (All (IsValue M)) (sym c.as_slice.ensures.value) (c.in_ok-read_steps.ensures.values c.if-not-branch.false))
-    (phase-words word_of _ _ _ c.args.phase.now (ap (λ xs. map word_of xs) c.as_slice.ensures.value ∙ spelled ∙ c.steps.ensures) c.enters.ensures.enters c.leaves.ensures.leaves)
-    (λ admitted. false≢true (sym off ∙ c.replay_within.ensures.admitted.1 admitted))
+    λ _. subst (λ words. IsReplayed (g.M.Ordered.monoid_of m) (g.M.DMonoid.difference m) (g.M.Written.word_of m) words c.args.reduced.now c.parts.reduced)
+    (whole-part c.args.phase.now c.parts.to (omega (arith, c.parts-test.false, c.parts.invariant.count))) c.parts.invariant.led

@@ -1,11 +1,10 @@
 use Rattle.std.proofs.Common.{◌<◌, length, map, sym, subst, ap, ◌∙◌, arith}
 use Rattle.std.specs.Prelude.{All}
-use Rattle.std.proofs.lemmas.List.{take_all}
 use Rattle.std.proofs.lemmas.List.Elements.{All-push}
 use Rattle.asg_order.specs.declared.words.Word.{Word}
 use Rattle.asg_order.specs.Monoid.{IsValue}
-use Rattle.asg_check.proofs.Replaying.{none_at, values-push}
-use Rattle.asg_check.proofs.replays.read_steps.Goals as goal
+use Rattle.asg_check.proofs.PhaseParts.{none_at-between, values-between}
+use Rattle.asg_check.proofs.replays.read_between.Goals as goal
 
 abbrev none : Word
 none = record { grade = 0; amount = 0 }
@@ -15,8 +14,8 @@ returns-in_default-clause-none g c =
     let m = c.args.m.now in
     let is = ap (g.M.Written.value_of m) (sym (c.get.ensures none)) ∙ sym c.from_word.ensures ∙ c.in_default.is in
     λ off others vs same.
-    none_at (g.M.Ordered.monoid_of m) (g.M.Written.word_of m) (g.M.Written.value_of m) (g.met.M.Written.word_laws m) c.args.words.now c.loop-place.place
-    none (omega (arith, c.loop-place-test.true, c.loop-place.invariant.end)) is others vs same
+    none_at-between (g.M.Ordered.monoid_of m) (g.M.Written.word_of m) (g.M.Written.value_of m) (g.met.M.Written.word_laws m) c.args.words.now c.args.from c.args.to c.loop-place.place
+    none c.loop-place.invariant.order c.loop-place-test.true c.requires.within is others vs same
 
 pub loop-place-preserved : goal.loop-place-preserved
 loop-place-preserved g c =
@@ -25,15 +24,11 @@ loop-place-preserved g c =
     let spelled = g.met.M.Written.word_laws m in
     let is = ap (g.M.Written.value_of m) (sym (c.get.ensures none)) ∙ sym c.from_word.ensures ∙ c.in-Some.is in
     let items = c.in_ok-push.ensures.items in
-    let within : c.loop-place.place < length c.args.words.now = omega (arith, c.loop-place-test.true, c.loop-place.invariant.end) in
+    let within : c.loop-place.place < length c.args.words.now = omega (arith, c.loop-place-test.true, c.requires.within) in
     record {
-      end = c.loop-place.invariant.end;
+      order = omega (arith, c.loop-place.invariant.order);
       words = ap (λ xs. map (g.M.Written.word_of m) xs) items
-          ∙ values-push M (g.M.Written.word_of m) (g.M.Written.value_of m) spelled c.args.words.now c.loop-place.place none c.loop-place.values.items c.in-Some.value
-          within c.loop-place.invariant.words is;
+          ∙ values-between M (g.M.Written.word_of m) (g.M.Written.value_of m) spelled c.args.words.now c.args.from c.loop-place.place none c.loop-place.values.items c.in-Some.value
+          c.loop-place.invariant.order within c.loop-place.invariant.words is;
       values = subst (All (IsValue M)) (sym items) (All-push (IsValue M) c.loop-place.values.items c.in-Some.value c.loop-place.invariant.values (spelled.found _ _ is).0);
     }
-
-pub returns-clause-words : goal.returns-clause-words
-returns-clause-words g c =
-    λ is. c.loop-place.invariant.words ∙ take_all c.loop-place.place c.args.words.now (omega (arith, c.loop-place-test.false, c.loop-place.invariant.end))

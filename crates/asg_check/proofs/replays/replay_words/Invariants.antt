@@ -1,0 +1,15 @@
+use Rattle.std.proofs.Common.{◌≡◌, ◌-◌, ◌≤◌, length}
+use Rattle.asg_check.specs.PhaseParts.{first_part}
+use Rattle.asg_check.specs.Replays.{IsReplayed}
+use Rattle.asg_check.proofs.replays.replay_words.Given as goal
+
+-- the steps so far are applied
+abbrev pub invariant-parts : goal.invariant-parts
+invariant-parts g l = record {
+  count : l.count ≡ length l.phase.steps;
+  within : l.to ≤ l.count;
+  led : IsReplayed (g.M.Ordered.monoid_of l.m) (g.M.DMonoid.difference l.m) (g.M.Written.word_of l.m) (first_part l.to l.phase) l.fn.reduced l.reduced;
+}
+
+abbrev pub decreases-parts : goal.decreases-parts
+decreases-parts g l = l.count - l.to

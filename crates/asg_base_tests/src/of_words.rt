@@ -1,3 +1,4 @@
 //! Tests of `asg_words`.
 
+mod lines;
 mod tests;

@@ -1,3 +1,4 @@
 //! Tests of `asg_objectives`.
 
+mod samples;
 mod tests;

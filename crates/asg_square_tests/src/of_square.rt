@@ -1,5 +1,7 @@
 //! Tests of `asg_square`.
 
 mod change_tests;
+mod choice_tests;
+mod place_tests;
 mod samples;
 mod tests;

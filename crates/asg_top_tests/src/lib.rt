@@ -3,7 +3,3 @@
 
 #[cfg(test)]
 mod of_app;
-#[cfg(test)]
-mod of_check;
-#[cfg(test)]
-mod of_doc;

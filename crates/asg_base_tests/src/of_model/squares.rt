@@ -1,4 +1,4 @@
-//! Squares of three rows to test with, each in a map and in a table.
+//! Squares of three rows to test with, each in a map or in a table.
 
 ghost use Rattle.std.specs.Prelude.{◌≡◌, ◌<◌, length, IsTrue, IfOk, IfSome};
 ghost use Rattle.asg_model.specs.Instances.{IsCostInRange, AreCellsOf};
@@ -101,13 +101,31 @@ fn in_map(alloc: Global, sample: &Sample<'_>, table: &Instance) -> Result<Instan
     Ok(Instance::with(rows, columns, cells, table.place()))
 }
 
-/// The instance of a sample of three rows and three columns, in a map and in a table.
-pub(crate) fn squares(alloc: Global, sample: &Sample<'_>) -> Result<(Instance, Instance), Fault> {
+// The instance of a sample of three rows and three columns, in a map.
+fn mapped(alloc: Global, sample: &Sample<'_>) -> Result<Instance, Fault> {
     let table = sample.instance(alloc)?;
     if table.rows().len() != 3 || table.columns().len() != 3 {
         return Err(Fault::IllFormed);
     }
-    Ok((in_map(alloc, sample, &table)?, table))
+    Ok(in_map(alloc, sample, &table)?)
+}
+
+/// How an instance has its cells.
+#[derive(Clone, Copy, Debug)]
+pub(crate) enum Cells {
+    InMap,
+    InTable,
+}
+
+/// Both ways.
+pub(crate) const BOTH: [Cells; 2] = [Cells::InMap, Cells::InTable];
+
+/// The instance of a sample of three rows and three columns.
+pub(crate) fn square(alloc: Global, cells: Cells, sample: &Sample<'_>) -> Result<Instance, Fault> {
+    match cells {
+        Cells::InMap => mapped(alloc, sample),
+        Cells::InTable => sample.instance(alloc),
+    }
 }
 
 /// The choice of the columns with these ids, 0 for none.

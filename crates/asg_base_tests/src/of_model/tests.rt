@@ -1,6 +1,6 @@
-//! The worked square of three rows, judged.
+//! The worked square of three rows: its valid choices, and its parts.
 
-use crate::of_model::squares::{PLAIN, SMALLER, TWO, WIDE, choice, squares};
+use crate::of_model::squares::{BOTH, Cells, PLAIN, SMALLER, TWO, WIDE, choice, square};
 use asg_model::*;
 use asg_samples::{Fault, Sample};
 use std::alloc::Global;
@@ -22,12 +22,44 @@ const OF_TWO: [Chosen; 2] = [([2, 1, 0], true), ([2, 1, 3], false)];
 
 const OF_SMALLER: [Chosen; 3] = [([2, 1, 0], true), ([3, 1, 0], false), ([2, 0, 1], false)];
 
-// Whether each choice is told to be valid or not, of a map and of a table.
-fn tells_choices(alloc: Global, sample: &Sample<'_>, cases: &[Chosen]) -> Result<bool, Fault> {
-    let (map, table) = squares(alloc, sample)?;
-    for (ids, want) in cases {
-        let choice = choice(alloc, ids)?;
-        if is_valid(&map, &choice) != *want || is_valid(&table, &choice) != *want {
+// Whether the choice of these columns is told to be valid or not.
+fn tells_choice(alloc: Global, inst: &Instance, case: &Chosen) -> Result<bool, NoMemory> {
+    let choice = choice(alloc, &case.0)?;
+    Ok(is_valid(inst, &choice) == case.1)
+}
+
+// Squares, and choices of each, for a caller that needn't know them.
+fn choices() -> &'static [(Sample<'static>, &'static [Chosen])] {
+    &CHOICES
+}
+
+static CHOICES: [(Sample<'static>, &[Chosen]); 4] = [
+    (PLAIN, &OF_PLAIN),
+    (WIDE, &OF_WIDE),
+    (TWO, &OF_TWO),
+    (SMALLER, &OF_SMALLER),
+];
+
+// Whether each choice is told so of the square of a sample.
+fn tells_choices(
+    alloc: Global,
+    cells: Cells,
+    sample: &Sample<'_>,
+    cases: &[Chosen],
+) -> Result<bool, Fault> {
+    let inst = square(alloc, cells, sample)?;
+    for case in cases {
+        if !tells_choice(alloc, &inst, case)? {
+            return Ok(false);
+        }
+    }
+    Ok(true)
+}
+
+// Whether each choice of each square is told so.
+fn tells_all_choices(alloc: Global, cells: Cells) -> Result<bool, Fault> {
+    for (sample, cases) in choices() {
+        if !tells_choices(alloc, cells, sample, cases)? {
             return Ok(false);
         }
     }
@@ -36,65 +68,9 @@ fn tells_choices(alloc: Global, sample: &Sample<'_>, cases: &[Chosen]) -> Result
 
 #[test]
 fn tells_valid_choices(rt: HostRuntime) -> Result<(), Fail> {
-    assert!(rt; tells_choices(rt.alloc(), &PLAIN, &OF_PLAIN)?);
-    assert!(rt; tells_choices(rt.alloc(), &WIDE, &OF_WIDE)?);
-    assert!(rt; tells_choices(rt.alloc(), &TWO, &OF_TWO)?);
-    assert!(rt; tells_choices(rt.alloc(), &SMALLER, &OF_SMALLER)?);
-    Ok(())
-}
-
-// Rows, by id, and whether they are a Hall set under the band.
-type Hall = (Band, &'static [u32], bool);
-
-const HALL_OF_PLAIN: [Hall; 13] = [
-    (Band::Under(2), &[3], true),
-    (Band::Under(2), &[1], false),
-    (Band::Under(2), &[3, 3], false),
-    (Band::Under(2), &[4], false),
-    (Band::Under(2), &[1, 2], true),
-    (Band::Over(2), &[1, 2, 3], true),
-    (Band::Whole, &[1, 2, 3], false),
-    (Band::Between(0, 1), &[1, 2], true),
-    (Band::Between(0, 1), &[1], false),
-    (Band::Between(4, 5), &[3], true),
-    (Band::Between(4, 5), &[1], false),
-    (Band::Under(i64::MIN), &[1], true),
-    (Band::Over(i64::MAX), &[1], true),
-];
-
-const HALL_OF_TWO: [Hall; 3] = [
-    (Band::Under(2), &[1, 2, 3], true),
-    (Band::Under(2), &[1, 3], false),
-    (Band::Under(2), &[3], false),
-];
-
-const HALL_OF_WIDE: [Hall; 2] = [
-    (Band::Under(2), &[1, 2, 3], true),
-    (Band::Under(2), &[1, 2], false),
-];
-
-const HALL_OF_SMALLER: [Hall; 2] = [
-    (Band::Under(2), &[1, 2], true),
-    (Band::Under(2), &[3], false),
-];
-
-// Whether rows are told to be a Hall set or not, of a map and of a table.
-fn tells_halls(alloc: Global, sample: &Sample<'_>, cases: &[Hall]) -> Result<bool, Fault> {
-    let (map, table) = squares(alloc, sample)?;
-    for (band, rows, want) in cases {
-        if is_hall(&map, *band, rows) != *want || is_hall(&table, *band, rows) != *want {
-            return Ok(false);
-        }
+    for cells in &BOTH {
+        assert!(rt; tells_all_choices(rt.alloc(), *cells)?);
     }
-    Ok(true)
-}
-
-#[test]
-fn tells_hall_sets(rt: HostRuntime) -> Result<(), Fail> {
-    assert!(rt; tells_halls(rt.alloc(), &PLAIN, &HALL_OF_PLAIN)?);
-    assert!(rt; tells_halls(rt.alloc(), &WIDE, &HALL_OF_WIDE)?);
-    assert!(rt; tells_halls(rt.alloc(), &TWO, &HALL_OF_TWO)?);
-    assert!(rt; tells_halls(rt.alloc(), &SMALLER, &HALL_OF_SMALLER)?);
     Ok(())
 }
 
@@ -178,31 +154,44 @@ fn has_parts(inst: &Instance) -> bool {
         && inst.row_parts(3, &mut room).is_none()
 }
 
+// The square with a hole.
+fn holed(alloc: Global, cells: Cells) -> Result<Instance, Fault> {
+    square(alloc, cells, &WITH_A_HOLE)
+}
+
+// Whether it is read.
+fn reads(alloc: Global, cells: Cells) -> Result<bool, Fault> {
+    let inst = holed(alloc, cells)?;
+    Ok(has_a_hole(&inst) && has_parts(&inst))
+}
+
 // Whether the plain square without its third row and column places two rows and leaves none out.
-fn places_two(alloc: Global) -> Result<bool, Fault> {
-    let (map, table) = squares(alloc, &SMALLER)?;
-    Ok(map.placed() == 2 && table.slack() == 0)
+fn places_two(alloc: Global, cells: Cells) -> Result<bool, Fault> {
+    let inst = square(alloc, cells, &SMALLER)?;
+    Ok(inst.placed() == 2 && inst.slack() == 0)
 }
 
 #[test]
 fn reads_the_square(rt: HostRuntime) -> Result<(), Fail> {
-    let (map, table) = squares(rt.alloc(), &WITH_A_HOLE)?;
-    assert!(rt; has_a_hole(&map) && has_a_hole(&table));
-    assert!(rt; has_parts(&map) && has_parts(&table));
-    assert!(rt; places_two(rt.alloc())?);
+    for cells in &BOTH {
+        assert!(rt; reads(rt.alloc(), *cells)?);
+        assert!(rt; places_two(rt.alloc(), *cells)?);
+    }
     Ok(())
 }
 
-// Whether a copy is the square with a hole.
-fn copies(alloc: Global, inst: &Instance) -> Result<bool, NoMemory> {
+// Whether a copy of the square with a hole is one.
+fn copies(alloc: Global, cells: Cells) -> Result<bool, Fault> {
+    let inst = holed(alloc, cells)?;
     let copy = inst.copy(alloc)?;
     Ok(has_a_hole(&copy))
 }
 
 #[test]
 fn copies_the_square(rt: HostRuntime) -> Result<(), Fail> {
-    let (map, table) = squares(rt.alloc(), &WITH_A_HOLE)?;
-    assert!(rt; copies(rt.alloc(), &map)? && copies(rt.alloc(), &table)?);
+    for cells in &BOTH {
+        assert!(rt; copies(rt.alloc(), *cells)?);
+    }
     Ok(())
 }
 
@@ -235,11 +224,17 @@ fn narrows(inst: &mut Instance) -> bool {
         && inst.live(0, 1) == Some(Cost { a: 1, b: 2 })
 }
 
+// Whether the square with a hole is reshaped so.
+fn reshapes(alloc: Global, cells: Cells) -> Result<bool, Fault> {
+    let mut inst = holed(alloc, cells)?;
+    Ok(widens(&mut inst) && narrows(&mut inst))
+}
+
 #[test]
 fn reshapes_the_square(rt: HostRuntime) -> Result<(), Fail> {
-    let (mut map, mut table) = squares(rt.alloc(), &WITH_A_HOLE)?;
-    assert!(rt; widens(&mut map) && narrows(&mut map));
-    assert!(rt; widens(&mut table) && narrows(&mut table));
+    for cells in &BOTH {
+        assert!(rt; reshapes(rt.alloc(), *cells)?);
+    }
     Ok(())
 }
 

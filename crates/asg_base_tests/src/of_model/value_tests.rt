@@ -1,6 +1,6 @@
 //! The values that the nine objectives give, worked out by hand.
 
-use crate::of_model::squares::{PLAIN, SMALLER, TWOFOLD, choice, squares};
+use crate::of_model::squares::{BOTH, Cells, PLAIN, TWOFOLD, choice, square};
 use asg_model::*;
 use asg_samples::{Fault, Sample};
 use std::alloc::Global;
@@ -140,41 +140,64 @@ fn has_values(
     Ok(true)
 }
 
-// Whether each choice has the values that are wanted.
-fn have_values(alloc: Global, inst: &Instance, cases: &[Case]) -> Result<bool, NoMemory> {
-    for (ids, nine) in cases {
-        let choice = choice(alloc, ids)?;
-        if !has_values(alloc, inst, &choice, nine)? {
+// Whether the choice of a case has the values that are wanted.
+fn gives_case(alloc: Global, inst: &Instance, case: &Case) -> Result<bool, NoMemory> {
+    let choice = choice(alloc, &case.0)?;
+    has_values(alloc, inst, &choice, &case.1)
+}
+
+// Whether each choice has them.
+fn gives_values(
+    alloc: Global,
+    cells: Cells,
+    sample: &Sample<'_>,
+    cases: &[Case],
+) -> Result<bool, Fault> {
+    let inst = square(alloc, cells, sample)?;
+    for case in cases {
+        if !gives_case(alloc, &inst, case)? {
             return Ok(false);
         }
     }
     Ok(true)
 }
 
-// Whether each choice has them, of a map and of a table.
-fn gives_values(alloc: Global, sample: &Sample<'_>, cases: &[Case]) -> Result<bool, Fault> {
-    let (map, table) = squares(alloc, sample)?;
-    Ok(have_values(alloc, &map, cases)? && have_values(alloc, &table, cases)?)
+// Squares, and choices of each with their values, for a caller that needn't know them.
+fn values() -> &'static [(Sample<'static>, &'static [Case])] {
+    &VALUES
+}
+
+static VALUES: [(Sample<'static>, &[Case]); 6] = [
+    (PAIRED, &OF_SQUARE),
+    (TURNED, &OF_TURNED),
+    (DROPPED, &OF_DROPPED),
+    (CLOSED, &OF_CLOSED),
+    (PAIRED_WIDE, &OF_WIDE),
+    (PAIRED_TWO, &OF_TWO),
+];
+
+// Whether each choice of each square has them.
+fn gives_all_values(alloc: Global, cells: Cells) -> Result<bool, Fault> {
+    for (sample, cases) in values() {
+        if !gives_values(alloc, cells, sample, cases)? {
+            return Ok(false);
+        }
+    }
+    Ok(true)
 }
 
 #[test]
 fn values_by_hand(rt: HostRuntime) -> Result<(), Fail> {
-    assert!(rt; gives_values(rt.alloc(), &PAIRED, &OF_SQUARE)?);
-    assert!(rt; gives_values(rt.alloc(), &TURNED, &OF_TURNED)?);
-    Ok(())
-}
-
-#[test]
-fn values_of_other_shapes(rt: HostRuntime) -> Result<(), Fail> {
-    assert!(rt; gives_values(rt.alloc(), &DROPPED, &OF_DROPPED)?);
-    assert!(rt; gives_values(rt.alloc(), &CLOSED, &OF_CLOSED)?);
-    assert!(rt; gives_values(rt.alloc(), &PAIRED_WIDE, &OF_WIDE)?);
-    assert!(rt; gives_values(rt.alloc(), &PAIRED_TWO, &OF_TWO)?);
+    for cells in &BOTH {
+        assert!(rt; gives_all_values(rt.alloc(), *cells)?);
+    }
     Ok(())
 }
 
 // Two values, and whether the first is better for the objective.
-const BETTER: [(Objective, Want<'static>, Want<'static>, bool); 13] = [
+type Better = (Objective, Want<'static>, Want<'static>, bool);
+
+const BETTER: [Better; 13] = [
     (Objective::Bottleneck, Want::One(2), Want::One(3), true),
     (Objective::Bottleneck, Want::One(3), Want::One(2), false),
     (Objective::Bottleneck, Want::One(2), Want::One(2), false),
@@ -203,11 +226,17 @@ fn value_of(alloc: Global, told: Want<'_>) -> Result<Value, NoMemory> {
     })
 }
 
+// Whether the first value of a case is told to be better.
+fn is_better(alloc: Global, case: &Better) -> Result<bool, NoMemory> {
+    let x = value_of(alloc, case.1)?;
+    let y = value_of(alloc, case.2)?;
+    Ok(better(case.0, &x, &y))
+}
+
 // Whether the better values are told.
 fn tells_better(alloc: Global) -> Result<bool, NoMemory> {
-    for (objective, x, y, want) in &BETTER {
-        let (x, y) = (value_of(alloc, *x)?, value_of(alloc, *y)?);
-        if better(*objective, &x, &y) != *want {
+    for case in &BETTER {
+        if is_better(alloc, case)? != case.3 {
             return Ok(false);
         }
     }
@@ -217,46 +246,5 @@ fn tells_better(alloc: Global) -> Result<bool, NoMemory> {
 #[test]
 fn tells_better_values(rt: HostRuntime) -> Result<(), Fail> {
     assert!(rt; tells_better(rt.alloc())?);
-    Ok(())
-}
-
-// The square `4:8 1:-2 -3:-6 / -2:4 -5:-1 5:10 / -3:-6 2:4 2:4`, a cost being written `a:b`,
-// without its third row and its third column.
-const SIGNED: Sample<'static> = Sample {
-    firsts: &[4, 1, -3, -2, -5, 5, -3, 2, 2],
-    seconds: &[8, -2, -6, 4, -1, 10, -6, 4, 4],
-    ..SMALLER
-};
-
-// Objectives, and the first cell that each refuses.
-type Refused = [(Objective, Option<(u32, u32)>); 3];
-
-const OF_SIGNED: Refused = [
-    (Objective::Capped(9), Some((2, 1))),
-    (Objective::TimeCost, Some((1, 2))),
-    (Objective::SumPair, None),
-];
-
-const NONE_REFUSED: Refused = [
-    (Objective::Capped(9), None),
-    (Objective::TimeCost, None),
-    (Objective::SumPair, None),
-];
-
-// Whether these cells are refused, of a map and of a table.
-fn refuses(alloc: Global, sample: &Sample<'_>, cases: &Refused) -> Result<bool, Fault> {
-    let (map, table) = squares(alloc, sample)?;
-    for (objective, want) in cases {
-        if negative(*objective, &map) != *want || negative(*objective, &table) != *want {
-            return Ok(false);
-        }
-    }
-    Ok(true)
-}
-
-#[test]
-fn finds_the_first_negative(rt: HostRuntime) -> Result<(), Fail> {
-    assert!(rt; refuses(rt.alloc(), &SIGNED, &OF_SIGNED)?);
-    assert!(rt; refuses(rt.alloc(), &PLAIN, &NONE_REFUSED)?);
     Ok(())
 }

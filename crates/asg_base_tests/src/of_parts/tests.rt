@@ -2,7 +2,6 @@
 
 use asg_parts::*;
 use std::alloc::Global;
-use std::test::Fail;
 
 // Whether numbers of 32 bits are read, and others refused.
 fn reads_numbers() -> bool {

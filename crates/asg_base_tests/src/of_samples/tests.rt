@@ -52,11 +52,15 @@ fn has_cells(inst: &Instance) -> bool {
         && inst.live(1, 0).is_none()
 }
 
+// Whether the instance of the pairs is made.
+fn makes_pairs(alloc: Global) -> Result<bool, Fault> {
+    let inst = PAIRS.instance(alloc)?;
+    Ok(has_parts(&inst) && has_cells(&inst))
+}
+
 #[test]
 fn makes_an_instance(rt: HostRuntime) -> Result<(), Fail> {
-    let inst = PAIRS.instance(rt.alloc())?;
-    assert!(rt; has_parts(&inst));
-    assert!(rt; has_cells(&inst));
+    assert!(rt; makes_pairs(rt.alloc())?);
     Ok(())
 }
 
@@ -69,10 +73,15 @@ fn is_of_products(inst: &Instance) -> bool {
         && inst.live(2, 3).is_none()
 }
 
+// Whether that one is made.
+fn makes_products(alloc: Global) -> Result<bool, Fault> {
+    let inst = four_by_four(alloc, Place::All, true, false, &PRODUCTS)?;
+    Ok(is_of_products(&inst))
+}
+
 #[test]
 fn makes_four_by_four(rt: HostRuntime) -> Result<(), Fail> {
-    let inst = four_by_four(rt.alloc(), Place::All, true, false, &PRODUCTS)?;
-    assert!(rt; is_of_products(&inst));
+    assert!(rt; makes_products(rt.alloc())?);
     Ok(())
 }
 

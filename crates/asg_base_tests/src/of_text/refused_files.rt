@@ -2,11 +2,15 @@
 
 use asg_text::{Format, TextRefusal};
 
-// A file, and its earliest fault.
-type Refused = (&'static [u8], TextRefusal);
+/// A file, and its earliest fault.
+pub(crate) type Refused = (&'static [u8], TextRefusal);
 
-/// The refused files of each format.
-pub(crate) const REFUSED: [(Format, &'static [Refused]); 3] = [
+/// The refused files of each format, for a caller that needn't know them.
+pub(crate) fn refused() -> &'static [(Format, &'static [Refused])] {
+    &REFUSED
+}
+
+static REFUSED: [(Format, &'static [Refused]); 3] = [
     (Format::Asn, &ASN),
     (Format::Square, &SQUARE),
     (Format::Rect, &RECT),

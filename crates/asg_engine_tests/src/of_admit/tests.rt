@@ -4,6 +4,7 @@ ghost use Rattle.asg_admit.specs.Reduced.{IsReduced};
 ghost use Rattle.asg_monoids.specs.BoundedSums.{bounded_sums};
 
 mod dual_squares;
+mod graded_phases;
 mod graded_squares;
 mod narrow_squares;
 mod one_pass;
@@ -26,32 +27,34 @@ fn replays(reduced: &mut Reduced<u128>, phase: &WorkedPhase) -> bool
     is_now(reduced, &phase.cells, phase.index)
 }
 
-#[test]
-fn replays_the_phases_of_the_worked_example(rt: HostRuntime) -> Result<(), Fail> {
-    let mut reduced = worked(rt.alloc())?;
-    assert!(rt; replays(&mut reduced, &FIRST));
-    assert!(rt; replays(&mut reduced, &SECOND));
-    assert!(rt; replays(&mut reduced, &THIRD));
-    Ok(())
-}
+// A step greater than the least cell of both.
+const GREATER: [u128; 1] = [SHIFT + 2];
 
-// Whether the first phase isn't admitted with this step, and nothing is changed.
-fn refuses(reduced: &mut Reduced<u128>, c: u128) -> bool
+// Whether the first phase isn't admitted with a greater step, and nothing is changed.
+fn refuses_greater(reduced: &mut Reduced<u128>) -> bool
     requires { IsReduced (bounded_sums 1000000000000) reduced.old }
     ensures { IsReduced (bounded_sums 1000000000000) reduced.new }
 {
-    if replay(&SUMS, reduced, &[c], &FIRST.enters, &FIRST.leaves) {
+    if replay(&SUMS, reduced, &GREATER, &FIRST.enters, &FIRST.leaves) {
         return false;
     }
     is_now(reduced, &START, 0)
 }
 
-// A step greater than the least cell of both is refused, and changes nothing.
+// Whether the greater step is refused, and the three phases are replayed then, one after another.
+fn replays_all(reduced: &mut Reduced<u128>) -> bool
+    requires { IsReduced (bounded_sums 1000000000000) reduced.old }
+{
+    refuses_greater(reduced)
+        && replays(reduced, &FIRST)
+        && replays(reduced, &SECOND)
+        && replays(reduced, &THIRD)
+}
+
 #[test]
-fn refuses_a_greater_step(rt: HostRuntime) -> Result<(), Fail> {
+fn replays_the_phases_of_the_worked_example(rt: HostRuntime) -> Result<(), Fail> {
     let mut reduced = worked(rt.alloc())?;
-    assert!(rt; refuses(&mut reduced, SHIFT + 2));
-    assert!(rt; replays(&mut reduced, &FIRST));
+    assert!(rt; replays_all(&mut reduced));
     Ok(())
 }
 
@@ -84,12 +87,17 @@ fn settles(reduced: &mut Reduced<u128>, phase: &WorkedPhase) -> bool
     is_now(reduced, &phase.cells, phase.index)
 }
 
+// Whether the three phases are settled, one after another.
+fn settles_all(reduced: &mut Reduced<u128>) -> bool
+    requires { IsReduced (bounded_sums 1000000000000) reduced.old }
+{
+    settles(reduced, &FIRST) && settles(reduced, &SECOND) && settles(reduced, &THIRD)
+}
+
 #[test]
 fn settles_the_phases_of_the_worked_example(rt: HostRuntime) -> Result<(), Fail> {
     let mut reduced = worked(rt.alloc())?;
-    assert!(rt; settles(&mut reduced, &FIRST));
-    assert!(rt; settles(&mut reduced, &SECOND));
-    assert!(rt; settles(&mut reduced, &THIRD));
+    assert!(rt; settles_all(&mut reduced));
     Ok(())
 }
 
@@ -105,17 +113,19 @@ fn takes_step(reduced: &mut Reduced<u128>, c: u128) -> bool
     true
 }
 
-// Whether the step of the first phase is taken, and the square and the index are then its.
+// Whether the step of the first phase is taken, a greater one isn't, and the square and the index
+// are then those of the phase.
 fn takes_first_step(reduced: &mut Reduced<u128>) -> bool
     requires { IsReduced (bounded_sums 1000000000000) reduced.old }
 {
-    takes_step(reduced, SHIFT + 1) && is_now(reduced, &FIRST.cells, FIRST.index)
+    !takes_step(reduced, SHIFT + 2)
+        && takes_step(reduced, SHIFT + 1)
+        && is_now(reduced, &FIRST.cells, FIRST.index)
 }
 
 #[test]
 fn takes_the_first_step_of_the_worked_example(rt: HostRuntime) -> Result<(), Fail> {
     let mut reduced = worked(rt.alloc())?;
-    assert!(rt; !takes_step(&mut reduced, SHIFT + 2));
     assert!(rt; takes_first_step(&mut reduced));
     Ok(())
 }
@@ -131,15 +141,21 @@ fn replays_nothing(reduced: &mut Reduced<u128>, leaves: &[u32; 3]) -> bool
     replay(&SUMS, reduced, &NOTHING, &[0, 2400, 2400], leaves)
 }
 
-// At each of many steps the rows that have entered and the columns that stay are one more than the
-// side.
+// Whether at each of many steps the rows that have entered and the columns that stay are to be one
+// more than the side.
+fn counts(reduced: &mut Reduced<u128>) -> bool
+    requires { IsReduced (bounded_sums 1000000000000) reduced.old }
+{
+    !replays_nothing(reduced, &[2400, 2401, 3000])
+        && !replays_nothing(reduced, &[2400, 3000, 3000])
+        && replays_nothing(reduced, &[2400, 2400, 3000])
+        && reduced.index == 0
+}
+
 #[test]
 fn counts_at_each_of_many_steps(rt: HostRuntime) -> Result<(), Fail> {
     let mut reduced = worked(rt.alloc())?;
-    assert!(rt; !replays_nothing(&mut reduced, &[2400, 2401, 3000]));
-    assert!(rt; !replays_nothing(&mut reduced, &[2400, 3000, 3000]));
-    assert!(rt; replays_nothing(&mut reduced, &[2400, 2400, 3000]));
-    assert_eq!(rt; reduced.index, 0);
+    assert!(rt; counts(&mut reduced));
     Ok(())
 }
 
@@ -147,7 +163,9 @@ fn counts_at_each_of_many_steps(rt: HostRuntime) -> Result<(), Fail> {
 const STEPS: [u128; 2] = [5, 3];
 
 // A cell, when its row enters and its column leaves, and what the two steps make of it.
-const CELLS: [(u128, u32, u32, Option<u128>); 4] = [
+type SingleCell = (u128, u32, u32, Option<u128>);
+
+const CELLS: [SingleCell; 4] = [
     (9, 0, 2, Some(1)),
     (7, 0, 2, None),
     (7, 0, 1, Some(2)),
@@ -165,6 +183,12 @@ fn cell_after(x: u128, enter: u32, leave: u32) -> Option<u128> {
     replay_cell(&SUMS, x, &STEPS, enter, leave)
 }
 
+// Whether the two steps make of a cell what is expected.
+fn is_cell_after(cell: &SingleCell) -> bool {
+    let (x, enter, leave, want) = *cell;
+    cell_after(x, enter, leave) == want
+}
+
 // The products of both steps, of the second, and of none.
 fn products() -> Option<[u128; 3]> {
     if !are_values(&SUMS, &STEPS) {
@@ -178,8 +202,8 @@ fn products() -> Option<[u128; 3]> {
 
 #[test]
 fn single_cells(rt: HostRuntime) {
-    for (x, enter, leave, want) in CELLS {
-        assert_eq!(rt; cell_after(x, enter, leave), want);
+    for cell in &CELLS {
+        assert!(rt; is_cell_after(cell));
     }
-    assert_eq!(rt; products(), Some([8, 3, 0]));
+    assert!(rt; products() == Some([8, 3, 0]));
 }

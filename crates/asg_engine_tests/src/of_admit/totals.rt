@@ -40,7 +40,7 @@ fn worked(alloc: Global) -> Result<Option<Square<u64>>, Fault>
 
 // Takes in the third phase, the second and the first, whose step this is, as far as each can come
 // before the others; tells how many were taken in.
-fn take_in(totals: &mut PhaseTotals, first: u64) -> u32
+fn take_in(totals: &mut PhaseTotals, first: &[u64; 1]) -> u32
     ensures { length totals.new.rows ≡ length totals.old.rows }
 {
     let mut room = [0u64; 3];
@@ -50,39 +50,58 @@ fn take_in(totals: &mut PhaseTotals, first: u64) -> u32
     if !totals.put_before(&[SHIFT, 2], &[1, 0, 2], &[2, 1, 2], &mut room) {
         return 1;
     }
-    if !totals.put_before(&[first], &[0, 1, 1], &[1, 1, 1], &mut room) {
+    if !totals.put_before(first, &[0, 1, 1], &[1, 1, 1], &mut room) {
         return 2;
     }
     3
 }
 
-// Whether the three phases, the first with this step, are found to be admitted in one pass.
-fn fits(alloc: Global, first: u64) -> Result<bool, Fault> {
+// Whether the three phases, the first with this step, are taken in, and are found to be admitted in
+// one pass.
+fn fit(totals: &mut PhaseTotals, square: &Square<u64>, first: &[u64; 1]) -> bool
+    requires totals { length totals.old.rows ≡ 3 }
+    requires square { square.now.side ≡ 3 }
+{
+    take_in(totals, first) == 3
+        && totals.sum() == first[0].wrapping_add(2 * SHIFT + 4)
+        && totals.fits(square)
+}
+
+// Whether they fit the worked square.
+fn fit_worked(alloc: Global, first: &[u64; 1]) -> Result<bool, Fault> {
     let Some(square) = worked(alloc)? else {
         return Ok(false);
     };
     let mut totals = PhaseTotals::none(alloc, 3)?;
-    if take_in(&mut totals, first) != 3 {
-        return Ok(false);
-    }
-    Ok(totals.sum() == first.wrapping_add(2 * SHIFT + 4) && totals.fits(&square))
+    Ok(fit(&mut totals, &square, first))
 }
+
+// The step of the first phase, and a greater one, and whether the phases fit then.
+const FIRST_STEPS: [([u64; 1], bool); 2] = [([SHIFT + 1], true), ([SHIFT + 2], false)];
 
 #[test]
 fn a_list_in_one_pass(rt: HostRuntime) -> Result<(), Fail> {
-    assert!(rt; fits(rt.alloc(), SHIFT + 1)?);
-    assert!(rt; !fits(rt.alloc(), SHIFT + 2)?);
+    for (first, want) in &FIRST_STEPS {
+        assert!(rt; fit_worked(rt.alloc(), first)? == *want);
+    }
     Ok(())
 }
 
-// The second phase alone raises its third row by more than its second column.
+// Whether the second phase is taken in alone: it raises its third row by more than its second
+// column.
+fn ends_a_pass(totals: &mut PhaseTotals) -> bool
+    requires { length totals.old.rows ≡ 3 }
+{
+    let mut room = [0u64; 3];
+    totals.put_before(&[SHIFT, 2], &[1, 0, 2], &[2, 1, 2], &mut room)
+        && !totals.put_before(&[SHIFT + 1], &[0, 1, 1], &[1, 1, 1], &mut room)
+        && totals.sum() == SHIFT + 2
+}
+
 #[test]
 fn a_phase_that_raises_a_row_more_ends_a_pass(rt: HostRuntime) -> Result<(), Fail> {
     let mut totals = PhaseTotals::none(rt.alloc(), 3)?;
-    let mut room = [0u64; 3];
-    assert!(rt; totals.put_before(&[SHIFT, 2], &[1, 0, 2], &[2, 1, 2], &mut room));
-    assert!(rt; !totals.put_before(&[SHIFT + 1], &[0, 1, 1], &[1, 1, 1], &mut room));
-    assert!(rt; totals.sum() == SHIFT + 2);
+    assert!(rt; ends_a_pass(&mut totals));
     Ok(())
 }
 
@@ -103,29 +122,48 @@ fn phase(
 }
 
 // The first and the second phase, the first with this step.
-fn first_two(alloc: Global, first: u64) -> Result<Vec<Phase<u64>>, NoMemory>
+fn first_two(alloc: Global, first: &[u64; 1]) -> Result<Vec<Phase<u64>>, NoMemory>
     ensures { IfOk result (λ ps. All (λ p. length p.steps ≤ 2) ps.items) }
 {
-    let one = phase(alloc, &[first], &[0, 1, 1], &[1, 1, 1])?;
+    let one = phase(alloc, first, &[0, 1, 1], &[1, 1, 1])?;
     let two = phase(alloc, &[SHIFT, 2], &[1, 0, 2], &[2, 1, 2])?;
     Ok(vec![in alloc; one, two]?)
 }
 
+// What the test of phases of at most two steps tells.
+fn told_of(
+    alloc: Global,
+    square: &Square<u64>,
+    phases: &[Phase<u64>],
+) -> Result<Option<bool>, NoMemory>
+    requires side { square.now.side ≡ 3 }
+    requires phases { All (λ p. length p.steps ≤ 2) phases.now }
+{
+    let mut test = ListTest::with_side(alloc, 3)?;
+    let mut room = [0u64; 3];
+    Ok(test.admits(square, phases, &mut room))
+}
+
 // What the test of the first two phases tells, the first with this step.
-fn told(alloc: Global, first: u64) -> Result<Option<bool>, Fault> {
+fn told(alloc: Global, first: &[u64; 1]) -> Result<Option<bool>, Fault> {
     let Some(square) = worked(alloc)? else {
         return Ok(None);
     };
     let phases = first_two(alloc, first)?;
-    let mut test = ListTest::with_side(alloc, 3)?;
-    let mut room = [0u64; 3];
-    Ok(test.admits(&square, phases.as_slice(), &mut room))
+    Ok(told_of(alloc, &square, phases.as_slice())?)
 }
+
+// The step of the first phase, a greater one, and one at which nothing is told, and what is told.
+const TOLD: [([u64; 1], Option<bool>); 3] = [
+    ([SHIFT + 1], Some(true)),
+    ([SHIFT + 2], Some(false)),
+    ([1 << 62], None),
+];
 
 #[test]
 fn a_list_by_segments(rt: HostRuntime) -> Result<(), Fail> {
-    assert!(rt; told(rt.alloc(), SHIFT + 1)? == Some(true));
-    assert!(rt; told(rt.alloc(), SHIFT + 2)? == Some(false));
-    assert!(rt; told(rt.alloc(), 1 << 62)? == None);
+    for (first, want) in &TOLD {
+        assert!(rt; told(rt.alloc(), first)? == *want);
+    }
     Ok(())
 }

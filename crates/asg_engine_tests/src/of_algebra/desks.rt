@@ -15,6 +15,16 @@ pub(crate) struct Desk<V: Copy> {
     pub region: Region<V>,
 }
 
+// A region with a record for each row.
+fn region_for<V: Copy>(alloc: Global, side: u32) -> Result<Region<V>, NoMemory>
+    ensures side { IfOk result (λ region. region.side ≡ side) }
+    ensures spare { IfOk result (λ region. side ≤ region.spare) }
+{
+    let mut region = Region::make(alloc, side)?;
+    region.reserve(side)?;
+    Ok(region)
+}
+
 /// The desk for this side.
 pub(crate) fn desk_for<V: Copy>(alloc: Global, side: u32) -> Result<Desk<V>, NoMemory>
     ensures matching { IfOk result (λ desk. desk.matching ≡ replicate side None) }
@@ -24,8 +34,7 @@ pub(crate) fn desk_for<V: Copy>(alloc: Global, side: u32) -> Result<Desk<V>, NoM
 {
     let matching = Matching::make(alloc, side)?;
     let bench = Bench::make(alloc, side)?;
-    let mut region = Region::make(alloc, side)?;
-    region.reserve(side)?;
+    let region = region_for(alloc, side)?;
     Ok(Desk {
         matching,
         bench,

@@ -1,12 +1,16 @@
 //! Squares that are solved by phases and columns from elsewhere, where these pass the tests.
 
-ghost use Rattle.std.specs.Prelude.{◌≤◌, ◌^◌};
+ghost use Rattle.std.specs.Prelude.{◌≡◌, ◌≤◌, None, length, replicate};
+ghost use Rattle.asg_admit.specs.Reduced.{IsReduced};
 
-use crate::of_algebra::desks::{desk_for, has_perfect};
-use crate::of_algebra::solver_tests::{COLUMNS, GRADED, NARROW_THREE, PEAKS, THREE, index_of};
+use crate::of_algebra::desks::{Desk, desk_for};
+use crate::of_algebra::solver_tests::{
+    COLUMNS, GRADED, GRADES, NARROW_HIGH, NARROW_THREE, PEAKS, SUMS, THREE, told,
+};
 use crate::samples::reduced_of;
+use asg_admit::Reduced;
 use asg_algebra::{NoMemory, SolvedSquare, SquareSolver};
-use asg_monoids::{Bounded, Graded, Greatest, NarrowSums};
+use asg_monoids::{Bounded, Greatest, NarrowSums};
 use asg_proof::Phase;
 use asg_samples::Fault;
 use std::alloc::Global;
@@ -25,7 +29,49 @@ fn phase<V: Copy>(
     Ok(Phase::of(steps, enters, leaves))
 }
 
-// The index of a square with these cells, where the phases and the columns solve it.
+// The index of a square, where it was solved at a desk with these columns.
+fn expected_index<V: Copy>(
+    found: Option<SolvedSquare<V>>,
+    desk: Desk<V>,
+    columns: &[u32],
+) -> Option<V> {
+    match found {
+        Some(solved) => {
+            let (index, is_expected) = told(solved, desk, columns);
+            if is_expected { Some(index) } else { None }
+        }
+        None => None,
+    }
+}
+
+// The index of a square, where the phases and the columns solve it at a desk, with no column taken.
+fn index_at<M: SquareSolver>(
+    alloc: Global,
+    m: &M,
+    reduced: Reduced<M::Value>,
+    desk: Desk<M::Value>,
+    given: &[Phase<M::Value>],
+    columns: &[u32],
+) -> Result<Option<M::Value>, NoMemory>
+    requires reduced { IsReduced (M.monoid_of m.now) reduced }
+    requires matching { desk.matching ≡ replicate reduced.now.side None }
+    requires region { desk.region.side ≡ reduced.now.side }
+    requires few { length given.now ≤ reduced.now.side }
+    requires spare { reduced.now.side ≤ desk.region.spare }
+{
+    let mut desk = desk;
+    let found = m.solve_given(
+        alloc,
+        reduced,
+        &mut desk.matching,
+        &mut desk.region,
+        given,
+        columns,
+    )?;
+    Ok(expected_index(found, desk, columns))
+}
+
+// The same of a square with these cells.
 fn index_by<M: SquareSolver>(
     alloc: Global,
     m: &M,
@@ -36,22 +82,11 @@ fn index_by<M: SquareSolver>(
 ) -> Result<Option<M::Value>, Fault> {
     let reduced = reduced_of(alloc, m, side, cells)?;
     let side = reduced.now.side();
-    let mut desk = desk_for(alloc, side)?;
     if given.len() > side as usize {
         return Ok(None);
     }
-    let found = m.solve_given(
-        alloc,
-        reduced,
-        &mut desk.matching,
-        &mut desk.region,
-        given,
-        columns,
-    )?;
-    let Some(SolvedSquare { reduced, ended }) = found else {
-        return Ok(None);
-    };
-    Ok(has_perfect(ended, &desk.matching, columns).then_some(index_of(&reduced)))
+    let desk = desk_for(alloc, side)?;
+    Ok(index_at(alloc, m, reduced, desk, given, columns)?)
 }
 
 // Two phases of the three rows. Their steps prove the least sum where they are 1 and 1,002, and
@@ -66,44 +101,76 @@ fn two_phases<V: Copy>(
     Ok(vec![in alloc; one, two]?)
 }
 
-// Whether the phases, the first with this step, and these columns solve the square of three rows.
-fn is_solved(alloc: Global, first: u64, columns: &[u32]) -> Result<bool, Fault> {
-    let given = two_phases(alloc, &[first, 1_002], &[1_002, 1_000])?;
-    let index = index_by(
+// The index of the square of three rows, where two phases, the first of these steps, and these
+// columns solve it.
+fn index_of_three(alloc: Global, first: &[u64], columns: &[u32]) -> Result<Option<u64>, Fault> {
+    let given = two_phases(alloc, first, &[1_002, 1_000])?;
+    index_by(
         alloc,
         &NarrowSums,
         3,
         &NARROW_THREE,
         given.as_slice(),
         columns,
-    )?;
-    Ok(index == Some(3_005))
+    )
 }
+
+// The steps of the first phase, the columns, and the index.
+const GIVEN: [(&'static [u64], &'static [u32], Option<u64>); 4] = [
+    (&[1, 1_002], &COLUMNS, Some(3_005)),
+    (&[2, 1_002], &COLUMNS, None),
+    (&[1, 1_002], &[0, 1, 2], None),
+    (&[1, 1_002], &[1, 0], None),
+];
 
 #[test]
 fn what_is_given_is_tested(rt: HostRuntime) -> Result<(), Fail> {
-    assert!(rt; is_solved(rt.alloc(), 1, &COLUMNS)?);
-    assert!(rt; !is_solved(rt.alloc(), 2, &COLUMNS)?);
-    assert!(rt; !is_solved(rt.alloc(), 1, &[0, 1, 2])?);
-    assert!(rt; !is_solved(rt.alloc(), 1, &[1, 0])?);
+    for (first, columns, index) in &GIVEN {
+        assert!(rt; index_of_three(rt.alloc(), first, columns)? == *index);
+    }
     Ok(())
 }
 
-// Whether the phases solve the square of three rows by sums in 128 bits that stop at this top.
-fn is_solved_below(alloc: Global, top: u128) -> Result<bool, Fault>
-    requires { top ≤ 2 ^ 120 }
-{
-    let m = Bounded { top };
+// The index of the square of three rows by the two phases, with sums in 128 bits.
+fn wide_index(alloc: Global, m: &Bounded) -> Result<Option<u128>, Fault> {
     let given = two_phases(alloc, &[1, 1_002], &[1_002, 1_000])?;
-    let index = index_by(alloc, &m, 3, &THREE, given.as_slice(), &COLUMNS)?;
-    Ok(index == Some(3_005))
+    index_by(alloc, m, 3, &THREE, given.as_slice(), &COLUMNS)
 }
 
 // With the steps of the second phase the index and the greatest cell come to 4,010.
 #[test]
 fn sums_are_given_far_from_the_top_and_near_it(rt: HostRuntime) -> Result<(), Fail> {
-    assert!(rt; is_solved_below(rt.alloc(), 1 << 120)?);
-    assert!(rt; is_solved_below(rt.alloc(), 4_000)?);
+    for m in &SUMS {
+        assert!(rt; wide_index(rt.alloc(), m)? == Some(3_005));
+    }
+    Ok(())
+}
+
+// Two phases of two rows, each of a step on one of them and all columns.
+fn row_phases(alloc: Global, step: &[u64]) -> Result<Vec<Phase<u64>>, NoMemory> {
+    let one = phase(alloc, step, &[0, 1], &[1, 1])?;
+    let two = phase(alloc, step, &[1, 0], &[1, 1])?;
+    Ok(vec![in alloc; one, two]?)
+}
+
+// The index of the square of cells near the top, where two phases of this step solve it.
+fn index_of_high(alloc: Global, step: &[u64]) -> Result<Option<u64>, Fault> {
+    let given = row_phases(alloc, step)?;
+    index_by(
+        alloc,
+        &NarrowSums,
+        2,
+        &NARROW_HIGH,
+        given.as_slice(),
+        &[1, 0],
+    )
+}
+
+// The steps are the least cells of the rows, but with the sum of both the greatest cell passes the
+// top.
+#[test]
+fn narrow_sums_near_the_top_are_not_given(rt: HostRuntime) -> Result<(), Fail> {
+    assert!(rt; index_of_high(rt.alloc(), &[1 << 60])?.is_none());
     Ok(())
 }
 
@@ -113,35 +180,44 @@ fn one_phase<V: Copy>(alloc: Global, steps: &[V]) -> Result<Vec<Phase<V>>, NoMem
     Ok(vec![in alloc; one]?)
 }
 
-// Whether a phase of this step solves the square of two rows by their greatest cell.
-fn is_solved_at(alloc: Global, step: u64) -> Result<bool, Fault> {
-    let given = one_phase(alloc, &[step])?;
-    let index = index_by(alloc, &Greatest, 2, &PEAKS, given.as_slice(), &[1, 0])?;
-    Ok(index == Some(2))
+// The index of the square of two rows by their greatest cell, where a phase of this step solves it.
+fn peak_index(alloc: Global, step: &[u64]) -> Result<Option<u64>, Fault> {
+    let given = one_phase(alloc, step)?;
+    index_by(alloc, &Greatest, 2, &PEAKS, given.as_slice(), &[1, 0])
 }
+
+// The step of a phase, and the index.
+const PEAK_STEPS: [(&'static [u64], Option<u64>); 3] = [
+    (&[2], Some(2)),
+    (&[1], None),
+    (&[3], None),
+];
 
 #[test]
 fn greatest_cells_are_given(rt: HostRuntime) -> Result<(), Fail> {
-    assert!(rt; is_solved_at(rt.alloc(), 2)?);
-    assert!(rt; !is_solved_at(rt.alloc(), 1)?);
-    assert!(rt; !is_solved_at(rt.alloc(), 3)?);
+    for (step, index) in &PEAK_STEPS {
+        assert!(rt; peak_index(rt.alloc(), step)? == *index);
+    }
     Ok(())
 }
 
-// Whether a phase of a step of grade 1 and this value solves the square of two rows.
-fn is_solved_by_grade(alloc: Global, value: u128) -> Result<bool, Fault> {
-    let m = Graded {
-        inner: Bounded { top: 100 },
-    };
-    let given = one_phase(alloc, &[(1, value)])?;
-    let index = index_by(alloc, &m, 2, &GRADED, given.as_slice(), &[1, 0])?;
-    Ok(index == Some((1, 3)))
+// The index of the square of two rows with grades, where a phase of this step solves it.
+fn graded_index(alloc: Global, step: &[(u64, u128)]) -> Result<Option<(u64, u128)>, Fault> {
+    let given = one_phase(alloc, step)?;
+    index_by(alloc, &GRADES, 2, &GRADED, given.as_slice(), &[1, 0])
 }
+
+// The step of a phase, and the index.
+const GRADED_STEPS: [(&'static [(u64, u128)], Option<(u64, u128)>); 3] = [
+    (&[(1, 3)], Some((1, 3))),
+    (&[(1, 2)], None),
+    (&[(1, 4)], None),
+];
 
 #[test]
 fn grades_are_given(rt: HostRuntime) -> Result<(), Fail> {
-    assert!(rt; is_solved_by_grade(rt.alloc(), 3)?);
-    assert!(rt; !is_solved_by_grade(rt.alloc(), 2)?);
-    assert!(rt; !is_solved_by_grade(rt.alloc(), 4)?);
+    for (step, index) in &GRADED_STEPS {
+        assert!(rt; graded_index(rt.alloc(), step)? == *index);
+    }
     Ok(())
 }

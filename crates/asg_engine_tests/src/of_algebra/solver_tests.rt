@@ -17,22 +17,29 @@ pub(crate) fn index_of<V: Copy>(reduced: &Reduced<V>) -> V {
     reduced.index
 }
 
-// The index of a square once it is solved at a desk, with no column taken, and whether every row
-// has the column that is expected.
+/// The index of a square that was solved at a desk, and whether every row has the column that is
+/// expected.
+pub(crate) fn told<V: Copy>(solved: SolvedSquare<V>, desk: Desk<V>, columns: &[u32]) -> (V, bool) {
+    let is_expected = has_perfect(solved.ended, &desk.matching, columns);
+    (index_of(&solved.reduced), is_expected)
+}
+
+// What is told of a square once it is solved at a desk, with no column taken.
 fn answer_at<M: SquareSolver>(
     alloc: Global,
     m: &M,
     reduced: Reduced<M::Value>,
-    desk: &mut Desk<M::Value>,
+    desk: Desk<M::Value>,
     columns: &[u32],
 ) -> Result<(M::Value, bool), NoMemory>
     requires reduced { IsReduced (M.monoid_of m.now) reduced }
-    requires matching { desk.old.matching ≡ replicate reduced.now.side None }
-    requires bench { desk.old.bench.side ≡ reduced.now.side }
-    requires region { desk.old.region.side ≡ reduced.now.side }
-    requires spare { reduced.now.side ≤ desk.old.region.spare }
+    requires matching { desk.matching ≡ replicate reduced.now.side None }
+    requires bench { desk.bench.side ≡ reduced.now.side }
+    requires region { desk.region.side ≡ reduced.now.side }
+    requires spare { reduced.now.side ≤ desk.region.spare }
 {
-    let SolvedSquare { reduced, ended } = m.solve_square(
+    let mut desk = desk;
+    let solved = m.solve_square(
         alloc,
         reduced,
         &mut desk.matching,
@@ -40,8 +47,7 @@ fn answer_at<M: SquareSolver>(
         &mut desk.region,
         None,
     )?;
-    let is_expected = has_perfect(ended, &desk.matching, columns);
-    Ok((index_of(&reduced), is_expected))
+    Ok(told(solved, desk, columns))
 }
 
 // The same of a square with these cells.
@@ -53,8 +59,8 @@ fn answer<M: SquareSolver>(
     columns: &[u32],
 ) -> Result<(M::Value, bool), Fault> {
     let reduced = reduced_of(alloc, m, side, cells)?;
-    let mut desk = desk_for(alloc, reduced.now.side())?;
-    Ok(answer_at(alloc, m, reduced, &mut desk, columns)?)
+    let desk = desk_for(alloc, reduced.now.side())?;
+    Ok(answer_at(alloc, m, reduced, desk, columns)?)
 }
 
 /// The cells `4 1 3 / 2 0 5 / 3 2 2`, each with a thousand more.
@@ -73,17 +79,14 @@ pub(crate) const THREE: [Option<u128>; 9] = [
 /// The columns of the least assignment of the three rows.
 pub(crate) const COLUMNS: [u32; 3] = [1, 0, 2];
 
-#[test]
-fn sums_far_from_the_top(rt: HostRuntime) -> Result<(), Fail> {
-    let m = Bounded { top: 1 << 120 };
-    assert_eq!(rt; answer(rt.alloc(), &m, 3, &THREE, &COLUMNS)?, (3_005, true));
-    Ok(())
-}
+/// Sums that stop far from those of the three rows, and near them.
+pub(crate) const SUMS: [Bounded; 2] = [Bounded { top: 1 << 120 }, Bounded { top: 4_000 }];
 
 #[test]
-fn sums_near_the_top(rt: HostRuntime) -> Result<(), Fail> {
-    let m = Bounded { top: 4_000 };
-    assert_eq!(rt; answer(rt.alloc(), &m, 3, &THREE, &COLUMNS)?, (3_005, true));
+fn sums_far_from_the_top_and_near_it(rt: HostRuntime) -> Result<(), Fail> {
+    for m in &SUMS {
+        assert!(rt; answer(rt.alloc(), m, 3, &THREE, &COLUMNS)? == (3_005, true));
+    }
     Ok(())
 }
 
@@ -100,20 +103,25 @@ pub(crate) const NARROW_THREE: [Option<u64>; 9] = [
     Some(1_002),
 ];
 
-#[test]
-fn narrow_sums_far_from_the_top(rt: HostRuntime) -> Result<(), Fail> {
-    let found = answer(rt.alloc(), &NarrowSums, 3, &NARROW_THREE, &COLUMNS)?;
-    assert_eq!(rt; found, (3_005, true));
-    Ok(())
-}
+/// Cells near the top, of which the greater two pass it together.
+pub(crate) const NARROW_HIGH: [Option<u64>; 4] = [
+    Some(3 << 60),
+    Some(1 << 60),
+    Some(1 << 60),
+    Some(3 << 60),
+];
 
-// Cells near the top, of which the greater two pass it together.
-const NARROW_HIGH: [Option<u64>; 4] = [Some(3 << 60), Some(1 << 60), Some(1 << 60), Some(3 << 60)];
+// Squares, each with its side, the columns of its least assignment and the sum.
+const OF_NARROW: [(u32, &'static [Option<u64>], &'static [u32], u64); 2] = [
+    (3, &NARROW_THREE, &COLUMNS, 3_005),
+    (2, &NARROW_HIGH, &[1, 0], 1 << 61),
+];
 
 #[test]
-fn narrow_sums_near_the_top(rt: HostRuntime) -> Result<(), Fail> {
-    let found = answer(rt.alloc(), &NarrowSums, 2, &NARROW_HIGH, &[1, 0])?;
-    assert_eq!(rt; found, (1 << 61, true));
+fn narrow_sums_far_from_the_top_and_near_it(rt: HostRuntime) -> Result<(), Fail> {
+    for (side, cells, columns, sum) in &OF_NARROW {
+        assert!(rt; answer(rt.alloc(), &NarrowSums, *side, cells, columns)? == (*sum, true));
+    }
     Ok(())
 }
 
@@ -122,10 +130,7 @@ pub(crate) const PEAKS: [Option<u64>; 4] = [Some(3), Some(1), Some(2), Some(5)];
 
 #[test]
 fn greatest_of_two_rows(rt: HostRuntime) -> Result<(), Fail> {
-    assert_eq!(rt;
-        answer(rt.alloc(), &Greatest, 2, &PEAKS, &[1, 0])?,
-        (2, true)
-    );
+    assert!(rt; answer(rt.alloc(), &Greatest, 2, &PEAKS, &[1, 0])? == (2, true));
     Ok(())
 }
 
@@ -137,14 +142,13 @@ pub(crate) const GRADED: [Option<(u64, u128)>; 4] = [
     Some((1, 4)),
 ];
 
+/// Sums with grades.
+pub(crate) const GRADES: Graded<Bounded> = Graded {
+    inner: Bounded { top: 100 },
+};
+
 #[test]
 fn grades_of_two_rows(rt: HostRuntime) -> Result<(), Fail> {
-    let m = Graded {
-        inner: Bounded { top: 100 },
-    };
-    assert_eq!(rt;
-        answer(rt.alloc(), &m, 2, &GRADED, &[1, 0])?,
-        ((1, 3), true)
-    );
+    assert!(rt; answer(rt.alloc(), &GRADES, 2, &GRADED, &[1, 0])? == ((1, 3), true));
     Ok(())
 }

@@ -8,11 +8,12 @@ ghost use Rattle.asg_algebra.specs.Ended.{last_of};
 ghost use Rattle.asg_algebra.specs.Rest.{IsRest};
 
 use crate::of_algebra::desks::{Desk, desk_for, has_perfect};
+use crate::of_algebra::solver_tests::{COLUMNS, GRADED, GRADES, index_of};
 use crate::samples::{THREE, reduced_of};
 use asg_admit::Reduced;
 use asg_algebra::{NoMemory, Solved, solve};
 use asg_match::Matching;
-use asg_monoids::{Bounded, Graded, Greatest};
+use asg_monoids::{Bounded, Greatest};
 use asg_order::DMonoid;
 use asg_pool::{Region, Trail};
 use asg_samples::Fault;
@@ -70,13 +71,18 @@ fn take_column(matching: &mut Matching, r: u32)
 }
 
 // Takes its column from a row, and solves again.
-fn solve_again<M: DMonoid>(m: &M, found: &mut Found<M::Value>, r: u32) -> Result<(), NoMemory>
-    requires rest { IsRest (M.monoid_of m.now) found.old.reduced.now.side
-        (cell_at found.old.reduced.now) found.old.reduced.index found.old.desk.matching }
-    requires bench { found.old.desk.bench.side ≡ found.old.reduced.now.side }
-    requires region { found.old.desk.region.side ≡ found.old.reduced.now.side }
-    requires live { IfSome (last_of found.old.ended) (IsLive found.old.desk.region) }
+fn solved_again<M: DMonoid>(
+    m: &M,
+    found: Found<M::Value>,
+    r: u32,
+) -> Result<Found<M::Value>, NoMemory>
+    requires rest { IsRest (M.monoid_of m.now) found.reduced.now.side
+        (cell_at found.reduced.now) found.reduced.index found.desk.matching }
+    requires bench { found.desk.bench.side ≡ found.reduced.now.side }
+    requires region { found.desk.region.side ≡ found.reduced.now.side }
+    requires live { IfSome (last_of found.ended) (IsLive found.desk.region) }
 {
+    let mut found = found;
     take_column(&mut found.desk.matching, r);
     let side = found.desk.matching.side();
     found.desk.region.reserve(side)?;
@@ -88,7 +94,7 @@ fn solve_again<M: DMonoid>(m: &M, found: &mut Found<M::Value>, r: u32) -> Result
         &mut found.desk.region,
         last(found.ended),
     );
-    Ok(())
+    Ok(found)
 }
 
 // The last trail.
@@ -106,10 +112,13 @@ fn last(ended: Solved) -> Option<Trail>
 type Told<V> = (V, bool, u32);
 
 // What is told of what was found.
-fn told<V: Copy>(found: &Found<V>, columns: &[u32]) -> Told<V> {
-    let desk = &found.desk;
-    let is_expected = has_perfect(found.ended, &desk.matching, columns);
-    (found.reduced.index, is_expected, desk.region.spare())
+fn told<V: Copy>(found: Found<V>, columns: &[u32]) -> Told<V> {
+    let is_expected = has_perfect(found.ended, &found.desk.matching, columns);
+    (
+        index_of(&found.reduced),
+        is_expected,
+        found.desk.region.spare(),
+    )
 }
 
 // What is told of a square with these cells once it is solved, with no column taken.
@@ -121,14 +130,11 @@ fn told_of<M: DMonoid>(
     columns: &[u32],
 ) -> Result<Told<M::Value>, Fault> {
     let found = solved(alloc, m, side, cells)?;
-    Ok(told(&found, columns))
+    Ok(told(found, columns))
 }
 
 // The sums of the three rows.
 const SUMS: Bounded = Bounded { top: 1 << 120 };
-
-// The columns of the least assignment of the three rows.
-const COLUMNS: [u32; 3] = [1, 0, 2];
 
 #[test]
 fn sums_of_three_rows(rt: HostRuntime) -> Result<(), Fail> {
@@ -181,10 +187,17 @@ fn are_phases(region: &Region<u128>, last: Option<Trail>, phases: &[Phase]) -> b
     next.is_none()
 }
 
-// Whether the three rows are solved by these phases, the last one first.
+// Whether what was found was solved by these phases, the last one first.
+fn has_phases(found: Found<u128>, phases: &[Phase]) -> bool
+    requires { IfSome (last_of found.ended) (IsLive found.desk.region) }
+{
+    are_phases(&found.desk.region, last(found.ended), phases)
+}
+
+// Whether the three rows are solved by these phases.
 fn is_solved_by(alloc: Global, phases: &[Phase]) -> Result<bool, Fault> {
     let found = solved(alloc, &SUMS, 3, &THREE)?;
-    Ok(are_phases(&found.desk.region, last(found.ended), phases))
+    Ok(has_phases(found, phases))
 }
 
 #[test]
@@ -196,17 +209,16 @@ fn phases_of_three_rows(rt: HostRuntime) -> Result<(), Fail> {
 // Whether the last trail stays where the second of the three rows is solved again, and what is told
 // then.
 fn told_again(alloc: Global) -> Result<(bool, Told<u128>), Fault> {
-    let mut found = solved(alloc, &SUMS, 3, &THREE)?;
+    let found = solved(alloc, &SUMS, 3, &THREE)?;
     let trail = last(found.ended);
-    solve_again(&SUMS, &mut found, 1)?;
-    Ok((last(found.ended) == trail, told(&found, &COLUMNS)))
+    let again = solved_again(&SUMS, found, 1)?;
+    Ok((last(again.ended) == trail, told(again, &COLUMNS)))
 }
 
 #[test]
 fn a_row_takes_its_free_column_again(rt: HostRuntime) -> Result<(), Fail> {
     let (stays, told) = told_again(rt.alloc())?;
-    assert!(rt; stays);
-    assert!(rt; told == (3_000_000_005, true, 3));
+    assert!(rt; stays && told == (3_000_000_005, true, 3));
     Ok(())
 }
 
@@ -223,36 +235,30 @@ const ONE_COLUMN: [Option<u64>; 9] = [
     Some(1),
 ];
 
-// Whether the first two rows are short.
-fn are_short(found: &Found<u64>) -> bool {
-    matches!(found.ended, Solved::Short(_)) && found.desk.bench.violator() == [1, 0].as_slice()
+// Whether the first two rows are short; the index, and how many records are spare.
+fn told_short(found: Found<u64>) -> (bool, u64, u32) {
+    let are_short = matches!(found.ended, Solved::Short(_))
+        && found.desk.bench.violator() == [1, 0].as_slice();
+    (are_short, found.reduced.index, found.desk.region.spare())
 }
 
-// Whether the rows with one column are found to be short; the index, and how many records are
-// spare.
-fn told_short(alloc: Global) -> Result<(bool, u64, u32), Fault> {
+// What is told of the rows with one column.
+fn one_column_told(alloc: Global) -> Result<(bool, u64, u32), Fault> {
     let found = solved(alloc, &Greatest, 3, &ONE_COLUMN)?;
-    let spare = found.desk.region.spare();
-    Ok((are_short(&found), found.reduced.index, spare))
+    Ok(told_short(found))
 }
 
 #[test]
 fn rows_with_one_column_are_short(rt: HostRuntime) -> Result<(), Fail> {
-    assert!(rt; told_short(rt.alloc())? == (true, 3, 2));
+    assert!(rt; one_column_told(rt.alloc())? == (true, 3, 2));
     Ok(())
 }
 
-// Pairs of a grade and a value. The first assignment has the grade 1 and the value 6, the second 3.
-const GRADED: [Option<(u64, u128)>; 4] = [Some((1, 2)), Some((0, 9)), Some((1, 3)), Some((1, 4))];
-
+// The first assignment has the grade 1 and the value 6, the second one 3.
 #[test]
 fn grades_before_sums(rt: HostRuntime) -> Result<(), Fail> {
-    let m = Graded {
-        inner: Bounded { top: 100 },
-    };
-    let (index, is_expected, _) = told_of(rt.alloc(), &m, 2, &GRADED, &[1, 0])?;
-    assert!(rt; index == (1, 3));
-    assert!(rt; is_expected);
+    let (index, is_expected, _) = told_of(rt.alloc(), &GRADES, 2, &GRADED, &[1, 0])?;
+    assert!(rt; index == (1, 3) && is_expected);
     Ok(())
 }
 
@@ -262,13 +268,12 @@ const UNITS: [Option<u64>; 4] = [Some(0), None, Some(0), Some(0)];
 // Whether there is no phase of units alone, and what is told.
 fn told_units(alloc: Global) -> Result<(bool, Told<u64>), Fault> {
     let found = solved(alloc, &Greatest, 2, &UNITS)?;
-    Ok((last(found.ended).is_none(), told(&found, &[0, 1])))
+    Ok((last(found.ended).is_none(), told(found, &[0, 1])))
 }
 
 #[test]
 fn units_take_no_step(rt: HostRuntime) -> Result<(), Fail> {
     let (is_still, told) = told_units(rt.alloc())?;
-    assert!(rt; is_still);
-    assert!(rt; told == (0, true, 2));
+    assert!(rt; is_still && told == (0, true, 2));
     Ok(())
 }

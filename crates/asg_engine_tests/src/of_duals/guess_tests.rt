@@ -113,10 +113,22 @@ fn pairs_solved(alloc: Global, side: u32, cells: &[Option<u128>]) -> Result<Opti
     Ok(index_by(&SUMS, reduced, &guess))
 }
 
+// Pairs whose second parts add up to more than a first part: the least sum isn't that of the least
+// first parts, which is guessed.
+const CARRIED: [Option<u128>; 4] = [Some(UNIT - 1), Some(UNIT), Some(0), Some(UNIT - 1)];
+
+// Squares of pairs, each with its side, and what phases lead to.
+const OF_PAIRS: [(u32, &'static [Option<u128>], Option<u128>); 3] = [
+    (2, &PAIRS, Some(2 * UNIT + 5)),
+    (3, &DECIDED, Some(5 * UNIT + 18)),
+    (2, &CARRIED, None),
+];
+
 #[test]
 fn guesses_phases_of_pairs(rt: HostRuntime) -> Result<(), Fail> {
-    assert!(rt; pairs_solved(rt.alloc(), 2, &PAIRS)? == Some(2 * UNIT + 5));
-    assert!(rt; pairs_solved(rt.alloc(), 3, &DECIDED)? == Some(5 * UNIT + 18));
+    for (side, cells, index) in &OF_PAIRS {
+        assert!(rt; pairs_solved(rt.alloc(), *side, cells)? == *index);
+    }
     Ok(())
 }
 
@@ -133,26 +145,45 @@ const WORKED: [Option<u128>; 9] = [
     Some(2),
 ];
 
-// What the phases that are guessed for the worked square lead to, where sums stop at a cap, and so
-// do the cells.
-fn capped_solved(alloc: Global, cap: Bounded) -> Result<Option<u128>, Fault> {
-    let mut cells = WORKED;
-    for place in 0..cells.len() {
-        cells[place] = cells[place].map(|cell| cell.min(cap.top));
-    }
-    let reduced = reduced_of(alloc, &cap, 3, &cells)?;
+// The same, each at most 3.
+const AT_MOST_THREE: [Option<u128>; 9] = [
+    Some(3),
+    Some(1),
+    Some(3),
+    Some(2),
+    Some(0),
+    Some(3),
+    Some(3),
+    Some(2),
+    Some(2),
+];
+
+// What the phases that are guessed for a square of three rows lead to, where sums stop at a cap.
+fn capped_solved(
+    alloc: Global,
+    cap: &Bounded,
+    cells: &[Option<u128>; 9],
+) -> Result<Option<u128>, Fault> {
+    let reduced = reduced_of(alloc, cap, 3, cells)?;
     let Some(guess) = capped_guess(alloc, &reduced.now, cap.top)? else {
         return Ok(None);
     };
-    Ok(index_by(&cap, reduced, &guess))
+    Ok(index_by(cap, reduced, &guess))
 }
+
+// Where sums stop, the cells up to there, and what phases lead to.
+const CAPS: [(Bounded, &'static [Option<u128>; 9], u128); 4] = [
+    (Bounded { top: 6 }, &WORKED, 5),
+    (Bounded { top: 5 }, &WORKED, 5),
+    (Bounded { top: 3 }, &AT_MOST_THREE, 3),
+    (Bounded { top: 0 }, &[Some(0); 9], 0),
+];
 
 #[test]
 fn cuts_phases_where_sums_stop(rt: HostRuntime) -> Result<(), Fail> {
-    assert!(rt; capped_solved(rt.alloc(), Bounded { top: 6 })? == Some(5));
-    assert!(rt; capped_solved(rt.alloc(), Bounded { top: 5 })? == Some(5));
-    assert!(rt; capped_solved(rt.alloc(), Bounded { top: 3 })? == Some(3));
-    assert!(rt; capped_solved(rt.alloc(), Bounded { top: 0 })? == Some(0));
+    for (cap, cells, index) in &CAPS {
+        assert!(rt; capped_solved(rt.alloc(), cap, *cells)? == Some(*index));
+    }
     Ok(())
 }
 
@@ -189,11 +220,18 @@ fn grades_solved(
     Ok(index_by(&GRADES, reduced, &guess))
 }
 
+// Squares of graded sums, each with its side, and what phases lead to.
+const OF_GRADES: [(u32, &'static [Option<(u64, u128)>], (u64, u128)); 3] = [
+    (2, &EQUAL, (3, 2)),
+    (2, &UNEQUAL, (1, 0)),
+    (3, &SHARED, (4, 2)),
+];
+
 #[test]
 fn guesses_phases_of_graded_sums(rt: HostRuntime) -> Result<(), Fail> {
-    assert!(rt; grades_solved(rt.alloc(), 2, &EQUAL)? == Some((3, 2)));
-    assert!(rt; grades_solved(rt.alloc(), 2, &UNEQUAL)? == Some((1, 0)));
-    assert!(rt; grades_solved(rt.alloc(), 3, &SHARED)? == Some((4, 2)));
+    for (side, cells, index) in &OF_GRADES {
+        assert!(rt; grades_solved(rt.alloc(), *side, cells)? == Some(*index));
+    }
     Ok(())
 }
 
@@ -224,10 +262,17 @@ fn peaks_solved(alloc: Global, side: u32, cells: &[Option<u64>]) -> Result<Optio
     Ok(index_by(&Greatest, reduced, &guess))
 }
 
+// Squares of numbers, each with its side, and what phases lead to.
+const OF_NUMBERS: [(u32, &'static [Option<u64>], Option<u64>); 3] = [
+    (2, &OF_COLUMN, Some(5)),
+    (3, &OF_ROWS, Some(4)),
+    (2, &NONE, None),
+];
+
 #[test]
 fn guesses_a_phase_of_maxima(rt: HostRuntime) -> Result<(), Fail> {
-    assert!(rt; peaks_solved(rt.alloc(), 2, &OF_COLUMN)? == Some(5));
-    assert!(rt; peaks_solved(rt.alloc(), 3, &OF_ROWS)? == Some(4));
-    assert!(rt; peaks_solved(rt.alloc(), 2, &NONE)?.is_none());
+    for (side, cells, index) in &OF_NUMBERS {
+        assert!(rt; peaks_solved(rt.alloc(), *side, cells)? == *index);
+    }
     Ok(())
 }

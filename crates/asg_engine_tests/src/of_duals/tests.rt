@@ -11,6 +11,7 @@ use asg_duals::{Duals, short_phases, tight_duals};
 use asg_monoids::NarrowSums;
 use asg_proof::Phase;
 use asg_samples::Fault;
+use asg_square::NoMemory;
 use std::alloc::Global;
 use std::test::Fail;
 
@@ -72,39 +73,64 @@ fn are_zero(narrow: &NarrowSquare, columns: &[u32]) -> bool {
     true
 }
 
-// What the phases of dual variables add up to, where they are admitted one after the other and lead
-// to cells of 0 on the assignment.
-fn index_of(alloc: Global, reduced: Reduced<u64>, duals: &Duals) -> Result<Option<u64>, Fault>
+// A square after phases, where they are admitted one after the other.
+fn applied(
+    alloc: Global,
+    reduced: Reduced<u64>,
+    phases: &[Phase<u64>],
+) -> Result<Option<NarrowSquare>, NoMemory>
+    requires { IsReduced (bounded_sums narrow_top) reduced }
+{
+    let mut narrow = NarrowSquare::make(alloc, reduced)?;
+    let places = (narrow.side() as usize).saturating_add(1);
+    let mut room = vec![in alloc; 0u64; places]?;
+    if all_apply(&mut narrow, phases, room.as_mut_slice()) {
+        Ok(Some(narrow))
+    } else {
+        Ok(None)
+    }
+}
+
+// What phases add up to, where they lead to cells of 0 on the assignment.
+fn index_by(
+    alloc: Global,
+    reduced: Reduced<u64>,
+    phases: &[Phase<u64>],
+    columns: &[u32],
+) -> Result<Option<u64>, NoMemory>
+    requires { IsReduced (bounded_sums narrow_top) reduced }
+{
+    let Some(narrow) = applied(alloc, reduced, phases)? else {
+        return Ok(None);
+    };
+    if are_zero(&narrow, columns) {
+        Ok(Some(narrow.index()))
+    } else {
+        Ok(None)
+    }
+}
+
+// What phases are and add up to: their number, the column of the first row, and the index that they
+// lead to.
+type Told = (usize, Option<u32>, Option<u64>);
+
+// What is told of the phases of dual variables.
+fn told_by(alloc: Global, reduced: Reduced<u64>, duals: &Duals) -> Result<Told, NoMemory>
     requires { IsReduced (bounded_sums narrow_top) reduced }
 {
     let phases = short_phases(alloc, duals)?;
-    let mut room = vec![in alloc; 0u64; duals.columns().len().saturating_add(1)]?;
-    let mut narrow = NarrowSquare::make(alloc, reduced)?;
-    if !all_apply(&mut narrow, phases.as_slice(), room.as_mut_slice()) {
-        return Ok(None);
-    }
-    Ok(if are_zero(&narrow, duals.columns()) {
-        Some(narrow.index())
-    } else {
-        None
-    })
+    let index = index_by(alloc, reduced, phases.as_slice(), duals.columns())?;
+    Ok((phases.len(), duals.columns().first().copied(), index))
 }
 
-// What the phases of the square of this side with these cells are and add up to: their number, the
-// column of the first row, and the index that they lead to. `None` where no assignment is found.
-fn solved(
-    alloc: Global,
-    side: u32,
-    cells: &[Option<u64>],
-) -> Result<Option<(usize, Option<u32>, Option<u64>)>, Fault> {
+// What is told of the phases of the square of this side with these cells; `None` where no
+// assignment is found.
+fn solved(alloc: Global, side: u32, cells: &[Option<u64>]) -> Result<Option<Told>, Fault> {
     let reduced = reduced_of(alloc, &NarrowSums, side, cells)?;
     let Some(duals) = tight_duals(alloc, &reduced.now)? else {
         return Ok(None);
     };
-    let count = short_phases(alloc, &duals)?.len();
-    let first = duals.columns().first().copied();
-    let index = index_of(alloc, reduced, &duals)?;
-    Ok(Some((count, first, index)))
+    Ok(Some(told_by(alloc, reduced, &duals)?))
 }
 
 // Whether the square of this side with these cells is solved by at most so many phases, which lead

@@ -4,51 +4,17 @@ ghost use Rattle.std.specs.Prelude.{◌≡◌, ◌≤◌};
 ghost use Rattle.asg_model.specs.Limits.{most_cost};
 ghost use Rattle.asg_model.specs.Objectives.{is_algebraic};
 
+use crate::of_objectives::samples::{BEST, BEST_FAR, Best, CAPPED, FAR, ONE_COLUMN, PLAIN};
 use asg_algebra::SquareSolver;
 use asg_model::limits::MOST_SIDE;
-use asg_model::{
-    ABSENT, Band, Choice, Instance, Objective, Place, Value, is_hall, is_valid, negative, value,
-};
+use asg_model::{Band, Choice, Instance, Objective, Value, is_hall, is_valid, negative, value};
 use asg_monoids::{PeakKind, SumKind, TimeKind};
 use asg_objectives::{NoMemory, algebraic, algebraic_assignment};
 use asg_order::Kind;
 use asg_proof::{Outcome, Proof};
-use asg_samples::Sample;
+use asg_samples::{Fault, Sample};
 use std::alloc::Global;
 use std::test::Fail;
-
-// The square `4:1 1:7 3:2 / 2:5 0:3 5:6 / 3:4 2:8 2:9`, a cost being written `a:b`.
-const PLAIN: Sample<'static> = Sample {
-    rows: &[true, true, true],
-    columns: &[(1, true), (1, true), (1, true)],
-    firsts: &[4, 1, 3, 2, 0, 5, 3, 2, 2],
-    seconds: &[1, 7, 2, 5, 3, 6, 4, 8, 9],
-    place: Place::All,
-};
-
-// A square whose first two rows have the second column alone.
-const ONE_COLUMN: Sample<'static> = Sample {
-    rows: &[true, true, true],
-    columns: &[(1, true), (1, true), (1, true)],
-    firsts: &[ABSENT, 1, ABSENT, ABSENT, 0, ABSENT, 3, 2, 2],
-    seconds: &[0, 7, 0, 0, 3, 0, 4, 8, 9],
-    place: Place::All,
-};
-
-// The columns of the best choices, and the value; where there is a second number, both are it.
-type Best = (&'static [[u32; 3]], i128, Option<i128>);
-
-// The best choices of the plain square for each objective. Two choices have the greatest least
-// cost.
-const BEST: [(Objective, Best); 7] = [
-    (Objective::Sum, (&[[1, 0, 2]], 5, None)),
-    (Objective::SumMax, (&[[0, 2, 1]], 11, None)),
-    (Objective::SumPair, (&[[1, 0, 2]], 5, Some(21))),
-    (Objective::Capped(6), (&[[1, 0, 2]], 5, None)),
-    (Objective::TimeCost, (&[[1, 0, 2]], 2, Some(14))),
-    (Objective::Bottleneck, (&[[1, 0, 2]], 2, None)),
-    (Objective::BottleneckMax, (&[[0, 2, 1], [2, 0, 1]], 2, None)),
-];
 
 // Whether the choice has these columns.
 fn has_columns(choice: &Choice, columns: &[u32; 3]) -> bool {
@@ -190,14 +156,33 @@ fn gives_hall_set(alloc: Global, inst: &Instance, objective: Objective) -> Resul
     }
 }
 
+// Tells the first objective whose outcome isn't a best choice of a sample.
+fn first_wrong(
+    alloc: Global,
+    sample: &Sample<'_>,
+    bests: &[(Objective, Best)],
+) -> Result<Option<Objective>, Fault> {
+    let inst = sample.instance(alloc)?;
+    for (objective, best) in bests {
+        if !gives(alloc, &inst, *objective, *best)? {
+            return Ok(Some(*objective));
+        }
+    }
+    Ok(None)
+}
+
+// Squares and their best choices.
+const SQUARES: [(&'static Sample<'static>, &'static [(Objective, Best)]); 3] = [
+    (&PLAIN, &BEST),
+    (&PLAIN, &CAPPED),
+    (&FAR, &BEST_FAR),
+];
+
 #[test]
 fn finds_best_choices(rt: HostRuntime) -> Result<(), Fail> {
-    let inst = PLAIN.instance(rt.alloc())?;
-    for (objective, best) in &BEST {
-        assert!(rt;
-            gives(rt.alloc(), &inst, *objective, *best)?,
-            "{objective:?}"
-        );
+    for (sample, bests) in &SQUARES {
+        let wrong = first_wrong(rt.alloc(), sample, bests)?;
+        assert!(rt; wrong.is_none(), "{wrong:?}");
     }
     Ok(())
 }
@@ -205,27 +190,30 @@ fn finds_best_choices(rt: HostRuntime) -> Result<(), Fail> {
 #[test]
 fn rows_with_one_column(rt: HostRuntime) -> Result<(), Fail> {
     let inst = ONE_COLUMN.instance(rt.alloc())?;
-    for objective in [
-        Objective::Sum,
-        Objective::BottleneckMax,
-        Objective::TimeCost,
-    ] {
+    for (objective, _) in &BEST {
         assert!(rt;
-            gives_hall_set(rt.alloc(), &inst, objective)?,
+            gives_hall_set(rt.alloc(), &inst, *objective)?,
             "{objective:?}"
         );
     }
     Ok(())
 }
 
-#[test]
-fn kinds(rt: HostRuntime) -> Result<(), Fail> {
-    let inst = PLAIN.instance(rt.alloc())?;
+// Whether the outcomes by three kinds are best choices of the plain square.
+fn kinds_give(alloc: Global, inst: &Instance) -> Result<bool, NoMemory> {
     let sum = SumKind::of(Objective::SumMax);
     let peak = PeakKind::of(Objective::Bottleneck);
     let time = TimeKind::new();
-    assert!(rt; gives_by(rt.alloc(), &inst, &sum, (&[[0, 2, 1]], 11, None))?);
-    assert!(rt; gives_by(rt.alloc(), &inst, &peak, (&[[1, 0, 2]], 2, None))?);
-    assert!(rt; gives_by(rt.alloc(), &inst, &time, (&[[1, 0, 2]], 2, Some(14)))?);
+    Ok(
+        gives_by(alloc, inst, &sum, (&[[0, 2, 1]], 11, None))?
+            && gives_by(alloc, inst, &peak, (&[[1, 0, 2]], 2, None))?
+            && gives_by(alloc, inst, &time, (&[[1, 0, 2]], 2, Some(14)))?,
+    )
+}
+
+#[test]
+fn kinds(rt: HostRuntime) -> Result<(), Fail> {
+    let inst = PLAIN.instance(rt.alloc())?;
+    assert!(rt; kinds_give(rt.alloc(), &inst)?);
     Ok(())
 }

@@ -1,9 +1,9 @@
-//! Squares whose values change.
+//! Squares whose values change, and copies of them.
 
 ghost use Rattle.std.specs.Prelude.{◌≡◌, IsTrue};
 ghost use Rattle.asg_model.specs.Shapes.{square_side};
 
-use crate::of_square::samples::sample;
+use crate::of_square::samples::{filled, has_row, sample};
 use asg_model::Place::{All, Exactly};
 use asg_model::limits::MOST_SIDE;
 use asg_model::{Cost, Instance, Place};
@@ -49,6 +49,46 @@ fn changes_values_alone(rt: HostRuntime) -> Result<(), Fail> {
     assert_eq!(rt; square.at(3, 1), Some(1));
     square.replace(3, 1, 8);
     assert!(rt; is_replaced(&square));
+    Ok(())
+}
+
+// Whether two cells were set.
+fn is_changed(square: &Square<i64>) -> bool {
+    if square.side() != 4 {
+        return false;
+    }
+    [square.at(1, 2), square.at(0, 0), square.at(0, 1)] == [Some(7), None, Some(1)]
+        && square.row_words(1)[0] == 0b0101
+        && square.row_values(1)[2] == 7
+}
+
+// Whether the square is as it was, with its labels.
+fn is_restored(square: &Square<i64>) -> bool {
+    if square.side() != 4 {
+        return false;
+    }
+    let labels = [
+        square.row_label(2),
+        square.row_label(3),
+        square.column_label(0),
+        square.column_label(3),
+    ];
+    has_row(square, 0, &[4, 1, 1, 1, 0, 0])
+        && square.row_words(1)[0] == 0b0001
+        && labels == [Some(2), None, Some(0), Some(1)]
+}
+
+#[test]
+fn copies_and_changes_squares(rt: HostRuntime) -> Result<(), Fail> {
+    let inst = sample(rt.alloc(), All, true)?;
+    assert_eq!(rt; inst.side(), 4);
+    let mut square = filled(rt.alloc(), &inst)?;
+    let other = square.copy(rt.alloc())?;
+    square.set(1, 2, Some(7));
+    square.set(0, 0, None);
+    assert!(rt; is_changed(&square));
+    square.take(&other);
+    assert!(rt; is_restored(&square));
     Ok(())
 }
 

@@ -2,10 +2,15 @@
 
 use crate::of_app::memory_runs::Case;
 
+/// The requests, for a caller that needn't know them.
+pub(crate) fn algebraic() -> &'static [Case] {
+    &ALGEBRAIC
+}
+
 // Requests to solve with their answers: each objective with its ties and its sign, fewer rows to be
 // placed, greater capacities, graphs, tables with absent cells, and instances without a valid
 // choice.
-pub(crate) const ALGEBRAIC: [Case; 24] = [
+static ALGEBRAIC: [Case; 24] = [
     (
         "sum",
         &[],

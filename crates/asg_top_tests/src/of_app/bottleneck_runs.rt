@@ -2,10 +2,15 @@
 
 use crate::of_app::memory_runs::Case;
 
+/// The requests, for a caller that needn't know them.
+pub(crate) fn bottleneck() -> &'static [Case] {
+    &BOTTLENECK
+}
+
 // Requests to solve with their answers: squares with ties, negative costs and equal rows, tables
 // with absent cells, graphs, fewer rows to be placed, greater capacities, and instances without a
 // valid choice.
-pub(crate) const BOTTLENECK: [Case; 28] = [
+static BOTTLENECK: [Case; 28] = [
     (
         "bottleneck",
         &[],

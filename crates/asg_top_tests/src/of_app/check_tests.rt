@@ -15,7 +15,7 @@ const SOLVED: &str =
 const HEAD: &str = "assignment 1\ncommand solve\nobjective bottleneck\nstatus best\n";
 
 // Square files, and documents that certify for them.
-const CERTIFYING: [(&[u8], &str); 4] = [
+static CERTIFYING: [(&[u8], &str); 4] = [
     (THREE, SOLVED),
     (
         b"1\n-1000000000\n",
@@ -35,20 +35,27 @@ const CERTIFYING: [(&[u8], &str); 4] = [
     ),
 ];
 
+// These files, for a caller that needn't know them.
+fn certifying() -> &'static [(&'static [u8], &'static str)] {
+    &CERTIFYING
+}
+
+// Whether the document certifies for the file.
+fn certifies(alloc: Global, file: &[u8], answer: &str) -> Result<bool, AllocError> {
+    let files = held(file, answer.as_bytes());
+    ends(alloc, CHECK, &[], files, (0, b"yes 1\n"))
+}
+
 #[test]
 fn answers_that_certify(rt: HostRuntime) -> Result<(), Fail> {
-    for (file, answer) in CERTIFYING {
-        let files = held(file, answer.as_bytes());
-        assert!(rt;
-            ends(rt.alloc(), CHECK, &[], files, (0, b"yes 1\n"))?,
-            "{answer}"
-        );
+    for (file, answer) in certifying() {
+        assert!(rt; certifies(rt.alloc(), file, answer)?, "{answer}");
     }
     Ok(())
 }
 
 // What comes behind the head of a document for the square `THREE`, and what is told of it.
-const BENT: [(&str, &str); 14] = [
+static BENT: [(&str, &str); 14] = [
     (
         "value 2\ncells 3\n1 2\n2 1\n3 3\nproof below 1\nend\n",
         "no 1 5 0\n",
@@ -127,16 +134,21 @@ fn are_told(
     is_told(alloc, &answer, code, text)
 }
 
+// These documents, for a caller that needn't know them.
+fn bent() -> &'static [(&'static str, &'static str)] {
+    &BENT
+}
+
 #[test]
 fn best_answers_that_do_not_certify(rt: HostRuntime) -> Result<(), Fail> {
-    for (rest, text) in BENT {
+    for (rest, text) in bent() {
         assert!(rt; are_told(rt.alloc(), HEAD, rest, 6, text)?, "{rest}");
     }
     Ok(())
 }
 
 // Documents of another objective and of another status, and what is told of them.
-const OTHERS: [(&str, &str); 3] = [
+static OTHERS: [(&str, &str); 3] = [
     (
         "assignment 1\ncommand solve\nobjective bottleneck\nstatus none\nhall 4\nend\n",
         "no 1 5 0\n",
@@ -152,16 +164,21 @@ const OTHERS: [(&str, &str); 3] = [
     ),
 ];
 
+// These, for a caller that needn't know them.
+fn others() -> &'static [(&'static str, &'static str)] {
+    &OTHERS
+}
+
 #[test]
 fn other_answers_that_do_not_certify(rt: HostRuntime) -> Result<(), Fail> {
-    for (answer, text) in OTHERS {
+    for (answer, text) in others() {
         assert!(rt; is_told(rt.alloc(), answer, 6, text)?, "{answer}");
     }
     Ok(())
 }
 
 // Texts that are refused, and how.
-const NO_DOCUMENTS: [(&str, &str); 5] = [
+static NO_DOCUMENTS: [(&str, &str); 5] = [
     ("", "refused document 0\n"),
     ("assign", "refused document 1\n"),
     ("assignment 1\n", "refused document 2\n"),
@@ -173,14 +190,23 @@ const NO_DOCUMENTS: [(&str, &str); 5] = [
 ];
 
 // What stands behind a document, and how the text is refused.
-const BEHIND: [(&str, &str); 2] = [
+static BEHIND: [(&str, &str); 2] = [
     (SOLVED, "refused document 0\n"),
     ("assignment 2\n", "refused document 12\n"),
 ];
 
+// Both tables, for a caller that needn't know them.
+fn no_documents() -> &'static [(&'static str, &'static str)] {
+    &NO_DOCUMENTS
+}
+
+fn behind() -> &'static [(&'static str, &'static str)] {
+    &BEHIND
+}
+
 #[test]
 fn answers_that_are_refused(rt: HostRuntime) -> Result<(), Fail> {
-    for (answer, text) in NO_DOCUMENTS {
+    for (answer, text) in no_documents() {
         assert!(rt; is_told(rt.alloc(), answer, 5, text)?, "{answer}");
     }
     Ok(())
@@ -188,25 +214,21 @@ fn answers_that_are_refused(rt: HostRuntime) -> Result<(), Fail> {
 
 #[test]
 fn answers_that_are_refused_behind_a_document(rt: HostRuntime) -> Result<(), Fail> {
-    for (more, text) in BEHIND {
+    for (more, text) in behind() {
         assert!(rt; are_told(rt.alloc(), SOLVED, more, 5, text)?, "{more}");
     }
     Ok(())
 }
 
-// The instance's file is refused before the answer's file.
+// Whether the instance's file is refused before the answer's file.
+fn is_refused_first(alloc: Global) -> Result<bool, AllocError> {
+    let files = held(b"2\n1 2\n3 x\n", b"");
+    ends(alloc, CHECK, &[], files, (3, b"refused instance 12 5\n"))
+}
+
 #[test]
 fn an_instance_that_is_refused_first(rt: HostRuntime) -> Result<(), Fail> {
-    let files = held(b"2\n1 2\n3 x\n", b"");
-    assert!(rt;
-        ends(
-            rt.alloc(),
-            CHECK,
-            &[],
-            files,
-            (3, b"refused instance 12 5\n")
-        )?
-    );
+    assert!(rt; is_refused_first(rt.alloc())?);
     Ok(())
 }
 
@@ -231,7 +253,7 @@ pub(crate) fn is_stopped(alloc: Global, case: &Faulty) -> Result<bool, AllocErro
     ends(alloc, case.0, &[], files, (case.3, case.4))
 }
 
-const FAULTS: [Faulty; 5] = [
+static FAULTS: [Faulty; 5] = [
     (CHECK, &[1], &[], 7, b""),
     (CHECK, &[2], &[], 7, b""),
     (&["check", "bottleneck", "f", "h"], &[], &[], 7, b""),
@@ -239,9 +261,14 @@ const FAULTS: [Faulty; 5] = [
     (CHECK, &[], &[(1, 2)], 8, b"ye"),
 ];
 
+// These cases, for a caller that needn't know them.
+fn faults() -> &'static [Faulty] {
+    &FAULTS
+}
+
 #[test]
 fn faults_while_checking(rt: HostRuntime) -> Result<(), Fail> {
-    for case in &FAULTS {
+    for case in faults() {
         assert!(rt; is_stopped(rt.alloc(), case)?);
     }
     Ok(())

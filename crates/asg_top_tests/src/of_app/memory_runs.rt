@@ -30,12 +30,28 @@ pub(crate) fn held<'a>(f: &'a [u8], g: &'a [u8]) -> Files<'a> {
     }
 }
 
-// The two files under their names.
-fn contents_of(alloc: Global, files: &Files<'_>) -> Result<Vec<(String, Vec<u8>)>, AllocError> {
+// Puts a file under its name.
+fn add_file(
+    alloc: Global,
+    contents: &mut Vec<(String, Vec<u8>)>,
+    name: &str,
+    held: &[u8],
+) -> Result<(), AllocError> {
+    contents.push((String::from_str(alloc, name)?, held.to_vec(alloc)?))?;
+    Ok(())
+}
+
+// The shelf with the two files.
+fn shelf_of(alloc: Global, files: &Files<'_>) -> Result<MemoryShelf, AllocError> {
     let mut contents = Vec::new(alloc);
-    contents.push((String::from_str(alloc, "f")?, files.f.to_vec(alloc)?))?;
-    contents.push((String::from_str(alloc, "g")?, files.g.to_vec(alloc)?))?;
-    Ok(contents)
+    add_file(alloc, &mut contents, "f", files.f)?;
+    add_file(alloc, &mut contents, "g", files.g)?;
+    Ok(MemoryShelf::with(alloc, contents, files.fetch_fails.to_vec(alloc)?))
+}
+
+// The sink with this room.
+fn sink_of(alloc: Global, room: u32, files: &Files<'_>) -> Result<MemorySink, AllocError> {
+    MemorySink::with(alloc, room, files.put_fails.to_vec(alloc)?)
 }
 
 // Adds words to a line.
@@ -75,9 +91,8 @@ pub(crate) fn run_within(
     files: Files<'_>,
 ) -> Result<Ran, AllocError> {
     let line = line_of(alloc, words, options)?;
-    let contents = contents_of(alloc, &files)?;
-    let mut shelf = MemoryShelf::with(alloc, contents, files.fetch_fails.to_vec(alloc)?);
-    let mut out = MemorySink::with(alloc, room, files.put_fails.to_vec(alloc)?)?;
+    let mut shelf = shelf_of(alloc, &files)?;
+    let mut out = sink_of(alloc, room, &files)?;
     run_made(alloc, &line, &mut shelf, &mut out)
 }
 

@@ -13,7 +13,7 @@ type Refused = (
 );
 
 // Files that are refused by their text, by the options or by the side that they give.
-const FILES: [Refused; 16] = [
+static FILES: [Refused; 16] = [
     ("bottleneck", &[], "0", "refused instance 10\n"),
     ("bottleneck", &[], "", "refused instance 11 1 0\n"),
     ("bottleneck", &[], "2\n1 2 3", "refused instance 11 4 3\n"),
@@ -89,7 +89,7 @@ const FILES: [Refused; 16] = [
 
 // Files that are refused by the objective: none but `capped` and `time-cost` refuses a negative
 // cost, and the refusal comes behind that of the options' place and before that of the side.
-const COSTS: [Refused; 12] = [
+static COSTS: [Refused; 12] = [
     ("capped=5", &[], "1\n-1\n", "refused instance 14 1 1\n"),
     (
         "capped=5",
@@ -159,6 +159,15 @@ const COSTS: [Refused; 12] = [
     ),
 ];
 
+// Both tables, for a caller that needn't know them.
+fn files() -> &'static [Refused] {
+    &FILES
+}
+
+fn costs() -> &'static [Refused] {
+    &COSTS
+}
+
 // Whether a request with these words and the options of a case refuses its file as it says.
 fn refuses(alloc: Global, words: &[&str], case: &Refused) -> Result<bool, AllocError> {
     let files = held(case.2.as_bytes(), b"");
@@ -177,7 +186,7 @@ fn checking_refuses(alloc: Global, case: &Refused) -> Result<bool, AllocError> {
 
 #[test]
 fn files_that_are_refused(rt: HostRuntime) -> Result<(), Fail> {
-    for case in &FILES {
+    for case in files() {
         assert!(rt; solving_refuses(rt.alloc(), case)?, "{}", case.2);
     }
     Ok(())
@@ -185,7 +194,7 @@ fn files_that_are_refused(rt: HostRuntime) -> Result<(), Fail> {
 
 #[test]
 fn costs_that_are_refused(rt: HostRuntime) -> Result<(), Fail> {
-    for case in &COSTS {
+    for case in costs() {
         assert!(rt; solving_refuses(rt.alloc(), case)?, "{}", case.2);
     }
     Ok(())
@@ -194,7 +203,7 @@ fn costs_that_are_refused(rt: HostRuntime) -> Result<(), Fail> {
 // A request to check refuses an instance as one to solve does.
 #[test]
 fn costs_that_are_refused_while_checking(rt: HostRuntime) -> Result<(), Fail> {
-    for case in &COSTS {
+    for case in costs() {
         assert!(rt; checking_refuses(rt.alloc(), case)?, "{}", case.2);
     }
     Ok(())

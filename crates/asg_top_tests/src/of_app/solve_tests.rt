@@ -1,7 +1,7 @@
 //! Requests to solve, and words that are no request, as runs over memory.
 
-use crate::of_app::algebraic_runs::ALGEBRAIC;
-use crate::of_app::bottleneck_runs::BOTTLENECK;
+use crate::of_app::algebraic_runs::algebraic;
+use crate::of_app::bottleneck_runs::bottleneck;
 use crate::of_app::check_tests::{Faulty, is_stopped};
 use crate::of_app::memory_runs::{Case, Ran, ends, held, run_over, run_within};
 use asg_app::Status;
@@ -43,7 +43,7 @@ pub(crate) fn is_answered(alloc: Global, case: &Case) -> Result<bool, AllocError
 
 #[test]
 fn bottleneck_documents(rt: HostRuntime) -> Result<(), Fail> {
-    for case in &BOTTLENECK {
+    for case in bottleneck() {
         assert!(rt; is_answered(rt.alloc(), case)?, "{}", case.2);
     }
     Ok(())
@@ -51,7 +51,7 @@ fn bottleneck_documents(rt: HostRuntime) -> Result<(), Fail> {
 
 #[test]
 fn algebraic_documents(rt: HostRuntime) -> Result<(), Fail> {
-    for case in &ALGEBRAIC {
+    for case in algebraic() {
         assert!(rt; is_answered(rt.alloc(), case)?, "{}", case.2);
     }
     Ok(())
@@ -65,19 +65,23 @@ fn has_both_rows(ran: &Ran) -> bool {
 }
 
 // Two rows with one column between them.
+const TWO_ROWS: &[u8] = b"p asn 4 2\nn 1\nn 2\na 1 3 5\na 2 3 6\n";
+
+// Whether the request to solve it finds both rows.
+fn finds_both_rows(alloc: Global, words: &[&str]) -> Result<bool, AllocError> {
+    let ran = run_over(alloc, words, &["--format", "asn"], held(TWO_ROWS, b""))?;
+    Ok(has_both_rows(&ran))
+}
+
 #[test]
 fn a_hall_set_of_two_rows(rt: HostRuntime) -> Result<(), Fail> {
-    let file = b"p asn 4 2\nn 1\nn 2\na 1 3 5\na 2 3 6\n";
-    for objective in ["bottleneck", "sum"] {
-        let words = ["solve", objective, "f"];
-        let ran = run_over(rt.alloc(), &words, &["--format", "asn"], held(file, b""))?;
-        assert!(rt; has_both_rows(&ran));
-    }
+    assert!(rt; finds_both_rows(rt.alloc(), &["solve", "bottleneck", "f"])?);
+    assert!(rt; finds_both_rows(rt.alloc(), &["solve", "sum", "f"])?);
     Ok(())
 }
 
 // Words that are no request, and requests that aren't built.
-const NO_REQUESTS: [&[&str]; 18] = [
+static NO_REQUESTS: [&[&str]; 18] = [
     &[],
     &["solve", "bottleneck"],
     &["solve", "bottleneck", "f", "g"],
@@ -98,16 +102,26 @@ const NO_REQUESTS: [&[&str]; 18] = [
     &["make", "1", "1"],
 ];
 
+// These words, for a caller that needn't know them.
+fn no_requests() -> &'static [&'static [&'static str]] {
+    &NO_REQUESTS
+}
+
+// Whether words are answered by the usage.
+fn are_no_request(alloc: Global, words: &[&str]) -> Result<bool, AllocError> {
+    let want = (2, USAGE.as_bytes());
+    ends(alloc, words, &[], held(b"1 1", b""), want)
+}
+
 #[test]
 fn words_that_are_no_request(rt: HostRuntime) -> Result<(), Fail> {
-    for words in NO_REQUESTS {
-        let want = (2, USAGE.as_bytes());
-        assert!(rt; ends(rt.alloc(), words, &[], held(b"1 1", b""), want)?);
+    for words in no_requests() {
+        assert!(rt; are_no_request(rt.alloc(), words)?, "{words:?}");
     }
     Ok(())
 }
 
-const FAULTS: [Faulty; 6] = [
+static FAULTS: [Faulty; 6] = [
     (
         &["solve", "bottleneck", "f"],
         &[],
@@ -122,12 +136,17 @@ const FAULTS: [Faulty; 6] = [
     (&["solve"], &[], &[(1, 3)], 8, b"usa"),
 ];
 
+// These cases, for a caller that needn't know them.
+fn faults() -> &'static [Faulty] {
+    &FAULTS
+}
+
 #[test]
 fn faults_of_shelf_and_sink(rt: HostRuntime) -> Result<(), Fail> {
-    for case in &FAULTS {
+    for case in faults() {
         assert!(rt; is_stopped(rt.alloc(), case)?);
     }
-    assert_eq!(rt; Status::TooLong.code(), 10);
+    assert!(rt; Status::TooLong.code() == 10);
     Ok(())
 }
 
@@ -154,11 +173,21 @@ fn products(alloc: Global) -> Result<String, AllocError> {
 const LEAST_PRODUCTS: &[u8] =
     b"assignment 1\ncommand solve\nobjective sum\nstatus best\nvalue 85653600\n";
 
+// The run that solves this square.
+fn solved_products(alloc: Global) -> Result<Ran, AllocError> {
+    let file = products(alloc)?;
+    let files = held(file.as_bytes(), b"");
+    run_within(alloc, 16_000_000, &["solve", "sum", "f"], &[], files)
+}
+
+// Whether it finds this sum.
+fn solves_products(alloc: Global) -> Result<bool, AllocError> {
+    let ran = solved_products(alloc)?;
+    Ok(ran.code == 0 && ran.written.starts_with(LEAST_PRODUCTS))
+}
+
 #[test]
 fn a_sum_over_eight_hundred_rows(rt: HostRuntime) -> Result<(), Fail> {
-    let file = products(rt.alloc())?;
-    let files = held(file.as_bytes(), b"");
-    let ran = run_within(rt.alloc(), 16_000_000, &["solve", "sum", "f"], &[], files)?;
-    assert!(rt; ran.code == 0 && ran.written.starts_with(LEAST_PRODUCTS));
+    assert!(rt; solves_products(rt.alloc())?);
     Ok(())
 }

@@ -1,11 +1,17 @@
 //! Statuses in words.
 
 use asg_app::Status;
+use std::alloc::{AllocError, Global};
 use std::test::Fail;
+
+// Whether a status is told in these words.
+fn is_told(alloc: Global, status: Status, words: &str) -> Result<bool, AllocError> {
+    let told = format!(in alloc; "{status}")?;
+    Ok(told.as_str() == words)
+}
 
 #[test]
 fn a_status_in_words(rt: HostRuntime) -> Result<(), Fail> {
-    let words = format!(in rt.alloc(); "{}", Status::No)?;
-    assert_eq!(rt; words.as_str(), "the document doesn't certify");
+    assert!(rt; is_told(rt.alloc(), Status::No, "the document doesn't certify")?);
     Ok(())
 }

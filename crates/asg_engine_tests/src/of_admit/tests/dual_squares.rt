@@ -9,6 +9,7 @@ use crate::of_admit::worked_phases::{
 };
 use asg_admit::{DualRow, DualSquare, Reduced, Replayed, admits, are_values};
 use asg_order::fold;
+use asg_samples::Fault;
 use asg_square::NoMemory;
 use std::alloc::Global;
 use std::test::Fail;
@@ -51,19 +52,23 @@ fn settled(
     requires { IsReduced (bounded_sums 1000000000000) reduced }
     ensures { IfOk result (λ o. IfSome o (IsReduced (bounded_sums 1000000000000))) }
 {
-    let (steps, enters, leaves) = (phase.steps, &phase.enters, &phase.leaves);
-    if steps.len() > 3 || !are_values(&SUMS, steps) {
+    let steps = phase.steps;
+    if steps.len() > 3 {
         return Ok(None);
     }
-    if !admits(&SUMS, &reduced.now, steps, enters, leaves) {
+    if !are_values(&SUMS, steps) {
+        return Ok(None);
+    }
+    let sum = fold(&SUMS, steps);
+    if !admits(&SUMS, &reduced.now, steps, &phase.enters, &phase.leaves) {
         return Ok(None);
     }
     let mut dual = DualSquare::make(alloc, &SUMS, reduced)?;
-    if !dual.has_room(&SUMS, fold(&SUMS, steps)) {
+    if !dual.has_room(&SUMS, sum) {
         return Ok(None);
     }
     let mut room = [0u128; 4];
-    dual.settle(&SUMS, steps, enters, leaves, &mut room);
+    dual.settle(&SUMS, steps, &phase.enters, &phase.leaves, &mut room);
     Ok(Some(dual.reduce()))
 }
 
@@ -87,12 +92,35 @@ fn settled_as(
     }
 }
 
+// The same of a square that there may be.
+fn then_settled(
+    alloc: Global,
+    before: Option<Reduced<u128>>,
+    phase: &WorkedPhase,
+) -> Result<Option<Reduced<u128>>, NoMemory>
+    requires { IfSome before (IsReduced (bounded_sums 1000000000000)) }
+    ensures { IfOk result (λ o. IfSome o (IsReduced (bounded_sums 1000000000000))) }
+{
+    match before {
+        Some(reduced) => settled_as(alloc, reduced, phase),
+        None => Ok(None),
+    }
+}
+
+// Whether the three phases are settled, one after another.
+fn settles_all(alloc: Global, start: Reduced<u128>) -> Result<bool, NoMemory>
+    requires { IsReduced (bounded_sums 1000000000000) start }
+{
+    let first = settled_as(alloc, start, &FIRST)?;
+    let second = then_settled(alloc, first, &SECOND)?;
+    let third = then_settled(alloc, second, &THIRD)?;
+    Ok(third.is_some())
+}
+
 #[test]
 fn settles_the_phases_of_the_worked_example_by_dual_variables(rt: HostRuntime) -> Result<(), Fail> {
     let start = worked(rt.alloc())?;
-    let first = settled_as(rt.alloc(), start, &FIRST)?.expect(&rt, "the first phase");
-    let second = settled_as(rt.alloc(), first, &SECOND)?.expect(&rt, "the second phase");
-    assert!(rt; settled_as(rt.alloc(), second, &THIRD)?.is_some());
+    assert!(rt; settles_all(rt.alloc(), start)?);
     Ok(())
 }
 
@@ -121,19 +149,12 @@ fn replays_all(dual: &mut DualSquare) -> bool {
     replays(dual, &FIRST) && replays(dual, &SECOND) && replays(dual, &THIRD)
 }
 
-#[test]
-fn replays_the_phases_of_the_worked_example_by_dual_variables(rt: HostRuntime) -> Result<(), Fail> {
-    let mut dual = DualSquare::make(rt.alloc(), &SUMS, worked(rt.alloc())?)?;
-    assert!(rt; is_dual_now(&dual, &START, 0));
-    assert!(rt; replays_all(&mut dual));
-    assert!(rt; is_now(&dual.reduce(), &THIRD.cells, THIRD.index));
-    Ok(())
-}
-
 // Phases that aren't applied, and what becomes of them: a step greater than the least cell of both
 // is refused, and so are marks that don't count as many rows as columns and one more. Where sums
 // come near the top nothing is tested.
-const UNAPPLIED: [(&'static [u128], &'static [u32], &'static [u32], Replayed); 5] = [
+type Unapplied = (&'static [u128], &'static [u32], &'static [u32], Replayed);
+
+const UNAPPLIED: [Unapplied; 5] = [
     (&[SHIFT + 2], &[0, 1, 1], &[1, 1, 1], Replayed::Refused),
     (&[SHIFT], &[0, 1, 1], &[0, 1, 1], Replayed::Refused),
     (&[SHIFT], &[0, 1], &[1, 1, 1], Replayed::Refused),
@@ -141,21 +162,46 @@ const UNAPPLIED: [(&'static [u128], &'static [u32], &'static [u32], Replayed); 5
     (&[SUMS.top, 1], &[0, 1, 1], &[1, 1, 1], Replayed::Full),
 ];
 
+// Whether a phase isn't applied as is told of it.
+fn is_unapplied(dual: &mut DualSquare, phase: &Unapplied) -> bool {
+    let (steps, enters, leaves, want) = *phase;
+    replayed(dual, steps, enters, leaves) == Some(want)
+}
+
 // Whether each of these phases isn't applied as is told of it.
 fn applies_none(dual: &mut DualSquare) -> bool {
-    for (steps, enters, leaves, want) in UNAPPLIED {
-        if replayed(dual, steps, enters, leaves) != Some(want) {
+    for phase in &UNAPPLIED {
+        if !is_unapplied(dual, phase) {
             return false;
         }
     }
     true
 }
 
+// Whether these phases change nothing.
+fn keeps_start(dual: &mut DualSquare) -> bool {
+    applies_none(dual) && is_dual_now(dual, &START, 0)
+}
+
+// Whether these phases change nothing, and those of the example lead from the first square to the
+// last then, as it is kept and as it is reduced.
+fn leads_through(dual: DualSquare) -> bool {
+    let mut dual = dual;
+    if !keeps_start(&mut dual) || !replays_all(&mut dual) {
+        return false;
+    }
+    is_now(&dual.reduce(), &THIRD.cells, THIRD.index)
+}
+
+// The square before its phases.
+fn start(alloc: Global) -> Result<DualSquare, Fault> {
+    let reduced = worked(alloc)?;
+    Ok(DualSquare::make(alloc, &SUMS, reduced)?)
+}
+
 #[test]
-fn changes_nothing_unless_it_applies_a_phase(rt: HostRuntime) -> Result<(), Fail> {
-    let mut dual = DualSquare::make(rt.alloc(), &SUMS, worked(rt.alloc())?)?;
-    assert!(rt; applies_none(&mut dual));
-    assert!(rt; is_dual_now(&dual, &START, 0));
-    assert!(rt; replays(&mut dual, &FIRST));
+fn replays_the_phases_of_the_worked_example_by_dual_variables(rt: HostRuntime) -> Result<(), Fail> {
+    let dual = start(rt.alloc())?;
+    assert!(rt; leads_through(dual));
     Ok(())
 }

@@ -1,92 +1,19 @@
-//! A worked example of graded values: three phases as they are settled and replayed over low cells.
+//! Phases of graded values, settled and replayed over low cells.
 
 ghost use Rattle.std.specs.Prelude.{IfOk, IfSome};
 ghost use Rattle.asg_admit.specs.Reduced.{IsReduced};
 ghost use Rattle.asg_monoids.specs.BoundedSums.{bounded_sums};
 ghost use Rattle.asg_monoids.specs.Grades.{graded};
 
-use crate::of_admit::worked_phases::SUMS;
+use crate::of_admit::tests::graded_phases::{
+    CELLS, Cells, FIRST, GRADES, LONG, OTHER, SECOND, START, THIRD, WorkedPhase,
+};
 use crate::samples::reduced_of;
 use asg_admit::{GradedSquare, Reduced, admits};
-use asg_monoids::{Bounded, Graded};
 use asg_samples::Fault;
 use asg_square::NoMemory;
 use std::alloc::Global;
 use std::test::Fail;
-
-const GRADES: Graded<Bounded> = Graded { inner: SUMS };
-
-type Cells = [[(u64, u128); 3]; 3];
-
-// The cells of a square, and the same row by row.
-const CELLS: [Option<(u64, u128)>; 9] = [
-    Some((1, 4)),
-    Some((1, 1)),
-    Some((5, 3)),
-    Some((1, 2)),
-    Some((0, 7)),
-    Some((4, 5)),
-    Some((6, 3)),
-    Some((1, 2)),
-    Some((2, 2)),
-];
-
-const START: Cells = [
-    [(1, 4), (1, 1), (5, 3)],
-    [(1, 2), (0, 7), (4, 5)],
-    [(6, 3), (1, 2), (2, 2)],
-];
-
-// The steps of a phase, when rows enter and columns leave, and the cells and the index after it.
-#[derive(Clone, Copy)]
-struct WorkedPhase {
-    steps: &'static [(u64, u128)],
-    enters: [u32; 3],
-    leaves: [u32; 3],
-    cells: &'static Cells,
-    index: (u64, u128),
-}
-
-// A step on the first row and all columns.
-const FIRST: WorkedPhase = WorkedPhase {
-    steps: &[(1, 1)],
-    enters: [0, 1, 1],
-    leaves: [1, 1, 1],
-    cells: &[
-        [(1, 3), (0, 0), (5, 3)],
-        [(1, 2), (0, 7), (4, 5)],
-        [(6, 3), (1, 2), (2, 2)],
-    ],
-    index: (1, 1),
-};
-
-// Then one on the second row and all columns, and one on the first two rows and without the second
-// column.
-const SECOND: WorkedPhase = WorkedPhase {
-    steps: &[(0, 5), (1, 2)],
-    enters: [1, 0, 2],
-    leaves: [2, 1, 2],
-    cells: &[
-        [(1, 1), (0, 0), (5, 3)],
-        [(0, 0), (0, 2), (4, 5)],
-        [(6, 3), (1, 4), (2, 2)],
-    ],
-    index: (1, 3),
-};
-
-// Then one on the third row and all columns, and one on all rows and the third column: the cell of
-// both that has the grade 2 is low only since that step.
-const THIRD: WorkedPhase = WorkedPhase {
-    steps: &[(1, 4), (2, 1)],
-    enters: [1, 1, 0],
-    leaves: [1, 1, 2],
-    cells: &[
-        [(1, 1), (0, 0), (5, 3)],
-        [(0, 0), (0, 2), (4, 5)],
-        [(6, 3), (0, 0), (2, 1)],
-    ],
-    index: (2, 1),
-};
 
 // The square before its phases.
 fn start(alloc: Global) -> Result<Reduced<(u64, u128)>, Fault>
@@ -144,33 +71,74 @@ fn settled(
     Ok(Some(square.reduce()))
 }
 
-// Whether the reduced square and the index are those after a phase.
+// The same of a square that there may be.
+fn then_settled(
+    alloc: Global,
+    before: Option<Reduced<(u64, u128)>>,
+    phase: &WorkedPhase,
+) -> Result<Option<Reduced<(u64, u128)>>, NoMemory>
+    requires { IfSome before (IsReduced (graded (bounded_sums 1000000000000))) }
+    ensures { IfOk result (λ o. IfSome o (IsReduced (graded (bounded_sums 1000000000000)))) }
+{
+    match before {
+        Some(reduced) => settled(alloc, reduced, phase),
+        None => Ok(None),
+    }
+}
+
+// The square after the three phases, where each is admitted and settled, one after another.
+fn all_settled(
+    alloc: Global,
+    start: Reduced<(u64, u128)>,
+) -> Result<Option<Reduced<(u64, u128)>>, NoMemory>
+    requires { IsReduced (graded (bounded_sums 1000000000000)) start }
+{
+    let first = settled(alloc, start, &FIRST)?;
+    let second = then_settled(alloc, first, &SECOND)?;
+    then_settled(alloc, second, &THIRD)
+}
+
+// Whether there is a reduced square, and it and the index are those after a phase.
 fn is_after(
     alloc: Global,
-    reduced: Reduced<(u64, u128)>,
+    reduced: Option<Reduced<(u64, u128)>>,
     phase: &WorkedPhase,
 ) -> Result<bool, NoMemory> {
+    let Some(reduced) = reduced else {
+        return Ok(false);
+    };
     let square = GradedSquare::make(alloc, reduced)?;
     Ok(is_graded_now(&square, phase.cells, phase.index))
 }
 
+// Whether the three phases are settled.
+fn settles_all(alloc: Global) -> Result<bool, Fault> {
+    let start = start(alloc)?;
+    let third = all_settled(alloc, start)?;
+    Ok(is_after(alloc, third, &THIRD)?)
+}
+
 #[test]
 fn settles_phases_over_low_cells(rt: HostRuntime) -> Result<(), Fail> {
-    let start = start(rt.alloc())?;
-    let first = settled(rt.alloc(), start, &FIRST)?.expect(&rt, "the first phase");
-    let second = settled(rt.alloc(), first, &SECOND)?.expect(&rt, "the second phase");
-    let third = settled(rt.alloc(), second, &THIRD)?.expect(&rt, "the third phase");
-    assert!(rt; is_after(rt.alloc(), third, &THIRD)?);
+    assert!(rt; settles_all(rt.alloc())?);
     Ok(())
 }
 
-// Replays the steps, of which there are at most two, as the phase's.
+// A square as it is kept, with the unit as its index.
+fn kept(alloc: Global, cells: &[Option<(u64, u128)>]) -> Result<GradedSquare, Fault>
+    ensures { IfOk result (IsReduced (graded (bounded_sums 1000000000000))) }
+{
+    let reduced = reduced_of(alloc, &GRADES, 3, cells)?;
+    Ok(GradedSquare::make(alloc, reduced)?)
+}
+
+// Replays the steps, of which there are at most sixteen, as the phase's.
 fn replays_steps(square: &mut GradedSquare, steps: &[(u64, u128)], phase: &WorkedPhase) -> bool
     requires { IsReduced (graded (bounded_sums 1000000000000)) square.old }
     ensures { IsReduced (graded (bounded_sums 1000000000000)) square.new }
 {
-    let mut room = [(0u64, 0u128); 3];
-    if steps.len() > 2 {
+    let mut room = [(0u64, 0u128); 17];
+    if steps.len() > 16 {
         return false;
     }
     square.replay(&GRADES, steps, &phase.enters, &phase.leaves, &mut room)
@@ -185,34 +153,42 @@ fn replays(square: &mut GradedSquare, phase: &WorkedPhase) -> bool
 }
 
 // Whether a step isn't admitted as that of the first phase, and nothing is changed.
-fn refuses(square: &mut GradedSquare, step: (u64, u128)) -> bool
+fn refuses(square: &mut GradedSquare, step: &[(u64, u128); 1]) -> bool
     requires { IsReduced (graded (bounded_sums 1000000000000)) square.old }
     ensures { IsReduced (graded (bounded_sums 1000000000000)) square.new }
 {
-    !replays_steps(square, &[step], &FIRST) && is_graded_now(square, &START, (0, 0))
+    !replays_steps(square, step, &FIRST) && is_graded_now(square, &START, (0, 0))
 }
 
-// Whether the three phases are replayed, one after another.
+// Whether a step greater than a cell of both is refused, and changes nothing, also where its grade
+// is greater than those of the steps before.
+fn refuses_greater(square: &mut GradedSquare) -> bool
+    requires { IsReduced (graded (bounded_sums 1000000000000)) square.old }
+    ensures { IsReduced (graded (bounded_sums 1000000000000)) square.new }
+{
+    refuses(square, &[(1, 2)]) && refuses(square, &[(5, 0)])
+}
+
+// Whether greater steps are refused, and the three phases are replayed then, one after another.
 fn replays_all(square: &mut GradedSquare) -> bool
     requires { IsReduced (graded (bounded_sums 1000000000000)) square.old }
 {
-    replays(square, &FIRST) && replays(square, &SECOND) && replays(square, &THIRD)
+    refuses_greater(square)
+        && replays(square, &FIRST)
+        && replays(square, &SECOND)
+        && replays(square, &THIRD)
 }
 
 #[test]
 fn replays_phases_over_low_cells(rt: HostRuntime) -> Result<(), Fail> {
-    let mut square = GradedSquare::make(rt.alloc(), start(rt.alloc())?)?;
+    let mut square = kept(rt.alloc(), &CELLS)?;
     assert!(rt; replays_all(&mut square));
     Ok(())
 }
 
-// A step greater than a cell of both is refused, and changes nothing, also where its grade is
-// greater than those of the steps before.
 #[test]
-fn refuses_greater_steps_over_low_cells(rt: HostRuntime) -> Result<(), Fail> {
-    let mut square = GradedSquare::make(rt.alloc(), start(rt.alloc())?)?;
-    assert!(rt; refuses(&mut square, (1, 2)));
-    assert!(rt; refuses(&mut square, (5, 0)));
-    assert!(rt; replays_all(&mut square));
+fn joins_the_steps_of_a_long_phase_of_grades(rt: HostRuntime) -> Result<(), Fail> {
+    let mut square = kept(rt.alloc(), &OTHER)?;
+    assert!(rt; replays(&mut square, &LONG));
     Ok(())
 }

@@ -4,7 +4,7 @@ ghost use Rattle.std.specs.Prelude.{◌≡◌, ◌<◌, IfOk, length};
 ghost use Rattle.asg_admit.specs.Reduced.{IsReduced};
 ghost use Rattle.asg_monoids.specs.BoundedSums.{bounded_sums, narrow_top};
 
-use crate::of_admit::worked_phases::{Cells, FIRST};
+use crate::of_admit::worked_phases::FIRST;
 use crate::samples::reduced_of;
 use asg_admit::{NarrowRow, NarrowSquare, Reduced, Replayed, admits, are_values};
 use asg_monoids::NarrowSums;
@@ -34,20 +34,30 @@ fn worked(alloc: Global) -> Result<Reduced<u64>, Fault>
     reduced_of(alloc, &NarrowSums, 3, &CELLS)
 }
 
+// The cells of the square after the first phase.
+const FIRST_CELLS: [[u64; 3]; 3] = [
+    [3, 0, 2],
+    [1_000_000_002, 1_000_000_000, 1_000_000_005],
+    [1_000_000_003, 1_000_000_002, 1_000_000_002],
+];
+
+// The index then.
+const FIRST_INDEX: u64 = 1_000_000_001;
+
 // Whether the row has these values.
-fn is_row(row: &NarrowRow<'_>, values: &[u128; 3]) -> bool
+fn is_row(row: &NarrowRow<'_>, values: &[u64; 3]) -> bool
     requires { length row.now ≡ 3 }
 {
     for k in 0..3u32 {
-        if u128::from(row.value(k)) != values[k as usize] {
+        if row.value(k) != values[k as usize] {
             return false;
         }
     }
     true
 }
 
-// Whether the square has these cells.
-fn is_narrow_now(narrow: &NarrowSquare, cells: &Cells) -> bool {
+// Whether the square has the cells after the first phase.
+fn is_narrow_first(narrow: &NarrowSquare) -> bool {
     if narrow.side() != 3 {
         return false;
     }
@@ -55,23 +65,24 @@ fn is_narrow_now(narrow: &NarrowSquare, cells: &Cells) -> bool {
         if narrow.row_words(r) != [7].as_slice() {
             return false;
         }
-        if !is_row(&narrow.row(r), &cells[r as usize]) {
+        if !is_row(&narrow.row(r), &FIRST_CELLS[r as usize]) {
             return false;
         }
     }
     true
 }
 
-// Whether the written square has these cells.
-fn is_written(square: &Square<u64>, cells: &Cells) -> bool {
+// Whether the written square has the cells after the first phase.
+fn is_written_first(square: &Square<u64>) -> bool {
     if square.side() != 3 {
         return false;
     }
     for r in 0..3u32 {
-        for k in 0..3u32 {
-            if square.at(r, k).map(u128::from) != Some(cells[r as usize][k as usize]) {
-                return false;
-            }
+        if square.row_words(r) != [7].as_slice() {
+            return false;
+        }
+        if square.row_values(r) != FIRST_CELLS[r as usize].as_slice() {
+            return false;
         }
     }
     true
@@ -110,19 +121,34 @@ fn settled(
 // Whether the square has the cells and the index after the first phase, as it is kept and as it is
 // reduced.
 fn is_first(narrow: NarrowSquare) -> bool {
-    if !is_narrow_now(&narrow, &FIRST.cells) {
+    if !is_narrow_first(&narrow) {
         return false;
     }
     let reduced = narrow.reduce();
-    is_written(&reduced.now, &FIRST.cells) && u128::from(reduced.index) == FIRST.index
+    is_written_first(&reduced.now) && reduced.index == FIRST_INDEX
+}
+
+// Whether the first phase is settled, and the square and the index are then its.
+fn settles_first(alloc: Global, start: Reduced<u64>) -> Result<bool, NoMemory>
+    requires { IsReduced (bounded_sums narrow_top) start }
+{
+    match settled(alloc, start, &[1_000_000_001])? {
+        Some(first) => Ok(is_first(first)),
+        None => Ok(false),
+    }
 }
 
 #[test]
 fn settles_the_first_phase_of_the_worked_example_in_64_bits(rt: HostRuntime) -> Result<(), Fail> {
     let start = worked(rt.alloc())?;
-    let first = settled(rt.alloc(), start, &[1_000_000_001])?.expect(&rt, "the first phase");
-    assert!(rt; is_first(first));
+    assert!(rt; settles_first(rt.alloc(), start)?);
     Ok(())
+}
+
+// The worked square, as it is kept.
+fn start(alloc: Global) -> Result<NarrowSquare, Fault> {
+    let reduced = worked(alloc)?;
+    Ok(NarrowSquare::make(alloc, reduced)?)
 }
 
 // Sums, and whether there is room for them: none for one of 2^62, and none for one that reaches it
@@ -134,13 +160,14 @@ const ROOM: [(u64, bool); 4] = [
     ((1 << 62) - 1_000_000_006, true),
 ];
 
-#[test]
-fn has_no_room_near_the_top(rt: HostRuntime) -> Result<(), Fail> {
-    let narrow = NarrowSquare::make(rt.alloc(), worked(rt.alloc())?)?;
-    for (sum, want) in ROOM {
-        assert_eq!(rt; narrow.has_room(sum), want);
+// Whether the square has room for these sums and no others.
+fn has_room_as_told(narrow: &NarrowSquare) -> bool {
+    for (sum, want) in &ROOM {
+        if narrow.has_room(*sum) != *want {
+            return false;
+        }
     }
-    Ok(())
+    true
 }
 
 // What becomes of a phase; nothing is tried where it has more than three steps.
@@ -160,7 +187,9 @@ fn replayed(
 // Phases that aren't applied, and what becomes of them: a step greater than the least cell of both
 // is refused, and so are marks that don't count as many rows as columns and one more. Where sums
 // come near 2^62 nothing is tested.
-const UNAPPLIED: [(&'static [u64], &'static [u32], &'static [u32], Replayed); 5] = [
+type Unapplied = (&'static [u64], &'static [u32], &'static [u32], Replayed);
+
+const UNAPPLIED: [Unapplied; 5] = [
     (&[1_000_000_002], &[0, 1, 1], &[1, 1, 1], Replayed::Refused),
     (&[1_000_000_000], &[0, 1, 1], &[0, 1, 1], Replayed::Refused),
     (&[1_000_000_000], &[0, 1], &[1, 1, 1], Replayed::Refused),
@@ -168,30 +197,38 @@ const UNAPPLIED: [(&'static [u64], &'static [u32], &'static [u32], Replayed); 5]
     (&[u64::MAX, 1], &[0, 1, 1], &[1, 1, 1], Replayed::Full),
 ];
 
-// Whether each of these phases isn't applied as is told of it, and the index stays.
+// Whether a phase isn't applied as is told of it.
+fn is_unapplied(narrow: &mut NarrowSquare, phase: &Unapplied) -> bool {
+    let (steps, enters, leaves, want) = *phase;
+    replayed(narrow, steps, enters, leaves) == Some(want)
+}
+
+// Whether each of these phases isn't applied as is told of it.
 fn applies_none(narrow: &mut NarrowSquare) -> bool {
-    for (steps, enters, leaves, want) in UNAPPLIED {
-        if replayed(narrow, steps, enters, leaves) != Some(want) {
+    for phase in &UNAPPLIED {
+        if !is_unapplied(narrow, phase) {
             return false;
         }
     }
-    narrow.index() == 0
+    true
 }
 
 // Whether the first phase is applied, and the square and the index are then its.
 fn replays_first(narrow: &mut NarrowSquare) -> bool {
     let told = replayed(narrow, &[1_000_000_001], &FIRST.enters, &FIRST.leaves);
-    told == Some(Replayed::Applied)
-        && is_narrow_now(narrow, &FIRST.cells)
-        && u128::from(narrow.index()) == FIRST.index
+    told == Some(Replayed::Applied) && is_narrow_first(narrow) && narrow.index() == FIRST_INDEX
 }
 
-// Where a phase isn't applied nothing is changed.
+// Whether room is told, phases that aren't applied leave the index, and the first phase is applied
+// then.
+fn is_replayed(narrow: &mut NarrowSquare) -> bool {
+    has_room_as_told(narrow) && applies_none(narrow) && narrow.index() == 0 && replays_first(narrow)
+}
+
 #[test]
 fn replays_phases_in_64_bits(rt: HostRuntime) -> Result<(), Fail> {
-    let mut narrow = NarrowSquare::make(rt.alloc(), worked(rt.alloc())?)?;
-    assert!(rt; applies_none(&mut narrow));
-    assert!(rt; replays_first(&mut narrow));
+    let mut narrow = start(rt.alloc())?;
+    assert!(rt; is_replayed(&mut narrow));
     Ok(())
 }
 
@@ -217,13 +254,24 @@ fn two_tens() -> [u64; 64] {
     keys
 }
 
-// A sum of 7 and 2 is 9 at each column: less than a key of 10, and not less than one of 9.
+// The square whose first row has a 7 at each column.
+fn sevens(alloc: Global) -> Result<NarrowSquare, Fault> {
+    let reduced = reduced_of(alloc, &NarrowSums, 64, &SEVENS)?;
+    Ok(NarrowSquare::make(alloc, reduced)?)
+}
+
+// Whether the columns are told: a sum of 7 and 2 is 9 at each of them, less than a key of 10, and
+// not less than one of 9.
+fn are_told(square: &NarrowSquare) -> bool {
+    let tens = two_tens();
+    lesser(square, 2, &NINES) == Some(0)
+        && lesser(square, 2, &tens) == Some(1 + (1 << 62))
+        && lesser(square, 1, &tens) == Some(u64::MAX)
+}
+
 #[test]
 fn tells_the_columns_at_which_a_sum_is_less(rt: HostRuntime) -> Result<(), Fail> {
-    let reduced = reduced_of(rt.alloc(), &NarrowSums, 64, &SEVENS)?;
-    let square = NarrowSquare::make(rt.alloc(), reduced)?;
-    assert!(rt; lesser(&square, 2, &NINES) == Some(0));
-    assert!(rt; lesser(&square, 2, &two_tens()) == Some(1 + (1 << 62)));
-    assert!(rt; lesser(&square, 1, &two_tens()) == Some(u64::MAX));
+    let square = sevens(rt.alloc())?;
+    assert!(rt; are_told(&square));
     Ok(())
 }

@@ -13,4 +13,4 @@ solve_square-requires-clause-absorbed g c r k has =
 pub solve_square-requires-clause-spare : goal.solve_square-requires-clause-spare
 solve_square-requires-clause-spare g c =
     let rows = ap length c.requires.matching in
-    omega (arith, count_by-le-length is_none c.args.desk.now.matching, rows, length-replicate {A = Option ℕ} c.args.reduced.now.side None, c.requires.spare)
+    omega (arith, count_by-le-length is_none c.args.desk.matching, rows, length-replicate {A = Option ℕ} c.args.reduced.now.side None, c.requires.spare)

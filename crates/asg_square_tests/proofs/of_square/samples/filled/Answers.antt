@@ -1,5 +1,5 @@
 use Rattle.std.specs.Prelude.{pos}
-use Rattle.asg_square_tests.proofs.of_square.tests.filled.Goals as goal
+use Rattle.asg_square_tests.proofs.of_square.samples.filled.Goals as goal
 
 pub returns-clause-covers : goal.returns-clause-covers
 returns-clause-covers c =

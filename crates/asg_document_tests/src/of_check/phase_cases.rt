@@ -34,7 +34,12 @@ const LEAST: (u32, u32, u32) = (2, 1, 3);
 // A choice of the greatest least cost.
 const WIDEST: (u32, u32, u32) = (3, 1, 2);
 
-pub(crate) const SUMS: [Judged; 24] = [
+/// Cases of sums, for a caller that needn't know them.
+pub(crate) fn sums() -> &'static [Judged] {
+    &SUMS
+}
+
+static SUMS: [Judged; 24] = [
     (Sum, (5, 0), LEAST, &[FIRST, SECOND, THIRD], 0, 0),
     (Sum, (5, 0), LEAST, &[FIRST, FAULTY, THIRD], 6, 2),
     (Sum, (5, 0), LEAST, &[FIRST, THIRD, SECOND], 0, 0),
@@ -235,7 +240,12 @@ pub(crate) const SUMS: [Judged; 24] = [
     ),
 ];
 
-pub(crate) const PEAKS: [Judged; 9] = [
+/// Cases of greatest and least costs, likewise.
+pub(crate) fn peaks() -> &'static [Judged] {
+    &PEAKS
+}
+
+static PEAKS: [Judged; 9] = [
     (Bottleneck, (2, 0), LEAST, &[THIRD], 0, 0),
     (Bottleneck, (2, 0), LEAST, &[FIRST, THIRD], 0, 0),
     (

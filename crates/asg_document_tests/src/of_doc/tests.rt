@@ -2,6 +2,7 @@
 
 ghost use Rattle.std.specs.Prelude.{◌≡◌, ◌<◌, false, length, IfOk};
 ghost use Rattle.asg_doc.specs.HasText.{HasText, AreCells};
+ghost use Rattle.asg_doc.specs.PageState.{blank};
 ghost use Rattle.asg_doc.specs.Words.{HasWord, has_pairs};
 
 use asg_doc::*;
@@ -107,14 +108,55 @@ fn is_finished(page: &mut Page, sink: &mut MemorySink, bytes: &[u8]) -> bool {
     finish(page, sink).is_ok() && sink.bytes() == bytes
 }
 
+// Whether the least one is.
+fn is_least_held(
+    alloc: Global,
+    page: &mut Page,
+    sink: &mut MemorySink,
+) -> Result<bool, AllocError> {
+    let document = least(alloc)?;
+    Ok(is_held(&document, page, sink))
+}
+
+// Whether the greatest one is.
+fn is_greatest_held(
+    alloc: Global,
+    page: &mut Page,
+    sink: &mut MemorySink,
+) -> Result<bool, AllocError> {
+    let document = greatest(alloc)?;
+    Ok(is_held(&document, page, sink))
+}
+
+// Whether the one without a valid choice is.
+fn is_nothing_held(
+    alloc: Global,
+    page: &mut Page,
+    sink: &mut MemorySink,
+) -> Result<bool, AllocError> {
+    let document = nothing(alloc)?;
+    Ok(is_held(&document, page, sink))
+}
+
+// Whether each of them is.
+fn are_held(alloc: Global, page: &mut Page, sink: &mut MemorySink) -> Result<bool, AllocError> {
+    Ok(
+        is_least_held(alloc, page, sink)?
+            && is_greatest_held(alloc, page, sink)?
+            && is_nothing_held(alloc, page, sink)?,
+    )
+}
+
+// Whether the documents have these texts.
+fn have_texts(alloc: Global) -> Result<bool, AllocError> {
+    let mut page = Page::make(alloc)?;
+    let mut sink = MemorySink::with(alloc, 1000, Vec::new(alloc))?;
+    Ok(are_held(alloc, &mut page, &mut sink)? && is_finished(&mut page, &mut sink, TEXTS))
+}
+
 #[test]
 fn documents_have_their_texts(rt: HostRuntime) -> Result<(), Fail> {
-    let mut page = Page::make(rt.alloc())?;
-    let mut sink = MemorySink::with(rt.alloc(), 1000, Vec::new(rt.alloc()))?;
-    assert!(rt; is_held(&least(rt.alloc())?, &mut page, &mut sink));
-    assert!(rt; is_held(&greatest(rt.alloc())?, &mut page, &mut sink));
-    assert!(rt; is_held(&nothing(rt.alloc())?, &mut page, &mut sink));
-    assert!(rt; is_finished(&mut page, &mut sink, TEXTS));
+    assert!(rt; have_texts(rt.alloc())?);
     Ok(())
 }
 
@@ -123,34 +165,61 @@ fn is_put(text: &[u8], page: &mut Page, sink: &mut MemorySink, put: usize) -> bo
     line(text, page, sink).is_ok() && sink.bytes().len() == put
 }
 
+// Whether two lines of many bytes are put by pages, the last one of which fails.
+fn are_pages_put(text: &[u8], page: &mut Page, sink: &mut MemorySink) -> bool {
+    is_put(text, page, sink, 65536)
+        && is_put(text, page, sink, 131072)
+        && finish(page, sink).is_err()
+        && sink.bytes().len() == 131077
+}
+
+// A sink with this room, of which one put fails.
+fn failing_sink(alloc: Global, room: u32, fails: (u32, u32)) -> Result<MemorySink, AllocError> {
+    MemorySink::with(alloc, room, vec![in alloc; fails]?)
+}
+
+// Whether such lines are put so.
+fn puts_pages(alloc: Global) -> Result<bool, AllocError> {
+    let text = vec![in alloc; 7u8; 70000]?;
+    let mut page = Page::make(alloc)?;
+    let mut sink = failing_sink(alloc, 200000, (3, 5))?;
+    Ok(are_pages_put(&text, &mut page, &mut sink))
+}
+
 #[test]
 fn pages_are_put_whole(rt: HostRuntime) -> Result<(), Fail> {
-    let text = vec![in rt.alloc(); 7u8; 70000]?;
-    let mut page = Page::make(rt.alloc())?;
-    let mut sink = MemorySink::with(rt.alloc(), 200000, vec![in rt.alloc(); (3, 5)]?)?;
-    assert!(rt; is_put(&text, &mut page, &mut sink, 65536));
-    assert!(rt; is_put(&text, &mut page, &mut sink, 131072));
-    assert!(rt; finish(&mut page, &mut sink).is_err());
-    assert_eq!(rt; sink.bytes().len(), 131077);
+    assert!(rt; puts_pages(rt.alloc())?);
     Ok(())
 }
 
-// Whether a broken page refuses a line, a document and its end.
-fn is_broken(document: &Document, page: &mut Page, sink: &mut MemorySink) -> bool
-    requires { HasText document.now }
+// Whether a page breaks at a document, and refuses a line, a document and its end then.
+fn breaks(document: &Document, page: &mut Page, sink: &mut MemorySink) -> bool
+    requires text { HasText document.now }
+    requires blank { page.old ≡ blank }
 {
-    line(b" 1", page, sink) == Err(PutFault)
+    send(document, page, sink) == Err(PutFault)
+        && line(b" 1", page, sink) == Err(PutFault)
         && write(document, page, sink) == Err(PutFault)
         && finish(page, sink) == Err(PutFault)
 }
 
+// Whether it breaks at the first put, and writes nothing more.
+fn breaks_for_good(alloc: Global, document: &Document) -> Result<bool, AllocError>
+    requires { HasText document.now }
+{
+    let mut page = Page::make(alloc)?;
+    let mut sink = failing_sink(alloc, 1000, (1, 10))?;
+    Ok(breaks(document, &mut page, &mut sink) && sink.bytes() == b"assignment".as_slice())
+}
+
+// Whether the document without a valid choice breaks it so.
+fn nothing_breaks(alloc: Global) -> Result<bool, AllocError> {
+    let document = nothing(alloc)?;
+    breaks_for_good(alloc, &document)
+}
+
 #[test]
 fn a_broken_page_writes_nothing(rt: HostRuntime) -> Result<(), Fail> {
-    let document = nothing(rt.alloc())?;
-    let mut page = Page::make(rt.alloc())?;
-    let mut sink = MemorySink::with(rt.alloc(), 1000, vec![in rt.alloc(); (1, 10)]?)?;
-    assert_eq!(rt; send(&document, &mut page, &mut sink), Err(PutFault));
-    assert!(rt; is_broken(&document, &mut page, &mut sink));
-    assert_eq!(rt; sink.bytes(), b"assignment".as_slice());
+    assert!(rt; nothing_breaks(rt.alloc())?);
     Ok(())
 }

@@ -1,6 +1,6 @@
 //! Documents of `balanced`, read and written.
 
-use crate::of_doc::phase_tests::{is_rewritten, refused};
+use crate::of_doc::phase_tests::{first_not_rewritten, refused};
 use asg_doc::*;
 use asg_model::{Objective, Value};
 use asg_proof::{Proof, Window};
@@ -25,7 +25,7 @@ const WRITTEN: [&[u8]; 4] = [
 ];
 
 // A text behind a proof by windows, and the line in which it is refused.
-const LINES: [(&[u8], u32); 16] = [
+static LINES: [(&[u8], u32); 16] = [
     (b" 4294967296\n", 8),
     (b" 01\n", 8),
     (b" 1\nend\n", 9),
@@ -46,9 +46,7 @@ const LINES: [(&[u8], u32); 16] = [
 
 #[test]
 fn documents_with_windows_are_written_as_they_were_read(rt: HostRuntime) -> Result<(), Fail> {
-    for text in WRITTEN {
-        assert!(rt; is_rewritten(rt.alloc(), text)?);
-    }
+    assert_eq!(rt; first_not_rewritten(rt.alloc(), &WRITTEN)?, None);
     Ok(())
 }
 
@@ -76,15 +74,25 @@ fn claims_balanced(claim: &Claim) -> bool {
     }
 }
 
+// Whether this is the one document of `BALANCED`.
+fn are_of_balanced(documents: &[Document]) -> bool {
+    match documents {
+        [document] => document.objective == Objective::Balanced && claims_balanced(&document.claim),
+        _ => false,
+    }
+}
+
+// Whether it is read.
+fn reads_balanced(alloc: Global) -> bool {
+    match read(alloc, BALANCED) {
+        Ok(documents) => are_of_balanced(&documents),
+        Err(_) => false,
+    }
+}
+
 #[test]
-fn windows_are_read(rt: HostRuntime) -> Result<(), Fail> {
-    let documents = read(rt.alloc(), BALANCED).ok().ok_or("the text is read")?;
-    let [document] = documents.as_slice() else {
-        return Err("there is one document".into());
-    };
-    assert_eq!(rt; document.objective, Objective::Balanced);
-    assert!(rt; claims_balanced(&document.claim));
-    Ok(())
+fn windows_are_read(rt: HostRuntime) {
+    assert!(rt; reads_balanced(rt.alloc()));
 }
 
 // The refused line of a document with this text behind its proof by windows.
@@ -95,10 +103,23 @@ fn refused_windows(alloc: Global, rest: &[u8]) -> Result<u32, AllocError> {
     refused(alloc, b"balanced", &text)
 }
 
+// The lines, for a caller that needn't know them.
+fn lines() -> &'static [(&'static [u8], u32)] {
+    &LINES
+}
+
+// The first of the lines that isn't refused where it is to be.
+fn first_not_refused(alloc: Global) -> Result<Option<&'static [u8]>, AllocError> {
+    for (rest, line) in lines() {
+        if refused_windows(alloc, rest)? != *line {
+            return Ok(Some(rest));
+        }
+    }
+    Ok(None)
+}
+
 #[test]
 fn lines_of_windows_are_refused(rt: HostRuntime) -> Result<(), Fail> {
-    for (rest, line) in LINES {
-        assert_eq!(rt; refused_windows(rt.alloc(), rest)?, line);
-    }
+    assert_eq!(rt; first_not_refused(rt.alloc())?, None);
     Ok(())
 }

@@ -1,8 +1,8 @@
 use Rattle.std.proofs.Common.{subst}
 use Rattle.asg_match.specs.Matching.{Matches}
 use Rattle.asg_match.specs.laws.Matchings.{Matches-empty}
-use Rattle.asg_engine_tests.proofs.of_algebra.given_tests.index_by.Goals as goal
+use Rattle.asg_engine_tests.proofs.of_algebra.given_tests.index_at.Goals as goal
 
 pub solve_given-requires-clause-empty : goal.solve_given-requires-clause-empty
 solve_given-requires-clause-empty g c r k has =
-    Matches-empty _ r k (subst (λ m. Matches m r k) c.in_ok-desk.ensures.matching has)
+    Matches-empty _ r k (subst (λ m. Matches m r k) c.requires.matching has)

@@ -1,5 +1,5 @@
 use Rattle.asg_proof.specs.Phases.{ArePhases}
-use Rattle.asg_top_tests.proofs.of_check.phase_tests.claim.Given as goal
+use Rattle.asg_document_tests.proofs.of_check.phase_tests.claim.Given as goal
 
 abbrev pub invariant-loop-one : goal.invariant-loop-one
 invariant-loop-one l = ArePhases l.phases.items

@@ -1,0 +1,7 @@
+//! Tests of the crates below.
+#![tactic(auto)]
+
+#[cfg(test)]
+mod of_check;
+#[cfg(test)]
+mod of_doc;

@@ -1,0 +1,158 @@
+//! Phases over the costs `4 1 3 / 2 0 5 / 3 2 2`, judged.
+
+ghost use Rattle.std.specs.Prelude.{IfOk};
+ghost use Rattle.asg_proof.specs.Phases.{IsPhase};
+
+use crate::of_check::phase_cases::{Judged, Listed, peaks, sums};
+use crate::of_check::tests::judged;
+use asg_check::{NoMemory, Verdict};
+use asg_doc::{Answer, Cells, Claim};
+use asg_model::Objective::SumPair;
+use asg_model::{Instance, Objective, Place, Value};
+use asg_order::Word;
+use asg_proof::{Phases, Proof, StepWords, WrittenPhase};
+use asg_samples::{Fault, Sample};
+use std::alloc::Global;
+use std::test::Fail;
+
+// The instance.
+pub(crate) const SQUARE: Sample<'static> = Sample {
+    rows: &[true, true, true],
+    columns: &[(1, true), (1, true), (1, true)],
+    firsts: &[4, 1, 3, 2, 0, 5, 3, 2, 2],
+    seconds: &[],
+    place: Place::All,
+};
+
+// So many steps of 0 as make a phase long.
+pub(crate) const MANY: u32 = 17_000;
+
+// Appends so many steps of 0.
+fn push_zeros(steps: &mut StepWords, zeros: u32) -> Result<(), NoMemory> {
+    for _ in 0..zeros {
+        steps.push(Word {
+            grade: 0,
+            amount: 0,
+        })?;
+    }
+    Ok(())
+}
+
+// The steps, with so many of 0 behind the first one.
+fn steps(alloc: Global, listed: &[(u64, u128)], zeros: u32) -> Result<StepWords, NoMemory> {
+    let mut steps = StepWords::none(alloc);
+    for place in 0..listed.len() {
+        let (grade, amount) = listed[place];
+        steps.push(Word { grade, amount })?;
+        if place == 0 {
+            push_zeros(&mut steps, zeros)?;
+        }
+    }
+    Ok(steps)
+}
+
+// The marks, those behind the first step being later by so many steps.
+fn marks(alloc: Global, listed: &[u32], zeros: u32) -> Result<Vec<u32>, NoMemory> {
+    let mut marks = Vec::new(alloc);
+    for mark in listed {
+        marks.push(if *mark == 0 {
+            0
+        } else {
+            mark.wrapping_add(zeros)
+        })?;
+    }
+    Ok(marks)
+}
+
+// A phase of words, with so many steps of 0 behind the first one, which change nothing.
+fn phase(alloc: Global, listed: Listed, zeros: u32) -> Result<WrittenPhase, NoMemory>
+    ensures { IfOk result (λ phase. IsPhase phase) }
+{
+    let steps = steps(alloc, listed.0, zeros)?;
+    let enters = marks(alloc, listed.1, zeros)?;
+    let leaves = marks(alloc, listed.2, zeros)?;
+    WrittenPhase::of(steps, enters, leaves)
+}
+
+// The claim of an answer with phases, each with so many steps of 0 more.
+pub(crate) fn claim(
+    alloc: Global,
+    answer: Answer,
+    listed: &'static [Listed],
+    zeros: u32,
+) -> Result<Claim, NoMemory> {
+    let mut phases = Vec::new(alloc);
+    for one in listed {
+        phases.push(phase(alloc, *one, zeros)?)?;
+    }
+    let proof = Proof::Phases(Phases::from_vec(phases));
+    Ok(Claim::Best { answer, proof })
+}
+
+// A value of these parts, of which `pair` alone has both here.
+fn value(objective: Objective, parts: (i128, i128)) -> Value {
+    if objective == SumPair {
+        Value::Two(parts.0, parts.1)
+    } else {
+        Value::One(parts.0)
+    }
+}
+
+// The verdict for a reason and its place, or that the document certifies.
+pub(crate) fn verdict(reason: u8, place: i64) -> Verdict {
+    if reason == 0 {
+        Verdict::Yes
+    } else {
+        Verdict::No { reason, place }
+    }
+}
+
+// The cells of the columns of the rows in order.
+fn cells(alloc: Global, columns: (u32, u32, u32)) -> Result<Cells, NoMemory> {
+    let cells = vec![in alloc; (1, columns.0), (2, columns.1), (3, columns.2)]?;
+    Ok(Cells::from_vec(cells))
+}
+
+// The answer of a case.
+fn answer(alloc: Global, case: &Judged) -> Result<Answer, NoMemory> {
+    Ok(Answer {
+        value: value(case.0, case.1),
+        cells: cells(alloc, case.2)?,
+    })
+}
+
+// Whether the document of a case is judged so, with so many steps of 0 more in each phase.
+fn is_judged(alloc: Global, inst: &Instance, case: &Judged, zeros: u32) -> Result<bool, NoMemory> {
+    let claim = claim(alloc, answer(alloc, case)?, case.3, zeros)?;
+    let found = judged(alloc, inst, case.0, case.0, claim)?;
+    Ok(found == Some(verdict(case.4, case.5)))
+}
+
+// The place of the first case that isn't judged so, with so many steps of 0 more in each phase.
+fn first_judged_otherwise(
+    alloc: Global,
+    cases: &[Judged],
+    zeros: u32,
+) -> Result<Option<usize>, Fault> {
+    let inst = SQUARE.instance(alloc)?;
+    for (place, case) in cases.iter().enumerate() {
+        if !is_judged(alloc, &inst, case, zeros)? {
+            return Ok(Some(place));
+        }
+    }
+    Ok(None)
+}
+
+#[test]
+fn judges_phases(rt: HostRuntime) -> Result<(), Fail> {
+    assert_eq!(rt; first_judged_otherwise(rt.alloc(), sums(), 0)?, None);
+    assert_eq!(rt; first_judged_otherwise(rt.alloc(), peaks(), 0)?, None);
+    Ok(())
+}
+
+#[test]
+fn judges_long_phases(rt: HostRuntime) -> Result<(), Fail> {
+    assert_eq!(rt; first_judged_otherwise(rt.alloc(), sums(), MANY)?, None);
+    assert_eq!(rt; first_judged_otherwise(rt.alloc(), peaks(), MANY)?, None);
+    Ok(())
+}

@@ -1,0 +1,66 @@
+//! The perfect assignments of squares, and their choices.
+
+use crate::of_square::samples::{filled, sample};
+use asg_model::Place::{All, Exactly};
+use asg_model::{Choice, Instance, Place, is_valid};
+use asg_square::*;
+use std::alloc::Global;
+use std::test::Fail;
+
+// The choice of these columns, by the places of three rows.
+fn choice(alloc: Global, columns: [Option<u32>; 3]) -> Result<Choice, NoMemory> {
+    let mut choice = Choice::make(alloc, 3)?;
+    choice.set(0, columns[0]);
+    choice.set(1, columns[1]);
+    choice.set(2, columns[2]);
+    Ok(choice)
+}
+
+// Whether the choice is that of these columns.
+fn are_chosen(choice: &Choice, columns: [Option<u32>; 3]) -> bool {
+    if choice.len() != 3 {
+        return false;
+    }
+    [choice.get(0), choice.get(1), choice.get(2)] == columns
+}
+
+// Whether the choice of these columns gives this perfect assignment, and the assignment the choice.
+fn is_perfect_with(
+    alloc: Global,
+    inst: &Instance,
+    columns: [Option<u32>; 3],
+    want: &[u32],
+) -> Result<bool, NoMemory> {
+    let choice = choice(alloc, columns)?;
+    if inst.side() > 6 || !is_valid(inst, &choice) {
+        return Ok(false);
+    }
+    let square = filled(alloc, inst)?;
+    let perm = square.perm_of(alloc, inst, &choice)?;
+    let back = square.choice_of(alloc, perm.as_slice())?;
+    Ok(perm.as_slice() == want && are_chosen(&back, columns))
+}
+
+// A place rule, a choice, and the perfect assignment that it gives.
+const CHOICES: [(Place, [Option<u32>; 3], &[u32]); 2] = [
+    (All, [Some(1), Some(0), Some(1)], &[1, 0, 2, 3]),
+    (Exactly(1), [None, Some(0), None], &[5, 0, 4, 3, 2, 1]),
+];
+
+#[test]
+fn gives_a_perfect_assignment_and_its_choice(rt: HostRuntime) -> Result<(), Fail> {
+    for (place, columns, want) in CHOICES {
+        let inst = sample(rt.alloc(), place, true)?;
+        assert!(rt; is_perfect_with(rt.alloc(), &inst, columns, want)?);
+    }
+    Ok(())
+}
+
+#[test]
+fn gives_a_perfect_assignment_of_a_shaped_instance(rt: HostRuntime) -> Result<(), Fail> {
+    let mut inst = sample(rt.alloc(), All, true)?;
+    assert_eq!(rt; inst.shape(Exactly(3), 3), Ok(()));
+    let (columns, want) = ([Some(1), Some(0), Some(1)], [3, 0, 4, 5, 2, 1]);
+    assert!(rt; is_perfect_with(rt.alloc(), &inst, columns, &want)?);
+    Ok(())
+}

@@ -13,4 +13,7 @@ pub mod CutPhases
 pub mod GradeAmountLemmas
 pub mod WorkedPhase
 pub mod WorkedWindows
+pub mod LesserLists
+pub mod LevelCounts
+pub mod LevelsAreBest
 pub mod StepWordLemmas

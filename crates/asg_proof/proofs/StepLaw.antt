@@ -21,7 +21,7 @@ use Rattle.asg_model.specs.laws.Listing.{all_there}
 abbrev pub value_at : {V : Type 0} → Monoid V → (ℕ → ℕ → Option V) → List ℕ → ℕ → V
 value_at M square p r = unwrap_or (square r (get_or p r 0)) M.unit
 
-there_is : {V : Type 0} (o : Option V) (d : V) → IsSome o → o ≡ Some (unwrap_or o d)
+pub there_is : {V : Type 0} (o : Option V) (d : V) → IsSome o → o ≡ Some (unwrap_or o d)
 there_is None d h = absurd (false≢true h)
 there_is (Some x) d h = refl
 

@@ -1,6 +1,10 @@
 pub mod RowIds
 pub mod Threshold
 pub mod Windows
+pub mod ColumnLists
+pub mod LevelLists
+pub mod LevelRows
+pub mod Levels
 pub mod Steps
 pub mod Phases
 pub mod StepWords

@@ -1,10 +1,12 @@
--- What solvers promise of their proofs: threshold proofs, how many windows, how many phases.
-use Rattle.std.specs.Prelude.{◌≡◌, ℕ, ◌<◌, ◌≤◌, List, length, All}
+-- What solvers promise of their proofs: threshold proofs, how many windows, how many phases, how many levels.
+use Rattle.std.specs.Prelude.{◌≡◌, ℕ, ◌<◌, ◌≤◌, List, [], ◌∷◌, length, All, sum_by}
 use Rattle.asg_proof.specs.declared.outcomes.Outcome.{Outcome}
 use Rattle.asg_proof.specs.declared.outcomes.Outcome.TheVariants.{Best, Nothing}
 use Rattle.asg_proof.specs.declared.outcomes.Proof.{Proof}
-use Rattle.asg_proof.specs.declared.outcomes.Proof.TheVariants.{Below, Phases, Windows}
+use Rattle.asg_proof.specs.declared.outcomes.Proof.TheVariants.{Below, Levels, Phases, Windows}
+use Rattle.asg_proof.specs.declared.levels.Level.{Level}
 use Rattle.asg_proof.specs.Phases.{PhaseOf}
+use Rattle.asg_order.specs.declared.words.Word.{Word}
 
 -- the proof is a threshold proof
 abbrev pub IsThresholdProof : Proof → Type 0
@@ -47,3 +49,29 @@ HasFewPhases side _ = ⊥
 abbrev pub GivesFewPhases : ℕ → Outcome → Type 0
 GivesFewPhases side (Best choice proof) = HasFewPhases side proof
 GivesFewPhases side (Nothing rows) = Unit {0}
+
+-- a phase of one step by 1, over a side
+pub record IsUnitPhase (side : ℕ) (phase : PhaseOf Word) : Type 0 where
+  pub step : phase.steps ≡ record { grade = 0; amount = 1 } ∷ []
+  pub enters : length phase.enters ≡ side
+  pub leaves : length phase.leaves ≡ side
+
+-- a level with as many such phases as it counts cells
+pub record IsUnitLevel (side : ℕ) (level : Level) : Type 0 where
+  pub count : length level.phases ≡ level.count
+  pub each : All (IsUnitPhase side) level.phases
+
+-- levels that count at most so many cells in all, each with such phases
+pub record AreFewLevels (side most : ℕ) (levels : List Level) : Type 0 where
+  pub few : sum_by (λ level. level.count) levels ≤ most
+  pub each : All (IsUnitLevel side) levels
+
+-- the proof is such levels, with a column for each row
+abbrev pub HasFewLevels : ℕ → ℕ → Proof → Type 0
+HasFewLevels side most (Levels perm levels) = (length perm ≡ side) × AreFewLevels side most levels
+HasFewLevels side most _ = ⊥
+
+-- where there is a best choice its proof is such levels
+abbrev pub GivesFewLevels : ℕ → ℕ → Outcome → Type 0
+GivesFewLevels side most (Best choice proof) = HasFewLevels side most proof
+GivesFewLevels side most (Nothing rows) = Unit {0}

@@ -1,9 +1,13 @@
 //! Laws over the definitions: each is the contract of a function that only calls laws.
 
-ghost use Rattle.std.specs.Prelude.{◌≡◌, ◌↔◌, ◌≤◌, ◌<◌, ℕ, Bool, List, Option};
+ghost use Rattle.std.specs.Prelude.{◌≡◌, ◌↔◌, ◌≤◌, ◌<◌, ◌<ℤ◌, ℕ, ℤ, Bool, List, Option, count_by, sum_by};
+ghost use Rattle.std.specs.Ordering.{int_eq};
+ghost use Rattle.asg_model.specs.Better.{IsLessList};
+ghost use Rattle.asg_model.specs.Descending.{descending};
 ghost use Rattle.asg_model.specs.declared.objectives.Objective.{Objective};
 ghost use Rattle.asg_model.specs.declared.parts.Cost.{Cost};
 ghost use Rattle.asg_model.specs.Best.{IsBest};
+ghost use Rattle.asg_model.specs.Counts.{placed};
 ghost use Rattle.asg_model.specs.Instances.{IsInstance};
 ghost use Rattle.asg_model.specs.Problem.{Problem};
 ghost use Rattle.asg_model.specs.Refused.{PassesNegative};
@@ -14,6 +18,9 @@ ghost use Rattle.asg_order.specs.declared.words.Word.{Word};
 ghost use Rattle.asg_order.specs.Bridge.{choice_fold};
 ghost use Rattle.asg_order.specs.Monoid.{IsValue, IsLe, IsLess};
 ghost use Rattle.asg_proof.specs.declared.outcomes.Outcome.TheVariants.{Best, Nothing};
+ghost use Rattle.asg_model.specs.declared.objectives.Objective.TheVariants.{Lex};
+ghost use Rattle.asg_proof.specs.declared.levels.Level.{Level};
+ghost use Rattle.asg_proof.specs.Levels.{ProvesLevels, AreLevels, AreProvedLevels, IsLeftAssignment};
 ghost use Rattle.asg_proof.specs.declared.outcomes.Proof.{Proof};
 ghost use Rattle.asg_proof.specs.FoldProofs.{ProvesFold};
 ghost use Rattle.asg_proof.specs.Outcomes.{IsOutcome};
@@ -26,7 +33,9 @@ ghost use Rattle.asg_square.specs.Cells.{square_cell, IsAssignment};
 mod grades;
 mod sums;
 
-use asg_model::laws::{bottleneck_law, bottleneck_max_law, hall_law, infeasible_law, spread_law};
+use asg_model::laws::{
+    bottleneck_law, bottleneck_max_law, descending_law, hall_law, infeasible_law, spread_law,
+};
 use asg_order::DMonoid;
 use asg_order::laws::differences;
 use asg_square::laws::square_law;
@@ -44,6 +53,7 @@ pub fn best_law()
     bottleneck_max_law();
     hall_law();
     spread_law();
+    levels_law();
     square_law::<u64>();
     square_law::<(u64, u128)>();
 }
@@ -211,3 +221,28 @@ pub fn tops_law()
         → ProvesFold (bounded_sums low) bounded_difference word_of enter X choice words
         → ProvesFold (bounded_sums high) bounded_difference word_of enter X choice words }
 {}
+
+/// The law of lesser lists: where one sorted list is less than another, it has fewer of some number, and
+/// equally many of each greater one.
+pub fn lesser_list_law()
+    ensures { (xs ys : List ℤ) → IsLessList (descending xs) (descending ys)
+        → (z : ℤ) × (count_by (λ x. int_eq x z) xs < count_by (λ x. int_eq x z) ys)
+        × ((w : ℤ) → z <ℤ w → count_by (λ x. int_eq x w) xs ≡ count_by (λ x. int_eq x w) ys) }
+{
+    descending_law();
+}
+
+/// The levels law: a valid choice of an instance that levels prove is best for `lex`.
+pub fn levels_law()
+    ensures best { (X : Problem) (choice : List (Option ℕ)) (perm : List ℕ) (levels : List Level) →
+        IsInstance X → IsValid X choice → ProvesLevels X choice perm levels → IsBest Lex X choice }
+    ensures hold { (X : Problem) (perm : List ℕ) (levels : List Level) → IsInstance X →
+        AreProvedLevels X levels → IsLeftAssignment X perm levels → AreLevels X perm levels }
+    ensures total { (X : Problem) (perm : List ℕ) (levels : List Level) → IsInstance X →
+        AreLevels X perm levels → IsLeftAssignment X perm levels
+        → sum_by (λ level. level.count) levels ≡ placed X }
+{
+    descending_law();
+    square_law::<u64>();
+    square_law::<bool>();
+}

@@ -10,8 +10,10 @@
 //! its value from the product of each perfect assignment, whatever d-monoid the values are of.
 #![tactic(auto)]
 
+mod column_lists;
 mod cuts;
 pub mod laws;
+mod levels;
 mod outcomes;
 mod phase_lists;
 mod phases;
@@ -20,7 +22,9 @@ mod step_words;
 mod windows;
 mod written_phases;
 
+pub use column_lists::Columns;
 pub use cuts::cut_steps;
+pub use levels::{Level, Levels};
 pub use outcomes::{Outcome, Proof};
 pub use phase_lists::Phases;
 pub use phases::{Phase, into_words, words};

@@ -1,12 +1,8 @@
 -- What admission asks, told by counts and by cells.
-use Rattle.std.proofs.Common.{◌≡◌, ℕ, ◌+◌, ◌/◌, ◌%◌, ◌<◌, Bool, true, false, cond, List, [], ◌∷◌, ◌++◌, length, refl, sym, ◌∙◌, ap, subst, arith}
+use Rattle.std.proofs.Common.{◌≡◌, ℕ, ◌/◌, ◌%◌, ◌<◌, Bool, true, false, cond, List, length, refl, sym, ◌∙◌, ap, subst, arith}
 use Rattle.std.specs.Prelude.{IsTrue, Option, Some, None, is_some, All, slice_get, slice_index}
 use Rattle.std.specs.Option.{option_map}
-use Rattle.std.specs.List.{range_with_len, sum_by}
 use Rattle.std.proofs.lemmas.Bool.{false≢true, leb-true, ltb-true, le-leb, lt-ltb}
-use Rattle.std.proofs.lemmas.List.{map-id}
-use Rattle.std.proofs.lemmas.List.FromFn.{map-range_with_len_more}
-use Rattle.std.proofs.lemmas.List.Sums.{sum_by-append, sum_by-cons}
 use Rattle.asg_order.specs.Monoid.{Monoid, IsValue, IsLe}
 use Rattle.asg_proof.specs.Phases.{PhaseOf, entered_at, staying_at, IsAdmittedPhase}
 use Rattle.asg_proof.specs.Steps.{count_below}
@@ -41,28 +37,6 @@ row_read {V} row side values words are_values are_words k h = by_cell (row k) re
         ∙ sym (ap (λ b. cond b (slice_get values k) None) (bit ∙ ap is_some is))
 
 -- ---- counts
-
-range_more : (n : ℕ) → range_with_len 0 (n + 1) ≡ range_with_len 0 n ++ n ∷ []
-range_more n =
-    sym (map-id (range_with_len 0 (n + 1)))
-    ∙ map-range_with_len_more (λ i. i) 0 n n (omega arith)
-    ∙ ap (λ xs. xs ++ n ∷ []) (map-id (range_with_len 0 n))
-
--- one number more is counted where it passes
-pub count_more : (p : ℕ → Bool) (n : ℕ) → count_below p (n + 1) ≡ count_below p n + cond (p n) 1 0
-count_more p n =
-    let f = λ (x : ℕ). cond (p x) 1 0 in
-    let last : sum_by f (n ∷ []) ≡ f n + 0 = sum_by-cons f n [] in
-    ap (sum_by f) (range_more n)
-    ∙ sum_by-append f (range_with_len 0 n) (n ∷ [])
-    ∙ ap (λ m. sum_by f (range_with_len 0 n) + m) (last ∙ (let e : f n + 0 ≡ f n = omega arith in e))
-
-pub count_yes : (p : ℕ → Bool) (n count : ℕ) → count ≡ count_below p n → p n ≡ true → count + 1 ≡ count_below p (n + 1)
-count_yes p n count h e = ap (λ m. m + 1) h ∙ ap (λ b. count_below p n + cond b 1 0) (sym e) ∙ sym (count_more p n)
-
-pub count_no : (p : ℕ → Bool) (n count : ℕ) → count ≡ count_below p n → p n ≡ false → count ≡ count_below p (n + 1)
-count_no p n count h e =
-    h ∙ (let same : count_below p n ≡ count_below p n + 0 = omega arith in same) ∙ ap (λ b. count_below p n + cond b 1 0) (sym e) ∙ sym (count_more p n)
 
 module _ {V : Type 0} (M : Monoid V) (difference : V → V → V) (phase : PhaseOf V) (Q : Grid V) where
   pub counted_from : IsAdmittedPhase M difference Q.side phase (cell_at Q) → AreCounted phase.enters phase.leaves (length phase.steps)

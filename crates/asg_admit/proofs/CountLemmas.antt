@@ -5,7 +5,7 @@ use Rattle.std.proofs.lemmas.Bool.{cases_order, cases_lt, le-leb, lt-leb, lt-ltb
 use Rattle.asg_proof.specs.Phases.{entered_at, staying_at}
 use Rattle.asg_proof.specs.Steps.{count_below}
 use Rattle.asg_admit.specs.Admission.{AreBalanced, AreCounted, has_mark}
-use Rattle.asg_admit.proofs.AdmissionLemmas.{count_more}
+use Rattle.asg_proof.specs.laws.CountsBelow.{count_below-more}
 
 -- ---- counts
 
@@ -15,14 +15,14 @@ count_both p q s each zero = refl
 count_both p q s each (suc n) =
     let next : suc n ≡ n + 1 = omega arith in
     let sum : count_below q (n + 1) ≡ count_below p (n + 1) + count_below s (n + 1) =
-    omega (arith, count_more q n, count_more p n, count_more s n, count_both p q s each n, each n) in
+    omega (arith, count_below-more q n, count_below-more p n, count_below-more s n, count_both p q s each n, each n) in
     ap (count_below q) next ∙ sum ∙ sym (ap (λ m. count_below p m + count_below s m) next)
 
 pub count_few : (p : ℕ → Bool) (n : ℕ) → count_below p n ≤ n
 count_few p zero = omega arith
 count_few p (suc n) =
     let next : n + 1 ≡ suc n = omega arith in
-    let more : count_below p (n + 1) ≤ n + 1 = omega (arith, count_more p n, count_few p n, one (p n)) in
+    let more : count_below p (n + 1) ≤ n + 1 = omega (arith, count_below-more p n, count_few p n, one (p n)) in
     subst (λ m. count_below p m ≤ m) next more
   where
     one : (b : Bool) → cond b 1 0 ≤ 1

@@ -10,7 +10,7 @@ use Rattle.std.proofs.lemmas.List.Sums.{sum_by-cons, sum_by_more}
 use Rattle.std.proofs.lemmas.List.Sorted.{sum_by-IsPermutation, length_permutation}
 use Rattle.asg_proof.specs.Steps.{count_below}
 use Rattle.asg_admit.specs.Admission.{AreCounted}
-use Rattle.asg_admit.proofs.AdmissionLemmas.{count_more}
+use Rattle.asg_proof.specs.laws.CountsBelow.{count_below-more}
 
 -- 1 where the number passes
 abbrev one_if : (ℕ → Bool) → ℕ → ℕ
@@ -22,7 +22,7 @@ count_part p xs zero h = refl
 count_part p xs (suc n) h =
     let next : suc n ≡ n + 1 = omega arith in
     ap (count_below (λ r. p (slice_index xs r))) next
-    ∙ count_more (λ r. p (slice_index xs r)) n
+    ∙ count_below-more (λ r. p (slice_index xs r)) n
     ∙ ap (λ m. m + one_if p (slice_index xs n)) (count_part p xs n (omega (arith, h)))
     ∙ sym (sum_by_more (one_if p) xs n 0 (omega (arith, h)))
     ∙ ap (λ i. sum_by (one_if p) (take i xs)) (sym next)

@@ -1,7 +1,7 @@
 use Rattle.std.proofs.Common.{◌+◌, cond, eqb, sym, ◌∙◌, ap, refl, arith}
 use Rattle.std.specs.Prelude.{slice_index}
 use Rattle.asg_admit.specs.Admission.{has_mark}
-use Rattle.asg_admit.proofs.AdmissionLemmas.{count_more}
+use Rattle.asg_proof.specs.laws.CountsBelow.{count_below-more}
 use Rattle.asg_admit.proofs.CountLemmas.{count_few}
 use Rattle.asg_admit.proofs.counting.count_marks.Goals as goal
 
@@ -24,5 +24,5 @@ loop-k-preserved c =
           let p = has_mark c.args.marks.now (c.args.first + i) in
           c.count_mark.ensures.counts i (omega (arith, h, l.invariant.size))
           ∙ ap (λ n. n + cond (eqb (slice_index c.args.marks.now l.k) (c.args.first + i)) 1 0) (l.invariant.counts i h)
-          ∙ sym (count_more p l.k);
+          ∙ sym (count_below-more p l.k);
     }

@@ -2,7 +2,7 @@ use Rattle.std.proofs.Common.{◌∙◌, arith}
 use Rattle.std.proofs.lemmas.Bool.{le-leb, lt-leb}
 use Rattle.std.specs.Prelude.{slice_index}
 use Rattle.asg_proof.specs.Phases.{entered_at}
-use Rattle.asg_admit.proofs.AdmissionLemmas.{count_yes, count_no}
+use Rattle.asg_proof.specs.laws.CountsBelow.{count_below-yes, count_below-no}
 use Rattle.asg_admit.proofs.counting.entered.Goals as goal
 use Rattle.asg_admit.proofs.counting.entered.Goals.{then-enters-r, else-enters-r}
 
@@ -13,12 +13,12 @@ loop-r-preserved c =
     elim c.if-enters-r.branch [
       | then-enters-r w ↦
           record {
-            is = w.count-is ∙ count_yes p l.r l.count l.invariant.is (le-leb (slice_index c.args.enters.now l.r) c.args.t w.if-enters-r.true);
+            is = w.count-is ∙ count_below-yes p l.r l.count l.invariant.is (le-leb (slice_index c.args.enters.now l.r) c.args.t w.if-enters-r.true);
             few = omega (arith, w.count-is, l.invariant.few);
           }
       | else-enters-r w ↦
           record {
-            is = w.count-is ∙ count_no p l.r l.count l.invariant.is (lt-leb (slice_index c.args.enters.now l.r) c.args.t (omega (arith, w.if-enters-r.false)));
+            is = w.count-is ∙ count_below-no p l.r l.count l.invariant.is (lt-leb (slice_index c.args.enters.now l.r) c.args.t (omega (arith, w.if-enters-r.false)));
             few = omega (arith, w.count-is, l.invariant.few);
           }
     ]

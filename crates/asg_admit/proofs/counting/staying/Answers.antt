@@ -2,7 +2,7 @@ use Rattle.std.proofs.Common.{◌∙◌, arith}
 use Rattle.std.proofs.lemmas.Bool.{lt-ltb, le-ltb}
 use Rattle.std.specs.Prelude.{slice_index}
 use Rattle.asg_proof.specs.Phases.{staying_at}
-use Rattle.asg_admit.proofs.AdmissionLemmas.{count_yes, count_no}
+use Rattle.asg_proof.specs.laws.CountsBelow.{count_below-yes, count_below-no}
 use Rattle.asg_admit.proofs.counting.staying.Goals as goal
 use Rattle.asg_admit.proofs.counting.staying.Goals.{then-t-leaves, else-t-leaves}
 
@@ -13,12 +13,12 @@ loop-k-preserved c =
     elim c.if-t-leaves.branch [
       | then-t-leaves w ↦
           record {
-            is = w.count-is ∙ count_yes p l.k l.count l.invariant.is (lt-ltb c.args.t (slice_index c.args.leaves.now l.k) (omega (arith, w.if-t-leaves.true)));
+            is = w.count-is ∙ count_below-yes p l.k l.count l.invariant.is (lt-ltb c.args.t (slice_index c.args.leaves.now l.k) (omega (arith, w.if-t-leaves.true)));
             few = omega (arith, w.count-is, l.invariant.few);
           }
       | else-t-leaves w ↦
           record {
-            is = w.count-is ∙ count_no p l.k l.count l.invariant.is (le-ltb c.args.t (slice_index c.args.leaves.now l.k) (omega (arith, w.if-t-leaves.false)));
+            is = w.count-is ∙ count_below-no p l.k l.count l.invariant.is (le-ltb c.args.t (slice_index c.args.leaves.now l.k) (omega (arith, w.if-t-leaves.false)));
             few = omega (arith, w.count-is, l.invariant.few);
           }
     ]

@@ -7,7 +7,7 @@ use Rattle.asg_square.specs.BitTable.{BitTable}
 use Rattle.asg_square.specs.Grid.{Grid, IsPerm}
 use Rattle.asg_window.specs.Assignments.{IsAssignmentWithin, IsMarkedAssignment}
 use Rattle.asg_window.specs.Bands.{MarksWithin}
-use Rattle.asg_window.specs.Marks.{IsMarked}
+use Rattle.asg_live_cells.specs.Marks.{IsMarked}
 
 -- a perfect matching by marked cells is one of a list of columns
 pub IsMarkedAssignment-perfect : (B : BitTable) (side : ℕ) (matching : List (Option ℕ)) (perm : List ℕ) → IsPerfect (IsMarked B side) side matching → length perm ≡ side → ((r : ℕ) → r < side → Matches matching r (get_or perm r 0)) → IsMarkedAssignment B side perm

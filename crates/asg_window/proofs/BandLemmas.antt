@@ -4,10 +4,11 @@ use Rattle.std.proofs.lemmas.Bool.{cases_eq, cases_lt}
 use Rattle.std.proofs.lemmas.Option.{same_Some}
 use Rattle.asg_square.specs.BitTable.{BitTable}
 use Rattle.asg_square.specs.Grid.{Grid, cell_at}
-use Rattle.asg_window.specs.declared.live_cells.Entry.{Entry}
-use Rattle.asg_window.specs.Bands.{IsWithin, MarksWithin, IsNamed, MarksMore, MarksFewer}
-use Rattle.asg_window.specs.LiveCells.{entry_of, entry_at, AreEntries, IsPlaceOf}
-use Rattle.asg_window.proofs.EntryLemmas.{place_of_cell, below_place, from_place}
+use Rattle.asg_live_cells.specs.declared.live_cells.Entry.{Entry}
+use Rattle.asg_live_cells.specs.Marks.{IsNamed, MarksMore, MarksFewer}
+use Rattle.asg_window.specs.Bands.{IsWithin, MarksWithin}
+use Rattle.asg_live_cells.specs.LiveCells.{entry_of, entry_at, AreEntries, IsPlaceOf}
+use Rattle.asg_live_cells.specs.laws.Entries.{place_of_entry, below_place, from_place}
 
 module _ (Q : Grid ℕ) (entries : List Entry) (e : AreEntries Q entries) where
   -- what is known of a named cell
@@ -26,7 +27,7 @@ module _ (Q : Grid ℕ) (entries : List Entry) (e : AreEntries Q entries) where
   -- a live cell within a band has a place, and the band's ends tell it
   live_place : (low high r c : ℕ) (w : IsWithin Q low high r c) → 0 < w.grade → (k : ℕ) × (k < length entries) × ((entry_at entries k).grade ≡ w.grade) × ((entry_at entries k).row ≡ r) × ((entry_at entries k).column ≡ c)
   live_place low high r c w live =
-      let at = place_of_cell Q entries e r c w.grade w.row w.column live w.cell in
+      let at = place_of_entry entries (entry_of w.grade r c) (e.every r c w.grade w.row w.column live w.cell) in
       (at.0, at.1, ap (λ (x : Entry). x.grade) at.2, ap (λ (x : Entry). x.row) at.2, ap (λ (x : Entry). x.column) at.2)
 
   -- the same cell within another band

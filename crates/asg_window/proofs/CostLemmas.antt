@@ -10,20 +10,17 @@ use Rattle.asg_model.specs.Limits.{most_cost}
 use Rattle.asg_model.specs.Live.{live_at}
 use Rattle.asg_model.specs.Problem.{Problem}
 use Rattle.asg_square.specs.Grid.{Grid, IsSquareOf}
-use Rattle.asg_window.specs.declared.live_cells.Entry.{Entry}
+use Rattle.asg_live_cells.specs.declared.live_cells.Entry.{Entry}
 use Rattle.asg_window.specs.Assignments.{IsSpread}
 use Rattle.asg_model.specs.DifferentCosts.{HasCosts}
-use Rattle.asg_window.specs.Grades.{grade_of, free_grade, cost_of}
-use Rattle.asg_window.specs.LiveCells.{entry_of, entry_at, AreEntries, AreGradesOf}
+use Rattle.asg_live_cells.specs.Grades.{grade_of, free_grade, cost_of}
+use Rattle.asg_live_cells.specs.LiveCells.{entry_of, entry_at, AreEntries}
+use Rattle.asg_window.specs.DistinctGrades.{AreGradesOf}
 use Rattle.asg_match.specs.laws.Choices.{from_if_some}
-use Rattle.asg_window.proofs.EntryLemmas.{place_of_cell}
-use Rattle.asg_window.proofs.SquareBands.{grade_upto}
+use Rattle.asg_live_cells.specs.laws.Entries.{place_of_entry}
+use Rattle.asg_live_cells.specs.laws.Grades.{cost_back, grade_upto}
 use Rattle.asg_window.proofs.SquareCells.{live_from_cell, cell_from_live}
 use Rattle.asg_proof.specs.laws.LiveCosts.{first_part_in_range}
-
--- the cost of a cost's grade is the cost
-cost_back : (cost : Cost) → unsigned_abs cost.a ≤ most_cost → cost_of (grade_of cost) ≡ cost.a
-cost_back cost h = grind (arith, ints)
 
 cost_apart : (i j : ℕ) → i < j → cost_of i ≡ cost_of j → ⊥
 cost_apart i j h e = grind (arith, ints)
@@ -35,7 +32,7 @@ module _ (X : Problem) (Q : Grid ℕ) (i : IsInstance X) (square : IsSquareOf X 
       let range = from_if_some (λ (x : Cost). unsigned_abs x.a ≤ most_cost) (live_at X r c) cost live (first_part_in_range X i r c) in
       let at = cell_from_live X Q i square r c cost live in
       let some : 0 < grade_of cost = grind (arith, ints) in
-      let place = place_of_cell Q entries e at.0 at.1 (grade_of cost) at.2 at.3 some at.4 in
+      let place = place_of_entry entries (entry_of (grade_of cost) at.0 at.1) (e.every at.0 at.1 (grade_of cost) at.2 at.3 some at.4) in
       let same : (entry_at entries place.0).grade ≡ grade_of cost = ap (λ (x : Entry). x.grade) place.2 in
       (subst (Contains grades) same (g.every place.0 place.1), cost_back cost range, some)
 

@@ -4,8 +4,9 @@ use Rattle.std.specs.List.Sorted.{IsNonDecreasingBy}
 use Rattle.std.proofs.lemmas.Bool.{cases_lt}
 use Rattle.std.proofs.lemmas.List.{get_or_append_left, get_or_push, length_push}
 use Rattle.std.proofs.lemmas.List.Elements.{All-nil, All-push, All-weaker, Contains-append_left, Contains-push}
-use Rattle.asg_window.specs.declared.live_cells.Entry.{Entry}
-use Rattle.asg_window.specs.LiveCells.{entry_of, entry_at, IsAscending}
+use Rattle.asg_live_cells.specs.declared.live_cells.Entry.{Entry}
+use Rattle.asg_live_cells.specs.LiveCells.{entry_of, entry_at}
+use Rattle.asg_window.specs.DistinctGrades.{IsAscending}
 
 -- some entry has the grade
 abbrev pub IsGradeOf : List Entry → ℕ → Type 0

@@ -4,9 +4,9 @@ use Rattle.std.proofs.lemmas.Bool.{cases_eq, cases_lt, false≢true}
 use Rattle.asg_square.specs.BitTable.{BitTable, has_bit, PutsBit}
 use Rattle.asg_square.specs.Grid.{Grid, cell_at}
 use Rattle.asg_window.specs.Bands.{MarksWithin, MarksFreeBefore}
-use Rattle.asg_window.specs.LiveCells.{IsBefore}
-use Rattle.asg_window.proofs.EntryLemmas.{before_next}
-use Rattle.asg_window.proofs.MarkLemmas.{put_more}
+use Rattle.asg_live_cells.specs.LiveCells.{IsBefore}
+use Rattle.asg_live_cells.specs.laws.Entries.{before_next}
+use Rattle.asg_live_cells.specs.laws.Puts.{put_more}
 
 -- no mark, before the first place
 pub free_none : (Q : Grid ℕ) (B : BitTable) → ((r c : ℕ) → has_bit B r c ≡ false) → MarksFreeBefore Q 0 0 B

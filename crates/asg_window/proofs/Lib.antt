@@ -1,5 +1,3 @@
-pub mod EntryLemmas
-pub mod MarkLemmas
 pub mod BandLemmas
 pub mod FreeLemmas
 pub mod ReachLemmas

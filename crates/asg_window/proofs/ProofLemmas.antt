@@ -9,11 +9,12 @@ use Rattle.asg_proof.specs.declared.windows.Window.{Window}
 use Rattle.asg_proof.specs.Windows.{is_held, IsHallWindow, ProvesSpread}
 use Rattle.asg_square.specs.Grid.{Grid, IsSquareOf}
 use Rattle.asg_window.specs.declared.gaps.Least.{Least}
-use Rattle.asg_window.specs.declared.live_cells.Entry.{Entry}
+use Rattle.asg_live_cells.specs.declared.live_cells.Entry.{Entry}
 use Rattle.asg_window.specs.CostWindows.{IsBandWindow}
 use Rattle.asg_window.specs.Gaps.{IsLeast}
-use Rattle.asg_window.specs.Grades.{grade_of, free_grade, cost_of}
-use Rattle.asg_window.specs.LiveCells.{AreEntries, AreGradesOf}
+use Rattle.asg_live_cells.specs.Grades.{grade_of, free_grade, cost_of}
+use Rattle.asg_live_cells.specs.LiveCells.{AreEntries}
+use Rattle.asg_window.specs.DistinctGrades.{AreGradesOf}
 use Rattle.asg_window.proofs.CostLemmas.{grade_listed, grades_fit, spread_fits}
 use Rattle.asg_window.proofs.SquareBands.{IsBandOf, IsBandOf-between, AllowsCells-within}
 use Rattle.asg_proof.specs.laws.LiveCosts.{first_part_in_range}

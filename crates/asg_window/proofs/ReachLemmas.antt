@@ -7,13 +7,13 @@ use Rattle.asg_match.specs.ColumnSet.{HasColumn}
 use Rattle.asg_match.specs.Deficient.{IsColumnOf, IsDeficient}
 use Rattle.asg_square.specs.BitTable.{BitTable, has_bit}
 use Rattle.asg_square.specs.Grid.{Grid}
-use Rattle.asg_window.specs.declared.live_cells.Entry.{Entry}
+use Rattle.asg_live_cells.specs.declared.live_cells.Entry.{Entry}
 use Rattle.asg_window.specs.declared.next_grades.Reached.{Reached}
 use Rattle.asg_window.specs.Bands.{IsWithin, MarksWithin}
-use Rattle.asg_window.specs.Marks.{IsMarked}
-use Rattle.asg_window.specs.LiveCells.{entry_at, AreEntries, IsPlaceOf}
+use Rattle.asg_live_cells.specs.Marks.{IsMarked}
+use Rattle.asg_live_cells.specs.LiveCells.{entry_of, entry_at, AreEntries, IsPlaceOf}
 use Rattle.asg_window.specs.Reaching.{IsRowMarked, Reaches, AreReachedBelow, GetNoColumn}
-use Rattle.asg_window.proofs.EntryLemmas.{place_of_cell}
+use Rattle.asg_live_cells.specs.laws.Entries.{place_of_entry}
 
 -- columns of rows by marks are columns of theirs within the band
 column_within : (Q : Grid ℕ) (low high : ℕ) (B : BitTable) (rows : List ℕ) (c : ℕ) → MarksWithin Q low high B → IsColumnOf (λ r c. IsTrue (has_bit B r c)) rows c → IsColumnOf (IsWithin Q low high) rows c
@@ -27,7 +27,7 @@ GetNoColumn-next Q entries low high end next B rows reached e marks p reaches be
     (r, of, record { row = w.row; column = w.column; grade = w.grade; cell = w.cell; inside = λ some. absurd (omega (arith, free, some)) }))
     (λ some.
     let live : 0 < w.grade = omega (arith, some) in
-    let at = place_of_cell Q entries e r c w.grade w.row w.column live w.cell in
+    let at = place_of_entry entries (entry_of w.grade r c) (e.every r c w.grade w.row w.column live w.cell) in
     let grade : (entry_at entries at.0).grade ≡ w.grade = ap (λ (x : Entry). x.grade) at.2 in
     let inside = w.inside live in
     let high_in = inside.1 in

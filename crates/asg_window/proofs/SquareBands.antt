@@ -22,20 +22,15 @@ use Rattle.asg_square.specs.Grid.{Grid, IsSquareOf}
 use Rattle.asg_square.specs.Labels.{row_label, column_label}
 use Rattle.asg_square.specs.Presence.{leaves_rows, has_corner, is_labelled_within, has_cell}
 use Rattle.asg_window.specs.Bands.{IsWithin}
-use Rattle.asg_window.specs.Grades.{grade_of, free_grade, no_bound, cost_of}
+use Rattle.asg_live_cells.specs.Grades.{grade_of, free_grade, cost_of}
+use Rattle.asg_window.specs.Grades.{no_bound}
+use Rattle.asg_live_cells.specs.laws.Grades.{grade_above, grade_upto}
 use Rattle.asg_model.specs.laws.Tests.{both_tests}
 
 -- the costs of the band are those with a grade from `low` on and below `high`
 abbrev pub IsBandOf : Band → ℕ → ℕ → Type 0
 IsBandOf band low high =
     (cost : Cost) → unsigned_abs cost.a ≤ most_cost → ((low ≤ grade_of cost) × (grade_of cost < high)) ↔ IsTrue (in_band band cost.a)
-
--- all costs have a grade above that of a free cell, and below the bound of none
-pub grade_above : (cost : Cost) → unsigned_abs cost.a ≤ most_cost → 0 < grade_of cost
-grade_above cost h = grind (arith, ints)
-
-pub grade_upto : (cost : Cost) → unsigned_abs cost.a ≤ most_cost → grade_of cost ≤ 2000000001
-grade_upto cost h = grind (arith, ints)
 
 pub IsBandOf-whole : IsBandOf Whole 1 no_bound
 IsBandOf-whole cost h = (λ _. refl, λ _. let above = grade_above cost h in let upto = grade_upto cost h in (omega (arith, above), omega (arith, upto)))

@@ -1,6 +1,6 @@
 -- The live cells of an instance in its square.
 use Rattle.std.proofs.Common.{◌≡◌, refl, ℕ, ◌+◌, ◌<◌, ◌≤◌, Option, Some, None, cond, ◌&&◌, Bool, true, false, sym, ◌∙◌, subst, ap, arith, ⊎_elim, length}
-use Rattle.std.specs.Prelude.{IsSome, is_some, nat_lt}
+use Rattle.std.specs.Prelude.{IsSome, is_some, nat_lt, unsigned_abs}
 use Rattle.std.specs.Option.{option_map, option_map_or}
 use Rattle.std.proofs.lemmas.Bool.{cases_lt, lt-ltb, false≢true}
 use Rattle.std.proofs.lemmas.List.Elements.{All-get_or}
@@ -20,7 +20,12 @@ use Rattle.asg_square.specs.Labels.{row_label, column_label, first_copy}
 use Rattle.asg_square.specs.laws.Copies.{label_at, copy_below, capacity_is}
 use Rattle.asg_square.specs.laws.Rows.{rows_within, copies_within}
 use Rattle.asg_model.specs.laws.Rows.{is_active-from_live, row-from_active, counted-from_active, no_column}
-use Rattle.asg_window.specs.Grades.{grade_of, free_grade}
+use Rattle.asg_live_cells.specs.Grades.{grade_of, free_grade}
+use Rattle.asg_live_cells.specs.laws.Grades.{grade_upto}
+use Rattle.asg_match.specs.laws.Choices.{from_if_some}
+use Rattle.asg_model.specs.Limits.{most_cost}
+use Rattle.asg_proof.specs.laws.LiveCosts.{first_part_in_range}
+use Rattle.asg_window.specs.Grades.{no_bound}
 
 -- a live cell of the instance with this grade
 abbrev pub HasLive : Problem → ℕ → Type 0
@@ -55,6 +60,15 @@ module _ (X : Problem) where
       cond_live (nat_lt r (square_side X) && nat_lt c (square_side X)) (labelled_cell X free_grade grade_of (row_label X r) (column_label X c)) grade
       (labelled_live (row_label X r) (column_label X c) grade some)
       (sym (square.cells r c) ∙ e)
+
+-- no bound is above all grades
+pub grade_below : (X : Problem) (Q : Grid ℕ) → IsInstance X → IsSquareOf X free_grade grade_of Q → (r c grade : ℕ) → 0 < grade → cell_at Q r c ≡ Some grade → grade < no_bound
+grade_below X Q i square r c grade some e =
+    let at = live_from_cell X Q square r c grade some e in
+    let range = from_if_some (λ (x : Cost). unsigned_abs x.a ≤ most_cost) (live_at X at.0 at.1) at.2 at.3 (first_part_in_range X i at.0 at.1) in
+    let upto = grade_upto at.2 range in
+    let same = at.4 in
+    omega (arith, upto, same)
 
 -- a cell of the square with this grade
 abbrev pub HasCell : Grid ℕ → ℕ → Type 0

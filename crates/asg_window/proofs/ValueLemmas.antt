@@ -22,10 +22,10 @@ use Rattle.asg_model.specs.Values.{chosen_cost, costs_of, first_parts, choice_va
 use Rattle.asg_square.specs.Cells.{square_cell, entered_or_free}
 use Rattle.asg_square.specs.Grid.{Grid, cell_at, IsSquareOf}
 use Rattle.asg_window.specs.Assignments.{IsAssignmentWithin, IsSpread}
-use Rattle.asg_window.specs.Grades.{grade_of, free_grade, cost_of}
+use Rattle.asg_live_cells.specs.Grades.{grade_of, free_grade, cost_of}
 use Rattle.asg_match.specs.laws.Choices.{costs_each, costs_some, costs_at_row, chosen_live, greatest-le, least-ge, if_some, from_if_some}
 use Rattle.asg_proof.specs.laws.LiveCosts.{first_part_in_range}
-use Rattle.asg_window.proofs.SquareBands.{grade_above}
+use Rattle.asg_live_cells.specs.laws.Grades.{grade_above}
 
 -- no number of a list is past its extremes
 greatest-upper : (xs : List ℤ) → All (λ x. x ≤ℤ greatest xs) xs

@@ -11,7 +11,7 @@ use Rattle.asg_proof.specs.declared.windows.Window.{Window}
 use Rattle.asg_proof.specs.Windows.{holds_from, is_held}
 use Rattle.asg_square.specs.Grid.{Grid}
 use Rattle.asg_window.specs.CostWindows.{IsWindowBy}
-use Rattle.asg_window.specs.Grades.{cost_of}
+use Rattle.asg_live_cells.specs.Grades.{cost_of}
 use Rattle.asg_model.specs.laws.Tests.{both_tests}
 
 or_left : (a b : Bool) → IsTrue a → IsTrue (a || b)

@@ -10,8 +10,8 @@ use Rattle.asg_square.specs.Grid.{Grid}
 use Rattle.asg_window.specs.declared.gaps.Gap.{Gap}
 use Rattle.asg_window.specs.CostWindows.{IsWindowBy, IsBandWindow, AddsWindow}
 use Rattle.asg_window.specs.Gaps.{ShowLeast}
-use Rattle.asg_window.specs.Grades.{cost_of}
-use Rattle.asg_window.specs.LiveCells.{IsAscending}
+use Rattle.asg_live_cells.specs.Grades.{cost_of}
+use Rattle.asg_window.specs.DistinctGrades.{IsAscending}
 use Rattle.asg_window.proofs.GapLemmas.{chained_holds, chained_some, chained_first}
 use Rattle.asg_window.proofs.WindowLemmas.{window_holds, held_last, held_more}
 

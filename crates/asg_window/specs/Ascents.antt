@@ -3,7 +3,7 @@ use Rattle.std.specs.Prelude.{◌≡◌, ℕ, ◌<◌, ◌≤◌, List}
 use Rattle.asg_match.specs.Deficient.{IsDeficient}
 use Rattle.asg_square.specs.Grid.{Grid}
 use Rattle.asg_window.specs.declared.gaps.Ascent.{Ascent}
-use Rattle.asg_window.specs.declared.live_cells.Entry.{Entry}
+use Rattle.asg_live_cells.specs.declared.live_cells.Entry.{Entry}
 use Rattle.asg_window.specs.declared.seeker.Seeker.{Seeker}
 use Rattle.asg_window.specs.Assignments.{IsSpread}
 use Rattle.asg_window.specs.Bands.{IsWithin}

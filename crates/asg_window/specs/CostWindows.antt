@@ -8,7 +8,7 @@ use Rattle.asg_square.specs.Grid.{Grid}
 use Rattle.asg_window.specs.Bands.{IsWithin}
 use Rattle.asg_window.specs.declared.gaps.Gap.{Gap}
 use Rattle.asg_window.specs.Gaps.{low_at}
-use Rattle.asg_window.specs.Grades.{cost_of}
+use Rattle.asg_live_cells.specs.Grades.{cost_of}
 
 -- the window has the costs of the grades from `low` on and below `high`, and rows that give a Hall set
 pub record IsWindowBy (X : Problem) (Q : Grid ℕ) (low high : ℕ) (window : Window) : Type 0 where

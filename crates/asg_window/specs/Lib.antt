@@ -1,6 +1,5 @@
 pub mod Grades
-pub mod LiveCells
-pub mod Marks
+pub mod DistinctGrades
 pub mod Bands
 pub mod Reaching
 pub mod EmptyLines

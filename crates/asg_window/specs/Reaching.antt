@@ -4,10 +4,10 @@ use Rattle.asg_match.specs.ColumnSet.{HasColumn, word_count}
 use Rattle.asg_match.specs.Deficient.{IsColumnOf}
 use Rattle.asg_square.specs.BitTable.{BitTable, has_bit}
 use Rattle.asg_square.specs.Grid.{Grid}
-use Rattle.asg_window.specs.declared.live_cells.Entry.{Entry}
+use Rattle.asg_live_cells.specs.declared.live_cells.Entry.{Entry}
 use Rattle.asg_window.specs.declared.next_grades.Reached.{Reached}
 use Rattle.asg_window.specs.Bands.{IsWithin}
-use Rattle.asg_window.specs.LiveCells.{entry_at}
+use Rattle.asg_live_cells.specs.LiveCells.{entry_at}
 
 -- a mark for each row, and a bit for each column
 pub record HasRoom (side : ℕ) (reached : Reached) : Type 0 where

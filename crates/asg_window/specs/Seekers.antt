@@ -1,14 +1,14 @@
 -- The state of a search through bands.
 use Rattle.std.specs.Prelude.{◌≡◌, ℕ, List, length}
 use Rattle.asg_square.specs.Grid.{Grid}
-use Rattle.asg_window.specs.declared.live_cells.Entry.{Entry}
+use Rattle.asg_live_cells.specs.declared.live_cells.Entry.{Entry}
 use Rattle.asg_window.specs.declared.seeker.Seeker.{Seeker}
 use Rattle.asg_window.specs.Bands.{MarksBand}
 use Rattle.asg_window.specs.Reaching.{HasRoom}
 
 -- the matching, the tree, the marks and the list of columns are of this side
 pub record HaveSide (side : ℕ) (seeker : Seeker) : Type 0 where
-  pub band_side : seeker.band.side ≡ side
+  pub band_side : seeker.band.marks.side ≡ side
   pub matching_side : length seeker.matching ≡ side
   pub tree_side : seeker.tree.side ≡ side
   pub room : HasRoom side seeker.reached

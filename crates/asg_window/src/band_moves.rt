@@ -1,50 +1,15 @@
 //! The cells that a band has, and those that enter or leave where its ends move.
 
 ghost use Rattle.std.specs.Prelude.{◌≡◌, ◌+◌, ◌<◌, ◌≤◌, All, IfOk, length};
-ghost use Rattle.asg_window.specs.Bands.{MarksBand, MarksFreeBefore, MarksMore, MarksFewer};
-ghost use Rattle.asg_window.specs.LiveCells.{AreEntries};
+ghost use Rattle.asg_live_cells.specs.Marks.{MarksMore, MarksFewer};
+ghost use Rattle.asg_window.specs.Bands.{MarksBand, MarksFreeBefore};
+ghost use Rattle.asg_live_cells.specs.LiveCells.{AreEntries};
 
 use crate::NoMemory;
 use crate::band_cells::BandCells;
-use crate::live_cells::{Entry, LiveCells};
+use asg_live_cells::{Entry, LiveCells, Marks, enter, leave};
 use asg_square::{BitRows, Square};
 use std::alloc::Global;
-
-// Marks the cells from one place to another.
-fn enter(bits: &mut BitRows, entries: &[Entry], from: usize, to: usize)
-    requires order { from ≤ to }
-    requires within { All (λ e. (e.row < bits.old.rows) × (e.column < bits.old.columns))
-        entries.now }
-    requires to_within { to ≤ length entries.now }
-    ensures rows { bits.new.rows ≡ bits.old.rows }
-    ensures columns { bits.new.columns ≡ bits.old.columns }
-    ensures marks { MarksMore bits.old bits.new entries.now from to }
-{
-    for place in from..to {
-        let entry = entries[place];
-        let row = u32::from(entry.row);
-        let column = u32::from(entry.column);
-        bits.put(row, column, true);
-    }
-}
-
-// Takes the marks from the cells from one place to another.
-fn leave(bits: &mut BitRows, entries: &[Entry], from: usize, to: usize)
-    requires order { from ≤ to }
-    requires within { All (λ e. (e.row < bits.old.rows) × (e.column < bits.old.columns))
-        entries.now }
-    requires to_within { to ≤ length entries.now }
-    ensures rows { bits.new.rows ≡ bits.old.rows }
-    ensures columns { bits.new.columns ≡ bits.old.columns }
-    ensures marks { MarksFewer bits.old bits.new entries.now from to }
-{
-    for place in from..to {
-        let entry = entries[place];
-        let row = u32::from(entry.row);
-        let column = u32::from(entry.column);
-        bits.put(row, column, false);
-    }
-}
 
 // Marks the cells from one place on up to another, or takes the marks from those from the other
 // place on, where it stands below.
@@ -75,7 +40,7 @@ impl BandCells {
         ensures high { self.new.high ≡ high }
     {
         let end = cells.place_of(high);
-        shift(&mut self.bits, cells.entries, self.end, end);
+        shift(&mut self.marks.bits, cells.entries, self.end, end);
         self.end = end;
         self.high = high;
     }
@@ -90,7 +55,7 @@ impl BandCells {
         ensures high { self.new.high ≡ self.old.high }
     {
         let first = cells.place_of(low);
-        leave(&mut self.bits, cells.entries, self.first, first);
+        leave(&mut self.marks.bits, cells.entries, self.first, first);
         self.first = first;
         self.low = low;
     }
@@ -156,8 +121,7 @@ impl BandCells {
             mark_free_row(&mut bits, square, row);
         }
         Ok(BandCells {
-            side,
-            bits,
+            marks: Marks { side, bits },
             low: 1,
             high: 1,
             first: 0,

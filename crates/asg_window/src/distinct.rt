@@ -2,11 +2,11 @@
 
 ghost use Rattle.std.specs.Prelude.{◌≡◌, ℕ, ◌<◌, All, IfOk};
 ghost use Rattle.std.specs.List.Sorted.{IsNonDecreasingBy};
-ghost use Rattle.asg_window.specs.declared.live_cells.Entry.{Entry as E};
-ghost use Rattle.asg_window.specs.LiveCells.{AreGradesOf};
+ghost use Rattle.asg_live_cells.specs.declared.live_cells.Entry.{Entry as E};
+ghost use Rattle.asg_window.specs.DistinctGrades.{AreGradesOf};
 
 use crate::NoMemory;
-use crate::live_cells::Entry;
+use asg_live_cells::Entry;
 use std::alloc::Global;
 
 /// The different grades of live cells that stand in their order. The error is want of memory.

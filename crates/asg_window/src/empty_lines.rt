@@ -5,7 +5,7 @@ ghost use Rattle.asg_match.specs.ColumnSet.{HasColumn, word_count};
 ghost use Rattle.asg_match.specs.Deficient.{IsDeficient};
 ghost use Rattle.asg_square.specs.BitTable.{has_bit};
 ghost use Rattle.asg_window.specs.EmptyLines.{IsEmptyRow, IsEmptyColumn};
-ghost use Rattle.asg_window.specs.Marks.{IsMarked};
+ghost use Rattle.asg_live_cells.specs.Marks.{IsMarked};
 
 use crate::NoMemory;
 use crate::band_cells::BandCells;
@@ -14,10 +14,10 @@ use asg_square::BitRows;
 
 /// The first row without a marked cell.
 pub(crate) fn empty_row(band: &BandCells) -> Option<u32>
-    ensures { IfSome result (IsEmptyRow band.now.bits band.now.side) }
+    ensures { IfSome result (IsEmptyRow band.now.marks.bits band.now.marks.side) }
 {
-    for row in 0..band.side {
-        if !has_any(band.bits.row(row)) {
+    for row in 0..band.marks.side {
+        if !has_any(band.marks.bits.row(row)) {
             return Some(row);
         }
     }
@@ -40,12 +40,12 @@ fn join(columns: &mut Vec<u64>, bits: &BitRows, side: u32)
 
 /// The first column without a marked cell. The words are to work with.
 pub(crate) fn empty_column(columns: &mut Vec<u64>, band: &BandCells) -> Option<u32>
-    requires count { length columns.old.items ≡ word_count band.now.side }
+    requires count { length columns.old.items ≡ word_count band.now.marks.side }
     ensures count { length columns.new.items ≡ length columns.old.items }
-    ensures empty { IfSome result (IsEmptyColumn band.now.bits band.now.side) }
+    ensures empty { IfSome result (IsEmptyColumn band.now.marks.bits band.now.marks.side) }
 {
-    join(columns, &band.bits, band.side);
-    for column in 0..band.side {
+    join(columns, &band.marks.bits, band.marks.side);
+    for column in 0..band.marks.side {
         if !has_column(columns.as_slice(), column as usize) {
             return Some(column);
         }
@@ -55,13 +55,13 @@ pub(crate) fn empty_column(columns: &mut Vec<u64>, band: &BandCells) -> Option<u
 
 /// Makes the list that of all rows, in order, which are deficient where they can't have a column.
 pub(crate) fn all_rows(rows: &mut Vec<u32>, band: &BandCells, column: u32) -> Result<(), NoMemory>
-    requires { IsEmptyColumn band.now.bits band.now.side column }
-    ensures { IfOk result (λ _. IsDeficient (IsMarked band.now.bits band.now.side) band.now.side
+    requires { IsEmptyColumn band.now.marks.bits band.now.marks.side column }
+    ensures { IfOk result (λ _. IsDeficient (IsMarked band.now.marks.bits band.now.marks.side) band.now.marks.side
         rows.new.items) }
 {
     let _ = column;
     rows.clear();
-    for row in 0..band.side {
+    for row in 0..band.marks.side {
         rows.push(row)?;
     }
     Ok(())

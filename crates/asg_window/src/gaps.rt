@@ -8,14 +8,14 @@ ghost use Rattle.asg_window.specs.Ascents.{IsAscent, AddsGap};
 ghost use Rattle.asg_window.specs.Bands.{IsWithin};
 ghost use Rattle.asg_window.specs.Gaps.{IsSwept};
 ghost use Rattle.asg_window.specs.Grades.{no_bound};
-ghost use Rattle.asg_window.specs.LiveCells.{AreEntries};
+ghost use Rattle.asg_live_cells.specs.LiveCells.{AreEntries};
 ghost use Rattle.asg_window.specs.Seekers.{IsSeeker};
 
 use crate::NoMemory;
 use crate::grades::NO_BOUND;
-use crate::live_cells::LiveCells;
 use crate::seeker::Seeker;
 use crate::spreads::spread_of;
+use asg_live_cells::LiveCells;
 use std::alloc::Global;
 
 /// A band of grades, from one on and below another, and rows that are deficient under it.

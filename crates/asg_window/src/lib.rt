@@ -15,7 +15,6 @@ mod distinct;
 mod empty_lines;
 mod gaps;
 mod grades;
-mod live_cells;
 mod next_grades;
 mod outcomes;
 mod seeker;

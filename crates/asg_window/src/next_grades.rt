@@ -4,17 +4,17 @@ ghost use Rattle.std.specs.Prelude.{◌≡◌, ◌⊎◌, ℕ, ◌<◌, ◌≤�
 ghost use Rattle.std.specs.List.Sorted.{IsNonDecreasingBy};
 ghost use Rattle.asg_match.specs.ColumnSet.{HasColumn};
 ghost use Rattle.asg_square.specs.BitTable.{has_bit};
-ghost use Rattle.asg_window.specs.declared.live_cells.Entry.{Entry as E};
+ghost use Rattle.asg_live_cells.specs.declared.live_cells.Entry.{Entry as E};
 ghost use Rattle.asg_window.specs.Bands.{MarksBand};
-ghost use Rattle.asg_window.specs.LiveCells.{entry_at};
+ghost use Rattle.asg_live_cells.specs.LiveCells.{entry_at};
 ghost use Rattle.asg_window.specs.Reaching.{HasRoom, IsRowMarked, Reaches, AreReachedBelow};
 ghost use Rattle.asg_window.specs.Reaching.{GetNoColumn};
 
 use crate::NoMemory;
 use crate::band_cells::BandCells;
 use crate::grades::NO_BOUND;
-use crate::live_cells::{Entry, LiveCells};
 use crate::words::{add_words, clear_words, has_column};
+use asg_live_cells::{Entry, LiveCells};
 use std::alloc::Global;
 
 /// Some rows of a square, and the columns that they have in a band, as bits. Its memory serves one
@@ -79,24 +79,24 @@ impl Reached {
 
     // Adds a row, with the columns that it has in the band.
     fn add_row(&mut self, band: &BandCells, row: u32)
-        requires room { HasRoom band.now.side self.old }
-        requires below { row < band.now.side }
-        ensures room { HasRoom band.now.side self.new }
+        requires room { HasRoom band.now.marks.side self.old }
+        requires below { row < band.now.marks.side }
+        ensures room { HasRoom band.now.marks.side self.new }
         ensures marked { IsRowMarked self.new row }
         ensures kept { (r : ℕ) → IsRowMarked self.old r → IsRowMarked self.new r }
         ensures columns { (c : ℕ) → HasColumn self.new.columns.items c
-            → HasColumn self.old.columns.items c ⊎ IsTrue (has_bit band.now.bits row c) }
+            → HasColumn self.old.columns.items c ⊎ IsTrue (has_bit band.now.marks.bits row c) }
     {
         self.rows[row as usize] = true;
-        add_words(&mut self.columns, band.bits.row(row));
+        add_words(&mut self.columns, band.marks.bits.row(row));
     }
 
     // Takes these rows, with the columns that they have in the band.
     fn take(&mut self, band: &BandCells, rows: &[u32])
-        requires room { HasRoom band.now.side self.old }
-        requires below { All (λ r. r < band.now.side) rows.now }
-        ensures room { HasRoom band.now.side self.new }
-        ensures reaches { Reaches band.now.bits rows.now self.new }
+        requires room { HasRoom band.now.marks.side self.old }
+        requires below { All (λ r. r < band.now.marks.side) rows.now }
+        ensures room { HasRoom band.now.marks.side self.new }
+        ensures reaches { Reaches band.now.marks.bits rows.now self.new }
     {
         self.clear();
         for place in 0..rows.len() {

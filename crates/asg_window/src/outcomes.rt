@@ -1,9 +1,9 @@
 //! The outcome of the balanced objective: a best choice with its proof, or a Hall set.
 
-ghost use Rattle.std.specs.Prelude.{◌≡◌, ◌<◌, ◌≤◌, pos, IfOk, IfErr, length, unsigned_abs};
+ghost use Rattle.std.specs.Prelude.{◌≡◌, ◌<◌, ◌≤◌, pos, IfOk, IfErr, length};
 ghost use Rattle.asg_match.specs.Deficient.{IsDeficient};
 ghost use Rattle.asg_model.specs.declared.objectives.Objective.TheVariants.{Balanced};
-ghost use Rattle.asg_model.specs.Limits.{most_cost, most_side};
+ghost use Rattle.asg_model.specs.Limits.{most_side};
 ghost use Rattle.asg_model.specs.Shapes.{square_side};
 ghost use Rattle.asg_proof.specs.Outcomes.{IsOutcome};
 ghost use Rattle.asg_proof.specs.Windows.{AreWindows, ProvesSpread};
@@ -12,18 +12,20 @@ ghost use Rattle.asg_model.specs.DifferentCosts.{HasFewCosts, most_costs};
 ghost use Rattle.asg_window.specs.Refusals.{IsRefusal};
 ghost use Rattle.asg_window.specs.Bands.{IsWithin};
 ghost use Rattle.asg_window.specs.Gaps.{IsLeast};
-ghost use Rattle.asg_window.specs.Grades.{free_grade, grade_of, no_bound};
-ghost use Rattle.asg_window.specs.LiveCells.{AreEntries, AreGradesOf};
+ghost use Rattle.asg_live_cells.specs.Grades.{free_grade, grade_of};
+ghost use Rattle.asg_window.specs.Grades.{no_bound};
+ghost use Rattle.asg_live_cells.specs.LiveCells.{AreEntries};
+ghost use Rattle.asg_window.specs.DistinctGrades.{AreGradesOf};
 ghost use Rattle.asg_proof.specs.PromisedProofs.{HasFewWindows};
 
 use crate::NoMemory;
 use crate::cells_within::CellsWithin;
 use crate::distinct::distinct_grades;
 use crate::gaps::{Least, Swept, sweep};
-use crate::grades::{FREE_GRADE, NO_BOUND, grade};
-use crate::live_cells::{LiveCells, in_order};
+use crate::grades::NO_BOUND;
 use crate::windows::{hall_ids, windows_of};
-use asg_model::{Cost, Instance};
+use asg_live_cells::{LiveCells, graded_square, in_order};
+use asg_model::Instance;
 use asg_proof::{Outcome, Proof, Window, Windows};
 use asg_square::Square;
 use asg_square::laws::{grid_law, square_law};
@@ -144,19 +146,6 @@ fn outcome(
     }
 }
 
-// The square of an instance whose live costs enter as grades.
-fn graded_square(alloc: Global, inst: &Instance) -> Result<Square<u32>, NoMemory>
-    requires { square_side inst.now ≤ most_side }
-    ensures { IfOk result (IsSquareOf inst.now free_grade grade_of) }
-{
-    let _rows = inst.rows();
-    let enter = |cost: Cost| -> u32
-        requires { unsigned_abs cost.a ≤ most_cost }
-        ensures { result ≡ grade_of cost }
-    { grade(cost) };
-    Square::of(alloc, inst, FREE_GRADE, &enter)
-}
-
 // The outcome of a square's live cells, where they have few different costs.
 fn graded_outcome(
     alloc: Global,
@@ -192,10 +181,12 @@ pub fn balanced(alloc: Global, inst: &Instance) -> Result<Outcome, BalancedRefus
     ensures few { IfOk result (λ _. HasFewCosts inst.now) }
     ensures refusal { IfErr result (IsRefusal inst.now) }
 {
+    let _rows = inst.rows();
     let square = graded_square(alloc, inst)?;
-    let entries = in_order(alloc, &square)?;
+    let entries = in_order(alloc, &square, NO_BOUND)?;
     let cells = LiveCells {
         square: &square,
+        limit: NO_BOUND,
         entries: entries.as_slice(),
     };
     graded_outcome(alloc, inst, &cells)

@@ -6,15 +6,15 @@ ghost use Rattle.asg_match.specs.Matching.{Matches, IsMatched, IsPerfect};
 ghost use Rattle.asg_match.specs.Deficient.{IsDeficient};
 ghost use Rattle.asg_window.specs.Assignments.{IsAssignmentWithin, IsMarkedAssignment};
 ghost use Rattle.asg_window.specs.Bands.{IsWithin};
-ghost use Rattle.asg_window.specs.LiveCells.{AreEntries};
-ghost use Rattle.asg_window.specs.Marks.{IsMarked};
+ghost use Rattle.asg_live_cells.specs.LiveCells.{AreEntries};
+ghost use Rattle.asg_live_cells.specs.Marks.{IsMarked};
 ghost use Rattle.asg_window.specs.Seekers.{HaveSide, IsSeeker};
 
 use crate::NoMemory;
 use crate::band_cells::BandCells;
 use crate::empty_lines::{all_rows, empty_column, empty_row};
-use crate::live_cells::LiveCells;
 use crate::next_grades::Reached;
+use asg_live_cells::LiveCells;
 use asg_match::{Matching, Tree, complete, prune};
 use std::alloc::Global;
 
@@ -75,9 +75,9 @@ impl Seeker {
         ensures low { IfOk result (λ s. s.band.low ≡ 1) }
     {
         let band = BandCells::make(alloc, cells)?;
-        let Pairing { matching, tree } = Pairing::make(alloc, band.side)?;
-        let reached = Reached::make(alloc, band.side)?;
-        let Lists { perm, rows } = Lists::make(alloc, band.side)?;
+        let Pairing { matching, tree } = Pairing::make(alloc, band.marks.side)?;
+        let reached = Reached::make(alloc, band.marks.side)?;
+        let Lists { perm, rows } = Lists::make(alloc, band.marks.side)?;
         Ok(Seeker {
             band,
             matching,
@@ -104,12 +104,12 @@ impl Seeker {
 
     // Whether a row or a column has no marked cell. True: the rows are deficient.
     fn is_blocked(&mut self) -> Result<bool, NoMemory>
-        requires sides { HaveSide self.old.band.side self.old }
-        ensures sides { HaveSide self.old.band.side self.new }
+        requires sides { HaveSide self.old.band.marks.side self.old }
+        ensures sides { HaveSide self.old.band.marks.side self.new }
         ensures band { self.new.band ≡ self.old.band }
         ensures columns_stay { self.new.perm.items ≡ self.old.perm.items }
         ensures deficient { IfOk result (λ yes. OnTrue yes
-            (IsDeficient (IsMarked self.old.band.bits self.old.band.side) self.old.band.side
+            (IsDeficient (IsMarked self.old.band.marks.bits self.old.band.marks.side) self.old.band.marks.side
             self.new.rows.items)) }
     {
         if let Some(row) = empty_row(&self.band) {
@@ -127,19 +127,19 @@ impl Seeker {
     // Lengthens the matching as far as the marked cells allow. True: the list of columns is a
     // perfect assignment. False: the rows are deficient, and the columns as before.
     fn is_completed(&mut self) -> Result<bool, NoMemory>
-        requires sides { HaveSide self.old.band.side self.old }
-        ensures sides { HaveSide self.old.band.side self.new }
+        requires sides { HaveSide self.old.band.marks.side self.old }
+        ensures sides { HaveSide self.old.band.marks.side self.new }
         ensures band { self.new.band ≡ self.old.band }
         ensures assignment { IfOk result (λ yes. OnTrue yes
-            (IsMarkedAssignment self.old.band.bits self.old.band.side self.new.perm.items)) }
+            (IsMarkedAssignment self.old.band.marks.bits self.old.band.marks.side self.new.perm.items)) }
         ensures deficient { IfOk result (λ yes. OnFalse yes
-            (IsDeficient (IsMarked self.old.band.bits self.old.band.side) self.old.band.side
+            (IsDeficient (IsMarked self.old.band.marks.bits self.old.band.marks.side) self.old.band.marks.side
             self.new.rows.items)) }
         ensures columns_stay { IfOk result (λ yes. OnFalse yes
             (self.new.perm.items ≡ self.old.perm.items)) }
     {
-        prune(&self.band, &mut self.matching);
-        if complete(&self.band, &mut self.matching, &mut self.tree) {
+        prune(&self.band.marks, &mut self.matching);
+        if complete(&self.band.marks, &mut self.matching, &mut self.tree) {
             self.matching.copy_columns(&mut self.perm);
             return Ok(true);
         }
@@ -151,13 +151,13 @@ impl Seeker {
     // Looks for a perfect assignment by marked cells. True: the list of columns is one. False: the
     // rows are deficient, and the columns as before.
     fn seek(&mut self) -> Result<bool, NoMemory>
-        requires sides { HaveSide self.old.band.side self.old }
-        ensures sides { HaveSide self.old.band.side self.new }
+        requires sides { HaveSide self.old.band.marks.side self.old }
+        ensures sides { HaveSide self.old.band.marks.side self.new }
         ensures band { self.new.band ≡ self.old.band }
         ensures assignment { IfOk result (λ yes. OnTrue yes
-            (IsMarkedAssignment self.old.band.bits self.old.band.side self.new.perm.items)) }
+            (IsMarkedAssignment self.old.band.marks.bits self.old.band.marks.side self.new.perm.items)) }
         ensures deficient { IfOk result (λ yes. OnFalse yes
-            (IsDeficient (IsMarked self.old.band.bits self.old.band.side) self.old.band.side
+            (IsDeficient (IsMarked self.old.band.marks.bits self.old.band.marks.side) self.old.band.marks.side
             self.new.rows.items)) }
         ensures columns_stay { IfOk result (λ yes. OnFalse yes
             (self.new.perm.items ≡ self.old.perm.items)) }

@@ -10,13 +10,14 @@ ghost use Rattle.asg_window.specs.declared.gaps.Gap.{Gap as G};
 ghost use Rattle.asg_window.specs.Bands.{IsWithin};
 ghost use Rattle.asg_window.specs.CostWindows.{AddsWindow, IsWindowBy, IsBandWindow};
 ghost use Rattle.asg_window.specs.Gaps.{IsGap, ShowLeast, low_at};
-ghost use Rattle.asg_window.specs.Grades.{cost_of};
-ghost use Rattle.asg_window.specs.LiveCells.{IsAscending};
+ghost use Rattle.asg_live_cells.specs.Grades.{cost_of};
+ghost use Rattle.asg_window.specs.DistinctGrades.{IsAscending};
 
 use crate::NoMemory;
 use crate::cells_within::CellsWithin;
 use crate::gaps::Gap;
-use crate::grades::{cost, cost_under};
+use crate::grades::cost_under;
+use asg_live_cells::cost;
 use asg_match::hall_list;
 use asg_model::Instance;
 use asg_proof::{Ids, Window};

@@ -1,6 +1,6 @@
 use Rattle.std.proofs.Common.{◌≡◌, ℕ, ◌+◌, ◌<◌, ◌++◌, ◌∷◌, [], ◌∙◌, subst, sym, ap, arith, List, length, get_or, below_more}
 use Rattle.std.proofs.lemmas.List.{get_or_append_left, get_or_push, length_push}
-use Rattle.asg_window.specs.Marks.{IsMarked}
+use Rattle.asg_live_cells.specs.Marks.{IsMarked}
 use Rattle.asg_match.specs.laws.EmptyColumns.{IsDeficient-column}
 use Rattle.asg_window.proofs.empty_lines.all_rows.Goals as goal
 
@@ -33,9 +33,9 @@ pub returns : goal.returns
 returns c =
     let band = c.args.band.now in
     let inv = c.loop-row.invariant in
-    let all : c.loop-row.row ≡ band.side = omega (arith, c.loop-row-test.false, inv.upto, c.loop-row.auto.row-end) in
+    let all : c.loop-row.row ≡ band.marks.side = omega (arith, c.loop-row-test.false, inv.upto, c.loop-row.auto.row-end) in
     let empty = c.requires in
-    IsDeficient-column (IsMarked band.bits band.side) band.side c.args.column c.loop-row.rows.items
+    IsDeficient-column (IsMarked band.marks.bits band.marks.side) band.marks.side c.args.column c.loop-row.rows.items
     (λ r d h. let cell = h in cell.column)
     empty.column
     (λ r h. let cell = h in empty.none r cell.row cell.bit)

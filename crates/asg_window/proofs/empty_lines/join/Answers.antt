@@ -3,7 +3,7 @@ use Rattle.std.specs.Prelude.{IsTrue}
 use Rattle.std.proofs.lemmas.Bool.{cases_lt}
 use Rattle.asg_match.specs.ColumnSet.{HasColumn}
 use Rattle.asg_square.specs.BitTable.{BitTable, has_bit, IsBitTable, AreWordsOf}
-use Rattle.asg_window.proofs.WordLemmas.{word_bit}
+use Rattle.asg_live_cells.specs.laws.Words.{word_bit}
 use Rattle.asg_window.proofs.empty_lines.join.Goals as goal
 
 -- a column of a row is one by the row's words

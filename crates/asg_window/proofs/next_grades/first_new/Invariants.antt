@@ -1,6 +1,6 @@
 use Rattle.std.proofs.Common.{◌≡◌, ◌≤◌, ◌<◌, ℕ, length}
 use Rattle.asg_match.specs.ColumnSet.{HasColumn}
-use Rattle.asg_window.specs.LiveCells.{entry_at}
+use Rattle.asg_live_cells.specs.LiveCells.{entry_at}
 use Rattle.asg_window.specs.Reaching.{IsRowMarked}
 use Rattle.asg_window.proofs.next_grades.first_new.Given as goal
 

@@ -6,7 +6,7 @@ use Rattle.asg_proof.specs.Windows.{ProvesWindows}
 use Rattle.asg_square.specs.Cells.{choice_of, entered_or_free}
 use Rattle.asg_square.specs.Grid.{grid_choice}
 use Rattle.asg_square.specs.laws.Rows.{rows_within}
-use Rattle.asg_window.specs.Grades.{grade_of, free_grade}
+use Rattle.asg_live_cells.specs.Grades.{grade_of, free_grade}
 use Rattle.asg_window.proofs.AssignmentLemmas.{IsPerm-within}
 use Rattle.asg_window.proofs.ValueLemmas.{value_is}
 use Rattle.asg_window.proofs.outcomes.best.Goals as goal

@@ -3,7 +3,7 @@ use Rattle.std.specs.Prelude.{pos, IsTrue}
 use Rattle.std.proofs.lemmas.List.{get_or_default, length-append}
 use Rattle.asg_proof.specs.declared.windows.Window.{Window}
 use Rattle.asg_proof.specs.Windows.{is_held}
-use Rattle.asg_window.specs.Grades.{cost_of}
+use Rattle.asg_live_cells.specs.Grades.{cost_of}
 use Rattle.asg_window.proofs.WindowSteps.{AreHeld, held_none, held_skip, held_add}
 use Rattle.asg_window.proofs.windows.windows_of.Goals as goal
 use Rattle.asg_window.proofs.windows.windows_of.Goals.{then-reach-grade+in_ok-place, else-reach-grade}

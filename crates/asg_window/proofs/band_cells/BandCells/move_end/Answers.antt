@@ -17,8 +17,8 @@ returns-clause-band c =
       fits = omega (arith, c.ranges.high);
       marks =
           ⊎_elim
-          (λ (less : end < self.end). end_down Q entries b.entries self.bits c.shift.new.bits self.low self.high c.args.high self.end end b.end c.place_of-end.ensures (omega (arith, less)) b.marks (c.shift.ensures.fewer less))
-          (λ (more : self.end ≤ end). end_up Q entries b.entries self.bits c.shift.new.bits self.low self.high c.args.high self.end end b.order b.end c.place_of-end.ensures more b.marks (c.shift.ensures.more more))
+          (λ (less : end < self.end). end_down Q entries b.entries self.marks.bits c.shift.new.bits self.low self.high c.args.high self.end end b.end c.place_of-end.ensures (omega (arith, less)) b.marks (c.shift.ensures.fewer less))
+          (λ (more : self.end ≤ end). end_up Q entries b.entries self.marks.bits c.shift.new.bits self.low self.high c.args.high self.end end b.order b.end c.place_of-end.ensures more b.marks (c.shift.ensures.more more))
           (cases_lt end self.end);
       first = b.first;
       end = c.place_of-end.ensures;

@@ -1,5 +1,5 @@
 use Rattle.asg_window.proofs.BandLemmas.{first_up}
-use Rattle.asg_window.proofs.EntryLemmas.{places_ordered}
+use Rattle.asg_live_cells.specs.laws.Entries.{places_ordered}
 use Rattle.asg_window.proofs.band_cells.BandCells.move_first.Goals as goal
 
 pub leave-requires-clause-order : goal.leave-requires-clause-order
@@ -18,7 +18,7 @@ returns-clause-band c =
       side = b.side;
       order = c.requires.order;
       fits = b.fits;
-      marks = first_up Q entries b.entries self.bits c.leave.new.bits self.low self.high c.args.low self.first c.place_of-first.result c.requires.up b.first c.place_of-first.ensures b.marks c.leave.ensures.marks;
+      marks = first_up Q entries b.entries self.marks.bits c.leave.new.bits self.low self.high c.args.low self.first c.place_of-first.result c.requires.up b.first c.place_of-first.ensures b.marks c.leave.ensures.marks;
       first = c.place_of-first.ensures;
       end = b.end;
     }

@@ -6,7 +6,7 @@ use Rattle.asg_window.proofs.next_grades.Reached.take.Goals as goal
 pub loop-place-init : goal.loop-place-init
 loop-place-init c = record {
   end = refl;
-  room = c.clear.ensures.room c.args.band.now.side c.requires.room;
+  room = c.clear.ensures.room c.args.band.now.marks.side c.requires.room;
   marked = λ k none. absurd (omega (arith, none));
   columns = λ column has. absurd (c.clear.ensures.none column has);
 }

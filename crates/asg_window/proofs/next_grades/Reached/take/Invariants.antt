@@ -11,7 +11,7 @@ abbrev pub invariant-loop-place : goal.invariant-loop-place
 invariant-loop-place l =
     record {
       end : l.place-end ≡ length l.rows;
-      room : HasRoom l.band.side l.self;
+      room : HasRoom l.band.marks.side l.self;
       marked : (k : ℕ) → k < l.place → IsRowMarked l.self (get_or l.rows k 0);
-      columns : (c : ℕ) → HasColumn l.self.columns.items c → IsColumnOf (λ r d. IsTrue (has_bit l.band.bits r d)) l.rows c;
+      columns : (c : ℕ) → HasColumn l.self.columns.items c → IsColumnOf (λ r d. IsTrue (has_bit l.band.marks.bits r d)) l.rows c;
     }

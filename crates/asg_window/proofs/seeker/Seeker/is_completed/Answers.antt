@@ -4,7 +4,7 @@ use Rattle.std.proofs.lemmas.List.{with_items_is}
 use Rattle.asg_match.specs.Deficient.{IsDeficient}
 use Rattle.asg_match.specs.Matching.{IsPerfect}
 use Rattle.asg_window.specs.Assignments.{IsMarkedAssignment}
-use Rattle.asg_window.specs.Marks.{IsMarked}
+use Rattle.asg_live_cells.specs.Marks.{IsMarked}
 use Rattle.asg_window.proofs.AssignmentLemmas.{IsMarkedAssignment-perfect}
 use Rattle.asg_window.proofs.seeker.Seeker.is_completed.Goals as goal
 
@@ -35,9 +35,9 @@ returns-then-complete c =
     let columns = c.copy_columns.new.columns in
     let matching = c.complete.new.matching in
     let side = c.prune.ensures.side ∙ sides.matching_side in
-    let count : length columns ≡ band.side = omega (arith, c.copy_columns.auto.columns, ap length c.deref_mut.ensures.value, sides.columns_side) in
+    let count : length columns ≡ band.marks.side = omega (arith, c.copy_columns.auto.columns, ap length c.deref_mut.ensures.value, sides.columns_side) in
     let same = with_items_is perm columns (omega (arith, c.copy_columns.auto.columns, c.deref_mut.ensures.len)) in
-    let perfect = subst (λ n. IsPerfect (IsMarked band.bits band.side) n matching) side (OnTrue_at c.if-complete.true c.complete.ensures.perfect) in
+    let perfect = subst (λ n. IsPerfect (IsMarked band.marks.bits band.marks.side) n matching) side (OnTrue_at c.if-complete.true c.complete.ensures.perfect) in
     record {
       sides = record {
         band_side = refl;
@@ -47,8 +47,8 @@ returns-then-complete c =
         columns_side = ap length same ∙ count;
       };
       band = refl;
-      assignment = subst (IsMarkedAssignment band.bits band.side) (sym same)
-          (IsMarkedAssignment-perfect band.bits band.side matching columns perfect count
+      assignment = subst (IsMarkedAssignment band.marks.bits band.marks.side) (sym same)
+          (IsMarkedAssignment-perfect band.marks.bits band.marks.side matching columns perfect count
           (λ r below. c.copy_columns.ensures r (omega (arith, below, c.complete.ensures.side, side))));
       deficient = tt;
       columns_stay = tt;
@@ -61,7 +61,7 @@ returns c =
     let tree = c.complete.new.tree in
     let side = c.prune.ensures.side ∙ sides.matching_side in
     let rows = c.in_ok-extend_from_slice.ensures.items ∙ ap (λ xs. xs ++ c.rows.result.now) c.clear.ensures.items ∙ c.rows.ensures.rows in
-    let short = subst (λ n. IsDeficient (IsMarked band.bits band.side) n tree.rows) side (OnFalse_at c.if-complete.false c.complete.ensures.deficient) in
+    let short = subst (λ n. IsDeficient (IsMarked band.marks.bits band.marks.side) n tree.rows) side (OnFalse_at c.if-complete.false c.complete.ensures.deficient) in
     record {
       sides = record {
         band_side = refl;
@@ -72,6 +72,6 @@ returns c =
       };
       band = refl;
       assignment = tt;
-      deficient = subst (IsDeficient (IsMarked band.bits band.side) band.side) (sym rows) short;
+      deficient = subst (IsDeficient (IsMarked band.marks.bits band.marks.side) band.marks.side) (sym rows) short;
       columns_stay = refl;
     }

@@ -15,7 +15,7 @@ returns-clause-deficient c =
     let rows = c.seek.new.self.rows.items in
     let next = c.next_grade-next.result in
     let short = OnFalse_at c.if-branch.false c.in_ok-seek.ensures.deficient in
-    let before = IsDeficient-marks Q band.low band.high band.side band.bits rows marks.side marks.marks short in
+    let before = IsDeficient-marks Q band.low band.high band.marks.side band.marks.bits rows marks.side marks.marks short in
     let none =
     subst (λ (x : BandCells). GetNoColumn Q x.low x.high next rows) c.in_ok-seek.ensures.band
     (subst (GetNoColumn Q c.seek.new.self.band.low c.seek.new.self.band.high next) c.as_slice.ensures.value c.next_grade-next.ensures.none) in

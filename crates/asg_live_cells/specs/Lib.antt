@@ -1,0 +1,4 @@
+pub mod Grades
+pub mod LiveCells
+pub mod Marks
+pub mod laws

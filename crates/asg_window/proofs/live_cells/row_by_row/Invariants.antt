@@ -1,9 +1,0 @@
-use Rattle.asg_window.specs.LiveCells.{AreEntriesBefore}
-use Rattle.asg_window.proofs.live_cells.row_by_row.Given as goal
-
--- the live cells of the rows so far
-abbrev pub invariant-loop-row : goal.invariant-loop-row
-invariant-loop-row l =
-    record {
-      before : AreEntriesBefore l.square l.row 0 l.entries.items;
-    }

@@ -1,0 +1,5 @@
+pub mod TightWords
+pub mod MarkWordLemmas
+pub mod FreeLemmas
+pub mod FreeSteps
+pub mod ListLemmas

@@ -1,0 +1,12 @@
+use Rattle.std.proofs.Common.{take, ◌∙◌, ap, arith, eqb, w32}
+use Rattle.std.proofs.lemmas.List.{length-take}
+use Rattle.std.proofs.lemmas.Simd.{bitmask_splat}
+use Rattle.asg_square.specs.BitTable.{is_bit_set}
+use Rattle.asg_levels.proofs.TightWords.{equal_mask}
+use Rattle.asg_levels.proofs.mark_words.equal_bits.Goals as goal
+
+pub returns : goal.returns
+returns c k h =
+    let front = take 64 c.args.numbers.now in
+    ap (λ w. is_bit_set w k) (bitmask_splat w32 eqb front 64 c.args.x (omega (arith, length-take 64 c.args.numbers.now, c.requires)) (omega arith))
+    ∙ equal_mask c.args.numbers.now c.args.x k c.requires h

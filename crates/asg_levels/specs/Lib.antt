@@ -1,0 +1,5 @@
+pub mod MarkWords
+pub mod Tight
+pub mod UnitSteps
+pub mod UnitLists
+pub mod laws

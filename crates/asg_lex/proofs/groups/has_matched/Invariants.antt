@@ -1,0 +1,11 @@
+use Rattle.std.proofs.Common.{◌≤◌, ◌<◌, ℕ}
+use Rattle.asg_match.specs.Matching.{Matches}
+use Rattle.asg_live_cells.specs.LiveCells.{entry_at}
+use Rattle.asg_lex.proofs.groups.has_matched.Given as goal
+
+-- none so far
+abbrev pub invariant-loop-place : goal.invariant-loop-place
+invariant-loop-place l =
+    record {
+      none : (k : ℕ) → l.from ≤ k → k < l.place → Matches l.matching (entry_at l.entries k).row (entry_at l.entries k).column → ⊥;
+    }

@@ -1,0 +1,5 @@
+use Rattle.asg_proof.specs.laws.LevelTurns.{left_last-is}
+use Rattle.asg_lex.proofs.laws.last_law.Goals as goal
+
+pub returns : goal.returns
+returns c X before left levels = left_last-is X before left levels

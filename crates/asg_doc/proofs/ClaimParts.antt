@@ -6,7 +6,8 @@ use Rattle.std.specs.Prelude.{◌++◌}
 use Rattle.std.proofs.lemmas.List.Concat.{flat_map_single}
 use Rattle.asg_model.specs.declared.objectives.Objective.{Objective}
 use Rattle.asg_proof.specs.declared.outcomes.Proof.{Proof}
-use Rattle.asg_proof.specs.declared.outcomes.Proof.TheVariants.{Below, Phases, Windows}
+use Rattle.asg_proof.specs.declared.outcomes.Proof.TheVariants.{Below, Levels, Phases, Windows}
+use Rattle.asg_proof.specs.declared.levels.Level.{Level}
 use Rattle.asg_proof.specs.declared.windows.Window.{Window}
 use Rattle.asg_proof.specs.Phases.{PhaseOf}
 use Rattle.asg_order.specs.declared.words.Word.{Word}
@@ -20,12 +21,13 @@ use Rattle.asg_doc.specs.declared.documents.ProofHead.{ProofHead}
 use Rattle.asg_doc.specs.declared.documents.ProofHead.TheVariants as heads
 use Rattle.asg_doc.specs.declared.documents.Status.{Status}
 use Rattle.asg_doc.specs.declared.documents.Status.TheVariants as statuses
-use Rattle.asg_doc.specs.DocumentParts.{answer_part, claim_part, command_part, objective_part, status_part, value_part, count_part, cell_part, hall_part, proof_head_part, HasProofHead, phase_part, window_part, proof_part, proved_part, document_part}
+use Rattle.asg_doc.specs.DocumentParts.{answer_part, claim_part, command_part, objective_part, status_part, value_part, count_part, cell_part, hall_part, proof_head_part, HasProofHead, phase_part, window_part, perm_part, level_part, proof_part, proved_part, document_part}
 use Rattle.asg_doc.specs.HasText.{HasProofText, HasClaimText}
-use Rattle.asg_doc.specs.Text.{answer_lines, cell_line, value_line, phase_lines, proof_lines, window_line}
+use Rattle.asg_doc.specs.Text.{answer_lines, cell_line, value_line, phase_lines, proof_lines, window_line, perm_line, level_lines}
 use Rattle.asg_doc.specs.Words.{has_grades}
 use Rattle.asg_doc.proofs.PhaseParts.{phase_law}
 use Rattle.asg_doc.proofs.WindowParts.{window_law}
+use Rattle.asg_doc.proofs.LevelParts.{perm_levels}
 use Rattle.asg_doc.proofs.Leaves.{title_law, command_law, objective_law, status_law, value_law, count_law, cell_law, hall_law, proof_head_law, end_law}
 
 -- ---- proofs
@@ -34,16 +36,19 @@ abbrev Rest : ProofHead → Type 0
 Rest (heads.Phases count) = List (PhaseOf Word)
 Rest (heads.Below rows) = Unit {0}
 Rest (heads.Windows count) = List Window
+Rest (heads.Levels count) = (perm : List ℕ) × List Level
 
 abbrev rest_part : Objective → (head : ProofHead) → Part (Rest head)
 rest_part o (heads.Phases count) = counted count (phase_part (has_grades o))
 rest_part o (heads.Below rows) = no_lines tt
 rest_part o (heads.Windows count) = counted count window_part
+rest_part o (heads.Levels count) = and_then perm_part (λ _. counted count level_part)
 
 rest_law : (o : Objective) (head : ProofHead) → HasProofHead head → IsReadable (rest_part o head)
 rest_law o (heads.Phases count) has = IsReadable-counted (phase_law (has_grades o)) count
 rest_law o (heads.Below rows) has = IsReadable-none tt
 rest_law o (heads.Windows count) has = IsReadable-counted window_law count
+rest_law o (heads.Levels count) has = IsReadable-chain (perm_levels count)
 
 pub head_rest : (o : Objective) → Chain proof_head_part (rest_part o)
 head_rest o = record { first_law = proof_head_law; second_law = rest_law o }
@@ -52,6 +57,7 @@ abbrev proof_of : (head : ProofHead) → Rest head → Proof
 proof_of (heads.Phases count) phases = Phases phases
 proof_of (heads.Below rows) rest = Below rows
 proof_of (heads.Windows count) windows = Windows windows
+proof_of (heads.Levels count) rest = Levels rest.0 rest.1
 
 pub proof_shape : (o : Objective) → Shape (and_then proof_head_part (rest_part o)) (proof_part o)
 proof_shape o = record { make = λ t. proof_of t.0 t.1; has = λ t. has t.0 t.1; lines = λ t. lines t.0 t.1; back = back } where
@@ -59,6 +65,7 @@ proof_shape o = record { make = λ t. proof_of t.0 t.1; has = λ t. has t.0 t.1;
   has (heads.Phases count) phases h = record { few = omega (arith, h.0, h.1.0); each = h.1.1 }
   has (heads.Below rows) rest h = h.0
   has (heads.Windows count) windows h = record { few = omega (arith, h.0, h.1.0); each = h.1.1 }
+  has (heads.Levels count) rest h = record { columns = h.1.0; some = omega (arith, h.0.0, h.1.1.0); few = omega (arith, h.0.1, h.1.1.0); each = h.1.1.1 }
 
   lines : (head : ProofHead) (rest : Rest head) → (and_then proof_head_part (rest_part o)).Has (head, rest) → (proof_part o).lines (proof_of head rest) ≡ (and_then proof_head_part (rest_part o)).lines (head, rest)
   lines (heads.Phases count) phases h = ap (λ n. (codes "proof phases " ++ decimal n) ∷ flat_map (phase_lines (has_grades o)) phases) h.1.0
@@ -66,11 +73,13 @@ proof_shape o = record { make = λ t. proof_of t.0 t.1; has = λ t. has t.0 t.1;
   lines (heads.Windows count) windows h =
       ap (λ n. (codes "proof windows " ++ decimal n) ∷ map window_line windows) h.1.0
       ∙ ap (λ ls. (codes "proof windows " ++ decimal count) ∷ ls) (sym (flat_map_single window_line windows))
+  lines (heads.Levels count) rest h = ap (λ n. (codes "proof levels " ++ decimal n) ∷ perm_line rest.0 ∷ flat_map level_lines rest.1) h.1.1.0
 
   back : (p : Proof) → HasProofText o p → (t : (head : ProofHead) × Rest head) × (and_then proof_head_part (rest_part o)).Has t × (p ≡ proof_of t.0 t.1)
   back (Phases phases) h = ((heads.Phases (length phases), phases), (h.few, (refl, h.each)), refl)
   back (Below rows) h = ((heads.Below rows, tt), (h, refl), refl)
   back (Windows windows) h = ((heads.Windows (length windows), windows), (h.few, (refl, h.each)), refl)
+  back (Levels perm levels) h = ((heads.Levels (length levels), (perm, levels)), ((h.some, h.few), (h.columns, (refl, h.each))), refl)
 
 pub proof_law : (o : Objective) → IsReadable (proof_part o)
 proof_law o = IsReadable-shape (proof_shape o) (IsReadable-chain (head_rest o))

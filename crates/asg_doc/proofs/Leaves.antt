@@ -1,34 +1,37 @@
 -- The laws of single lines.
-use Rattle.std.proofs.Common.{◌≡◌, ℕ, ◌<◌, ◌^◌, Bool, true, false, cond, List, [], ◌∷◌, take, drop, codes, Option, Some, refl, sym, ap, ◌∙◌, arith}
-use Rattle.std.specs.Prelude.{◌≢◌, ℤ, FitsSigned, find}
-use Rattle.std.specs.Fmt.{decimal}
+use Rattle.std.proofs.Common.{◌≡◌, ℕ, ◌+◌, ◌<◌, ◌^◌, Bool, true, false, cond, List, [], ◌∷◌, ◌++◌, take, drop, codes, Option, Some, refl, sym, ap, ◌∙◌, arith}
+use Rattle.std.specs.Prelude.{◌≢◌, ℤ, pos, FitsSigned, find}
+use Rattle.std.proofs.lemmas.Int.{ints}
+use Rattle.std.specs.Fmt.{decimal, signed_decimal}
 use Rattle.std.specs.Str.Parse.{digits_value}
 use Rattle.std.proofs.lemmas.Fmt.{decimal_is_IsNumeral_wide}
 use Rattle.std.proofs.lemmas.List.Elements.{All-cons, All-append}
 use Rattle.std.specs.Str.{bytes_eq}
-use Rattle.std.specs.Int.{w128}
+use Rattle.std.specs.Int.{w64, w128}
 use Rattle.asg_model.specs.declared.objectives.Objective.{Objective}
 use Rattle.asg_model.specs.declared.objectives.Objective.TheVariants.{Sum, SumMax, SumPair, Capped, Bottleneck, BottleneckMax, TimeCost, Balanced, Lex}
 use Rattle.asg_model.specs.declared.objectives.Value.{Value}
-use Rattle.asg_model.specs.declared.objectives.Value.TheVariants.{One, Two}
-use Rattle.asg_parts.specs.Lines.{Lacks}
+use Rattle.asg_model.specs.declared.objectives.Value.TheVariants.{One, Two, Many}
+use Rattle.asg_parts.specs.Lines.{Lacks, IsCutAt}
 use Rattle.asg_parts.specs.Parts.{the_line, IsReadable}
-use Rattle.asg_parts.specs.Spellings.{behind, number_spelling, list_spelling, listed}
-use Rattle.asg_parts.specs.laws.JoinLaws.{IsLegible-signed_pair, IsLegible-graded}
+use Rattle.asg_parts.specs.Spellings.{behind, number_spelling, positive_spelling, pair_spelling, list_spelling, listed, IsListOf}
+use Rattle.asg_parts.specs.laws.JoinLaws.{joined_cut, IsLegible-joined, IsLegible-signed_pair, IsLegible-graded}
 use Rattle.asg_parts.specs.laws.LineCuts.{heads_same}
 use Rattle.asg_parts.specs.laws.ListLaws.{IsWord, IsLegible-listed}
 use Rattle.asg_parts.specs.laws.LineLaws.{IsReadable-line, IsReadable-this}
 use Rattle.asg_parts.specs.laws.PartLaws.{IsReadable-shape, Shape}
-use Rattle.asg_parts.specs.laws.SpellingLaws.{IsLegible, IsLegible-behind, IsLegible-decoded, IsLegible-number, IsLegible-wide, IsLegible-positive, IsLegible-signed, IsLegible-pair, IsLegible-list, is_plain, Lacks-literal, Lacks-decimal, decimal_same}
+use Rattle.asg_parts.specs.laws.SpellingLaws.{IsLegible, IsLegible-behind, IsLegible-decoded, IsLegible-number, IsLegible-wide, IsLegible-positive, IsLegible-signed, IsLegible-pair, IsLegible-list, is_plain, Lacks-literal, Lacks-decimal, Lacks-signed, decimal_same}
 use Rattle.asg_doc.specs.declared.documents.Command.{Command}
 use Rattle.asg_doc.specs.declared.documents.Command.TheVariants.{Solve}
 use Rattle.asg_doc.specs.declared.documents.ProofHead.{ProofHead}
 use Rattle.asg_doc.specs.declared.documents.ProofHead.TheVariants as heads
 use Rattle.asg_doc.specs.declared.documents.Status.{Status}
+use Rattle.asg_doc.specs.declared.documents.ValueForm.{ValueForm}
+use Rattle.asg_doc.specs.declared.documents.ValueForm.TheVariants as forms
 use Rattle.asg_doc.specs.declared.documents.Status.TheVariants.{Best, Nothing}
-use Rattle.asg_doc.specs.DocumentParts.{command_part, objective_part, status_part, number_part, number_pair_part, formed_part, value_part, step_spelling, steps_part, enters_part, leaves_part, count_part, cell_part, hall_part, proof_head_part, proof_head_spelling, proof_head_text, HasProofHead}
+use Rattle.asg_doc.specs.DocumentParts.{command_part, objective_part, status_part, number_part, number_pair_part, costs_part, bound_spelling, formed_part, value_part, column_spelling, perm_part, level_head_spelling, level_head_part, step_spelling, steps_part, enters_part, leaves_part, count_part, cell_part, hall_part, proof_head_part, proof_head_spelling, proof_head_text, HasProofHead}
 use Rattle.asg_doc.specs.HasText.{IsWrittenValue}
-use Rattle.asg_doc.specs.Words.{HasWord, has_pairs, cap_spelling, command_word, status_word, command_spelling, objective_spelling, status_spelling}
+use Rattle.asg_doc.specs.Words.{HasWord, form_of, cap_spelling, command_word, status_word, command_spelling, objective_spelling, status_spelling}
 use Rattle.asg_model.specs.Objectives.{objective_word}
 
 pub title_law : IsReadable (the_line (codes "assignment 1"))
@@ -59,7 +62,7 @@ command_law = IsReadable-line (IsLegible-behind (codes "command ") refl command_
 objective_named : List ℕ → Option Objective
 objective_named bytes =
     cond (bytes_eq (codes "capped=") (take 7 bytes)) (Some (Capped (digits_value 10 (drop 7 bytes))))
-    (named objective_word (Sum ∷ SumMax ∷ SumPair ∷ Bottleneck ∷ BottleneckMax ∷ TimeCost ∷ Balanced ∷ []) bytes)
+    (named objective_word (Sum ∷ SumMax ∷ SumPair ∷ Bottleneck ∷ BottleneckMax ∷ TimeCost ∷ Balanced ∷ Lex ∷ []) bytes)
 
 pub cap_legible : IsLegible (behind (codes "capped=") cap_spelling)
 cap_legible = IsLegible-behind (codes "capped=") refl (record {
@@ -86,7 +89,7 @@ objective_legible = record {
   inverse BottleneckMax has = refl
   inverse TimeCost has = refl
   inverse Balanced has = refl
-  inverse Lex has = absurd has
+  inverse Lex has = refl
 
   plain : (o : Objective) → HasWord o → Lacks 10 (objective_word o)
   plain Sum has = Lacks-literal (codes "sum") refl
@@ -97,7 +100,7 @@ objective_legible = record {
   plain BottleneckMax has = Lacks-literal (codes "bottleneck-max") refl
   plain TimeCost has = Lacks-literal (codes "time-cost") refl
   plain Balanced has = Lacks-literal (codes "balanced") refl
-  plain Lex has = absurd has
+  plain Lex has = Lacks-literal (codes "lex") refl
 
 pub objective_law : IsReadable objective_part
 objective_law = IsReadable-line (IsLegible-behind (codes "objective ") refl objective_legible)
@@ -124,24 +127,55 @@ number_law = IsReadable-line (IsLegible-behind (codes "value ") refl IsLegible-s
 number_pair_law : IsReadable number_pair_part
 number_pair_law = IsReadable-line (IsLegible-behind (codes "value ") refl IsLegible-signed_pair)
 
-pub one_shape : Shape number_part (formed_part false)
+pub one_shape : Shape number_part (formed_part forms.One)
 one_shape = record { make = One; has = λ n h. h; lines = λ n h. refl; back = back } where
-  back : (v : Value) → IsWrittenValue false v → (n : ℤ) × FitsSigned w128 n × (v ≡ One n)
+  back : (v : Value) → IsWrittenValue forms.One v → (n : ℤ) × FitsSigned w128 n × (v ≡ One n)
   back (One n) h = (n, h, refl)
   back _ h = absurd h
 
-pub two_shape : Shape number_pair_part (formed_part true)
+pub two_shape : Shape number_pair_part (formed_part forms.Two)
 two_shape = record { make = λ p. Two p.0 p.1; has = λ p h. h; lines = λ p h. refl; back = back } where
-  back : (v : Value) → IsWrittenValue true v → (p : ℤ × ℤ) × (FitsSigned w128 p.0 × FitsSigned w128 p.1) × (v ≡ Two p.0 p.1)
+  back : (v : Value) → IsWrittenValue forms.Two v → (p : ℤ × ℤ) × (FitsSigned w128 p.0 × FitsSigned w128 p.1) × (v ≡ Two p.0 p.1)
   back (Two x y) h = ((x, y), h, refl)
   back _ h = absurd h
 
-pub formed_law : (pairs : Bool) → IsReadable (formed_part pairs)
-formed_law true = IsReadable-shape two_shape number_pair_law
-formed_law false = IsReadable-shape one_shape number_law
+-- a signed number of 64 bits is one of 128 bits
+pub wider : (z : ℤ) → FitsSigned w64 z → FitsSigned w128 z
+wider z fits = omega (arith, ints, fits)
+
+pub no_space-signed : (z : ℤ) → FitsSigned w64 z → Lacks 32 (signed_decimal z)
+no_space-signed z fits = Lacks-signed 32 z (omega arith) (wider z fits)
+
+pub bound_legible : IsLegible bound_spelling
+bound_legible = record {
+  some = pos 0;
+  has = omega arith;
+  same = λ y z hy hz e. IsLegible-signed.same y z (wider y hy) (wider z hz) e;
+  plain = λ z hz. IsLegible-signed.plain z (wider z hz);
+}
+
+pub bound_word : IsWord bound_spelling
+bound_word = record { legible = bound_legible; no_space = no_space-signed }
+
+pub costs_legible : IsLegible (listed bound_spelling)
+costs_legible = IsLegible-listed bound_word
+
+costs_law : IsReadable costs_part
+costs_law = IsReadable-line (IsLegible-behind (codes "value") refl costs_legible)
+
+pub many_shape : Shape costs_part (formed_part forms.Many)
+many_shape = record { make = Many; has = λ costs h. h; lines = λ costs h. refl; back = back } where
+  back : (v : Value) → IsWrittenValue forms.Many v → (costs : List ℤ) × IsListOf (FitsSigned w64) costs × (v ≡ Many costs)
+  back (Many costs) h = (costs, h, refl)
+  back _ h = absurd h
+
+pub formed_law : (form : ValueForm) → IsReadable (formed_part form)
+formed_law forms.One = IsReadable-shape one_shape number_law
+formed_law forms.Two = IsReadable-shape two_shape number_pair_law
+formed_law forms.Many = IsReadable-shape many_shape costs_law
 
 pub value_law : (o : Objective) → IsReadable (value_part o)
-value_law o = formed_law (has_pairs o)
+value_law o = formed_law (form_of o)
 
 -- ---- counts, cells and lists
 
@@ -203,6 +237,36 @@ enters_law = IsReadable-line (IsLegible-behind (codes "enters") refl IsLegible-l
 pub leaves_law : IsReadable leaves_part
 leaves_law = IsReadable-line (IsLegible-behind (codes "leaves") refl IsLegible-list)
 
+-- ---- levels
+
+pub column_word : IsWord column_spelling
+column_word = record {
+  legible = record {
+    some = 0;
+    has = omega arith;
+    same = λ c d hc hd e. let same : c + 1 ≡ d + 1 = decimal_same (c + 1) (d + 1) (omega (arith, hc)) (omega (arith, hd)) e in omega (arith, same);
+    plain = λ c hc. Lacks-decimal 10 (c + 1) (omega arith) (omega (arith, hc));
+  };
+  no_space = λ c hc. Lacks-decimal 32 (c + 1) (omega arith) (omega (arith, hc));
+}
+
+pub perm_legible : IsLegible (listed column_spelling)
+perm_legible = IsLegible-listed column_word
+
+pub perm_law : IsReadable perm_part
+perm_law = IsReadable-line (IsLegible-behind (codes "perm") refl perm_legible)
+
+-- the text of a level's first line is cut behind its cost
+pub level_head_cut : (text word rest : List ℕ) (head : ℤ × (ℕ × ℕ)) → text ≡ word ++ rest → Lacks 32 word → IsCutAt 32 rest → FitsSigned w64 head.0
+    → text ≡ level_head_spelling.bytes head → (word ≡ signed_decimal head.0) × (rest ≡ 32 ∷ pair_spelling.bytes head.1)
+level_head_cut = joined_cut bound_spelling pair_spelling 32 no_space-signed
+
+pub level_head_legible : IsLegible level_head_spelling
+level_head_legible = IsLegible-joined bound_spelling pair_spelling 32 no_space-signed (λ is. absurd (omega arith)) bound_legible IsLegible-pair
+
+pub level_head_law : IsReadable level_head_part
+level_head_law = IsReadable-line (IsLegible-behind (codes "level ") refl level_head_legible)
+
 -- ---- the first line of a proof
 
 below_legible : IsLegible (behind (codes "below") list_spelling)
@@ -213,6 +277,9 @@ phases_legible = IsLegible-behind (codes "phases ") refl IsLegible-number
 
 windows_legible : IsLegible (behind (codes "windows ") number_spelling)
 windows_legible = IsLegible-behind (codes "windows ") refl IsLegible-number
+
+levels_legible : IsLegible (behind (codes "levels ") positive_spelling)
+levels_legible = IsLegible-behind (codes "levels ") refl IsLegible-positive
 
 pub proof_head_legible : IsLegible proof_head_spelling
 proof_head_legible = record { some = heads.Below IsLegible-list.some; has = IsLegible-list.has; same = same; plain = plain } where
@@ -226,11 +293,19 @@ proof_head_legible = record { some = heads.Below IsLegible-list.some; has = IsLe
   same (heads.Windows m) (heads.Below ys) hm hy e = absurd (omega (arith, heads_same 119 98 _ _ e))
   same (heads.Phases m) (heads.Windows n) hm hn e = absurd (omega (arith, heads_same 112 119 _ _ e))
   same (heads.Below xs) (heads.Windows n) hx hn e = absurd (omega (arith, heads_same 98 119 _ _ e))
+  same (heads.Levels m) (heads.Levels n) hm hn e = ap heads.Levels (levels_legible.same m n hm hn e)
+  same (heads.Levels m) (heads.Phases n) hm hn e = absurd (omega (arith, heads_same 108 112 _ _ e))
+  same (heads.Levels m) (heads.Below ys) hm hy e = absurd (omega (arith, heads_same 108 98 _ _ e))
+  same (heads.Levels m) (heads.Windows n) hm hn e = absurd (omega (arith, heads_same 108 119 _ _ e))
+  same (heads.Phases m) (heads.Levels n) hm hn e = absurd (omega (arith, heads_same 112 108 _ _ e))
+  same (heads.Below xs) (heads.Levels n) hx hn e = absurd (omega (arith, heads_same 98 108 _ _ e))
+  same (heads.Windows m) (heads.Levels n) hm hn e = absurd (omega (arith, heads_same 119 108 _ _ e))
 
   plain : (h : ProofHead) → HasProofHead h → Lacks 10 (proof_head_text h)
   plain (heads.Phases n) hn = phases_legible.plain n hn
   plain (heads.Below xs) hx = below_legible.plain xs hx
   plain (heads.Windows n) hn = windows_legible.plain n hn
+  plain (heads.Levels n) hn = levels_legible.plain n hn
 
 pub proof_head_law : IsReadable proof_head_part
 proof_head_law = IsReadable-line (IsLegible-behind (codes "proof ") refl proof_head_legible)

@@ -3,6 +3,7 @@ pub mod ListTexts
 pub mod Leaves
 pub mod PhaseParts
 pub mod WindowParts
+pub mod LevelParts
 pub mod ClaimParts
 pub mod DocumentTexts
 pub mod RefusedLines

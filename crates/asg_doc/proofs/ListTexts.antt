@@ -1,18 +1,29 @@
 -- Texts of lists, one member more.
 use Rattle.std.specs.List.{flat_map}
-use Rattle.std.proofs.Common.{◌≡◌, ◌+◌, ◌<◌, ℕ, Bool, List, [], ◌∷◌, ◌++◌, length, get_or, take, map, codes, sym, ap, ◌∙◌, append_assoc}
+use Rattle.std.proofs.Common.{◌≡◌, ◌+◌, ◌<◌, ℕ, ℤ, Bool, List, [], ◌∷◌, ◌++◌, length, get_or, take, map, codes, sym, ap, ◌∙◌, append_assoc}
 use Rattle.std.specs.Fmt.{decimal, signed_decimal}
 use Rattle.std.proofs.lemmas.List.{take_more, flat_map_more, map-append}
 use Rattle.asg_order.specs.declared.words.Word.{Word}
+use Rattle.asg_proof.specs.declared.levels.Level.{Level}
 use Rattle.asg_proof.specs.declared.windows.Window.{Window}
 use Rattle.asg_proof.specs.Phases.{PhaseOf}
 use Rattle.asg_parts.specs.laws.LineCuts.{ended-append}
-use Rattle.asg_doc.specs.Text.{spaced, ended, cell_line, step_text, spaced_steps, phase_lines, window_line}
+use Rattle.asg_doc.specs.Text.{spaced, spaced_costs, column_text, spaced_columns, ended, cell_line, step_text, spaced_steps, phase_lines, window_line, level_lines}
 
 pub spaced_more : (numbers : List ℕ) (i : ℕ) → i < length numbers
     → spaced (take i numbers) ++ 32 ∷ decimal (get_or numbers i 0) ≡ spaced (take (i + 1) numbers)
 spaced_more numbers i within =
     flat_map_more (λ number. 32 ∷ decimal number) [] (take i numbers) (get_or numbers i 0) ∙ ap spaced (sym (take_more numbers i 0 within))
+
+pub costs_more : (costs : List ℤ) (i : ℕ) (cost : ℤ) → i < length costs
+    → spaced_costs (take i costs) ++ 32 ∷ signed_decimal (get_or costs i cost) ≡ spaced_costs (take (i + 1) costs)
+costs_more costs i cost within =
+    flat_map_more (λ one. 32 ∷ signed_decimal one) [] (take i costs) (get_or costs i cost) ∙ ap spaced_costs (sym (take_more costs i cost within))
+
+pub columns_more : (columns : List ℕ) (i : ℕ) → i < length columns
+    → spaced_columns (take i columns) ++ 32 ∷ decimal (get_or columns i 0 + 1) ≡ spaced_columns (take (i + 1) columns)
+columns_more columns i within =
+    flat_map_more (λ column. 32 ∷ column_text column) [] (take i columns) (get_or columns i 0) ∙ ap spaced_columns (sym (take_more columns i 0 within))
 
 pub cells_more : (cells : List (ℕ × ℕ)) (i : ℕ) (cell : ℕ × ℕ) → i < length cells
     → ended (map cell_line (take i cells)) ++ (cell_line (get_or cells i cell) ++ 10 ∷ []) ≡ ended (map cell_line (take (i + 1) cells))
@@ -47,3 +58,10 @@ phases_more graded phases i phase within =
     let last = get_or phases i phase in
     sym (ended-append (flat_map (phase_lines graded) (take i phases)) (phase_lines graded last))
     ∙ ap ended (flat_map_more (phase_lines graded) [] (take i phases) last ∙ ap (flat_map (phase_lines graded)) (sym (take_more phases i phase within)))
+
+pub levels_more : (levels : List Level) (i : ℕ) (level : Level) → i < length levels
+    → ended (flat_map level_lines (take i levels)) ++ ended (level_lines (get_or levels i level)) ≡ ended (flat_map level_lines (take (i + 1) levels))
+levels_more levels i level within =
+    let last = get_or levels i level in
+    sym (ended-append (flat_map level_lines (take i levels)) (level_lines last))
+    ∙ ap ended (flat_map_more level_lines [] (take i levels) last ∙ ap (flat_map level_lines) (sym (take_more levels i level within)))

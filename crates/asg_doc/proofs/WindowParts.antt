@@ -3,7 +3,6 @@ use Rattle.std.proofs.Common.{◌≡◌, ◌≢◌, ℕ, List, ◌∷◌, ◌++�
 use Rattle.std.specs.Prelude.{ℤ, pos, FitsSigned, Option, Some, None, Result, Ok, Err, IsErrAnd, SomeIff}
 use Rattle.std.specs.Int.{w64, w128}
 use Rattle.std.specs.Fmt.{signed_decimal}
-use Rattle.std.proofs.lemmas.Int.{ints}
 use Rattle.std.proofs.lemmas.List.Elements.{All-cons, All-append}
 use Rattle.asg_proof.specs.declared.windows.Window.{Window}
 use Rattle.asg_proof.specs.Windows.{AreWindows}
@@ -14,17 +13,11 @@ use Rattle.asg_parts.specs.declared.faults.Fault.TheVariants.{Refused, NoMemory}
 use Rattle.asg_parts.specs.Spellings.{Spells, SpellsOrFails, list_spelling, spaced}
 use Rattle.asg_parts.specs.laws.LineCuts.{cut_unique, tails_same}
 use Rattle.asg_parts.specs.laws.LineLaws.{IsReadable-line}
-use Rattle.asg_parts.specs.laws.SpellingLaws.{IsLegible, IsLegible-behind, IsLegible-signed, IsLegible-list, IsCutAt-spaced, Lacks-signed}
+use Rattle.asg_parts.specs.laws.SpellingLaws.{IsLegible, IsLegible-behind, IsLegible-signed, IsLegible-list, IsCutAt-spaced}
 use Rattle.asg_doc.specs.DocumentParts.{HasBounds, bound_spelling, window_spelling, window_part}
 use Rattle.asg_doc.specs.HasText.{HasWindowText}
+use Rattle.asg_doc.proofs.Leaves.{wider, no_space-signed}
 use Rattle.asg_doc.specs.Text.{window_text}
-
--- a signed number of 64 bits is one of 128 bits
-pub wider : (z : ℤ) → FitsSigned w64 z → FitsSigned w128 z
-wider z fits = omega (arith, ints, fits)
-
-no_space : (z : ℤ) → FitsSigned w64 z → Lacks 32 (signed_decimal z)
-no_space z fits = Lacks-signed 32 z (omega arith) (wider z fits)
 
 -- a number that a word spells, where it has 64 bits
 pub bound_gives : (word : List ℕ) (z : ℤ) (result : Option ℤ) → FitsSigned w128 z → word ≡ signed_decimal z → SomeIff result (FitsSigned w64 z) z → Spells bound_spelling word result
@@ -37,13 +30,13 @@ bound_gives word z (Some y) fits is given = (subst (FitsSigned w64) (sym given.1
 pub lo_cut : (text word rest : List ℕ) (lo hi : ℤ) (rows : List ℕ) → text ≡ word ++ rest → Lacks 32 word → IsCutAt 32 rest
     → HasBounds text lo hi rows → (word ≡ signed_decimal lo) × (rest ≡ 32 ∷ (signed_decimal hi ++ rows))
 lo_cut text word rest lo hi rows whole lacks cut has =
-    cut_unique 32 word (signed_decimal lo) rest (32 ∷ (signed_decimal hi ++ rows)) lacks (no_space lo has.lo_fits) cut refl (sym whole ∙ has.whole)
+    cut_unique 32 word (signed_decimal lo) rest (32 ∷ (signed_decimal hi ++ rows)) lacks (no_space-signed lo has.lo_fits) cut refl (sym whole ∙ has.whole)
 
 pub hi_cut : (rest text word after : List ℕ) (hi : ℤ) (rows : List ℕ) → rest ≡ 32 ∷ text → text ≡ word ++ after → Lacks 32 word → IsCutAt 32 after
     → FitsSigned w64 hi → IsCutAt 32 rows → rest ≡ 32 ∷ (signed_decimal hi ++ rows) → (word ≡ signed_decimal hi) × (after ≡ rows)
 hi_cut rest text word after hi rows space whole lacks cut fits rows_cut is =
     let tails : text ≡ signed_decimal hi ++ rows = tails_same 32 32 text (signed_decimal hi ++ rows) (sym space ∙ is) in
-    cut_unique 32 word (signed_decimal hi) after rows lacks (no_space hi fits) cut rows_cut (sym whole ∙ tails)
+    cut_unique 32 word (signed_decimal hi) after rows lacks (no_space-signed hi fits) cut rows_cut (sym whole ∙ tails)
 
 -- the bounds of a window's text
 pub window_bounds : (text : List ℕ) (window : Window) → HasWindowText window → text ≡ window_text window → HasBounds text window.lo window.hi (spaced window.rows)
@@ -52,8 +45,8 @@ window_bounds text window has is = record { lo_fits = has.lo_fits; hi_fits = has
 -- bounds and what follows them are those of one text
 pub bounds_same : (text : List ℕ) (x y s t : ℤ) (xs ys : List ℕ) → HasBounds text x s xs → HasBounds text y t ys → (x ≡ y) × (s ≡ t) × (xs ≡ ys)
 bounds_same text x y s t xs ys here there =
-    let first = lo_cut text (signed_decimal x) (32 ∷ (signed_decimal s ++ xs)) y t ys here.whole (no_space x here.lo_fits) refl there in
-    let second = hi_cut (32 ∷ (signed_decimal s ++ xs)) (signed_decimal s ++ xs) (signed_decimal s) xs t ys refl refl (no_space s here.hi_fits) here.cut there.hi_fits there.cut first.1 in (
+    let first = lo_cut text (signed_decimal x) (32 ∷ (signed_decimal s ++ xs)) y t ys here.whole (no_space-signed x here.lo_fits) refl there in
+    let second = hi_cut (32 ∷ (signed_decimal s ++ xs)) (signed_decimal s ++ xs) (signed_decimal s) xs t ys refl refl (no_space-signed s here.hi_fits) here.cut there.hi_fits there.cut first.1 in (
       IsLegible-signed.same x y (wider x here.lo_fits) (wider y there.lo_fits) first.0,
       IsLegible-signed.same s t (wider s here.hi_fits) (wider t there.hi_fits) second.0,
       second.1,

@@ -1,19 +1,21 @@
 //! Readers of what a document claims.
 
-ghost use Rattle.std.specs.Prelude.{true, false};
 ghost use Rattle.asg_parts.specs.Parts.{counted};
 ghost use Rattle.asg_parts.specs.Reading.{Reads, ReadsOrFails};
 ghost use Rattle.asg_parts.specs.Spellings.{SpellsOrFails};
+ghost use Rattle.asg_doc.specs.declared.documents.ValueForm.TheVariants.{One, Two, Many};
 ghost use Rattle.asg_doc.specs.DocumentParts.{status_part, formed_part, value_part, cell_part};
 ghost use Rattle.asg_doc.specs.DocumentParts.{answer_part, proof_head_spelling, proof_head_part};
 ghost use Rattle.asg_doc.specs.DocumentParts.{proof_part, proved_part, hall_part, claim_part};
 
-use crate::documents::{Answer, Cells, Claim, ProofHead, Status};
+use crate::cost_reader::costs_of;
+use crate::documents::{Answer, Cells, Claim, ProofHead, Status, ValueForm};
+use crate::level_reader::levels;
 use crate::phase_reader::phases;
 use crate::window_reader::windows;
-use crate::words::{has_grades, has_pairs, status_of};
+use crate::words::{form_of, has_grades, status_of};
 use asg_model::{Objective, Value};
-use asg_parts::{Fault, Lines, Refusal, after, number, numbers};
+use asg_parts::{Fault, Lines, Refusal, after, number, numbers, positive};
 use asg_proof::{Ids, Proof};
 use std::alloc::Global;
 
@@ -25,30 +27,47 @@ fn status(lines: &mut Lines) -> Result<Status, Refusal>
 }
 
 // The value of its line: one number.
-fn one_value(lines: &mut Lines) -> Result<Value, Refusal>
-    ensures { Reads (formed_part false) lines.old lines.new result }
+fn one_value(lines: &mut Lines) -> Result<Value, Fault>
+    ensures { ReadsOrFails (formed_part One) lines.old lines.new result }
 {
     let number = lines.signed(b"value ")?;
     Ok(Value::One(number))
 }
 
 // The value of its line: two numbers.
-fn two_value(lines: &mut Lines) -> Result<Value, Refusal>
-    ensures { Reads (formed_part true) lines.old lines.new result }
+fn two_value(lines: &mut Lines) -> Result<Value, Fault>
+    ensures { ReadsOrFails (formed_part Two) lines.old lines.new result }
 {
     let (first, second) = lines.signed_pair(b"value ")?;
     Ok(Value::Two(first, second))
 }
 
-// The value of its line, which has the form that the objective asks for.
-fn value(objective: Objective, lines: &mut Lines) -> Result<Value, Refusal>
-    ensures { Reads (value_part objective) lines.old lines.new result }
+// The value of its line: a list of costs.
+fn many_value(alloc: Global, lines: &mut Lines) -> Result<Value, Fault>
+    ensures { ReadsOrFails (formed_part Many) lines.old lines.new result }
 {
-    if has_pairs(objective) {
-        two_value(lines)
-    } else {
-        one_value(lines)
+    let (text, left) = lines.next_behind(b"value")?;
+    let costs = costs_of(alloc, text)?;
+    *lines = left;
+    Ok(Value::Many(costs))
+}
+
+// The value of its line, of a form.
+fn formed_value(alloc: Global, form: ValueForm, lines: &mut Lines) -> Result<Value, Fault>
+    ensures { ReadsOrFails (formed_part form) lines.old lines.new result }
+{
+    match form {
+        ValueForm::One => one_value(lines),
+        ValueForm::Two => two_value(lines),
+        ValueForm::Many => many_value(alloc, lines),
     }
+}
+
+// The value of its line, which has the form that the objective asks for.
+fn value(alloc: Global, objective: Objective, lines: &mut Lines) -> Result<Value, Fault>
+    ensures { ReadsOrFails (value_part objective) lines.old lines.new result }
+{
+    formed_value(alloc, form_of(objective), lines)
 }
 
 // As many cells as the count says. The count takes no memory, only the cells that are read.
@@ -66,7 +85,7 @@ fn cells(alloc: Global, count: u32, lines: &mut Lines) -> Result<Cells, Fault>
 fn answer(alloc: Global, objective: Objective, lines: &mut Lines) -> Result<Answer, Fault>
     ensures { ReadsOrFails (answer_part objective) lines.old lines.new result }
 {
-    let value = value(objective, lines)?;
+    let value = value(alloc, objective, lines)?;
     let count = lines.positive(b"cells ")?;
     let cells = cells(alloc, count, lines)?;
     Ok(Answer { value, cells })
@@ -91,6 +110,12 @@ fn proof_head_of(alloc: Global, line: &[u8]) -> Result<ProofHead, Fault>
             return Err(Fault::Refused);
         };
         return Ok(ProofHead::Windows(count));
+    }
+    if let Some(count) = after(b"levels ", line) {
+        let Some(count) = positive(count) else {
+            return Err(Fault::Refused);
+        };
+        return Ok(ProofHead::Levels(count));
     }
     Err(Fault::Refused)
 }
@@ -118,6 +143,10 @@ fn proof(alloc: Global, objective: Objective, lines: &mut Lines) -> Result<Proof
         ProofHead::Windows(count) => {
             let windows = windows(alloc, count, lines)?;
             Ok(Proof::Windows(windows))
+        }
+        ProofHead::Levels(count) => {
+            let (perm, levels) = levels(alloc, count, lines)?;
+            Ok(Proof::Levels { perm, levels })
         }
     }
 }

@@ -104,10 +104,22 @@ pub(crate) enum Status {
     Nothing,
 }
 
+/// The form that the values of an objective have in a document.
+#[derive(Clone, Copy, Debug, PartialEq, Eq)]
+pub enum ValueForm {
+    /// One signed number of 128 bits.
+    One,
+    /// Two of them, with a colon between.
+    Two,
+    /// A list of signed numbers of 64 bits, each after a space.
+    Many,
+}
+
 // What the first line of a proof says.
 #[derive(Debug, Drop)]
 pub(crate) enum ProofHead {
     Phases(u32),
     Below(Ids),
     Windows(u32),
+    Levels(u32),
 }

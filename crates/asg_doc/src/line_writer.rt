@@ -1,16 +1,18 @@
 //! Writes single lines of documents over a page.
 
-ghost use Rattle.std.specs.Prelude.{◌∷◌, ◌++◌, [], map};
+ghost use Rattle.std.specs.Prelude.{◌∷◌, ◌++◌, [], map, All, FitsSigned};
 ghost use Rattle.std.specs.Fmt.{decimal, signed_decimal};
+ghost use Rattle.std.specs.Int.{w64};
 ghost use Rattle.asg_parts.specs.Lines.{ended};
 ghost use Rattle.asg_parts.specs.Spellings.{spaced};
+ghost use Rattle.asg_doc.specs.declared.documents.ValueForm.{ValueForm};
 ghost use Rattle.asg_doc.specs.Flow.{Wrote};
 ghost use Rattle.asg_doc.specs.HasText.{IsWrittenValue};
-ghost use Rattle.asg_doc.specs.Text.{cell_line, value_line};
+ghost use Rattle.asg_doc.specs.Text.{cell_line, spaced_costs, value_line};
 
 use crate::page_buffer::{Page, emit};
 use asg_io::Sink;
-use asg_model::Value;
+use asg_model::{Costs, Value};
 use itoa::Buffer;
 
 // Appends a line that has two parts.
@@ -53,16 +55,46 @@ fn emit_two<K: Sink>(first: i128, second: i128, page: &mut Page, out: &mut K)
     emit(b"\n", page, out);
 }
 
-// Appends the line of a value, of two numbers or of one.
-pub(crate) fn emit_value<K: Sink>(pairs: bool, value: &Value, page: &mut Page, out: &mut K)
-    requires { IsWrittenValue pairs value.now }
+// Appends a signed number of 64 bits.
+pub(crate) fn emit_bound<K: Sink>(bound: i64, page: &mut Page, out: &mut K)
+    ensures { Wrote K.written K.faults out.old out.new page.old page.new (signed_decimal bound) }
+{
+    let mut buffer = Buffer::new();
+    emit(buffer.format(bound).as_bytes(), page, out);
+}
+
+// Appends costs, each after a space.
+fn emit_costs<K: Sink>(costs: &[i64], page: &mut Page, out: &mut K)
+    requires { All (FitsSigned w64) costs.now }
+    ensures { Wrote K.written K.faults out.old out.new page.old page.new (spaced_costs costs.now) }
+{
+    'costs: for cost in costs {
+        emit(b" ", page, out);
+        emit_bound(*cost, page, out);
+    }
+}
+
+// Appends the line of a value that lists costs.
+fn emit_many<K: Sink>(costs: &Costs, page: &mut Page, out: &mut K)
+    requires { All (FitsSigned w64) costs.now }
+    ensures { Wrote K.written K.faults out.old out.new page.old page.new
+        (value_line (Value.Many costs.now) ++ 10 ∷ []) }
+{
+    emit(b"value", page, out);
+    emit_costs(costs.as_slice(), page, out);
+    emit(b"\n", page, out);
+}
+
+// Appends the line of a value, of one number, of two, or of a list.
+pub(crate) fn emit_value<K: Sink>(value: &Value, page: &mut Page, out: &mut K)
+    requires { (form : ValueForm) × IsWrittenValue form value.now }
     ensures { Wrote K.written K.faults out.old out.new page.old page.new
         (value_line value.now ++ 10 ∷ []) }
 {
     match value {
         Value::One(number) => emit_one(*number, page, out),
         Value::Two(first, second) => emit_two(*first, *second, page, out),
-        _ => unreachable!(),
+        Value::Many(costs) => emit_many(costs, page, out),
     }
 }
 
@@ -85,7 +117,7 @@ fn emit_number<K: Sink>(number: u32, page: &mut Page, out: &mut K)
 
 // Appends a number after a space. One of two digits at most goes right into a page with room for
 // it.
-fn emit_next<K: Sink>(number: u32, page: &mut Page, out: &mut K)
+pub(crate) fn emit_next<K: Sink>(number: u32, page: &mut Page, out: &mut K)
     ensures { Wrote K.written K.faults out.old out.new page.old page.new (32 ∷ decimal number) }
 {
     if number >= 100 || !page.has_room(3) {
@@ -117,14 +149,14 @@ pub(crate) fn emit_list<K: Sink>(word: &[u8], numbers: &[u32], page: &mut Page, 
     emit(b"\n", page, out);
 }
 
-// Appends the line of a cell.
-fn emit_cell<K: Sink>(row: u32, column: u32, page: &mut Page, out: &mut K)
+// Appends two numbers with a space between them, and an end of line.
+pub(crate) fn emit_pair<K: Sink>(first: u32, second: u32, page: &mut Page, out: &mut K)
     ensures { Wrote K.written K.faults out.old out.new page.old page.new
-        (cell_line (row, column) ++ 10 ∷ []) }
+        (cell_line (first, second) ++ 10 ∷ []) }
 {
-    emit_number(row, page, out);
+    emit_number(first, page, out);
     emit(b" ", page, out);
-    emit_number(column, page, out);
+    emit_number(second, page, out);
     emit(b"\n", page, out);
 }
 
@@ -134,6 +166,6 @@ pub(crate) fn emit_cells<K: Sink>(cells: &[(u32, u32)], page: &mut Page, out: &m
         (ended (map cell_line cells.now)) }
 {
     'cells: for cell in cells {
-        emit_cell(cell.0, cell.1, page, out);
+        emit_pair(cell.0, cell.1, page, out);
     }
 }

@@ -20,7 +20,7 @@ fn short_of(number: i128) -> Option<i64>
 }
 
 // The signed number of 64 bits that a word spells.
-fn bound_of(word: &[u8]) -> Option<i64>
+pub(crate) fn bound_of(word: &[u8]) -> Option<i64>
     ensures { Spells bound_spelling word.now result }
 {
     short_of(signed_number(word)?)

@@ -7,19 +7,10 @@ ghost use Rattle.asg_doc.specs.Flow.{Wrote};
 ghost use Rattle.asg_doc.specs.HasText.{HasWindowText};
 ghost use Rattle.asg_doc.specs.Text.{window_line};
 
-use crate::line_writer::emit_spaced;
+use crate::line_writer::{emit_bound, emit_spaced};
 use crate::page_buffer::{Page, emit};
 use asg_io::Sink;
 use asg_proof::Window;
-use itoa::Buffer;
-
-// Appends a bound of a window.
-fn emit_bound<K: Sink>(bound: i64, page: &mut Page, out: &mut K)
-    ensures { Wrote K.written K.faults out.old out.new page.old page.new (signed_decimal bound) }
-{
-    let mut buffer = Buffer::new();
-    emit(buffer.format(bound).as_bytes(), page, out);
-}
 
 // Appends the bounds of a window, with a space between them.
 fn emit_bounds<K: Sink>(window: &Window, page: &mut Page, out: &mut K)

@@ -2,11 +2,11 @@
 
 ghost use Rattle.std.specs.Prelude.{◌≡◌};
 ghost use Rattle.asg_parts.specs.Spellings.{Spells};
-ghost use Rattle.asg_doc.specs.Words.{command_word, status_word, has_pairs, has_grades};
+ghost use Rattle.asg_doc.specs.Words.{command_word, status_word, form_of, has_grades};
 ghost use Rattle.asg_doc.specs.Words.{command_spelling, cap_spelling, named_spelling};
 ghost use Rattle.asg_doc.specs.Words.{objective_spelling, status_spelling};
 
-use crate::documents::{Command, Status};
+use crate::documents::{Command, Status, ValueForm};
 use asg_model::limits::MOST_CAP;
 use asg_model::{Objective, uncapped_named};
 use asg_parts::{after, wide_number};
@@ -44,14 +44,11 @@ fn cap_of(word: &[u8]) -> Option<u64>
     Some(cap as u64)
 }
 
-// The objective without a cap that has this word, `lex` aside; none where none has.
+// The objective without a cap that has this word; none where none has.
 fn named_objective(word: &[u8]) -> Option<Objective>
     ensures { Spells named_spelling word.now result }
 {
-    match uncapped_named(word) {
-        Some(Objective::Lex) => None,
-        named => named,
-    }
+    uncapped_named(word)
 }
 
 // The objective that has this word; none where none has.
@@ -64,11 +61,15 @@ pub(crate) fn objective_of(word: &[u8]) -> Option<Objective>
     named_objective(word)
 }
 
-// Whether the objective's values are two numbers.
-pub(crate) fn has_pairs(objective: Objective) -> bool
-    ensures { result ≡ has_pairs objective }
+// The form of the objective's values.
+pub(crate) fn form_of(objective: Objective) -> ValueForm
+    ensures { result ≡ form_of objective }
 {
-    matches!(objective, Objective::SumPair | Objective::TimeCost)
+    match objective {
+        Objective::SumPair | Objective::TimeCost => ValueForm::Two,
+        Objective::Lex => ValueForm::Many,
+        _ => ValueForm::One,
+    }
 }
 
 // Whether the objective's steps have grades.

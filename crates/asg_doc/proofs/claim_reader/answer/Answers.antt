@@ -4,7 +4,7 @@ use Rattle.asg_doc.proofs.claim_reader.answer.Goals as goal
 
 pub returns-in_err-value : goal.returns-in_err-value
 returns-in_err-value c = ReadsOrFails-err c.from_residual.result c.from_residual.ensures.1
-    (Halts-shape (answer_shape c.args.objective) (Halts-first (value_cells c.args.objective) (Halts-stops c.in_err-value.ensures)))
+    (Halts-shape (answer_shape c.args.objective) (Halts-first (value_cells c.args.objective) c.in_err-value.ensures))
 
 pub returns-in_err-count : goal.returns-in_err-count
 returns-in_err-count c = ReadsOrFails-err c.from_residual-in_err-count.result c.from_residual-in_err-count.ensures.1

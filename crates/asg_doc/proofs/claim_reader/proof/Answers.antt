@@ -19,3 +19,8 @@ pub returns-in_err-windows-in-Windows : goal.returns-in_err-windows-in-Windows
 returns-in_err-windows-in-Windows c = ReadsOrFails-err c.from_residual-in_err-windows-in-Windows.result c.from_residual-in_err-windows-in-Windows.ensures.1
     (Halts-shape (proof_shape c.args.objective)
     (Halts-second (head_rest c.args.objective) (subst (IsRead proof_head_part c.args.lines.now c.proof_head.new.lines) c.in-Windows.is c.in_ok-count.ensures) c.in_err-windows-in-Windows.ensures))
+
+pub returns-in_err-perm-in-Levels : goal.returns-in_err-perm-in-Levels
+returns-in_err-perm-in-Levels c = ReadsOrFails-err c.from_residual-in_err-perm-in-Levels.result c.from_residual-in_err-perm-in-Levels.ensures.1
+    (Halts-shape (proof_shape c.args.objective)
+    (Halts-second (head_rest c.args.objective) (subst (IsRead proof_head_part c.args.lines.now c.proof_head.new.lines) c.in-Levels.is c.in_ok-count.ensures) c.in_err-perm-in-Levels.ensures))

@@ -6,4 +6,4 @@ pub cells-init : goal.cells-init
 cells-init g c = Wrote-nothing _ _ _ _
 
 pub cells-preserved : goal.cells-preserved
-cells-preserved g c = Wrote-as (cells_more _ _ _ c.cells-test.true) (Wrote-append c.cells.invariant c.emit_cell.ensures)
+cells-preserved g c = Wrote-as (cells_more _ _ _ c.cells-test.true) (Wrote-append c.cells.invariant c.emit_pair.ensures)

@@ -1,4 +1,4 @@
-use Rattle.std.proofs.Common.{◌∷◌, ◌≤◌, ◌<◌, [], ap, sym, arith}
+use Rattle.std.proofs.Common.{◌∷◌, ◌<◌, ap, sym, arith}
 use Rattle.std.proofs.lemmas.Fmt.{decimal_digit}
 use Rattle.itoa.proofs.Decimal.{decimal_two}
 use Rattle.asg_doc.proofs.Flows.{Wrote-append, Wrote-pushed}

@@ -1,6 +1,6 @@
 use Rattle.std.proofs.Common.{append_assoc}
 use Rattle.asg_doc.proofs.Flows.{Wrote-append, Wrote-as}
-use Rattle.asg_doc.proofs.line_writer.emit_cell.Goals as goal
+use Rattle.asg_doc.proofs.line_writer.emit_pair.Goals as goal
 
 pub returns : goal.returns
 returns g c =

@@ -1,0 +1,10 @@
+use Rattle.std.proofs.Common.{length}
+use Rattle.asg_parts.specs.laws.ListLaws.{AreListed}
+use Rattle.asg_doc.specs.DocumentParts.{bound_spelling}
+use Rattle.asg_doc.proofs.cost_reader.costs_of.Given as goal
+
+abbrev pub invariant-listed : goal.invariant-listed
+invariant-listed l = AreListed bound_spelling l.text l.costs.items l.rest
+
+abbrev pub decreases-listed : goal.decreases-listed
+decreases-listed l = length l.rest

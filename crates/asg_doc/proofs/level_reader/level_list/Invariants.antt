@@ -1,0 +1,7 @@
+use Rattle.asg_parts.specs.Parts.{counted}
+use Rattle.asg_parts.specs.Reading.{IsRead}
+use Rattle.asg_doc.specs.DocumentParts.{level_part}
+use Rattle.asg_doc.proofs.level_reader.level_list.Given as goal
+
+abbrev pub invariant-loop : goal.invariant-loop
+invariant-loop l = IsRead (counted l.counter level_part) l.fn.lines l.lines l.levels.items

@@ -21,7 +21,8 @@ use Rattle.asg_model.specs.Problem.{Problem}
 use Rattle.asg_model.specs.ValidChoice.{IsValid}
 use Rattle.asg_model.specs.Values.{choice_value}
 use Rattle.asg_proof.specs.declared.outcomes.Proof.{Proof}
-use Rattle.asg_proof.specs.declared.outcomes.Proof.TheVariants.{Below, Phases, Windows}
+use Rattle.asg_proof.specs.declared.outcomes.Proof.TheVariants.{Below, Levels, Phases, Windows}
+use Rattle.asg_proof.specs.declared.levels.Level.{Level}
 use Rattle.asg_proof.specs.declared.windows.Window.{Window}
 use Rattle.asg_proof.specs.Phases.{PhaseOf}
 use Rattle.asg_proof.specs.Proves.{Proves, takes}
@@ -35,20 +36,22 @@ use Rattle.asg_doc.specs.declared.documents.Claim.TheVariants.{Best, Nothing}
 use Rattle.asg_doc.specs.declared.documents.Document.{Document}
 use Rattle.asg_check.specs.declared.verdicts.Form.{Form}
 use Rattle.asg_check.specs.declared.verdicts.Reason.{Reason}
-use Rattle.asg_check.specs.declared.verdicts.Reason.TheVariants.{OtherObjective, WrongForm, NotValid, WrongValue, NotHall, WindowGap, BadPhase, IndexDiffers}
+use Rattle.asg_check.specs.declared.verdicts.Reason.TheVariants.{OtherObjective, WrongForm, NotValid, WrongValue, NotHall, WindowGap, BadPhase, IndexDiffers, BadLevel}
 use Rattle.asg_check.specs.declared.verdicts.Verdict.{Verdict}
 use Rattle.asg_check.specs.declared.verdicts.Verdict.TheVariants.{No, Yes}
 use Rattle.asg_check.specs.Certifies.{Certifies, CertifiesClaim}
 use Rattle.asg_check.specs.DocumentForm.{has_form, is_command_of, takes_claim}
 use Rattle.asg_check.specs.PhaseReasons.{AreAdmittedFor, AreBadAt, HaveOtherIndexFor}
-use Rattle.asg_check.specs.Reasons.{HasBadPhase, HasHallSet, HasNoChoice, HasOtherIndex, HasOtherValue, IsFirstReason, IsToldOf, LacksHallSet, LeavesGap, Stands, StandsAgainst, Tells, claim_reasons, phase_reasons, proof_reasons, reasons_in_order, window_reasons}
+use Rattle.asg_check.specs.Reasons.{HasBadLevel, HasBadPhase, HasHallSet, HasNoChoice, HasOtherIndex, HasOtherValue, IsFirstReason, IsToldOf, LacksHallSet, LeavesGap, Stands, StandsAgainst, Tells, claim_reasons, level_reasons, phase_reasons, proof_reasons, reasons_in_order, window_reasons}
 use Rattle.asg_check.specs.WindowReasons.{LeaveGapAt, StandsOn}
+use Rattle.asg_check.specs.LevelReasons.{AreBadLevelsAt, LevelsStand}
 use Rattle.asg_check.specs.Replays.{StandsFor}
 use Rattle.asg_check.specs.Spots.{At, ForWhole, Overall, Spot}
 use Rattle.asg_check.specs.Written.{IsWrittenAs, read_cells}
 use Rattle.asg_check.proofs.ByObjective.{admitted_for, dec_admitted_for, dec_other_for, none_admitted, one_index_for, proves_for, take_for}
 use Rattle.asg_check.proofs.Decisions.{same_objective, same_value}
 use Rattle.asg_check.proofs.Reading.{written-once, written-read}
+use Rattle.asg_check.proofs.LevelTold.{levels_nowhere, levels_prove, ranks_prove, tested_levels}
 use Rattle.asg_check.proofs.ToldReasons.{NoneOf, Nowhere, Tested, none_bad, none_stands, nowhere, one_verdict, overall, some_verdict, tested, tested_bad, told_same, yes_told}
 use Rattle.asg_check.proofs.WindowTold.{halls_from_nowhere, halls_nowhere, proved_halls, proved_nowhere, tested_gap, tested_halls, windows_prove}
 
@@ -81,17 +84,29 @@ module _ (objective : Objective) (X : Problem) (i : IsInstance X) where
       → Tells (StandsFor objective X f words) phase_reasons verdict → Tells (StandsAgainst objective X (Best answer (Phases words))) proof_reasons verdict
   to_phases answer words f verdict w told = inr (nowhere (λ fails. fails tt), inr (λ spot none. none, by told))
     where
-      by : Tells (StandsFor objective X f words) phase_reasons verdict → Tells (StandsAgainst objective X (Best answer (Phases words))) phase_reasons verdict
+      by : Tells (StandsFor objective X f words) phase_reasons verdict → Tells (StandsAgainst objective X (Best answer (Phases words))) (BadPhase ∷ (IndexDiffers ∷ level_reasons)) verdict
       by (inl bad) = inl bad
       by (inr (none, inl other)) = inr (none, inl (told_same IndexDiffers verdict (λ differs. (f, w, differs)) other))
       by (inr (none, inr (one, is_yes))) =
-          inr (none, inr (nowhere (λ other. one Overall (subst (λ g. HaveOtherIndexFor objective X g words) (written-once X answer.cells other.0 f i other.1 w) other.2)), is_yes))
+          inr (none, inr (nowhere (λ other. one Overall (subst (λ g. HaveOtherIndexFor objective X g words) (written-once X answer.cells other.0 f i other.1 w) other.2)), inr (λ spot bad. bad, is_yes)))
 
   -- against an answer with windows stands what stands against those for its value
   pub to_windows : (answer : Answer) (windows : List Window) (verdict : Verdict) → Tells (StandsOn X answer.value windows) window_reasons verdict → Tells (StandsAgainst objective X (Best answer (Windows windows))) proof_reasons verdict
   to_windows answer windows verdict (inl bad) = inl bad
   to_windows answer windows verdict (inr (halls, inl gap)) = inr (halls, inl gap)
-  to_windows answer windows verdict (inr (halls, inr (none, is_yes))) = inr (halls, inr (none, inr (λ spot bad. bad, inr (nowhere (λ other. other), is_yes))))
+  to_windows answer windows verdict (inr (halls, inr (none, is_yes))) = inr (halls, inr (none, inr (λ spot bad. bad, inr (nowhere (λ other. other), inr (λ spot bad. bad, is_yes)))))
+
+  -- against an answer with levels stands what stands against those for its choice
+  pub to_levels : (answer : Answer) (perm : List ℕ) (levels : List Level) (f : List (Option ℕ)) (verdict : Verdict) → IsWrittenAs X answer.cells f
+      → Tells (LevelsStand X f perm levels) level_reasons verdict → Tells (StandsAgainst objective X (Best answer (Levels perm levels))) proof_reasons verdict
+  to_levels answer perm levels f verdict w told = inr (nowhere (λ fails. fails tt), inr (λ spot none. none, inr (λ spot none. none, inr (nowhere (λ none. none), by told))))
+    where
+      for_it : (spot : Spot) → HasBadLevel X (Best answer (Levels perm levels)) spot → AreBadLevelsAt X f perm levels spot
+      for_it spot bad = subst (λ g. AreBadLevelsAt X g perm levels spot) (written-once X answer.cells bad.0 f i bad.1 w) bad.2
+
+      by : Tells (LevelsStand X f perm levels) level_reasons verdict → Tells (StandsAgainst objective X (Best answer (Levels perm levels))) level_reasons verdict
+      by (inl bad) = inl (record { spot = bad.spot; stands = (f, w, bad.stands); least = λ other stands. bad.least other (for_it other stands); told = bad.told })
+      by (inr (none, is_yes)) = inr (λ spot bad. none spot (for_it spot bad), is_yes)
 
   -- nothing stands against a claim that certifies
   stands_nowhere : (claim : Claim) → CertifiesClaim objective X claim → (reason : Reason) → Nowhere (StandsAgainst objective X claim reason)
@@ -105,6 +120,17 @@ module _ (objective : Objective) (X : Problem) (i : IsInstance X) where
       one_index_for objective X words w.choice w.proved (subst (λ f. HaveOtherIndexFor objective X f words) (written-once X answer.cells other.0 w.choice i other.1 w.written) other.2))
   stands_nowhere (Best answer (Windows windows)) w NotHall = halls_nowhere X windows (proved_halls objective X (choice_value objective X w.choice) windows w.proved)
   stands_nowhere (Best answer (Windows windows)) w WindowGap = proved_nowhere objective X answer.value windows (subst (λ value. ProvesWindows objective X value windows) (sym w.value) w.proved)
+  stands_nowhere (Best answer (Levels perm levels)) w NotHall = nowhere (λ fails. fails tt)
+  stands_nowhere (Best answer (Levels perm levels)) w WindowGap = λ spot none. none
+  stands_nowhere (Best answer (Levels perm levels)) w BadPhase = λ spot none. none
+  stands_nowhere (Best answer (Levels perm levels)) w IndexDiffers = nowhere (λ none. none)
+  stands_nowhere (Best answer (Levels perm levels)) w BadLevel = λ spot bad.
+      levels_nowhere X w.choice perm levels (ranks_prove objective X w.choice perm levels w.proved) spot
+      (subst (λ f. AreBadLevelsAt X f perm levels spot) (written-once X answer.cells bad.0 w.choice i bad.1 w.written) bad.2)
+  stands_nowhere (Best answer (Phases words)) w BadLevel = λ spot none. none
+  stands_nowhere (Best answer (Below rows)) w BadLevel = λ spot none. none
+  stands_nowhere (Best answer (Windows windows)) w BadLevel = λ spot none. none
+  stands_nowhere (Nothing rows) w BadLevel = λ spot none. none
   stands_nowhere (Best answer (Phases words)) w WindowGap = λ spot none. none
   stands_nowhere (Best answer (Below rows)) w WindowGap = λ spot none. none
   stands_nowhere (Nothing rows) w WindowGap = λ spot none. none
@@ -143,12 +169,14 @@ module _ (decided : record { valid : (X : Problem) (f : List (Option ℕ)) → D
     no_hall_set (Best answer (Phases words)) = inr (nowhere (λ fails. fails tt))
     no_hall_set (Best answer (Below rows)) = tested NotHall (not (proves_below objective X answer.value rows))
     no_hall_set (Best answer (Windows windows)) = tested_halls X windows hall_window
+    no_hall_set (Best answer (Levels perm levels)) = inr (nowhere (λ fails. fails tt))
     no_hall_set (Nothing rows) = tested NotHall (not (decided.hall X Whole rows))
 
     hall_set : (claim : Claim) → Nowhere (LacksHallSet objective X claim) → HasHallSet objective X claim
     hall_set (Best answer (Phases words)) none = tt
     hall_set (Best answer (Below rows)) none = dec→stable (proves_below objective X answer.value rows) (none Overall)
     hall_set (Best answer (Windows windows)) none = halls_from_nowhere X windows hall_window none
+    hall_set (Best answer (Levels perm levels)) none = tt
     hall_set (Nothing rows) none = dec→stable (decided.hall X Whole rows) (none Overall)
 
     -- windows that leave a gap
@@ -156,6 +184,7 @@ module _ (decided : record { valid : (X : Problem) (f : List (Option ℕ)) → D
     gap (Best answer (Windows windows)) = tested_gap X answer.value windows
     gap (Best answer (Phases words)) = inr (λ spot none. none)
     gap (Best answer (Below rows)) = inr (λ spot none. none)
+    gap (Best answer (Levels perm levels)) = inr (λ spot none. none)
     gap (Nothing rows) = inr (λ spot none. none)
 
     -- of an answer: its cells spell the choice that is read, or none, and its value is that of it
@@ -191,6 +220,7 @@ module _ (decided : record { valid : (X : Problem) (f : List (Option ℕ)) → D
     bad_phase (Best answer (Phases words)) = tested_bad (AreAdmittedFor objective X) words (dec_admitted_for objective X)
     bad_phase (Best answer (Below rows)) = inr (λ spot none. none)
     bad_phase (Best answer (Windows windows)) = inr (λ spot none. none)
+    bad_phase (Best answer (Levels perm levels)) = inr (λ spot none. none)
     bad_phase (Nothing rows) = inr (λ spot none. none)
 
     other_index : (claim : Claim) → Dec (HasOtherIndex objective X claim)
@@ -205,7 +235,31 @@ module _ (decided : record { valid : (X : Problem) (f : List (Option ℕ)) → D
         (and (written answer (Phases words)) (dec_other_for objective X words (read answer (Phases words))))
     other_index (Best answer (Below rows)) = no (λ none. none)
     other_index (Best answer (Windows windows)) = no (λ none. none)
+    other_index (Best answer (Levels perm levels)) = no (λ none. none)
     other_index (Nothing rows) = no (λ none. none)
+
+    -- levels that are bad for the choice that is written
+    bad_level : (claim : Claim) → Tested (HasBadLevel X claim) BadLevel
+    bad_level (Best answer (Phases words)) = inr (λ spot none. none)
+    bad_level (Best answer (Below rows)) = inr (λ spot none. none)
+    bad_level (Best answer (Windows windows)) = inr (λ spot none. none)
+    bad_level (Nothing rows) = inr (λ spot none. none)
+    bad_level (Best answer (Levels perm levels)) = by (written answer (Levels perm levels))
+      where
+        f : List (Option ℕ)
+        f = read answer (Levels perm levels)
+
+        for_it : (spot : Spot) → HasBadLevel X (Best answer (Levels perm levels)) spot → AreBadLevelsAt X f perm levels spot
+        for_it spot bad = subst (λ g. AreBadLevelsAt X g perm levels spot) (is_read answer (Levels perm levels) bad.0 bad.1) bad.2
+
+        told : IsWrittenAs X answer.cells f → Tested (AreBadLevelsAt X f perm levels) BadLevel → Tested (HasBadLevel X (Best answer (Levels perm levels))) BadLevel
+        told w (inl one) =
+            inl (one.0, record { spot = one.1.spot; stands = (f, w, one.1.stands); least = λ other stands. one.1.least other (for_it other stands); told = one.1.told })
+        told w (inr none) = inr (λ spot bad. none spot (for_it spot bad))
+
+        by : Dec (IsWrittenAs X answer.cells f) → Tested (HasBadLevel X (Best answer (Levels perm levels))) BadLevel
+        by (yes w) = told w (tested_levels X f perm levels)
+        by (no none) = inr (λ spot bad. none (subst (IsWrittenAs X answer.cells) (is_read answer (Levels perm levels) bad.0 bad.1) bad.1))
 
     -- each reason is tested
     each : (form : Form) (document : Document) (reason : Reason) → Tested (Stands objective X form document reason) reason
@@ -217,6 +271,7 @@ module _ (decided : record { valid : (X : Problem) (f : List (Option ℕ)) → D
     each form document WindowGap = gap document.claim
     each form document BadPhase = bad_phase document.claim
     each form document IndexDiffers = tested IndexDiffers (other_index document.claim)
+    each form document BadLevel = bad_level document.claim
 
     -- phases against which nothing stands are all admitted
     all_admitted : (words : List (PhaseOf Word)) → Nowhere (AreBadAt (AreAdmittedFor objective X) words) → IsTrue (is_algebraic objective) → AreAdmittedFor objective X words
@@ -226,27 +281,29 @@ module _ (decided : record { valid : (X : Problem) (f : List (Option ℕ)) → D
         subst (AreAdmittedFor objective X) (take_all (suc (length words)) (w ∷ words) (omega arith)) last
 
     -- a claim of a kind that the objective takes, against which nothing stands, certifies
-    claimed : (claim : Claim) → IsTrue (takes_claim objective claim) → ¬ HasNoChoice X claim → ¬ HasOtherValue objective X claim → HasHallSet objective X claim → Nowhere (LeavesGap X claim) → Nowhere (HasBadPhase objective X claim) → ¬ HasOtherIndex objective X claim → CertifiesClaim objective X claim
-    claimed (Nothing rows) fits chosen valued proved whole bad other = proved
-    claimed (Best answer proof) fits chosen valued proved whole bad other =
+    claimed : (claim : Claim) → IsTrue (takes_claim objective claim) → ¬ HasNoChoice X claim → ¬ HasOtherValue objective X claim → HasHallSet objective X claim → Nowhere (LeavesGap X claim) → Nowhere (HasBadPhase objective X claim) → ¬ HasOtherIndex objective X claim → Nowhere (HasBadLevel X claim) → CertifiesClaim objective X claim
+    claimed (Nothing rows) fits chosen valued proved whole bad other level = proved
+    claimed (Best answer proof) fits chosen valued proved whole bad other level =
         let w = dec→stable (written answer proof) (λ none. chosen ((unwritten answer proof).0 none)) in
         let same = dec→stable (value answer proof) (λ differs. valued (read answer proof, w, differs)) in
-        record { choice = read answer proof; written = w; value = same; proved = by proof fits w same proved whole bad other }
+        record { choice = read answer proof; written = w; value = same; proved = by proof fits w same proved whole bad other level }
       where
         by : (proof : Proof) → IsTrue (takes objective proof) → IsWrittenAs X answer.cells (read answer proof) → answer.value ≡ choice_value objective X (read answer proof)
-            → HasHallSet objective X (Best answer proof) → Nowhere (LeavesGap X (Best answer proof)) → Nowhere (HasBadPhase objective X (Best answer proof)) → ¬ HasOtherIndex objective X (Best answer proof) → Proves objective X (read answer proof) proof
-        by (Below rows) fits w same proved whole bad other = subst (λ value. ProvesBelow objective X value rows) same proved
-        by (Windows windows) fits w same proved whole bad other =
+            → HasHallSet objective X (Best answer proof) → Nowhere (LeavesGap X (Best answer proof)) → Nowhere (HasBadPhase objective X (Best answer proof)) → ¬ HasOtherIndex objective X (Best answer proof) → Nowhere (HasBadLevel X (Best answer proof)) → Proves objective X (read answer proof) proof
+        by (Below rows) fits w same proved whole bad other level = subst (λ value. ProvesBelow objective X value rows) same proved
+        by (Windows windows) fits w same proved whole bad other level =
             windows_prove objective X (read answer (Windows windows)) windows fits proved (subst (λ value. Nowhere (LeaveGapAt X value windows)) same whole)
-        by (Phases words) fits w same proved whole bad other = proves_for objective X (read answer (Phases words)) words (all_admitted words bad fits) (λ differs. other (read answer (Phases words), w, differs))
+        by (Levels perm levels) fits w same proved whole bad other level =
+            levels_prove objective X (read answer (Levels perm levels)) perm levels fits (λ spot stands. level spot (read answer (Levels perm levels), w, stands))
+        by (Phases words) fits w same proved whole bad other level = proves_for objective X (read answer (Phases words)) words (all_admitted words bad fits) (λ differs. other (read answer (Phases words), w, differs))
 
     certifies : (form : Form) (document : Document) → NoneOf (Stands objective X form document) reasons_in_order → Certifies objective X form document
-    certifies form document (same, (formed, (chosen, (valued, (proved, (whole, (bad, (other, none)))))))) =
+    certifies form document (same, (formed, (chosen, (valued, (proved, (whole, (bad, (other, (level, none))))))))) =
         let of_form = dec→stable (Bool-discrete (has_form objective form document) true) (λ e. formed Overall (false_from_ne_true (has_form objective form document) e)) in
         record {
           of_objective = dec→stable (same_objective document.objective objective) (same Overall);
           of_form = of_form;
-          claim = claimed document.claim (right_of (is_command_of form document.command) (takes_claim objective document.claim) of_form) (chosen Overall) (valued Overall) (hall_set document.claim proved) whole bad (other Overall);
+          claim = claimed document.claim (right_of (is_command_of form document.command) (takes_claim objective document.claim) of_form) (chosen Overall) (valued Overall) (hall_set document.claim proved) whole bad (other Overall) level;
         }
 
     module _ (form : Form) (document : Document) where

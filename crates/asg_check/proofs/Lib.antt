@@ -12,4 +12,13 @@ pub mod PhaseTold
 pub mod WindowGaps
 pub mod WindowOrder
 pub mod WindowTold
+pub mod LevelCells
+pub mod LevelColumns
+pub mod LevelStarts
+pub mod BitSquares
+pub mod UnitLevels
+pub mod LevelSums
+pub mod LevelTold
+pub mod LevelTaken
+pub mod LevelWhole
 pub mod Certified

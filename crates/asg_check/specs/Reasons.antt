@@ -6,19 +6,20 @@ use Rattle.asg_model.specs.HallSet.{IsHall}
 use Rattle.asg_model.specs.Problem.{Problem}
 use Rattle.asg_model.specs.Values.{choice_value}
 use Rattle.asg_proof.specs.Threshold.{ProvesBelow}
-use Rattle.asg_proof.specs.declared.outcomes.Proof.TheVariants.{Below, Phases, Windows}
+use Rattle.asg_proof.specs.declared.outcomes.Proof.TheVariants.{Below, Levels, Phases, Windows}
 use Rattle.asg_proof.specs.Windows.{IsHallWindow}
 use Rattle.asg_doc.specs.declared.documents.Claim.{Claim}
 use Rattle.asg_doc.specs.declared.documents.Claim.TheVariants.{Best, Nothing}
 use Rattle.asg_doc.specs.declared.documents.Document.{Document}
 use Rattle.asg_check.specs.declared.verdicts.Form.{Form}
 use Rattle.asg_check.specs.declared.verdicts.Reason.{Reason}
-use Rattle.asg_check.specs.declared.verdicts.Reason.TheVariants.{OtherObjective, WrongForm, NotValid, WrongValue, NotHall, WindowGap, BadPhase, IndexDiffers}
+use Rattle.asg_check.specs.declared.verdicts.Reason.TheVariants.{OtherObjective, WrongForm, NotValid, WrongValue, NotHall, WindowGap, BadPhase, IndexDiffers, BadLevel}
 use Rattle.asg_check.specs.declared.verdicts.Verdict.{Verdict}
 use Rattle.asg_check.specs.declared.verdicts.Verdict.TheVariants.{No, Yes}
 use Rattle.asg_check.specs.DocumentForm.{has_form}
 use Rattle.asg_check.specs.PhaseReasons.{AreAdmittedFor, AreBadAt, HaveOtherIndexFor}
 use Rattle.asg_check.specs.WindowReasons.{AreNoHallSetsAt, LeaveGapAt}
+use Rattle.asg_check.specs.LevelReasons.{AreBadLevelsAt}
 use Rattle.asg_check.specs.Spots.{ForWhole, IsNoLater, Spot, place_of}
 use Rattle.asg_check.specs.Written.{IsWrittenAs}
 
@@ -32,17 +33,21 @@ reason_number NotHall = 5
 reason_number WindowGap = 8
 reason_number BadPhase = 6
 reason_number IndexDiffers = 7
+reason_number BadLevel = 9
 
 -- the reasons in the order in which they are tested, those against a claim, against its
--- proof, and against phases last; and those against windows
+-- proof, and against phases and levels last; and those against windows
 abbrev pub phase_reasons : List Reason
 phase_reasons = BadPhase ∷ (IndexDiffers ∷ [])
 
 abbrev pub window_reasons : List Reason
 window_reasons = NotHall ∷ (WindowGap ∷ [])
 
+abbrev pub level_reasons : List Reason
+level_reasons = BadLevel ∷ []
+
 abbrev pub proof_reasons : List Reason
-proof_reasons = NotHall ∷ (WindowGap ∷ phase_reasons)
+proof_reasons = NotHall ∷ (WindowGap ∷ (BadPhase ∷ (IndexDiffers ∷ level_reasons)))
 
 abbrev pub claim_reasons : List Reason
 claim_reasons = NotValid ∷ (WrongValue ∷ proof_reasons)
@@ -68,6 +73,7 @@ abbrev pub HasHallSet : Objective → Problem → Claim → Type 0
 HasHallSet objective X (Best answer (Phases words)) = Unit {0}
 HasHallSet objective X (Best answer (Below rows)) = ProvesBelow objective X answer.value rows
 HasHallSet objective X (Best answer (Windows windows)) = All (IsHallWindow X) windows
+HasHallSet objective X (Best answer (Levels perm levels)) = Unit {0}
 HasHallSet objective X (Nothing rows) = IsHall X Whole rows
 
 -- where they aren't: at a window, or for the whole
@@ -92,6 +98,12 @@ HasOtherIndex objective X (Best answer (Phases words)) =
     (f : List (Option ℕ)) × IsWrittenAs X answer.cells f × HaveOtherIndexFor objective X f words
 HasOtherIndex objective X claim = ⊥
 
+-- the answer's cells are those of a valid choice, for which its assignment with levels is bad there
+abbrev pub HasBadLevel : Problem → Claim → Spot → Type 0
+HasBadLevel X (Best answer (Levels perm levels)) = λ spot.
+    (f : List (Option ℕ)) × IsWrittenAs X answer.cells f × AreBadLevelsAt X f perm levels spot
+HasBadLevel X claim = λ spot. ⊥
+
 -- where a reason stands against a claim, each by itself
 abbrev pub StandsAgainst : Objective → Problem → Claim → Reason → Spot → Type 0
 StandsAgainst objective X claim NotValid = ForWhole (HasNoChoice X claim)
@@ -100,6 +112,7 @@ StandsAgainst objective X claim NotHall = LacksHallSet objective X claim
 StandsAgainst objective X claim WindowGap = LeavesGap X claim
 StandsAgainst objective X claim BadPhase = HasBadPhase objective X claim
 StandsAgainst objective X claim IndexDiffers = ForWhole (HasOtherIndex objective X claim)
+StandsAgainst objective X claim BadLevel = HasBadLevel X claim
 StandsAgainst objective X claim reason = ForWhole ⊥
 
 -- where a reason stands against a document, each by itself: it is of another objective than the

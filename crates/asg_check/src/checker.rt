@@ -28,10 +28,12 @@ use std::alloc::Global;
 /// value d is above 0, and for the cost v of a live cell no window holds the costs from v to
 /// v + d - 1; 6, a phase is bad: a list hasn't the length of the side of the instance's square, a
 /// step is no value of the objective's monoid, or it isn't admitted after the phases before it; 7,
-/// the product of all steps isn't that of the entered costs of the cells. The place is the number
-/// of the first bad phase, from 1, for 6, that of the first window which is no Hall set for 5, the
-/// least such v for 8, and 0 else. The side of the square is at most 2,000, and the objective
-/// refuses no cost of the instance ([`asg_model::negative`]). The error is want of memory.
+/// the product of all steps isn't that of the entered costs of the cells; 9, a level is none after
+/// those before it, or they don't hold in all, and where the assignment isn't a list of different
+/// columns, that alone. The place is the number of the first bad phase, from 1, for 6, that of the
+/// first window which is no Hall set for 5, the least such v for 8, that of the first level which
+/// is none for 9, and 0 else. The side of the square is at most 2,000, and the objective refuses no
+/// cost of the instance ([`asg_model::negative`]). The error is want of memory.
 pub fn check(
     alloc: Global,
     objective: Objective,

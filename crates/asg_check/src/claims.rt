@@ -13,6 +13,7 @@ ghost use Rattle.asg_check.specs.Reasons.{StandsAgainst, Tells, claim_reasons, p
 ghost use Rattle.asg_check.specs.Written.{IsWrittenAs};
 
 use crate::NoMemory;
+use crate::level_verdicts::levels_verdict;
 use crate::phase_verdicts::phases_verdict;
 use crate::verdicts::{Reason, Verdict};
 use crate::window_verdicts::windows_verdict;
@@ -103,6 +104,9 @@ fn proof_verdict(
         }
         Proof::Windows(windows) => {
             windows_verdict(alloc, inst, &answer.value, windows.as_slice())
+        }
+        Proof::Levels { perm, levels } => {
+            levels_verdict(alloc, inst, choice, perm.as_slice(), levels.as_slice())
         }
     }
 }

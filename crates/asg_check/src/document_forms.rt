@@ -44,5 +44,6 @@ fn takes(objective: Objective, proof: &Proof) -> bool
         Proof::Phases(_) => !matches!(objective, Objective::Balanced | Objective::Lex),
         Proof::Below(_) => matches!(objective, Objective::Bottleneck | Objective::BottleneckMax),
         Proof::Windows(_) => matches!(objective, Objective::Balanced),
+        Proof::Levels { .. } => matches!(objective, Objective::Lex),
     }
 }

@@ -5,7 +5,8 @@
 //! is valid and has the written value, and tests the proof by the definition of its kind: phases
 //! are tested on a square of the instance, all in one pass over its cells or one after the other,
 //! and their index is compared with the choice's fold; the rows of windows are tested as Hall sets,
-//! and the windows for gaps. Contracts see a document by what it claims, and an instance by its
+//! and the windows for gaps; levels are taken one after the other, over what is left after those
+//! before. Contracts see a document by what it claims, and an instance by its
 //! rows, columns and costs; a law says that what certifies is true. It stands on no solver: a user
 //! can trust an answer without one (certifying algorithms, [McConnell et al. 2011]).
 #![tactic(auto)]
@@ -17,6 +18,11 @@ mod document_forms;
 mod grade_replays;
 mod grade_verdicts;
 pub mod laws;
+mod level_bits;
+mod level_choices;
+mod level_units;
+mod level_verdicts;
+mod level_walks;
 mod narrow_starts;
 mod phase_verdicts;
 mod replays;

@@ -34,6 +34,10 @@ pub enum Reason {
     BadPhase,
     /// The index of the phases isn't the fold of the cells.
     IndexDiffers,
+    /// A level is none after those before it, or they don't hold in all: the assignment isn't one
+    /// of different columns by cells that are left in the end, its cells aren't the document's, or
+    /// the levels don't count as many cells as rows choose.
+    BadLevel,
 }
 
 impl fmt::Display for Reason {
@@ -62,6 +66,7 @@ impl Reason {
             Reason::IndexDiffers => {
                 "the product of the steps isn't that of the entered costs of the cells"
             }
+            Reason::BadLevel => "a level doesn't hold, or the levels don't prove the cells",
         }
     }
 
@@ -78,6 +83,7 @@ impl Reason {
             Reason::WindowGap => 8,
             Reason::BadPhase => 6,
             Reason::IndexDiffers => 7,
+            Reason::BadLevel => 9,
         }
     }
 
@@ -101,8 +107,8 @@ impl Reason {
         }
     }
 
-    // The verdict that the reason stands at a phase or a window, whose place in its list this is,
-    // from 0 on.
+    // The verdict that the reason stands at a phase, a window or a level, whose place in its list
+    // this is, from 0 on.
     pub(crate) fn verdict_at_part(self, part: usize) -> Verdict
         requires { part + 1 < 2 ^ 63 }
         ensures { result ≡ Verdict.No (reason_number self) (pos (part + 1)) }
@@ -117,8 +123,9 @@ pub enum Verdict {
     /// The document certifies.
     Yes,
     /// It doesn't: the number of the first reason, and the place where it stands. The place of a
-    /// bad phase is its number from 1, as is that of a window whose rows aren't a Hall set; the
-    /// place of a gap is its cost. That of each other reason is 0: the whole document.
+    /// bad phase is its number from 1, as are those of a bad level and of a window whose rows
+    /// aren't a Hall set; the place of a gap is its cost. That of each other reason is 0: the whole
+    /// document.
     No { reason: u8, place: i64 },
 }
 

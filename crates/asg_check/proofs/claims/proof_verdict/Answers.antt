@@ -2,12 +2,13 @@ use Rattle.std.proofs.Common.{sym, subst}
 use Rattle.std.specs.Prelude.{IfOk, IsTrue}
 use Rattle.std.proofs.lemmas.Result.{IfOk-weaker}
 use Rattle.asg_doc.specs.declared.documents.Claim.TheVariants.{Best}
-use Rattle.asg_proof.specs.declared.outcomes.Proof.TheVariants.{Phases, Windows}
+use Rattle.asg_proof.specs.declared.outcomes.Proof.TheVariants.{Levels, Phases, Windows}
 use Rattle.asg_proof.specs.Proves.{takes}
-use Rattle.asg_check.specs.Reasons.{StandsAgainst, Tells, phase_reasons, proof_reasons, window_reasons}
+use Rattle.asg_check.specs.Reasons.{StandsAgainst, Tells, level_reasons, phase_reasons, proof_reasons, window_reasons}
 use Rattle.asg_check.specs.WindowReasons.{StandsOn}
+use Rattle.asg_check.specs.LevelReasons.{LevelsStand}
 use Rattle.asg_check.specs.Replays.{StandsFor}
-use Rattle.asg_check.proofs.Certified.{to_phases, to_windows}
+use Rattle.asg_check.proofs.Certified.{to_levels, to_phases, to_windows}
 use Rattle.asg_check.proofs.WindowTold.{spread_range}
 use Rattle.asg_check.proofs.claims.proof_verdict.Goals as goal
 
@@ -33,3 +34,20 @@ returns-in-Windows c =
 pub windows_verdict-requires-clause-range : goal.windows_verdict-requires-clause-range
 windows_verdict-requires-clause-range c =
     spread_range c.args.objective c.args.answer.now.value (subst (λ proof. IsTrue (takes c.args.objective proof)) c.in-Windows.is c.requires.takes) c.requires.in_range
+
+pub returns-in-Levels : goal.returns-in-Levels
+returns-in-Levels c =
+    let objective = c.args.objective in
+    let X = c.args.inst.now in
+    let f = c.args.choice.now in
+    let perm = c.in-Levels.perm in
+    let levels = c.in-Levels.levels in
+    let told =
+    subst (λ ls. IfOk c.levels_verdict.result (Tells (LevelsStand X f perm ls) level_reasons)) c.as_slice-in-Levels-2.ensures.items
+    (subst (λ p. IfOk c.levels_verdict.result (Tells (LevelsStand X f p c.as_slice-in-Levels-2.result.now) level_reasons)) c.as_slice-in-Levels.ensures.items c.levels_verdict.ensures) in
+    subst (λ proof. IfOk c.levels_verdict.result (Tells (StandsAgainst objective X (Best c.args.answer.now proof)) proof_reasons)) (sym c.in-Levels.is)
+    (IfOk-weaker c.levels_verdict.result (Tells (LevelsStand X f perm levels) level_reasons) (Tells (StandsAgainst objective X (Best c.args.answer.now (Levels perm levels))) proof_reasons)
+    (λ verdict one. to_levels objective X c.requires.instance c.args.answer.now perm levels f verdict c.requires.written one) told)
+
+pub levels_verdict-requires-clause-rows : goal.levels_verdict-requires-clause-rows
+levels_verdict-requires-clause-rows c = c.requires.written.valid.over

@@ -7,10 +7,11 @@ use Rattle.clap.specs.Faults.{fault_of, is_simple_and_free}
 use Rattle.clap.specs.Kinds.{IsAmong, Kinds}
 use Rattle.clap.specs.declared.error.kind.ErrorKind.{ErrorKind}
 use Rattle.clap.proofs.OnLiterals.{clap_on_literals}
-use Rattle.asg_words.specs.declared.requests.WordsRefusal.{WordsRefusal}
-use Rattle.asg_words.specs.declared.requests.WordsRefusal.TheVariants.{Usage, NoMemory}
+use Rattle.asg_requests.specs.declared.requests.WordsRefusal.{WordsRefusal}
+use Rattle.asg_requests.specs.declared.requests.WordsRefusal.TheVariants.{Usage, NoMemory}
 use Rattle.asg_words.specs.CommandLine.{command_line, found_in}
-use Rattle.asg_words.specs.Requests.{Answers, request_found, request_of}
+use Rattle.asg_requests.specs.Requests.{Answers, request_found}
+use Rattle.asg_words.specs.Requests.{request_of}
 
 pub is_simple_line : is_simple command_line ≡ true
 unfolding command_line clap_on_literals

@@ -1,11 +1,12 @@
 -- The one command that the words are taken by, and what it finds in them.
-use Rattle.std.specs.Prelude.{Bool, true, false, List, [], ◌∷◌, Option, Some, fold, codes, bytes_eq}
+use Rattle.std.specs.Prelude.{Bool, true, false, List, [], ◌∷◌, Some, fold, codes, bytes_eq}
 use Rattle.std.specs.Prelude.{unwrap_or}
 use Rattle.std.specs.Option.{option_map_or}
 use Rattle.clap.specs.Walk.{Row, Rule, Text, all_of, first_of}
 use Rattle.clap.specs.Simple.{App, new_app, new_rule, on_top, with_rule}
 use Rattle.clap.specs.declared.builder.action.ArgAction.{ArgAction}
 use Rattle.clap.specs.declared.builder.action.ArgAction.TheVariants.{Set, Append, SetTrue}
+use Rattle.asg_requests.specs.Found.{Found}
 
 -- a word in its place, and every further one
 abbrev pub positional : Text → ArgAction → Rule
@@ -46,18 +47,6 @@ command_line = fold with_rule
 abbrev pub is_flag_set : Text → List Row → Bool
 is_flag_set name rows =
     option_map_or (λ value. bytes_eq value (codes "true")) (first_of name rows) false
-
--- what the command finds: the command's name, the words after it, the values of the options, and
--- whether the flag stands
-pub record Found : Type 0 where
-  pub command : Option Text
-  pub words : List Text
-  pub format : Option Text
-  pub place : Option Text
-  pub each : Option Text
-  pub count : Option Text
-  pub script : Option Text
-  pub brief : Bool
 
 -- what stands in the matches of the command
 abbrev pub found_in : List Row → Found

@@ -1,6 +1,2 @@
 pub mod CommandLine
-pub mod Limits
-pub mod Numbers
-pub mod Named
 pub mod Requests
-pub mod Bounds

@@ -7,20 +7,21 @@ use Rattle.clap.specs.Faults.{fault_of, is_simple_and_free}
 use Rattle.clap.specs.Kinds.{IsAmong}
 use Rattle.clap.specs.Values.{kind_of}
 use Rattle.clap.specs.declared.error.kind.ErrorKind.TheVariants.{OutOfMemory}
-use Rattle.asg_words.specs.declared.requests.WordsRefusal.TheVariants.{Usage}
-use Rattle.asg_words.specs.Requests.{request_found, request_of}
+use Rattle.asg_requests.specs.declared.requests.WordsRefusal.TheVariants.{Usage}
+use Rattle.asg_requests.specs.Requests.{request_found}
+use Rattle.asg_words.specs.Requests.{request_of}
 use Rattle.std.proofs.lemmas.Result.{IfOk-weaker}
-use Rattle.asg_words.proofs.RequestBounds.{is_request}
+use Rattle.asg_requests.proofs.RequestBounds.{is_request}
 use Rattle.asg_words.proofs.Taken.{is_simple_line, is_free_line, request_of-taken, request_of-refused, answer_is_due, usage_is_due}
 use Rattle.asg_words.proofs.parsing.parse.Goals as goal
 
-found_is : (c : goal.Joined-matches) → request_of (map string_bytes c.args.words.now) ≡ request_found c.in_matches.result
+found_is : (c : goal.Joined-matches) → request_of (map string_bytes c.args.words.now) ≡ request_found c.found_in.result
 found_is c =
     let words : List Text = map string_bytes c.args.words.now in
     let line = c.in_ok-command.ensures in
     let rows = (c.in-Ok.ensures.matches (ap is_simple line ∙ is_simple_line)).0 ∙ ap (λ (app : App). matches_of app words) line in
     let none = ap (λ (app : App). fault_of app words) (sym line) ∙ c.in-Ok.ensures.kinds (ap is_simple_and_free line ∙ is_free_line) in
-    request_of-taken words (rows_of (found_of c.in-Ok.matches)) none rows ∙ ap request_found (sym c.in_matches.ensures)
+    request_of-taken words (rows_of (found_of c.in-Ok.matches)) none rows ∙ ap request_found (sym c.found_in.ensures)
 
 pub returns-in-Ok-clause-request : goal.returns-in-Ok-clause-request
 returns-in-Ok-clause-request c = rw (found_is c) (answer_is_due _ c.request.result c.request.ensures)
@@ -41,4 +42,4 @@ returns-in-Err-clause-usage c usage =
 
 pub returns-in-Ok-clause-within : goal.returns-in-Ok-clause-within
 returns-in-Ok-clause-within c =
-    IfOk-weaker c.request.result _ _ (λ request is. is_request c.in_matches.result request is) (answer_is_due _ c.request.result c.request.ensures)
+    IfOk-weaker c.request.result _ _ (λ request is. is_request c.found_in.result request is) (answer_is_due _ c.request.result c.request.ensures)

@@ -1,7 +1,7 @@
 //! What a command is to do, from what was found in the words.
 
 ghost use Rattle.std.specs.Prelude.{◌≡◌, Some, slice_get};
-ghost use Rattle.asg_words.specs.Requests.{Answers, job_of, made_by, objective_of, task_of};
+ghost use Rattle.asg_requests.specs.Requests.{Answers, job_of, made_by, objective_of, task_of};
 
 use crate::found_words::FoundWords;
 use crate::limits::MOST_SEED;

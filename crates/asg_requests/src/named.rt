@@ -1,9 +1,9 @@
 //! What single words name.
 
 ghost use Rattle.std.specs.Prelude.{◌≡◌};
-ghost use Rattle.asg_words.specs.Named.{capped_named, command_named, format_named};
+ghost use Rattle.asg_requests.specs.Named.{capped_named, command_named, format_named};
 ghost use Rattle.asg_model.specs.Objectives.{is_algebraic};
-ghost use Rattle.asg_words.specs.Named.{objective_named};
+ghost use Rattle.asg_requests.specs.Named.{objective_named};
 
 use crate::numbers::number_within;
 use asg_model::limits::MOST_CAP;

@@ -7,9 +7,9 @@ use Rattle.asg_model.specs.declared.objectives.Objective.TheVariants.{Capped}
 use Rattle.asg_model.specs.Objectives.{most_cap, uncapped_named}
 use Rattle.asg_text.specs.declared.formats.Format.{Format}
 use Rattle.asg_text.specs.declared.formats.Format.TheVariants.{Asn, Square, Rect}
-use Rattle.asg_words.specs.declared.named.Command.{Command}
-use Rattle.asg_words.specs.declared.named.Command.TheVariants.{Solve, Rank, Edit, Check, Make}
-use Rattle.asg_words.specs.Numbers.{number_within}
+use Rattle.asg_requests.specs.declared.named.Command.{Command}
+use Rattle.asg_requests.specs.declared.named.Command.TheVariants.{Solve, Rank, Edit, Check, Make}
+use Rattle.asg_requests.specs.Numbers.{number_within}
 
 -- the command of a name
 abbrev pub command_named : List ℕ → Option Command

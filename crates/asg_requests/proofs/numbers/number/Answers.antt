@@ -6,9 +6,9 @@ use Rattle.std.specs.Result.{result_ok}
 use Rattle.std.specs.Str.Parse.{digits_value}
 use Rattle.std.proofs.lemmas.Str.Parse.{IsNumeralModel, numerals_by_value, parse_gives, digits_value_short}
 use Rattle.std.proofs.lemmas.Bool.Decides.{nat_tests}
-use Rattle.asg_words.proofs.Conjunctions.{both}
-use Rattle.asg_words.specs.Numbers.{is_number}
-use Rattle.asg_words.proofs.numbers.number.Goals as goal
+use Rattle.asg_requests.proofs.Conjunctions.{both}
+use Rattle.asg_requests.specs.Numbers.{is_number}
+use Rattle.asg_requests.proofs.numbers.number.Goals as goal
 
 abbrev AreDigits : List ℕ → Type 0
 AreDigits text = list_all is_ascii_digit text ≡ true

@@ -3,7 +3,7 @@
 ghost use Rattle.std.specs.Prelude.{◌≡◌, ◌≤◌, IfSome};
 ghost use Rattle.std.specs.List.{list_all};
 ghost use Rattle.std.specs.Char.{is_ascii_digit};
-ghost use Rattle.asg_words.specs.Numbers.{is_number, number_of, number_within};
+ghost use Rattle.asg_requests.specs.Numbers.{is_number, number_of, number_within};
 
 // Whether each byte is a decimal digit.
 fn are_digits(text: &str) -> bool

@@ -1,7 +1,7 @@
 //! What the words of a command line ask for.
 
 ghost use Rattle.std.specs.Prelude.{◌≡◌};
-ghost use Rattle.asg_words.specs.declared.requests.WordsRefusal.TheVariants.{NoMemory};
+ghost use Rattle.asg_requests.specs.declared.requests.WordsRefusal.TheVariants.{NoMemory};
 
 use crate::FileName;
 use asg_model::{Objective, Place};

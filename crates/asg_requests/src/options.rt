@@ -1,8 +1,8 @@
 //! The options of the commands: which go with which, and what their values say.
 
 ghost use Rattle.std.specs.Prelude.{◌≡◌};
-ghost use Rattle.asg_words.specs.Requests.{count_of, each_of, format_of, place_of, takes_options};
-ghost use Rattle.asg_words.specs.Requests.{wants_algebraic};
+ghost use Rattle.asg_requests.specs.Requests.{count_of, each_of, format_of, place_of, takes_options};
+ghost use Rattle.asg_requests.specs.Requests.{wants_algebraic};
 
 use crate::found_words::FoundWords;
 use crate::limits::MOST_RANKED;

@@ -8,21 +8,21 @@ use Rattle.asg_model.specs.declared.parts.Place.{Place}
 use Rattle.asg_model.specs.declared.parts.Place.TheVariants.{All, Exactly}
 use Rattle.asg_model.specs.Limits.{most_capacity, most_rows}
 use Rattle.asg_text.specs.declared.formats.Format.{Format}
-use Rattle.asg_words.specs.declared.named.Command.{Command}
-use Rattle.asg_words.specs.declared.named.Command.TheVariants.{Solve, Rank, Edit, Check, Make}
-use Rattle.asg_words.specs.declared.requests.Task.{Task}
-use Rattle.asg_words.specs.declared.requests.Task.TheVariants as task
-use Rattle.asg_words.specs.declared.requests.Job.{Job}
-use Rattle.asg_words.specs.declared.requests.Request.{Request}
-use Rattle.asg_words.specs.declared.requests.Request.TheVariants.{Work, Make as Made}
-use Rattle.asg_words.specs.CommandLine.{Found}
-use Rattle.asg_words.specs.Limits.{most_ranked, most_seed}
-use Rattle.asg_words.specs.Numbers.{number_of, number_within}
-use Rattle.asg_words.specs.Named.{capped_named, command_named, objective_named}
+use Rattle.asg_requests.specs.declared.named.Command.{Command}
+use Rattle.asg_requests.specs.declared.named.Command.TheVariants.{Solve, Rank, Edit, Check, Make}
+use Rattle.asg_requests.specs.declared.requests.Task.{Task}
+use Rattle.asg_requests.specs.declared.requests.Task.TheVariants as task
+use Rattle.asg_requests.specs.declared.requests.Job.{Job}
+use Rattle.asg_requests.specs.declared.requests.Request.{Request}
+use Rattle.asg_requests.specs.declared.requests.Request.TheVariants.{Work, Make as Made}
+use Rattle.asg_requests.specs.Found.{Found}
+use Rattle.asg_requests.specs.Limits.{most_ranked, most_seed}
+use Rattle.asg_requests.specs.Numbers.{number_of, number_within}
+use Rattle.asg_requests.specs.Named.{capped_named, command_named, objective_named}
 use Rattle.asg_model.specs.Objectives.{is_algebraic, most_cap, uncapped_named}
-use Rattle.asg_words.specs.Requests.{asked_by, count_of, each_of, job_of, job_with, made_by, objective_of, place_of, request_found, takes_options, task_of, wants_algebraic, words_after}
-use Rattle.asg_words.proofs.Conjunctions.{both}
-use Rattle.asg_words.specs.Bounds.{IsJob, IsRequest, IsWithin, cap_of, choices_ranked, rows_placed, script_edited}
+use Rattle.asg_requests.specs.Requests.{asked_by, count_of, each_of, job_of, job_with, made_by, objective_of, place_of, request_found, takes_options, task_of, wants_algebraic, words_after}
+use Rattle.asg_requests.proofs.Conjunctions.{both}
+use Rattle.asg_requests.specs.Bounds.{IsJob, IsRequest, IsWithin, cap_of, choices_ranked, rows_placed, script_edited}
 
 -- ---- what a value says of where it comes from
 

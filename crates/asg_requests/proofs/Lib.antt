@@ -1,0 +1,2 @@
+pub mod RequestBounds
+pub mod Conjunctions

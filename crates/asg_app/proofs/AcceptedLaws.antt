@@ -9,9 +9,8 @@ use Rattle.asg_doc.specs.Text.{text_of}
 use Rattle.asg_check.specs.declared.verdicts.Form.TheVariants as forms
 use Rattle.asg_check.specs.Certifies.{Certifies}
 use Rattle.asg_check.specs.TrueClaim.{ClaimsTruly}
-use Rattle.asg_model.specs.Objectives.{IsBottleneck}
-use Rattle.asg_words.specs.declared.requests.Job.{Job}
-use Rattle.asg_words.specs.declared.requests.Task.TheVariants.{Solve, Check}
+use Rattle.asg_requests.specs.declared.requests.Job.{Job}
+use Rattle.asg_requests.specs.declared.requests.Task.TheVariants.{Solve, Check}
 use Rattle.asg_app.specs.declared.status.Status.{Status}
 use Rattle.asg_app.specs.declared.status.Status.TheVariants.{Done}
 use Rattle.asg_app.specs.declared.status.Status.TheVariants.{Nothing as NothingValid}
@@ -21,8 +20,8 @@ use Rattle.asg_app.specs.DueToCheck.{DueToCheck, Certified}
 use Rattle.asg_model.specs.Limits.{longest_file}
 use Rattle.asg_app.specs.Fetches.{MayHold, MayHoldAll}
 use Rattle.asg_app.specs.Requests.{files_of, job_of}
-use Rattle.asg_words.specs.Requests.{files_of_task}
-use Rattle.asg_app.specs.Promised.{AskAlike, IsNeverLong, IsSolved, IsUnsolvable, IsCertified}
+use Rattle.asg_requests.specs.Requests.{files_of_task}
+use Rattle.asg_app.specs.Promised.{AskAlike, HasShortProofs, IsNeverLong, IsSolved, IsUnsolvable, IsCertified}
 use Rattle.asg_app.specs.Sources.{AreShort, content_at}
 use Rattle.asg_app.specs.InstanceFile.{Holds, held_by, instance_in}
 use Rattle.asg_app.specs.Texts.{yes_text}
@@ -76,9 +75,9 @@ pub short_at : (contents : List (List ℕ)) → AreShort contents → length (co
 short_at [] short = omega arith
 short_at (bytes ∷ contents) short = short 0 [] (omega arith)
 
--- what a request to solve writes that no choice is valid, or for a bottleneck objective, isn't too long
+-- what a request to solve writes that no choice is valid, or for an objective with short proofs, isn't too long
 abbrev pub AreWithin : Type 0
-AreWithin = (job : Job) (bytes text : List ℕ) → (IsBottleneck job.objective × IsSolved job bytes text) ⊎ IsUnsolvable job bytes text → length text ≤ longest_file
+AreWithin = (job : Job) (bytes text : List ℕ) → (HasShortProofs job.objective × IsSolved job bytes text) ⊎ IsUnsolvable job bytes text → length text ≤ longest_file
 
 -- what was written for a request to solve, whichever way it ended
 record IsWrittenFor (told : List ℕ → Option (List ℕ)) (job other : Job) (text : List ℕ) (contents : List (List ℕ)) : Type 0 where

@@ -11,8 +11,8 @@ use Rattle.asg_check.specs.declared.verdicts.Form.TheVariants as forms
 use Rattle.asg_check.specs.Certifies.{Certifies}
 use Rattle.asg_check.specs.declared.verdicts.Form.{Form}
 use Rattle.asg_check.specs.TrueClaim.{ClaimsTruly}
-use Rattle.asg_words.specs.declared.requests.Job.{Job}
-use Rattle.asg_words.specs.declared.requests.Task.TheVariants.{Check}
+use Rattle.asg_requests.specs.declared.requests.Job.{Job}
+use Rattle.asg_requests.specs.declared.requests.Task.TheVariants.{Check}
 use Rattle.asg_app.specs.declared.status.Status.{Status}
 use Rattle.asg_app.specs.declared.status.Status.TheVariants.{Done, Instance, Document as Unread, No, TooLong}
 use Rattle.asg_app.specs.AnswerStage.{UnlessUnread, NotRead, Miscounted, Read}
@@ -20,7 +20,7 @@ use Rattle.asg_app.specs.Due.{DueForJob, DueForTask, Long, Refused, Held}
 use Rattle.asg_app.specs.DueToCheck.{DueToCheck, Certified, Denied}
 use Rattle.asg_app.specs.Fetches.{MayHold, MayHoldAll}
 use Rattle.asg_app.specs.Requests.{files_of}
-use Rattle.asg_words.specs.Requests.{files_of_task}
+use Rattle.asg_requests.specs.Requests.{files_of_task}
 use Rattle.asg_app.specs.Promised.{IsCertified, IsDenied, IsNotOne, IsUnread, IsVerdict}
 use Rattle.asg_app.specs.Sources.{content_at}
 use Rattle.asg_app.specs.InstanceFile.{Holds, instance_in}

@@ -2,6 +2,7 @@
 use Rattle.std.proofs.Common.{◌≡◌, ℕ, ◌+◌, ◌*◌, ◌<◌, ◌≤◌, true, List, length, get_or, Option, count_by, is_some, sym, refl, subst, arith}
 use Rattle.std.specs.Prelude.{ℤ, pos, ◌≤ℤ◌, FitsSigned, unsigned_abs}
 use Rattle.std.specs.Int.{w128}
+use Rattle.std.proofs.lemmas.List.Sums.{count_by-le-length}
 use Rattle.std.proofs.lemmas.Int.{fits_signed_from_abs, ints}
 use Rattle.asg_model.specs.declared.bands.Band.{Band}
 use Rattle.asg_model.specs.declared.bands.Band.TheVariants.{Between, Whole, Under, Over}
@@ -20,26 +21,29 @@ use Rattle.asg_model.specs.Refused.{PassesNegative}
 use Rattle.asg_model.specs.Shapes.{square_side}
 use Rattle.asg_model.specs.ValidChoice.{IsValid}
 use Rattle.asg_model.specs.ValueRange.{IsValueInRange}
-use Rattle.asg_model.specs.Values.{choice_value}
+use Rattle.asg_model.specs.Descending.{descending}
+use Rattle.asg_model.specs.Values.{choice_value, costs_of, first_parts}
 use Rattle.asg_proof.specs.RowIds.{AreIds}
 use Rattle.asg_order.specs.declared.words.Word.{Word}
 use Rattle.asg_proof.specs.PromisedProofs.{AreFewPhases}
 use Rattle.asg_proof.specs.FoldProofs.{ProvesPhases}
 use Rattle.asg_proof.specs.Outcomes.{IsProvedBest}
 use Rattle.asg_proof.specs.Phases.{PhaseOf}
+use Rattle.asg_proof.specs.Levels.{ProvesRanks}
 use Rattle.asg_proof.specs.Proves.{Proves, takes}
 use Rattle.asg_proof.specs.Threshold.{ProvesBelow}
 use Rattle.asg_proof.specs.Windows.{AreWindows, ProvesWindows}
+use Rattle.asg_proof.specs.declared.levels.Level.{Level}
 use Rattle.asg_proof.specs.declared.windows.Window.{Window}
 use Rattle.asg_proof.specs.declared.outcomes.Proof.{Proof}
-use Rattle.asg_proof.specs.declared.outcomes.Proof.TheVariants.{Below, Phases, Windows}
+use Rattle.asg_proof.specs.declared.outcomes.Proof.TheVariants.{Below, Levels, Phases, Windows}
 use Rattle.asg_doc.specs.declared.documents.Answer.{Answer}
 use Rattle.asg_doc.specs.declared.documents.Claim.{Claim}
 use Rattle.asg_doc.specs.declared.documents.Claim.TheVariants.{Best, Nothing}
 use Rattle.asg_doc.specs.declared.documents.Command.TheVariants as commands
 use Rattle.asg_doc.specs.declared.documents.Document.{Document}
 use Rattle.asg_doc.specs.ChosenCells.{cells_by_id}
-use Rattle.asg_doc.specs.HasText.{AreCells, AreRows, HasProofText, HasValueText, HaveWindowText}
+use Rattle.asg_doc.specs.HasText.{AreCells, AreRows, HasProofText, HasValueText, HaveLevelText, HaveWindowText}
 use Rattle.asg_doc.specs.Words.{HasWord, has_grades}
 use Rattle.asg_check.specs.Certifies.{Certifies}
 use Rattle.asg_check.specs.TrueClaim.{ClaimsTruly}
@@ -50,6 +54,7 @@ use Rattle.asg_model.specs.DifferentCosts.{most_costs}
 use Rattle.asg_app.specs.WrittenDocument.{IsBestDocument, IsNoneDocument, IsPromisedProof}
 use Rattle.asg_app.proofs.CellCounts.{length-cells_by_id-le, length-cells_by_id-some}
 use Rattle.asg_app.proofs.CellIds.{cell_ids}
+use Rattle.asg_app.proofs.LevelTexts.{HaveLevelText-promised, costs_written}
 use Rattle.asg_app.proofs.PhaseTexts.{HavePhaseText-few, HaveStepTexts-proved}
 
 -- a valid choice of an instance places a row
@@ -94,32 +99,36 @@ spread_abs x above below = grind (arith, ints)
 fits_spread : (x : ℤ) → pos 0 ≤ℤ x → x ≤ℤ pos (2 * most_cost) → FitsSigned w128 x
 fits_spread x above below = fits_signed_from_abs w128 x (omega (arith, spread_abs x above below))
 
-pub HasValueText-ranged : (objective : Objective) (value : Value) → HasWord objective → IsValueInRange objective value → HasValueText objective value
-HasValueText-ranged Sum (One x) word within = fits_wide x within
-HasValueText-ranged SumMax (One x) word within = fits_wide x within
-HasValueText-ranged SumPair (Two x y) word within = (fits_wide x within.0, fits_wide y within.1)
-HasValueText-ranged (Capped cap) (One x) word within = fits_wide x within.0
-HasValueText-ranged Bottleneck (One x) word within = fits_wide x (omega (arith, within))
-HasValueText-ranged BottleneckMax (One x) word within = fits_wide x (omega (arith, within))
-HasValueText-ranged TimeCost (Two x y) word within = (fits_wide x (omega (arith, within.0)), fits_wide y within.1)
-HasValueText-ranged Balanced (One x) word within = fits_spread x within.0 within.1
-HasValueText-ranged Balanced (Two x y) word within = absurd within
-HasValueText-ranged Balanced (Many xs) word within = absurd within
-HasValueText-ranged Lex value word within = absurd word
-HasValueText-ranged Sum (Two x y) word within = absurd within
-HasValueText-ranged Sum (Many xs) word within = absurd within
-HasValueText-ranged SumMax (Two x y) word within = absurd within
-HasValueText-ranged SumMax (Many xs) word within = absurd within
-HasValueText-ranged SumPair (One x) word within = absurd within
-HasValueText-ranged SumPair (Many xs) word within = absurd within
-HasValueText-ranged (Capped cap) (Two x y) word within = absurd within
-HasValueText-ranged (Capped cap) (Many xs) word within = absurd within
-HasValueText-ranged Bottleneck (Two x y) word within = absurd within
-HasValueText-ranged Bottleneck (Many xs) word within = absurd within
-HasValueText-ranged BottleneckMax (Two x y) word within = absurd within
-HasValueText-ranged BottleneckMax (Many xs) word within = absurd within
-HasValueText-ranged TimeCost (One x) word within = absurd within
-HasValueText-ranged TimeCost (Many xs) word within = absurd within
+pub HasValueText-ranged : (objective : Objective) (X : Problem) (f : List (Option ℕ)) (value : Value) → HasWord objective → IsInstance X → IsValid X f → value ≡ choice_value objective X f → IsValueInRange objective value → HasValueText objective value
+HasValueText-ranged Sum X f (One x) word instance valid is within = fits_wide x within
+HasValueText-ranged SumMax X f (One x) word instance valid is within = fits_wide x within
+HasValueText-ranged SumPair X f (Two x y) word instance valid is within = (fits_wide x within.0, fits_wide y within.1)
+HasValueText-ranged (Capped cap) X f (One x) word instance valid is within = fits_wide x within.0
+HasValueText-ranged Bottleneck X f (One x) word instance valid is within = fits_wide x (omega (arith, within))
+HasValueText-ranged BottleneckMax X f (One x) word instance valid is within = fits_wide x (omega (arith, within))
+HasValueText-ranged TimeCost X f (Two x y) word instance valid is within = (fits_wide x (omega (arith, within.0)), fits_wide y within.1)
+HasValueText-ranged Balanced X f (One x) word instance valid is within = fits_spread x within.0 within.1
+HasValueText-ranged Balanced X f (Two x y) word instance valid is within = absurd within
+HasValueText-ranged Balanced X f (Many xs) word instance valid is within = absurd within
+HasValueText-ranged Lex X f (Many xs) word instance valid is within =
+    let same : xs ≡ descending (first_parts (costs_of X f)) = cc in
+    costs_written X f xs valid (places_some X f instance valid) same within.1
+HasValueText-ranged Lex X f (One x) word instance valid is within = absurd within
+HasValueText-ranged Lex X f (Two x y) word instance valid is within = absurd within
+HasValueText-ranged Sum X f (Two x y) word instance valid is within = absurd within
+HasValueText-ranged Sum X f (Many xs) word instance valid is within = absurd within
+HasValueText-ranged SumMax X f (Two x y) word instance valid is within = absurd within
+HasValueText-ranged SumMax X f (Many xs) word instance valid is within = absurd within
+HasValueText-ranged SumPair X f (One x) word instance valid is within = absurd within
+HasValueText-ranged SumPair X f (Many xs) word instance valid is within = absurd within
+HasValueText-ranged (Capped cap) X f (Two x y) word instance valid is within = absurd within
+HasValueText-ranged (Capped cap) X f (Many xs) word instance valid is within = absurd within
+HasValueText-ranged Bottleneck X f (Two x y) word instance valid is within = absurd within
+HasValueText-ranged Bottleneck X f (Many xs) word instance valid is within = absurd within
+HasValueText-ranged BottleneckMax X f (Two x y) word instance valid is within = absurd within
+HasValueText-ranged BottleneckMax X f (Many xs) word instance valid is within = absurd within
+HasValueText-ranged TimeCost X f (One x) word instance valid is within = absurd within
+HasValueText-ranged TimeCost X f (Many xs) word instance valid is within = absurd within
 
 -- phases prove a choice for an algebraic objective alone, and thresholds for a bottleneck one
 takes_phases : (objective : Objective) (X : Problem) (choice : List (Option ℕ)) (words : List (PhaseOf Word)) → ProvesPhases objective X choice words → takes objective (Phases words) ≡ true
@@ -142,10 +151,15 @@ takes_windows : (objective : Objective) (X : Problem) (value : Value) (windows :
 takes_windows Balanced X value windows proves = refl
 takes_windows _ X value windows proves = absurd proves
 
+takes_levels : (objective : Objective) (X : Problem) (choice : List (Option ℕ)) (perm : List ℕ) (levels : List Level) → ProvesRanks objective X choice perm levels → takes objective (Levels perm levels) ≡ true
+takes_levels Lex X choice perm levels proves = refl
+takes_levels _ X choice perm levels proves = absurd proves
+
 takes_proved : (objective : Objective) (X : Problem) (choice : List (Option ℕ)) (proof : Proof) → Proves objective X choice proof → takes objective proof ≡ true
 takes_proved objective X choice (Phases words) proves = takes_phases objective X choice words proves
 takes_proved objective X choice (Below rows) proves = takes_below objective X (choice_value objective X choice) rows proves
 takes_proved objective X choice (Windows windows) proves = takes_windows objective X (choice_value objective X choice) windows proves
+takes_proved objective X choice (Levels perm levels) proves = takes_levels objective X choice perm levels proves
 
 -- phases that are promised are few
 few_phases : (objective : Objective) (X : Problem) (words : List (PhaseOf Word)) → IsPromisedProof objective X (Phases words) → AreFewPhases (square_side X) words
@@ -181,15 +195,24 @@ HaveWindowText-proved short Balanced X (One d) windows proves kept few = record 
 }
 HaveWindowText-proved short _ X _ windows proves kept few = absurd proves
 
+-- levels that prove a choice can be written, where they are few
+HaveLevelText-proved : (objective : Objective) (X : Problem) (choice : List (Option ℕ)) (perm : List ℕ) (levels : List Level) → IsInstance X → IsValid X choice → square_side X ≤ most_side → ProvesRanks objective X choice perm levels → IsPromisedProof objective X (Levels perm levels) → KeepsRanges (Levels perm levels) → HaveLevelText perm levels
+HaveLevelText-proved Lex X choice perm levels instance valid within proves promised kept =
+    let some = places_some X choice instance valid in
+    HaveLevelText-promised X choice perm levels instance within (omega (arith, some, valid.counted)) (omega (arith, some, valid.over, count_by-le-length is_some choice)) proves promised.0 promised.1 kept.0 kept.1
+HaveLevelText-proved _ X choice perm levels instance valid within proves promised kept = absurd proves
+
 -- a proof that is promised can be written
-HasProofText-promised : IsHallShort → (objective : Objective) (X : Problem) (choice : List (Option ℕ)) (proof : Proof) → HasWord objective → square_side X ≤ most_side → Proves objective X choice proof
+HasProofText-promised : IsHallShort → (objective : Objective) (X : Problem) (choice : List (Option ℕ)) (proof : Proof) → IsInstance X → IsValid X choice → HasWord objective → square_side X ≤ most_side → Proves objective X choice proof
     → IsPromisedProof objective X proof → KeepsRanges proof → HasProofText objective proof
-HasProofText-promised short objective X choice (Phases words) word within proves promised kept =
+HasProofText-promised short objective X choice (Phases words) instance valid word within proves promised kept =
     HavePhaseText-few (has_grades objective) (square_side X) words within (few_phases objective X words promised) kept (HaveStepTexts-proved objective X choice words word proves)
-HasProofText-promised short objective X choice (Below rows) word within proves promised kept =
+HasProofText-promised short objective X choice (Below rows) instance valid word within proves promised kept =
     AreRows-below short objective X (choice_value objective X choice) rows proves kept
-HasProofText-promised short objective X choice (Windows windows) word within proves promised kept =
+HasProofText-promised short objective X choice (Windows windows) instance valid word within proves promised kept =
     HaveWindowText-proved short objective X (choice_value objective X choice) windows proves kept (few_windows objective X windows promised)
+HasProofText-promised short objective X choice (Levels perm levels) instance valid word within proves promised kept =
+    HaveLevelText-proved objective X choice perm levels instance valid within proves promised kept
 
 -- the document of a claim
 abbrev made : Objective → Claim → Document
@@ -213,7 +236,7 @@ IsBestDocument-made short sound objective X choice answer proof instance passes 
       written = record {
         has_text = record {
           objective = word;
-          claim = (record { value = value_text; cells = cells_text }, HasProofText-promised short objective X choice proof word within proved.proved promised kept);
+          claim = (record { value = value_text; cells = cells_text }, HasProofText-promised short objective X choice proof instance proved.valid word within proved.proved promised kept);
         };
         certifies = certifies;
         truly = sound objective X Solve (made objective (Best answer proof)) instance passes certifies;

@@ -1,25 +1,21 @@
--- How long the text of a document is that says that no choice is valid, or that has a threshold proof: far below the
--- longest file that is read.
-use Rattle.std.proofs.Common.{◌≡◌, ℕ, suc, ◌+◌, ◌*◌, ◌<◌, ◌≤◌, Bool, true, false, List, [], ◌∷◌, ◌++◌, length, map, Option, Some, None, get_or, All, refl, ◌∙◌, ap, subst, arith, length-append}
-use Rattle.std.specs.Prelude.{ℤ, pos, negsuc, codes, ◌^◌, ◌==◌, ◌≢◌, AllPairs, Contains, IsTrue, FitsSigned}
-use Rattle.std.specs.Int.{w128}
-use Rattle.std.specs.Fmt.{decimal, signed_decimal}
-use Rattle.std.specs.List.{flat_map}
+-- How long the text of a document is that says that no choice is valid, or that has a threshold proof or levels that are
+-- promised: far below the longest file that is read.
+use Rattle.std.proofs.Common.{◌≡◌, ℕ, ◌+◌, ◌*◌, ◌<◌, ◌≤◌, true, false, List, [], ◌∷◌, ◌++◌, length, map, Option, Some, None, get_or, All, refl, ◌∙◌, ap, subst, arith, length-append}
+use Rattle.std.specs.Prelude.{codes, ◌==◌, ◌≢◌, AllPairs, Contains, IsTrue}
+use Rattle.std.specs.Fmt.{decimal}
 use Rattle.std.specs.Option.{option_map_or}
 use Rattle.std.proofs.lemmas.Bool.{eqb-true}
-use Rattle.std.proofs.lemmas.Fmt.{length-decimal-le_wide}
 use Rattle.std.proofs.lemmas.List.{length-map, get_or-map}
-use Rattle.std.proofs.lemmas.List.Concat.{length-flat_map}
-use Rattle.std.proofs.lemmas.Grind.{flat_map-append}
-use Rattle.std.proofs.lemmas.List.Folds.{flat_map-map}
 use Rattle.std.proofs.lemmas.List.Quantifiers.{position-Some}
-use Rattle.std.proofs.lemmas.List.Sums.{sum_by-le}
+use Rattle.asg_model.specs.Limits.{most_side}
+use Rattle.asg_model.specs.Shapes.{square_side}
+use Rattle.asg_app.proofs.HeldInstances.{IsTaken-held}
 use Rattle.asg_model.specs.declared.bands.Band.{Band}
 use Rattle.asg_model.specs.declared.bands.Band.TheVariants.{Whole, Under, Over}
 use Rattle.asg_model.specs.declared.objectives.Objective.{Objective}
-use Rattle.asg_model.specs.declared.objectives.Objective.TheVariants.{Sum, SumMax, SumPair, Capped, Bottleneck, BottleneckMax, TimeCost, Balanced, Lex}
+use Rattle.asg_model.specs.declared.objectives.Objective.TheVariants.{Bottleneck, BottleneckMax, Lex}
 use Rattle.asg_model.specs.declared.objectives.Value.{Value}
-use Rattle.asg_model.specs.declared.objectives.Value.TheVariants.{One, Two, Many}
+use Rattle.asg_model.specs.declared.objectives.Value.TheVariants.{One}
 use Rattle.asg_model.specs.Counts.{is_counted}
 use Rattle.asg_model.specs.HallSet.{IsHall, is_counted_id, row_place_of}
 use Rattle.asg_model.specs.Limits.{longest_file}
@@ -28,24 +24,26 @@ use Rattle.asg_model.specs.Values.{choice_value}
 use Rattle.asg_doc.specs.declared.documents.Answer.{Answer}
 use Rattle.asg_doc.specs.declared.documents.Claim.TheVariants.{Best, Nothing}
 use Rattle.asg_doc.specs.declared.documents.Command.{Command}
-use Rattle.asg_doc.specs.declared.documents.Command.TheVariants.{Solve as SolveCommand}
 use Rattle.asg_doc.specs.declared.documents.Document.{Document}
-use Rattle.asg_doc.specs.HasText.{HasAnswerText, HasClaimText, IsWrittenValue, AreRows}
-use Rattle.asg_doc.specs.Text.{spaced, cell_line, ended, text_of, value_line}
-use Rattle.asg_doc.specs.Words.{HasWord, command_word, has_pairs}
+use Rattle.asg_doc.specs.HasText.{HasAnswerText, HasClaimText, AreRows}
+use Rattle.asg_doc.specs.Text.{spaced, cell_line, text_of, value_line}
+use Rattle.asg_doc.specs.Words.{HasWord, command_word, form_of}
 use Rattle.asg_proof.specs.declared.outcomes.Proof.{Proof}
-use Rattle.asg_proof.specs.declared.outcomes.Proof.TheVariants.{Below, Phases, Windows}
+use Rattle.asg_proof.specs.declared.outcomes.Proof.TheVariants.{Below, Levels, Phases, Windows}
 use Rattle.asg_proof.specs.Threshold.{ProvesBelow}
 use Rattle.asg_check.specs.declared.verdicts.Form.{Form}
 use Rattle.asg_check.specs.declared.verdicts.Form.TheVariants.{Solve}
 use Rattle.asg_check.specs.Certifies.{CertifiesClaim}
 use Rattle.asg_check.specs.TrueClaim.{IsTrueClaim}
 use Rattle.asg_model.specs.Objectives.{IsBottleneck, objective_word}
-use Rattle.asg_words.specs.declared.requests.Job.{Job}
-use Rattle.asg_app.specs.Promised.{IsSolved, IsUnsolvable}
+use Rattle.asg_requests.specs.declared.requests.Job.{Job}
+use Rattle.asg_app.specs.Promised.{HasShortProofs, IsSolved, IsUnsolvable}
 use Rattle.asg_app.specs.WrittenDocument.{IsBestDocument, IsNoneDocument, IsPromisedClaim, IsPromisedProof}
 use Rattle.asg_app.proofs.CellCounts.{length-cells_by_id-le}
 use Rattle.asg_app.proofs.Counting.{length-le-within}
+use Rattle.asg_app.proofs.LineLengths.{digits_of_id, length-behind, length-cell_lines, length-command, length-line, length-objective, length-spaced, length-value}
+use Rattle.asg_app.proofs.ListedCosts.{few_listed, listed_costs}
+use Rattle.asg_app.proofs.LevelLengths.{length-lex}
 
 -- the id of a counted row is that of a row
 is_row_id : (X : Problem) (id : ℕ) → is_counted_id X id ≡ true → Contains (map (λ row. row.id) X.rows) id
@@ -80,77 +78,9 @@ below_within laws Bottleneck X (One value) rows proves = hall_within laws X (Und
 below_within laws BottleneckMax X (One value) rows proves = hall_within laws X (Over value) rows proves
 below_within laws _ X _ rows proves = absurd proves
 
--- what is written of a number of 32 bits has at most 10 digits
-digits_of_id : (n : ℕ) → n < 2 ^ 32 → length (decimal n) ≤ 10
-digits_of_id n fits = length-decimal-le_wide 10 n (omega arith) (omega arith) (omega arith)
-
--- what is written of a number of 128 bits has at most 40 bytes
-digits_of_value : (z : ℤ) → FitsSigned w128 z → length (signed_decimal z) ≤ 40
-digits_of_value (pos n) fits = length-decimal-le_wide 40 n (omega arith) (omega (arith, fits.sfits)) (omega (arith, fits.sfits))
-digits_of_value (negsuc n) fits = omega (arith, length-decimal-le_wide 39 (suc n) (omega arith) (omega (arith, fits.sfits)) (omega (arith, fits.sfits)))
-
--- pieces of at most so many bytes, one after the other
-pieces : {A : Type 0} (f : A → List ℕ) (most : ℕ) (xs : List A) → All (λ x. length (f x) ≤ most) xs → length (flat_map f xs) ≤ length xs * most
-pieces f most xs all = omega (arith, length-flat_map f xs, sum_by-le (λ x. length (f x)) most xs all)
-
--- the ids of rows, each after a space
-length-spaced : (rows : List ℕ) → All (λ id. id < 2 ^ 32) rows → length (spaced rows) ≤ length rows * 11
-length-spaced rows ids = pieces (λ number. 32 ∷ decimal number) 11 rows (λ i d within. omega (arith, digits_of_id (get_or rows i d) (ids i d within)))
-
--- the line of a cell
-length-cell_line : (cell : ℕ × ℕ) → (cell.0 < 2 ^ 32) × (cell.1 < 2 ^ 32) → length (cell_line cell ++ 10 ∷ []) ≤ 22
-length-cell_line cell ids =
-    omega (arith, length-append (cell_line cell) (10 ∷ []), length-append (decimal cell.0) (32 ∷ decimal cell.1), digits_of_id cell.0 ids.0, digits_of_id cell.1 ids.1)
-
--- the lines of cells
-length-cell_lines : (cells : List (ℕ × ℕ)) → All (λ cell. (cell.0 < 2 ^ 32) × (cell.1 < 2 ^ 32)) cells → length (ended (map cell_line cells)) ≤ length cells * 22
-length-cell_lines cells ids =
-    let each = pieces (λ cell. cell_line cell ++ 10 ∷ []) 22 cells (λ i d within. length-cell_line (get_or cells i d) (ids i d within)) in
-    omega (arith, each, ap length (flat_map-map (λ line. line ++ 10 ∷ []) cell_line cells))
-
--- a line, and those after it
-length-line : (line : List ℕ) (lines : List (List ℕ)) → length (ended (line ∷ lines)) ≡ length line + (1 + length (ended lines))
-length-line line lines = omega (arith, length-append (line ++ 10 ∷ []) (ended lines), length-append line (10 ∷ []))
-
--- the lines of cells, and those after them
-length-behind_cells : (cells : List (ℕ × ℕ)) (lines : List (List ℕ)) → length (ended (map cell_line cells ++ lines)) ≡ length (ended (map cell_line cells)) + length (ended lines)
-length-behind_cells cells lines =
-    ap length (flat_map-append (λ line. line ++ 10 ∷ []) (map cell_line cells) lines) ∙ length-append (ended (map cell_line cells)) (ended lines)
-
--- the words of a document
-length-command : (command : Command) → length (command_word command) ≤ 5
-length-command SolveCommand = omega arith
-
-length-objective : (objective : Objective) → HasWord objective → length (objective_word objective) ≤ 20
-length-objective Sum word = omega arith
-length-objective SumMax word = omega arith
-length-objective SumPair word = omega arith
-length-objective (Capped cap) word = omega (arith, length-append (codes "capped=") (decimal cap), length-decimal-le_wide 13 cap (omega arith) (omega (arith, word.1)) (omega (arith, word.1)))
-length-objective Bottleneck word = omega arith
-length-objective BottleneckMax word = omega arith
-length-objective TimeCost word = omega arith
-length-objective Balanced word = omega arith
-length-objective Lex word = absurd word
-
--- the line of a value that has a text
-length-value : (pairs : Bool) (value : Value) → IsWrittenValue pairs value → length (value_line value) ≤ 87
-length-value false (One value) fits = omega (arith, digits_of_value value fits, length-append (codes "value ") (signed_decimal value))
-length-value true (Two first second) fits =
-    omega (
-      arith,
-      digits_of_value first fits.0,
-      digits_of_value second fits.1,
-      length-append (codes "value ") (signed_decimal first ++ 58 ∷ signed_decimal second),
-      length-append (signed_decimal first) (58 ∷ signed_decimal second),
-    )
-length-value false (Two first second) fits = absurd fits
-length-value false (Many values) fits = absurd fits
-length-value true (One value) fits = absurd fits
-length-value true (Many values) fits = absurd fits
-
 -- the text of a document with an answer and a threshold proof
 length-answered : (command : Command) (objective : Objective) (answer : Answer) (rows : List ℕ) → HasWord objective → HasAnswerText objective answer → AreRows rows
-    → length (text_of (record { command = command; objective = objective; claim = Best answer (Below rows) })) ≤ 300 + (length answer.cells * 22 + length rows * 11)
+    → length (text_of (record { command = command; objective = objective; claim = Best answer (Below rows) })) ≤ 300 + (length answer.cells * 22 + (length rows * 11 + listed_costs answer.value * 41))
 unfolding text_of
 length-answered command objective answer rows word has_text are_rows =
     let last : List (List ℕ) = codes "end" ∷ [] in
@@ -168,13 +98,13 @@ length-answered command objective answer rows word has_text are_rows =
       length-line (codes "status best") (told ∷ count ∷ tail),
       length-line told (count ∷ tail),
       length-line count tail,
-      length-behind_cells answer.cells (proved ∷ last),
+      length-behind (map cell_line answer.cells) (proved ∷ last),
       length-line proved last,
       length-line (codes "end") [],
       length-cell_lines answer.cells has_text.cells.ids,
       length-spaced rows are_rows.ids,
       digits_of_id (length answer.cells) has_text.cells.few,
-      length-value (has_pairs objective) answer.value has_text.value,
+      length-value (form_of objective) answer.value has_text.value,
       length-command command,
       length-objective objective word,
       length-append (codes "command ") (command_word command),
@@ -224,6 +154,13 @@ length-best laws objective X form document bottleneck few best = by_proof best.a
         by_objective Bottleneck is promised = absurd promised
         by_objective BottleneckMax is promised = absurd promised
         by_objective _ is promised = absurd (cc)
+    by_proof answer (Levels perm levels) claims =
+        by_objective objective bottleneck (subst (IsPromisedClaim objective X) claims best.written.promised)
+      where
+        by_objective : (o : Objective) → IsBottleneck o → IsPromisedProof o X (Levels perm levels) → length (text_of document) ≤ longest_file
+        by_objective Bottleneck is promised = absurd promised
+        by_objective BottleneckMax is promised = absurd promised
+        by_objective _ is promised = absurd (cc)
     by_proof answer (Below rows) claims =
         let has_text = subst (HasClaimText document.objective) claims best.written.has_text.claim in
         let truly = subst (IsTrueClaim objective X) claims best.written.truly in
@@ -238,6 +175,7 @@ length-best laws objective X form document bottleneck few best = by_proof best.a
           ap length truly.written,
           length-cells_by_id-le X truly.choice,
           below_within laws objective X (choice_value objective X certifies.choice) rows certifies.proved,
+          few_listed objective X certifies.choice answer.value certifies.written.valid certifies.value,
         )
 
 -- the text of a document with a Hall set of the instance
@@ -251,9 +189,16 @@ length-none laws objective X form document few none =
     omega (arith, few, ap length same, length-refuted document.command document.objective rows none.written.has_text.objective has_text, hall_within laws X Whole rows hall)
 
 -- what is due for a request to solve is so no longer than the longest file that is read
-pub length-solved : HallLaws → (job : Job) (bytes text : List ℕ) → IsBottleneck job.objective → IsSolved job bytes text → length text ≤ longest_file
-length-solved laws job bytes text bottleneck solved =
-    omega (arith, ap length solved.written, length-best laws job.objective solved.problem Solve solved.document bottleneck solved.instance.well_formed.few_rows solved.best)
+length-short : HallLaws → (objective : Objective) (X : Problem) (document : Document) → HasShortProofs objective → length X.rows ≤ 1000 → square_side X ≤ most_side → IsBestDocument objective X Solve document → length (text_of document) ≤ longest_file
+length-short laws Lex X document short few within best = length-lex X Solve document few within best
+length-short laws Bottleneck X document short few within best = length-best laws Bottleneck X Solve document short few best
+length-short laws BottleneckMax X document short few within best = length-best laws BottleneckMax X Solve document short few best
+length-short laws _ X document short few within best = absurd (cc)
+
+pub length-solved : HallLaws → (job : Job) (bytes text : List ℕ) → HasShortProofs job.objective → IsSolved job bytes text → length text ≤ longest_file
+length-solved laws job bytes text short solved =
+    let taken = IsTaken-held job bytes solved.problem solved.held in
+    omega (arith, ap length solved.written, length-short laws job.objective solved.problem solved.document short solved.instance.well_formed.few_rows taken.within solved.best)
 
 pub length-unsolvable : HallLaws → (job : Job) (bytes text : List ℕ) → IsUnsolvable job bytes text → length text ≤ longest_file
 length-unsolvable laws job bytes text solved =

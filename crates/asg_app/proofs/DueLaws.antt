@@ -12,15 +12,15 @@ use Rattle.asg_doc.specs.Text.{text_of, texts_of}
 use Rattle.asg_check.specs.declared.verdicts.Form.{Form}
 use Rattle.asg_check.specs.declared.verdicts.Form.TheVariants as forms
 use Rattle.asg_check.specs.Reasons.{IsFirstReason}
-use Rattle.asg_words.specs.declared.requests.Job.{Job}
-use Rattle.asg_words.specs.declared.requests.Task.{Task}
-use Rattle.asg_words.specs.declared.requests.Task.TheVariants.{Solve, Rank, Edit, Check}
+use Rattle.asg_requests.specs.declared.requests.Job.{Job}
+use Rattle.asg_requests.specs.declared.requests.Task.{Task}
+use Rattle.asg_requests.specs.declared.requests.Task.TheVariants.{Solve, Rank, Edit, Check}
 use Rattle.asg_app.specs.declared.status.Status.{Status}
 use Rattle.asg_app.specs.declared.status.Status.TheVariants.{Done, Usage, Document as Unread, TooLong}
 use Rattle.asg_app.specs.AnswerStage.{UnlessUnread, NotRead, Miscounted, Read}
 use Rattle.asg_app.specs.Due.{DueForAsked, DueForJob, DueForTask, Long, Refused, Held}
 use Rattle.asg_app.specs.DueToCheck.{DueToCheck, Certified, Denied}
-use Rattle.asg_app.specs.DueToSolve.{DueToSolve, Solved, TooManyCosts, Unsolvable}
+use Rattle.asg_app.specs.DueToSolve.{DueToSolve, Solved, TooLarge, Unsolvable}
 use Rattle.asg_app.specs.InstanceFile.{InstanceFile, Holds, Refuses}
 use Rattle.asg_app.specs.WrittenDocument.{IsBestDocument, IsNoneDocument}
 use Rattle.asg_check.specs.TrueClaim.{IsTrueClaim}
@@ -30,7 +30,8 @@ use Rattle.asg_app.specs.Requests.{files_of}
 use Rattle.asg_app.specs.Sources.{AreShort, content_at}
 use Rattle.asg_app.specs.Statuses.{HasOneText}
 use Rattle.asg_app.specs.Texts.{refused_document_text, refused_instance_text, no_text}
-use Rattle.asg_app.proofs.CostCounts.{refused_once, taken_apart}
+use Rattle.asg_app.specs.SolverLimits.{limit_number}
+use Rattle.asg_app.proofs.SolverLimits.{refused_once, taken_apart}
 use Rattle.asg_app.proofs.ToldFiles.{held_once}
 
 -- no two lists of documents have one text
@@ -83,12 +84,12 @@ solve_once job X status other text more (Unsolvable takes document none is told)
     (is ∙ sym also, λ one. absurd (subst HasOneText is one))
 solve_once job X status other text more (Solved takes document best is told) (Unsolvable takes' document' none also told') = apart job X document document' best none
 solve_once job X status other text more (Unsolvable takes document none is told) (Solved takes' document' best also told') = apart job X document' document best none
-solve_once job X status other text more (TooManyCosts count refuses is told) (TooManyCosts count' refuses' also told') =
-    (is ∙ sym also, λ one. told ∙ ap (λ n. refused_instance_text (16 ∷ n ∷ [])) (refused_once job.objective X count count' refuses refuses') ∙ sym told')
-solve_once job X status other text more (Solved takes document best is told) (TooManyCosts count refuses also told') = taken_apart job.objective X count takes refuses
-solve_once job X status other text more (Unsolvable takes document none is told) (TooManyCosts count refuses also told') = taken_apart job.objective X count takes refuses
-solve_once job X status other text more (TooManyCosts count refuses is told) (Solved takes document best also told') = taken_apart job.objective X count takes refuses
-solve_once job X status other text more (TooManyCosts count refuses is told) (Unsolvable takes document none also told') = taken_apart job.objective X count takes refuses
+solve_once job X status other text more (TooLarge count refuses is told) (TooLarge count' refuses' also told') =
+    (is ∙ sym also, λ one. told ∙ ap (λ n. refused_instance_text (limit_number job.objective ∷ n ∷ [])) (refused_once job.objective X count count' refuses refuses') ∙ sym told')
+solve_once job X status other text more (Solved takes document best is told) (TooLarge count refuses also told') = taken_apart job.objective X count takes refuses
+solve_once job X status other text more (Unsolvable takes document none is told) (TooLarge count refuses also told') = taken_apart job.objective X count takes refuses
+solve_once job X status other text more (TooLarge count refuses is told) (Solved takes document best also told') = taken_apart job.objective X count takes refuses
+solve_once job X status other text more (TooLarge count refuses is told) (Unsolvable takes document none also told') = taken_apart job.objective X count takes refuses
 
 -- a request to check
 check_once : DeniesOnce → (job : Job) (X : Problem) (document : Document) (status other : Status) (text more : List ℕ)

@@ -13,10 +13,10 @@ use Rattle.asg_model.specs.Shapes.{is_range_of, shaped, square_side}
 use Rattle.asg_text.specs.declared.formats.Format.{Format}
 use Rattle.asg_text.specs.Readings.{Reading, Spells, Refuses as RefusesText}
 use Rattle.asg_text.specs.Texts.{reading_of}
-use Rattle.asg_words.specs.declared.requests.Job.{Job}
-use Rattle.asg_words.specs.declared.requests.Request.{Request}
-use Rattle.asg_words.specs.declared.requests.Request.TheVariants.{Work, Make}
-use Rattle.asg_words.specs.Bounds.{IsJob, IsRequest}
+use Rattle.asg_requests.specs.declared.requests.Job.{Job}
+use Rattle.asg_requests.specs.declared.requests.Request.{Request}
+use Rattle.asg_requests.specs.declared.requests.Request.TheVariants.{Work, Make}
+use Rattle.asg_requests.specs.Bounds.{IsJob, IsRequest}
 use Rattle.asg_words.specs.Requests.{request_of}
 use Rattle.asg_app.specs.InstanceFile.{Holds, Refuses, fitted, held_by, instance_in, passed, passed_by, rows_asked, sided}
 use Rattle.asg_app.specs.RefusedCosts.{first_refused}

@@ -13,7 +13,7 @@ use Rattle.asg_model.specs.Shapes.{IsPlaceOutOfRange, is_range_of, shaped}
 use Rattle.asg_text.specs.Readings.{Spells, Refuses as RefusesText}
 use Rattle.asg_text.specs.Texts.{reading_of}
 use Rattle.asg_text.specs.Faults.{Fault, refusal_numbers}
-use Rattle.asg_words.specs.declared.requests.Job.{Job}
+use Rattle.asg_requests.specs.declared.requests.Job.{Job}
 use Rattle.asg_app.specs.declared.replies.Reply.{Reply}
 use Rattle.asg_app.specs.declared.status.Status.{Status}
 use Rattle.asg_app.specs.declared.status.Status.TheVariants.{Instance}

@@ -1,5 +1,5 @@
--- The place of a reason against a document that has a text fits its type: it is 0, the number of a phase or
--- a window, or a cost of an instance.
+-- The place of a reason against a document that has a text fits its type: it is 0, the number of a phase,
+-- a window or a level, or a cost of an instance.
 use Rattle.std.proofs.Common.{◌≡◌, ℕ, suc, ◌<◌, ◌^◌, List, [], ◌∷◌, length, Some, inl, inr, sym, subst, rules, arith}
 use Rattle.std.specs.Prelude.{FitsSigned, IfSome, ℤ, pos}
 use Rattle.std.specs.Int.{w64}
@@ -12,7 +12,7 @@ use Rattle.asg_model.specs.declared.parts.Cost.{Cost}
 use Rattle.asg_model.specs.Instances.{IsInstance, IsCostInRange}
 use Rattle.asg_model.specs.Live.{live_at}
 use Rattle.asg_model.specs.Problem.{Problem}
-use Rattle.asg_proof.specs.declared.outcomes.Proof.TheVariants.{Below, Phases, Windows}
+use Rattle.asg_proof.specs.declared.outcomes.Proof.TheVariants.{Below, Levels, Phases, Windows}
 use Rattle.asg_proof.specs.declared.windows.Window.{Window}
 use Rattle.asg_proof.specs.laws.LiveCosts.{live_in_range}
 use Rattle.asg_doc.specs.declared.documents.Claim.{Claim}
@@ -21,9 +21,9 @@ use Rattle.asg_doc.specs.declared.documents.Document.{Document}
 use Rattle.asg_doc.specs.HasText.{HasClaimText, HasText}
 use Rattle.asg_check.specs.declared.verdicts.Form.{Form}
 use Rattle.asg_check.specs.declared.verdicts.Reason.{Reason}
-use Rattle.asg_check.specs.declared.verdicts.Reason.TheVariants.{OtherObjective, WrongForm, NotValid, WrongValue, NotHall, WindowGap, BadPhase, IndexDiffers}
+use Rattle.asg_check.specs.declared.verdicts.Reason.TheVariants.{OtherObjective, WrongForm, NotValid, WrongValue, NotHall, WindowGap, BadPhase, IndexDiffers, BadLevel}
 use Rattle.asg_check.specs.declared.verdicts.Verdict.TheVariants.{No}
-use Rattle.asg_check.specs.Reasons.{HasBadPhase, IsFirstReason, LacksHallSet, LeavesGap, Stands, Tells, reasons_in_order}
+use Rattle.asg_check.specs.Reasons.{HasBadLevel, HasBadPhase, IsFirstReason, LacksHallSet, LeavesGap, Stands, Tells, reasons_in_order}
 use Rattle.asg_check.specs.Spots.{At, Overall, Spot, place_of}
 use Rattle.asg_check.specs.WindowReasons.{AreNoHallSetsAt, LeaveGapAt}
 
@@ -45,6 +45,7 @@ bad_fits : (objective own : Objective) (X : Problem) (claim : Claim) (place : �
 bad_fits objective own X (Best answer (Phases words)) place text bad = subst (FitsSigned w64) (sym bad.2) (number_fits bad.0 (length words) bad.1 text.1.few)
 bad_fits objective own X (Best answer (Below rows)) place text bad = absurd bad
 bad_fits objective own X (Best answer (Windows windows)) place text bad = absurd bad
+bad_fits objective own X (Best answer (Levels perm levels)) place text bad = absurd bad
 bad_fits objective own X (Nothing rows) place text bad = absurd bad
 
 -- the place of a window that is no Hall set
@@ -57,6 +58,7 @@ lacks_fits : (objective own : Objective) (X : Problem) (claim : Claim) (place : 
 lacks_fits objective own X (Best answer (Windows windows)) place text lacks = no_hall_fits X windows place text.1.few lacks
 lacks_fits objective own X (Best answer (Phases words)) place text lacks = absurd lacks
 lacks_fits objective own X (Best answer (Below rows)) place text lacks = absurd lacks
+lacks_fits objective own X (Best answer (Levels perm levels)) place text lacks = absurd lacks
 lacks_fits objective own X (Nothing rows) place text lacks = absurd lacks
 
 -- the cost of a live cell
@@ -69,7 +71,19 @@ leaves_fits : (X : Problem) (claim : Claim) (place : ℤ) → IsInstance X → L
 leaves_fits X (Best answer (Windows windows)) place instance leaves = gap_fits X answer.value windows place instance leaves
 leaves_fits X (Best answer (Phases words)) place instance leaves = absurd leaves
 leaves_fits X (Best answer (Below rows)) place instance leaves = absurd leaves
+leaves_fits X (Best answer (Levels perm levels)) place instance leaves = absurd leaves
 leaves_fits X (Nothing rows) place instance leaves = absurd leaves
+
+-- the place of a level that is none
+level_fits : (own : Objective) (X : Problem) (claim : Claim) (place : ℤ) → HasClaimText own claim → HasBadLevel X claim (At place) → FitsSigned w64 place
+level_fits own X (Best answer (Levels perm levels)) place text bad =
+    let at = bad.2.1 in
+    let below : at.0 < length levels = slice_get_within levels at.0 at.2.level at.2.there in
+    subst (FitsSigned w64) (sym at.1) (number_fits at.0 (length levels) below text.1.few)
+level_fits own X (Best answer (Phases words)) place text bad = absurd bad
+level_fits own X (Best answer (Below rows)) place text bad = absurd bad
+level_fits own X (Best answer (Windows windows)) place text bad = absurd bad
+level_fits own X (Nothing rows) place text bad = absurd bad
 
 pub place_fits : (objective : Objective) (X : Problem) (form : Form) (document : Document) (number : ℕ) (place : ℤ) → IsInstance X → HasText document → IsFirstReason objective X form document number place → FitsSigned w64 place
 place_fits objective X form document number place instance text first = by_reasons reasons_in_order first.told
@@ -84,6 +98,7 @@ place_fits objective X form document number place instance text first = by_reaso
     by_spot WindowGap (At p) stands = leaves_fits X document.claim p instance stands
     by_spot BadPhase (At p) stands = bad_fits objective document.objective X document.claim p text.claim stands
     by_spot IndexDiffers (At p) stands = absurd stands
+    by_spot BadLevel (At p) stands = level_fits document.objective X document.claim p text.claim stands
 
     by_reasons : (reasons : List Reason) → Tells (Stands objective X form document) reasons (No number place) → FitsSigned w64 place
     by_reasons [] told = absurd (cc)

@@ -4,7 +4,7 @@ use Rattle.std.specs.Prelude.{◌⊎◌, IfSome, slice_get}
 use Rattle.asg_io.specs.Shelf.{Rose}
 use Rattle.asg_io.specs.declared.shelf.FetchFault.{FetchFault}
 use Rattle.asg_io.specs.declared.shelf.FetchFault.TheVariants as faults
-use Rattle.asg_words.specs.declared.requests.Job.{Job}
+use Rattle.asg_requests.specs.declared.requests.Job.{Job}
 use Rattle.asg_app.specs.declared.status.Status.{Status}
 use Rattle.asg_app.specs.declared.status.Status.TheVariants.{Done, Usage, Instance, Script, Document, No, ReadFault, WriteFault, NoMemory, TooLong}
 use Rattle.asg_app.specs.declared.status.Status.TheVariants as statuses

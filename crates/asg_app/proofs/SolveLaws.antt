@@ -4,20 +4,20 @@ use Rattle.std.specs.Prelude.{◌⊎◌}
 use Rattle.asg_model.specs.Problem.{Problem}
 use Rattle.asg_model.specs.ValidChoice.{IsValid}
 use Rattle.asg_check.specs.TrueClaim.{IsTrueClaim}
-use Rattle.asg_words.specs.declared.requests.Job.{Job}
-use Rattle.asg_words.specs.declared.requests.Task.TheVariants.{Solve}
+use Rattle.asg_requests.specs.declared.requests.Job.{Job}
+use Rattle.asg_requests.specs.declared.requests.Task.TheVariants.{Solve}
 use Rattle.asg_app.specs.declared.status.Status.{Status}
 use Rattle.asg_app.specs.declared.status.Status.TheVariants.{Done, Nothing, Instance, TooLong}
-use Rattle.asg_app.specs.CostCounts.{RefusesCosts, TakesCosts}
+use Rattle.asg_app.specs.SolverLimits.{SolverRefuses, SolverTakes, limit_number}
 use Rattle.asg_app.specs.Due.{DueForJob, DueForTask, Long, Refused, Held}
-use Rattle.asg_app.specs.DueToSolve.{DueToSolve, Solved, TooManyCosts, Unsolvable}
+use Rattle.asg_app.specs.DueToSolve.{DueToSolve, Solved, TooLarge, Unsolvable}
 use Rattle.asg_app.specs.Fetches.{MayHold, MayHoldAll}
 use Rattle.asg_app.specs.InstanceFile.{Holds, instance_in}
 use Rattle.asg_app.specs.Promised.{IsSolved, IsUnsolvable}
 use Rattle.asg_app.specs.Requests.{files_of}
 use Rattle.asg_app.specs.Sources.{AreShort, content_at}
 use Rattle.asg_app.specs.Texts.{refused_instance_text}
-use Rattle.asg_app.proofs.CostCounts.{refused_once, taken_apart}
+use Rattle.asg_app.proofs.SolverLimits.{refused_once, taken_apart}
 use Rattle.asg_app.proofs.HeldInstances.{HoldsInstances}
 use Rattle.asg_app.proofs.StageLaws.{AllShort, first_held, reached}
 
@@ -38,22 +38,22 @@ solve_statuses job contents status text is (Held short X holds due) = by_ending 
     by_ending : DueToSolve job X status text → IsEnding status
     by_ending (Solved takes document best e told) = inl e
     by_ending (Unsolvable takes document none e told) = inr (inl e)
-    by_ending (TooManyCosts count refuses e told) = inr (inr (inl e))
+    by_ending (TooLarge count refuses e told) = inr (inr (inl e))
 
 -- with 0 where a choice is valid
 pub solve_valid : (job : Job) (told : List ℕ → Option (List ℕ)) (contents : List (List ℕ)) (status : Status) (text bytes : List ℕ) (X : Problem) (choice : List (Option ℕ)) → AllShort told (Some job) → job.task ≡ Solve
-    → told job.instance ≡ Some bytes → instance_in job bytes ≡ Holds X → TakesCosts job.objective X → IsValid X choice → MayHoldAll told (files_of (Some job)) contents → DueForJob job contents status text → status ≡ Done
+    → told job.instance ≡ Some bytes → instance_in job bytes ≡ Holds X → SolverTakes job.objective X → IsValid X choice → MayHoldAll told (files_of (Some job)) contents → DueForJob job contents status text → status ≡ Done
 solve_valid job told contents status text bytes X choice shorts is found holds taken valid may due =
     by_ending (own job contents X status text is (reached job told contents status text bytes X shorts found holds may due))
   where
     by_ending : DueToSolve job X status text → status ≡ Done
     by_ending (Solved takes document best e told') = e
     by_ending (Unsolvable takes document none e told') = absurd (subst (IsTrueClaim job.objective X) none.claims none.written.truly choice valid)
-    by_ending (TooManyCosts count refuses e told') = taken_apart job.objective X count taken refuses
+    by_ending (TooLarge count refuses e told') = taken_apart job.objective X count taken refuses
 
 -- and 1 where none is
 pub solve_nothing : (job : Job) (told : List ℕ → Option (List ℕ)) (contents : List (List ℕ)) (status : Status) (text bytes : List ℕ) (X : Problem) → AllShort told (Some job) → job.task ≡ Solve
-    → told job.instance ≡ Some bytes → instance_in job bytes ≡ Holds X → TakesCosts job.objective X → ((choice : List (Option ℕ)) → ¬ IsValid X choice) → MayHoldAll told (files_of (Some job)) contents → DueForJob job contents status text → status ≡ Nothing
+    → told job.instance ≡ Some bytes → instance_in job bytes ≡ Holds X → SolverTakes job.objective X → ((choice : List (Option ℕ)) → ¬ IsValid X choice) → MayHoldAll told (files_of (Some job)) contents → DueForJob job contents status text → status ≡ Nothing
 solve_nothing job told contents status text bytes X shorts is found holds taken no_valid may due =
     by_ending (own job contents X status text is (reached job told contents status text bytes X shorts found holds may due))
   where
@@ -62,19 +62,19 @@ solve_nothing job told contents status text bytes X shorts is found holds taken 
         let truly = subst (IsTrueClaim job.objective X) best.claims best.written.truly in
         absurd (no_valid truly.choice truly.best.valid)
     by_ending (Unsolvable takes document none e told') = e
-    by_ending (TooManyCosts count refuses e told') = taken_apart job.objective X count taken refuses
+    by_ending (TooLarge count refuses e told') = taken_apart job.objective X count taken refuses
 
--- and 3 where the objective's solver refuses so many costs
-pub solve_too_many : (job : Job) (told : List ℕ → Option (List ℕ)) (contents : List (List ℕ)) (status : Status) (text bytes : List ℕ) (X : Problem) (count : ℕ) → AllShort told (Some job) → job.task ≡ Solve
-    → told job.instance ≡ Some bytes → instance_in job bytes ≡ Holds X → RefusesCosts job.objective X count → MayHoldAll told (files_of (Some job)) contents → DueForJob job contents status text
-    → (status ≡ Instance) × (text ≡ refused_instance_text (16 ∷ count ∷ []))
-solve_too_many job told contents status text bytes X count shorts is found holds refuses may due =
+-- and 3 where the objective's solver refuses the instance
+pub solve_too_large : (job : Job) (told : List ℕ → Option (List ℕ)) (contents : List (List ℕ)) (status : Status) (text bytes : List ℕ) (X : Problem) (count : ℕ) → AllShort told (Some job) → job.task ≡ Solve
+    → told job.instance ≡ Some bytes → instance_in job bytes ≡ Holds X → SolverRefuses job.objective X count → MayHoldAll told (files_of (Some job)) contents → DueForJob job contents status text
+    → (status ≡ Instance) × (text ≡ refused_instance_text (limit_number job.objective ∷ count ∷ []))
+solve_too_large job told contents status text bytes X count shorts is found holds refuses may due =
     by_ending (own job contents X status text is (reached job told contents status text bytes X shorts found holds may due))
   where
-    by_ending : DueToSolve job X status text → (status ≡ Instance) × (text ≡ refused_instance_text (16 ∷ count ∷ []))
+    by_ending : DueToSolve job X status text → (status ≡ Instance) × (text ≡ refused_instance_text (limit_number job.objective ∷ count ∷ []))
     by_ending (Solved takes document best e told') = taken_apart job.objective X count takes refuses
     by_ending (Unsolvable takes document none e told') = taken_apart job.objective X count takes refuses
-    by_ending (TooManyCosts other also e told') = (e, told' ∙ ap (λ n. refused_instance_text (16 ∷ n ∷ [])) (refused_once job.objective X other count also refuses))
+    by_ending (TooLarge other also e told') = (e, told' ∙ ap (λ n. refused_instance_text (limit_number job.objective ∷ n ∷ [])) (refused_once job.objective X other count also refuses))
 
 -- a best document is due only for a file that holds an instance, which it solves
 pub solved_only : (job : Job) → HoldsInstances job → (told : List ℕ → Option (List ℕ)) (contents : List (List ℕ)) (text : List ℕ) → job.task ≡ Solve → MayHoldAll told (files_of (Some job)) contents
@@ -86,7 +86,7 @@ solved_only job keeps told contents text is may due = by_case due
     by_ending X short holds (Solved takes document best e written) =
         (first_held told job contents may, record { problem = X; document = document; held = holds; instance = keeps (content_at contents 0) X holds; best = best; written = written }, short)
     by_ending X short holds (Unsolvable takes document none e written) = cc
-    by_ending X short holds (TooManyCosts count refuses e written) = cc
+    by_ending X short holds (TooLarge count refuses e written) = cc
 
     by_case : DueForJob job contents Done text → MayHold told job.instance (content_at contents 0) × IsSolved job (content_at contents 0) text × AreShort contents
     by_case (Long place within long e told') = cc
@@ -101,7 +101,7 @@ unsolvable_only job keeps told contents text is may due = by_case due
     by_ending : (X : Problem) → AreShort contents → instance_in job (content_at contents 0) ≡ Holds X → DueToSolve job X Nothing text
         → MayHold told job.instance (content_at contents 0) × IsUnsolvable job (content_at contents 0) text × AreShort contents
     by_ending X short holds (Solved takes document best e written) = cc
-    by_ending X short holds (TooManyCosts count refuses e written) = cc
+    by_ending X short holds (TooLarge count refuses e written) = cc
     by_ending X short holds (Unsolvable takes document none e written) =
         (first_held told job contents may, record { problem = X; document = document; held = holds; instance = keeps (content_at contents 0) X holds; none = none; written = written }, short)
 

@@ -4,17 +4,17 @@ use Rattle.std.specs.List.{Contains}
 use Rattle.std.proofs.lemmas.List.{get_or_default}
 use Rattle.asg_model.specs.Problem.{Problem}
 use Rattle.asg_doc.specs.declared.documents.Document.{Document}
-use Rattle.asg_words.specs.declared.requests.Job.{Job}
-use Rattle.asg_words.specs.declared.requests.Task.{Task}
-use Rattle.asg_words.specs.declared.requests.Task.TheVariants.{Solve, Rank, Edit, Check}
+use Rattle.asg_requests.specs.declared.requests.Job.{Job}
+use Rattle.asg_requests.specs.declared.requests.Task.{Task}
+use Rattle.asg_requests.specs.declared.requests.Task.TheVariants.{Solve, Rank, Edit, Check}
 use Rattle.asg_app.specs.declared.status.Status.{Status}
 use Rattle.asg_app.specs.declared.status.Status.TheVariants.{Usage, Instance, TooLong}
 use Rattle.asg_app.specs.declared.status.Status.TheVariants as statuses
 use Rattle.asg_app.specs.AnswerStage.{UnlessUnread, NotRead, Miscounted, Read}
-use Rattle.asg_app.specs.CostCounts.{RefusesCosts}
+use Rattle.asg_app.specs.SolverLimits.{SolverRefuses, limit_number}
 use Rattle.asg_app.specs.Due.{DueForAsked, DueForJob, DueForTask, IsShort, Long, Refused, Held}
 use Rattle.asg_app.specs.DueToCheck.{DueToCheck, Certified, Denied}
-use Rattle.asg_app.specs.DueToSolve.{DueToSolve, Solved, TooManyCosts, Unsolvable}
+use Rattle.asg_app.specs.DueToSolve.{DueToSolve, Solved, TooLarge, Unsolvable}
 use Rattle.asg_app.specs.InstanceFile.{Holds, Refuses, instance_in}
 use Rattle.asg_model.specs.Limits.{longest_file}
 use Rattle.asg_app.specs.Fetches.{MayHold, MayHoldAll}
@@ -52,7 +52,7 @@ unread_decides bytes Owed status text decides (Read document has_text read owed)
 solve_decides : (job : Job) (X : Problem) (status : Status) (text : List ℕ) → DueToSolve job X status text → IsDecided status
 solve_decides job X status text (Solved takes document best is told) = decided statuses.Done status is tt
 solve_decides job X status text (Unsolvable takes document none is told) = decided statuses.Nothing status is tt
-solve_decides job X status text (TooManyCosts count refuses is told) = decided statuses.Instance status is tt
+solve_decides job X status text (TooLarge count refuses is told) = decided statuses.Instance status is tt
 
 -- what a command answers is a status of its own
 pub task_decides : (task : Task) (job : Job) (contents : List (List ℕ)) (X : Problem) (status : Status) (text : List ℕ) → DueForTask task job contents X status text → IsDecided status
@@ -64,17 +64,17 @@ task_decides (Check answer (Some script) count) job contents X status text due =
 task_decides (Rank count) job contents X status text due = absurd due
 task_decides (Edit script) job contents X status text due = absurd due
 
--- a command refuses the instance only where it is to solve, and the objective's solver refuses the costs
+-- a command refuses the instance only where it is to solve, and the objective's solver refuses it
 record IsCountRefused (task : Task) (job : Job) (X : Problem) (text : List ℕ) : Type 0 where
   solves : task ≡ Solve
   count : ℕ
-  refused : RefusesCosts job.objective X count
-  told : text ≡ refused_instance_text (16 ∷ count ∷ [])
+  refused : SolverRefuses job.objective X count
+  told : text ≡ refused_instance_text (limit_number job.objective ∷ count ∷ [])
 
 solve_refuses : (job : Job) (X : Problem) (text : List ℕ) → DueToSolve job X Instance text → IsCountRefused Solve job X text
 solve_refuses job X text (Solved takes document best is told) = cc
 solve_refuses job X text (Unsolvable takes document none is told) = cc
-solve_refuses job X text (TooManyCosts count refuses is told) = record { solves = refl; count = count; refused = refuses; told = told }
+solve_refuses job X text (TooLarge count refuses is told) = record { solves = refl; count = count; refused = refuses; told = told }
 
 check_passes : (job : Job) (X : Problem) (document : Document) (text : List ℕ) → DueToCheck job X document Instance text → ⊥
 check_passes job X document text (Certified certifies is told) = cc
@@ -144,7 +144,7 @@ pub first_held : (told : List ℕ → Option (List ℕ)) (job : Job) (contents :
 first_held told job [] may = absurd may
 first_held told job (bytes ∷ contents) may = may.0
 
--- the refusal of an instance is due only for a file that holds none, or for one to solve with too many different costs
+-- the refusal of an instance is due only for a file that holds none, or for one that is too large to solve
 pub refused_only : (asked : Option Job) (told : List ℕ → Option (List ℕ)) (contents : List (List ℕ)) (text : List ℕ) → MayHoldAll told (files_of asked) contents
     → DueForAsked asked contents Instance text
     → (job : Job) × (bytes numbers : List ℕ) × (asked ≡ Some job) × MayHold told job.instance bytes × IsRefusedInstance job bytes numbers × (text ≡ refused_instance_text numbers)
@@ -155,7 +155,7 @@ refused_only (Some job) told contents text may (Held short X holds due) =
     let own = task_refuses job.task job contents X text due in (
       job,
       content_at contents 0,
-      16 ∷ own.count ∷ [],
+      limit_number job.objective ∷ own.count ∷ [],
       refl,
       first_held told job contents may,
       inr (record { solves = own.solves; problem = X; held = holds; count = own.count; refused = own.refused; told = refl }),

@@ -1,47 +1,43 @@
 -- What is due by the command of a job that is built.
-use Rattle.std.proofs.Common.{◌≡◌, ℕ, true, false, Bool, cond, refl, List, Option, Some, None, sym, subst, ◌&&◌, arith}
+use Rattle.std.proofs.Common.{◌≡◌, ℕ, true, false, Bool, cond, refl, List, Option, Some, None, sym, subst, arith}
 use Rattle.std.specs.Prelude.{IfSome, not}
 use Rattle.std.proofs.lemmas.Bool.{and_parts}
 use Rattle.asg_model.specs.Problem.{Problem}
 use Rattle.asg_model.specs.declared.objectives.Objective.{Objective}
 use Rattle.asg_model.specs.declared.objectives.Objective.TheVariants.{Sum, SumMax, SumPair, Capped, Bottleneck, BottleneckMax, TimeCost, Balanced, Lex}
 use Rattle.asg_doc.specs.Words.{HasWord}
-use Rattle.asg_words.specs.Bounds.{IsJob, IsWithin, cap_of}
+use Rattle.asg_requests.specs.Bounds.{IsJob, IsWithin, cap_of}
 use Rattle.asg_model.specs.Objectives.{most_cap}
-use Rattle.asg_words.specs.declared.requests.Job.{Job}
-use Rattle.asg_words.specs.declared.requests.Request.{Request}
-use Rattle.asg_words.specs.declared.requests.Request.TheVariants.{Work, Make}
-use Rattle.asg_words.specs.declared.requests.Task.{Task}
-use Rattle.asg_words.specs.declared.requests.Task.TheVariants.{Check}
+use Rattle.asg_requests.specs.declared.requests.Job.{Job}
+use Rattle.asg_requests.specs.declared.requests.Request.{Request}
+use Rattle.asg_requests.specs.declared.requests.Request.TheVariants.{Work, Make}
+use Rattle.asg_requests.specs.declared.requests.Task.{Task}
+use Rattle.asg_requests.specs.declared.requests.Task.TheVariants.{Check}
 use Rattle.asg_app.specs.declared.status.Status.{Status}
 use Rattle.asg_app.specs.AnswerStage.{UnlessUnread}
 use Rattle.asg_app.specs.Due.{DueForTask}
 use Rattle.asg_app.specs.DueToCheck.{DueToCheck}
-use Rattle.asg_app.specs.Requests.{built_job, is_built, is_built_objective, is_built_task}
+use Rattle.asg_app.specs.Requests.{built_job, is_built, is_built_task}
 use Rattle.asg_app.specs.Sources.{content_at}
 
 -- the parts of a job that is built
 pub built_task : (job : Job) → is_built job ≡ true → is_built_task job.task ≡ true
-built_task job built = (and_parts (is_built_task job.task) (is_built_objective job.objective && not job.brief) built).0
+built_task job built = (and_parts (is_built_task job.task) (not job.brief) built).0
 
-pub built_objective : (job : Job) → is_built job ≡ true → is_built_objective job.objective ≡ true
-built_objective job built =
-    (and_parts (is_built_objective job.objective) (not job.brief) (and_parts (is_built_task job.task) (is_built_objective job.objective && not job.brief) built).1).0
-
--- an objective that is built has a word, where its cap is within its bounds
+-- an objective has a word, where its cap is within its bounds
 pub built_word : (job : Job) → is_built job ≡ true → IsJob job → HasWord job.objective
-built_word job built within = by_objective job.objective (built_objective job built) within.capped
+built_word job built within = by_objective job.objective within.capped
   where
-    by_objective : (objective : Objective) → is_built_objective objective ≡ true → IfSome (cap_of objective) (IsWithin 1 most_cap) → HasWord objective
-    by_objective Sum built capped = tt
-    by_objective SumMax built capped = tt
-    by_objective SumPair built capped = tt
-    by_objective (Capped cap) built capped = (omega (arith, capped.0), omega (arith, capped.1))
-    by_objective Bottleneck built capped = tt
-    by_objective BottleneckMax built capped = tt
-    by_objective TimeCost built capped = tt
-    by_objective Balanced built capped = tt
-    by_objective Lex built capped = cc
+    by_objective : (objective : Objective) → IfSome (cap_of objective) (IsWithin 1 most_cap) → HasWord objective
+    by_objective Sum capped = tt
+    by_objective SumMax capped = tt
+    by_objective SumPair capped = tt
+    by_objective (Capped cap) capped = (omega (arith, capped.0), omega (arith, capped.1))
+    by_objective Bottleneck capped = tt
+    by_objective BottleneckMax capped = tt
+    by_objective TimeCost capped = tt
+    by_objective Balanced capped = tt
+    by_objective Lex capped = tt
 
 -- what the words ask for is built
 pub asked_built : (request : Option Request) (job : Job) → built_job request ≡ Some job → is_built job ≡ true

@@ -2,7 +2,9 @@
 use Rattle.std.specs.Prelude.{ℕ, List, Option, option_and_then, slice_get}
 use Rattle.asg_model.specs.Problem.{Problem}
 use Rattle.asg_proof.specs.declared.outcomes.Proof.{Proof}
-use Rattle.asg_proof.specs.declared.outcomes.Proof.TheVariants.{Below, Phases, Windows}
+use Rattle.asg_proof.specs.declared.outcomes.Proof.TheVariants.{Below, Levels, Phases, Windows}
+use Rattle.asg_proof.specs.ColumnLists.{ArePlaces}
+use Rattle.asg_proof.specs.LevelLists.{AreLevelParts}
 use Rattle.asg_proof.specs.Phases.{ArePhases}
 use Rattle.asg_proof.specs.RowIds.{AreIds}
 use Rattle.asg_proof.specs.Windows.{AreWindows}
@@ -13,9 +15,10 @@ abbrev pub cell_at : Problem → List (Option ℕ) → ℕ → Option (ℕ × �
 cell_at X f r = option_and_then (λ row.
     option_and_then (λ chosen. cell_by_id X (row, chosen)) (slice_get f r)) (slice_get X.rows r)
 
--- the ids of a threshold proof and of windows, and the steps at which rows enter and columns leave, have
--- 32 bits; the costs of windows have 64
+-- the ids of a threshold proof and of windows, the steps at which rows enter and columns leave, the columns
+-- of an assignment and the counts of levels have 32 bits; the costs of windows and of levels have 64
 abbrev pub KeepsRanges : Proof → Type 0
 KeepsRanges (Phases words) = ArePhases words
 KeepsRanges (Below rows) = AreIds rows
 KeepsRanges (Windows windows) = AreWindows windows
+KeepsRanges (Levels perm levels) = ArePlaces perm × AreLevelParts levels

@@ -3,9 +3,9 @@
 use Rattle.std.specs.Prelude.{◌≡◌, ◌<◌, ◌≤◌, ℕ, List, [], Option, Some, None, length, All, IsSome}
 use Rattle.asg_model.specs.Limits.{longest_file}
 use Rattle.asg_model.specs.Problem.{Problem}
-use Rattle.asg_words.specs.declared.requests.Job.{Job}
-use Rattle.asg_words.specs.declared.requests.Task.{Task}
-use Rattle.asg_words.specs.declared.requests.Task.TheVariants.{Solve, Check}
+use Rattle.asg_requests.specs.declared.requests.Job.{Job}
+use Rattle.asg_requests.specs.declared.requests.Task.{Task}
+use Rattle.asg_requests.specs.declared.requests.Task.TheVariants.{Solve, Check}
 use Rattle.asg_app.specs.declared.status.Status.{Status}
 use Rattle.asg_app.specs.declared.status.Status.TheVariants.{Usage, Instance, TooLong}
 use Rattle.asg_app.specs.AnswerStage.{UnlessUnread}

@@ -5,7 +5,7 @@ use Rattle.asg_doc.specs.declared.documents.Document.{Document}
 use Rattle.asg_check.specs.declared.verdicts.Form.TheVariants.{Solve}
 use Rattle.asg_check.specs.Certifies.{Certifies}
 use Rattle.asg_check.specs.Reasons.{IsFirstReason}
-use Rattle.asg_words.specs.declared.requests.Job.{Job}
+use Rattle.asg_requests.specs.declared.requests.Job.{Job}
 use Rattle.asg_app.specs.declared.status.Status.{Status}
 use Rattle.asg_app.specs.declared.status.Status.TheVariants.{Done, No}
 use Rattle.asg_app.specs.Texts.{yes_text, no_text}

@@ -1,6 +1,6 @@
 -- What is due for what an instance's file holds.
 use Rattle.std.specs.Prelude.{◌≡◌, ℕ, List}
-use Rattle.asg_words.specs.declared.requests.Job.{Job}
+use Rattle.asg_requests.specs.declared.requests.Job.{Job}
 use Rattle.asg_app.specs.declared.status.Status.{Status}
 use Rattle.asg_app.specs.declared.status.Status.TheVariants.{Instance}
 use Rattle.asg_app.specs.Due.{DueForTask}

@@ -1,5 +1,5 @@
 pub mod AnswerStage
-pub mod CostCounts
+pub mod SolverLimits
 pub mod DocumentParts
 pub mod Due
 pub mod DueToCheck

@@ -1,5 +1,7 @@
 -- What the program's answers promise of the files.
 use Rattle.std.specs.Prelude.{◌≡◌, ◌≢◌, ◌⊎◌, ℕ, ℤ, List, [], ◌∷◌, length}
+use Rattle.asg_model.specs.declared.objectives.Objective.{Objective}
+use Rattle.asg_model.specs.declared.objectives.Objective.TheVariants.{Lex}
 use Rattle.asg_model.specs.Instances.{IsInstance}
 use Rattle.asg_model.specs.Problem.{Problem}
 use Rattle.asg_doc.specs.declared.documents.Document.{Document}
@@ -11,11 +13,11 @@ use Rattle.asg_check.specs.Certifies.{Certifies}
 use Rattle.asg_check.specs.Reasons.{IsFirstReason}
 use Rattle.asg_check.specs.TrueClaim.{ClaimsTruly}
 use Rattle.asg_model.specs.Objectives.{IsBottleneck}
-use Rattle.asg_words.specs.declared.requests.Job.{Job}
-use Rattle.asg_words.specs.declared.requests.Task.TheVariants.{Solve as Solving}
+use Rattle.asg_requests.specs.declared.requests.Job.{Job}
+use Rattle.asg_requests.specs.declared.requests.Task.TheVariants.{Solve as Solving}
 use Rattle.asg_app.specs.declared.status.Status.{Status}
 use Rattle.asg_app.specs.declared.status.Status.TheVariants.{Done, No, Nothing}
-use Rattle.asg_app.specs.CostCounts.{RefusesCosts}
+use Rattle.asg_app.specs.SolverLimits.{SolverRefuses, limit_number}
 use Rattle.asg_app.specs.InstanceFile.{Holds, Refuses, instance_in}
 use Rattle.asg_app.specs.Texts.{refused_document_text, no_text}
 use Rattle.asg_app.specs.WrittenDocument.{IsBestDocument, IsNoneDocument}
@@ -46,26 +48,31 @@ pub record IsUnsolvable (job : Job) (bytes text : List ℕ) : Type 0 where
   pub none : IsNoneDocument job.objective problem Solve document
   pub written : text ≡ text_of document
 
--- what is written with a status of a job is never longer than the longest file that is read: that
--- no choice is valid, or a document for a bottleneck objective
-abbrev pub IsNeverLong : Job → Status → Type 0
-IsNeverLong job status = (status ≡ Nothing) ⊎ IsBottleneck job.objective
+-- the objectives whose promised proofs are short: the two bottleneck objectives, and `lex`
+abbrev pub HasShortProofs : Objective → Type 0
+HasShortProofs Lex = Unit {0}
+HasShortProofs objective = IsBottleneck objective
 
--- the job is to solve, and the bytes hold an instance of which its objective's solver refuses the
--- costs; the numbers are 16 and that of the different costs
-pub record HasTooManyCosts (job : Job) (bytes numbers : List ℕ) : Type 0 where
+-- what is written with a status of a job is never longer than the longest file that is read: that
+-- no choice is valid, or a document for an objective with short proofs
+abbrev pub IsNeverLong : Job → Status → Type 0
+IsNeverLong job status = (status ≡ Nothing) ⊎ HasShortProofs job.objective
+
+-- the job is to solve, and the bytes hold an instance that its objective's solver refuses; the
+-- numbers are 16 and that of the different costs, or 17 and that of the rows
+pub record IsTooLargeToSolve (job : Job) (bytes numbers : List ℕ) : Type 0 where
   pub solves : job.task ≡ Solving
   pub problem : Problem
   pub held : instance_in job bytes ≡ Holds problem
   pub count : ℕ
-  pub refused : RefusesCosts job.objective problem count
-  pub told : numbers ≡ 16 ∷ count ∷ []
+  pub refused : SolverRefuses job.objective problem count
+  pub told : numbers ≡ limit_number job.objective ∷ count ∷ []
 
--- the bytes are refused with these numbers: they hold no instance that the job takes, or one with
--- too many different costs for a job to solve
+-- the bytes are refused with these numbers: they hold no instance that the job takes, or one that is
+-- too large for a job to solve
 abbrev pub IsRefusedInstance : Job → List ℕ → List ℕ → Type 0
 IsRefusedInstance job bytes numbers =
-    (instance_in job bytes ≡ Refuses numbers) ⊎ HasTooManyCosts job bytes numbers
+    (instance_in job bytes ≡ Refuses numbers) ⊎ IsTooLargeToSolve job bytes numbers
 
 -- the bytes hold an instance, and the answer is the text of one document, which certifies for it
 -- and claims what is true of it

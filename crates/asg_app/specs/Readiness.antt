@@ -1,7 +1,7 @@
 -- Jobs that the program may take up.
 use Rattle.std.specs.Prelude.{◌≡◌, true}
-use Rattle.asg_words.specs.declared.requests.Job.{Job}
-use Rattle.asg_words.specs.Bounds.{IsJob}
+use Rattle.asg_requests.specs.declared.requests.Job.{Job}
+use Rattle.asg_requests.specs.Bounds.{IsJob}
 use Rattle.asg_app.specs.Requests.{is_built}
 
 -- each part of the job is built, and its numbers are within their bounds

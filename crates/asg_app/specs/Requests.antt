@@ -1,14 +1,13 @@
 -- Which requests the program does, and what they name.
 use Rattle.std.specs.Prelude.{ℕ, Bool, true, false, ◌&&◌, not, if◌then◌else◌, List, []}
 use Rattle.std.specs.Prelude.{Option, Some, None}
-use Rattle.asg_model.specs.declared.objectives.Objective.{Objective}
-use Rattle.asg_model.specs.declared.objectives.Objective.TheVariants.{Lex}
-use Rattle.asg_words.specs.declared.requests.Job.{Job}
-use Rattle.asg_words.specs.declared.requests.Request.{Request}
-use Rattle.asg_words.specs.declared.requests.Request.TheVariants.{Work, Make}
-use Rattle.asg_words.specs.declared.requests.Task.{Task}
-use Rattle.asg_words.specs.declared.requests.Task.TheVariants.{Solve, Check}
-use Rattle.asg_words.specs.Requests.{request_of, files_of as files_of_request}
+use Rattle.asg_requests.specs.declared.requests.Job.{Job}
+use Rattle.asg_requests.specs.declared.requests.Request.{Request}
+use Rattle.asg_requests.specs.declared.requests.Request.TheVariants.{Work, Make}
+use Rattle.asg_requests.specs.declared.requests.Task.{Task}
+use Rattle.asg_requests.specs.declared.requests.Task.TheVariants.{Solve, Check}
+use Rattle.asg_requests.specs.Requests.{files_of as files_of_request}
+use Rattle.asg_words.specs.Requests.{request_of}
 
 -- the tasks that are built: solving, and checking one document
 abbrev pub is_built_task : Task → Bool
@@ -16,14 +15,9 @@ is_built_task Solve = true
 is_built_task (Check answer None None) = true
 is_built_task _ = false
 
--- the objectives that are built: all but `lex`
-abbrev pub is_built_objective : Objective → Bool
-is_built_objective Lex = false
-is_built_objective _ = true
-
--- the jobs that are built: a task and an objective that are, and whole documents
+-- the jobs that are built: a task that is, and whole documents
 abbrev pub is_built : Job → Bool
-is_built job = is_built_task job.task && (is_built_objective job.objective && not job.brief)
+is_built job = is_built_task job.task && not job.brief
 
 -- the job that a request asks for, where it is built
 abbrev pub built_job : Option Request → Option Job

@@ -1,11 +1,11 @@
 -- What a refusal of a solver tells the command that called it. The program's specification doesn't cite this.
 use Rattle.asg_model.specs.declared.objectives.Objective.{Objective}
 use Rattle.asg_model.specs.Problem.{Problem}
-use Rattle.asg_window.specs.declared.outcomes.BalancedRefusal.{BalancedRefusal}
-use Rattle.asg_window.specs.declared.outcomes.BalancedRefusal.TheVariants.{TooManyCosts, NoMemory}
-use Rattle.asg_app.specs.CostCounts.{RefusesCosts}
+use Rattle.asg_app.specs.declared.commands.solvers.SolverRefusal.{SolverRefusal}
+use Rattle.asg_app.specs.declared.commands.solvers.SolverRefusal.TheVariants.{TooLarge, NoMemory}
+use Rattle.asg_app.specs.SolverLimits.{SolverRefuses}
 
 -- a refusal of a solver is true
-abbrev pub IsCostRefusal : Objective → Problem → BalancedRefusal → Type 0
-IsCostRefusal objective X (TooManyCosts count) = RefusesCosts objective X count
-IsCostRefusal objective X NoMemory = Unit {0}
+abbrev pub IsSolverRefusal : Objective → Problem → SolverRefusal → Type 0
+IsSolverRefusal objective X (TooLarge count) = SolverRefuses objective X count
+IsSolverRefusal objective X NoMemory = Unit {0}

@@ -8,7 +8,8 @@ use Rattle.asg_proof.specs.declared.outcomes.Outcome.{Outcome}
 use Rattle.asg_proof.specs.declared.outcomes.Outcome.TheVariants as outcomes
 use Rattle.asg_proof.specs.declared.outcomes.Proof.{Proof}
 use Rattle.asg_model.specs.DifferentCosts.{most_costs}
-use Rattle.asg_proof.specs.PromisedProofs.{AreFewWindows, IsThresholdProof, HasFewPhases}
+use Rattle.asg_proof.specs.LevelRows.{most_level_rows}
+use Rattle.asg_proof.specs.PromisedProofs.{AreFewWindows, HasFewLevels, HasFewPhases, IsThresholdProof}
 use Rattle.asg_doc.specs.declared.documents.Answer.{Answer}
 use Rattle.asg_doc.specs.declared.documents.Claim.{Claim}
 use Rattle.asg_doc.specs.declared.documents.Claim.TheVariants.{Best, Nothing}
@@ -19,13 +20,14 @@ use Rattle.asg_check.specs.Certifies.{Certifies}
 use Rattle.asg_check.specs.TrueClaim.{ClaimsTruly}
 
 -- the proof that is promised for an objective and an instance: a threshold proof for the two
--- bottleneck objectives, at most 20,000 windows for `balanced`, and for the other algebraic ones at
--- most as many phases as the side of the instance's square, each of at most as many steps
+-- bottleneck objectives, at most 20,000 windows for `balanced`, levels of at most 200 phases of one
+-- step in all for `lex`, and for the other algebraic ones at most as many phases as the side of the
+-- instance's square, each of at most as many steps
 abbrev pub IsPromisedProof : Objective → Problem → Proof → Type 0
 IsPromisedProof Bottleneck X proof = IsThresholdProof proof
 IsPromisedProof BottleneckMax X proof = IsThresholdProof proof
 IsPromisedProof Balanced X proof = AreFewWindows most_costs proof
-IsPromisedProof Lex X proof = ⊥
+IsPromisedProof Lex X proof = HasFewLevels (square_side X) most_level_rows proof
 IsPromisedProof _ X proof = HasFewPhases (square_side X) proof
 
 -- an outcome whose proof is promised; the one that no choice is valid has none

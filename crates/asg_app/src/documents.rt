@@ -75,6 +75,7 @@ fn answer(
     ensures cells { IfOk result (λ answer. answer.cells ≡ cells_by_id inst.now choice.now) }
     ensures cells_text { IfOk result (λ answer. AreCells answer.cells) }
 {
+    let _rows = inst.rows();
     let value = value(alloc, objective, inst, choice)?;
     let cells = cells_by_id(alloc, inst, choice)?;
     Ok(Answer { value, cells })
@@ -88,6 +89,7 @@ fn tell_ranges(proof: &Proof)
         Proof::Phases(phases) => phases.len(),
         Proof::Below(rows) => rows.len(),
         Proof::Windows(windows) => windows.len(),
+        Proof::Levels { perm, levels } => perm.len().max(levels.len()),
     };
 }
 

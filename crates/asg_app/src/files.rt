@@ -12,7 +12,7 @@ use crate::sources::Sources;
 use crate::status::Status;
 use asg_io::{FetchFault, Shelf};
 use asg_model::limits::LONGEST_FILE;
-use asg_words::{Job, Task};
+use asg_requests::{Job, Task};
 use std::alloc::Global;
 
 // The number of files that a job names.

@@ -9,7 +9,7 @@ ghost use Rattle.asg_model.specs.Limits.{longest_file, most_side};
 ghost use Rattle.asg_model.specs.Problem.{Problem};
 ghost use Rattle.asg_model.specs.Refused.{IsFirstRefused, PassesNegative};
 ghost use Rattle.asg_model.specs.Shapes.{square_side};
-ghost use Rattle.asg_words.specs.declared.requests.Job.{Job};
+ghost use Rattle.asg_requests.specs.declared.requests.Job.{Job};
 ghost use Rattle.asg_app.specs.declared.status.Status.{Status as Ended};
 ghost use Rattle.asg_app.specs.declared.status.Status.TheVariants.{Usage, Instance, TooLong};
 ghost use Rattle.asg_app.specs.Due.{Due, Tells, TellsShort};
@@ -88,8 +88,8 @@ pub fn too_long_law()
 
 /// The refusal of an instance is due only where the words are a request whose instance's file is
 /// refused, by its text, by the request's options or by a cost that its objective doesn't take, or
-/// for a request to solve `balanced` holds an instance with too many different costs, with the
-/// numbers of the refusal.
+/// for a request to solve holds an instance that is too large, with too many different costs for
+/// `balanced` or too many rows for `lex`, with the numbers of the refusal.
 pub fn refused_law()
     ensures { (words : List (List ℕ)) (told : List ℕ → Option (List ℕ)) (text : List ℕ) →
         Due words told Instance text →

@@ -23,10 +23,10 @@ use std::alloc::Global;
 /// was to be checked certifies, and `No` where it doesn't; `Nothing` where a document says that no
 /// choice is valid; `Usage` where the words ask for nothing that the program does; `TooLong` where
 /// one of the files is longer than 268,435,456 bytes; `Instance` where the instance's file is
-/// refused, by its text, by the options or by a cost that the objective doesn't take, or has too
-/// many different costs to be solved for `balanced`; `Document` where the answer's file isn't the
-/// text of one document; `ReadFault` where the shelf had a fault; `WriteFault` where the sink had
-/// one; and `NoMemory` where memory was wanting.
+/// refused, by its text, by the options or by a cost that the objective doesn't take, or is too
+/// large to be solved, with too many different costs for `balanced` or too many rows for `lex`;
+/// `Document` where the answer's file isn't the text of one document; `ReadFault` where the shelf
+/// had a fault; `WriteFault` where the sink had one; and `NoMemory` where memory was wanting.
 pub fn run<F: Shelf, K: Sink>(alloc: Global, words: &[String], shelf: &mut F, out: &mut K) -> Status
     // With the status of an answer, the text that is due with it was written.
     ensures answered { IsAnswer result → (text : List ℕ)

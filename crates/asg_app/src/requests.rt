@@ -2,10 +2,11 @@
 
 ghost use Rattle.std.specs.Prelude.{◌≡◌, map, string_bytes, IfOk, IfSome};
 ghost use Rattle.asg_app.specs.Readiness.{IsReady};
-ghost use Rattle.asg_app.specs.Requests.{is_built, is_built_objective, is_built_task, job_of};
+ghost use Rattle.asg_app.specs.Requests.{is_built, is_built_task, job_of};
 
-use asg_model::{NoMemory, Objective};
-use asg_words::{Job, Request, Task, WordsRefusal, parse};
+use asg_model::NoMemory;
+use asg_requests::{Job, Request, Task, WordsRefusal};
+use asg_words::parse;
 use std::alloc::{AllocError, Global};
 
 // Whether a task is built: solving, and checking one document.
@@ -19,18 +20,11 @@ fn is_built_task(task: &Task) -> bool
     }
 }
 
-// Whether an objective is built: any but `lex`.
-fn is_built_objective(objective: Objective) -> bool
-    ensures { result ≡ is_built_objective objective }
-{
-    !matches!(objective, Objective::Lex)
-}
-
 // Whether each part of a job is built.
 fn is_built(job: &Job) -> bool
     ensures { result ≡ is_built job.now }
 {
-    is_built_task(&job.task) && is_built_objective(job.objective) && !job.brief
+    is_built_task(&job.task) && !job.brief
 }
 
 // The job that the words after the program's name ask for; `None` where they are no request, or one

@@ -20,8 +20,8 @@ use crate::sources::Sources;
 use crate::status::Status;
 use asg_model::limits::MOST_SIDE;
 use asg_model::{Instance, NoMemory, Place, PlaceRange, negative};
+use asg_requests::{Job, Task};
 use asg_text::{TextRefusal, read};
-use asg_words::{Job, Task};
 use std::alloc::{AllocError, Global};
 
 /// The line for words that are no request.

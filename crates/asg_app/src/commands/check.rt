@@ -17,7 +17,7 @@ use crate::status::Status;
 use asg_check::{Form, Verdict, check};
 use asg_doc::{DocRefusal, Document, read};
 use asg_model::{Instance, NoMemory};
-use asg_words::Job;
+use asg_requests::Job;
 use std::alloc::{AllocError, Global};
 
 // Tells the reason against the one document, and its place.

@@ -6,8 +6,8 @@ ghost use Rattle.asg_model.specs.Problem.{Problem};
 ghost use Rattle.asg_doc.specs.declared.documents.Document.{Document as Answered};
 ghost use Rattle.asg_doc.specs.HasText.{HasText};
 ghost use Rattle.asg_doc.specs.Text.{text_of};
-ghost use Rattle.asg_words.specs.declared.requests.Job.{Job};
-ghost use Rattle.asg_words.specs.declared.requests.Task.TheVariants.{Solve, Check};
+ghost use Rattle.asg_requests.specs.declared.requests.Job.{Job};
+ghost use Rattle.asg_requests.specs.declared.requests.Task.TheVariants.{Solve, Check};
 ghost use Rattle.asg_app.specs.declared.status.Status.{Status as Ended};
 ghost use Rattle.asg_app.specs.declared.status.Status.TheVariants as statuses;
 ghost use Rattle.asg_app.specs.Due.{Due, TellsShort};
@@ -92,7 +92,7 @@ pub fn unread_law()
 /// alike. Where a request to check that asks alike names the same instance's file, and as the
 /// answer a file with what was written, status 0 is due, and the text `yes 1`: for phases and
 /// windows provided that what was written is no longer than the longest file that is read; a text
-/// with status 1, or for a bottleneck objective, never is.
+/// with status 1, or for a bottleneck objective or `lex`, never is.
 pub fn accepted_law()
     ensures solved { (job other : Job) (bytes text : List ℕ) →
         AskAlike job other → IsSolved job bytes text → IsCertified other bytes text }

@@ -4,16 +4,15 @@ ghost use Rattle.std.specs.Prelude.{◌≡◌, ◌≤◌, ◌⊎◌, ℕ, List, 
 ghost use Rattle.asg_model.specs.Limits.{longest_file};
 ghost use Rattle.asg_model.specs.Problem.{Problem};
 ghost use Rattle.asg_model.specs.ValidChoice.{IsValid};
-ghost use Rattle.asg_model.specs.Objectives.{IsBottleneck};
-ghost use Rattle.asg_words.specs.declared.requests.Job.{Job};
-ghost use Rattle.asg_words.specs.declared.requests.Task.TheVariants.{Solve};
+ghost use Rattle.asg_requests.specs.declared.requests.Job.{Job};
+ghost use Rattle.asg_requests.specs.declared.requests.Task.TheVariants.{Solve};
 ghost use Rattle.asg_app.specs.declared.status.Status.{Status as Ended};
 ghost use Rattle.asg_app.specs.declared.status.Status.TheVariants as statuses;
-ghost use Rattle.asg_app.specs.CostCounts.{RefusesCosts, TakesCosts};
+ghost use Rattle.asg_app.specs.SolverLimits.{SolverRefuses, SolverTakes, limit_number};
 ghost use Rattle.asg_app.specs.Due.{Due, TellsShort};
 ghost use Rattle.asg_app.specs.Fetches.{MayHold};
 ghost use Rattle.asg_app.specs.InstanceFile.{Holds, instance_in};
-ghost use Rattle.asg_app.specs.Promised.{IsSolved, IsUnsolvable};
+ghost use Rattle.asg_app.specs.Promised.{HasShortProofs, IsSolved, IsUnsolvable};
 ghost use Rattle.asg_app.specs.Requests.{job_of};
 ghost use Rattle.asg_app.specs.Texts.{refused_instance_text};
 
@@ -21,9 +20,9 @@ use super::instance_law;
 use asg_model::laws::hall_rows_law;
 
 /// A request to solve ends with the status 0, 1, 3 or 10, unless a fault or want of memory cuts it
-/// short. Where the file is told, isn't too long and holds an instance, it is 3 where the live
-/// cells have more different costs than the objective's solver takes, with their number; else 0
-/// where a choice is valid, and 1 where none is.
+/// short. Where the file is told, isn't too long and holds an instance, it is 3 where the
+/// objective's solver refuses it, with 16 and the number of different costs for `balanced`, 17 and
+/// that of the rows for `lex`; else 0 where a choice is valid, and 1 where none is.
 pub fn solve_law()
     ensures statuses { (words : List (List ℕ)) (told : List ℕ → Option (List ℕ))
         (status : Ended) (text : List ℕ) (job : Job) →
@@ -35,29 +34,31 @@ pub fn solve_law()
         (choice : List (Option ℕ)) →
         TellsShort words told → job_of words ≡ Some job → job.task ≡ Solve →
         told job.instance ≡ Some bytes → instance_in job bytes ≡ Holds X →
-        TakesCosts job.objective X → IsValid X choice →
+        SolverTakes job.objective X → IsValid X choice →
         Due words told status text → status ≡ statuses.Done }
     ensures nothing { (words : List (List ℕ)) (told : List ℕ → Option (List ℕ))
         (status : Ended) (text bytes : List ℕ) (job : Job) (X : Problem) →
         TellsShort words told → job_of words ≡ Some job → job.task ≡ Solve →
         told job.instance ≡ Some bytes → instance_in job bytes ≡ Holds X →
-        TakesCosts job.objective X → ((choice : List (Option ℕ)) → ¬ IsValid X choice) →
+        SolverTakes job.objective X → ((choice : List (Option ℕ)) → ¬ IsValid X choice) →
         Due words told status text → status ≡ statuses.Nothing }
-    ensures too_many { (words : List (List ℕ)) (told : List ℕ → Option (List ℕ))
+    ensures too_large { (words : List (List ℕ)) (told : List ℕ → Option (List ℕ))
         (status : Ended) (text bytes : List ℕ) (job : Job) (X : Problem) (count : ℕ) →
         TellsShort words told → job_of words ≡ Some job → job.task ≡ Solve →
         told job.instance ≡ Some bytes → instance_in job bytes ≡ Holds X →
-        RefusesCosts job.objective X count → Due words told status text →
-        (status ≡ statuses.Instance) × (text ≡ refused_instance_text (16 ∷ count ∷ [])) }
+        SolverRefuses job.objective X count → Due words told status text →
+        (status ≡ statuses.Instance) × (text ≡ refused_instance_text
+        (limit_number job.objective ∷ count ∷ [])) }
 {}
 
 /// For a request to solve, status 0 is due only with the text of a document that solves the file's
 /// instance: it certifies, it claims a best choice with its value and cells, and its proof is a
 /// Hall set of the cells strictly better for the two bottleneck objectives, windows of costs for
-/// `balanced`, and for the others at most as many phases as the side of the instance's square, each
-/// of at most as many steps. Status 1 is due only with the text of a document that certifies with a
-/// Hall set of the instance, so that no choice is valid. This text, and that for a bottleneck
-/// objective, is no longer than the longest file that is read.
+/// `balanced`, levels of at most 200 phases of one step in all for `lex`, and for the others at most
+/// as many phases as the side of the instance's square, each of at most as many steps. Status 1 is
+/// due only with the text of a document that certifies with a Hall set of the instance, so that no
+/// choice is valid. This text, and that for a bottleneck objective or for `lex`, is no longer than
+/// the longest file that is read.
 pub fn solved_law()
     ensures solved { (words : List (List ℕ)) (told : List ℕ → Option (List ℕ))
         (text : List ℕ) (job : Job) →
@@ -68,7 +69,7 @@ pub fn solved_law()
         job_of words ≡ Some job → job.task ≡ Solve → Due words told statuses.Nothing text →
         (bytes : List ℕ) × MayHold told job.instance bytes × IsUnsolvable job bytes text }
     ensures within { (job : Job) (bytes text : List ℕ) →
-        (IsBottleneck job.objective × IsSolved job bytes text) ⊎ IsUnsolvable job bytes text →
+        (HasShortProofs job.objective × IsSolved job bytes text) ⊎ IsUnsolvable job bytes text →
         length text ≤ longest_file }
 {
     hall_rows_law();

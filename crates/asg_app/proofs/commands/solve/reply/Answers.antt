@@ -1,17 +1,17 @@
-use Rattle.std.proofs.Common.{[], ◌∷◌, refl, sym, subst}
+use Rattle.std.proofs.Common.{[], ◌∷◌, ap, refl, sym, subst}
 use Rattle.asg_app.specs.declared.status.Status.TheVariants.{Instance}
-use Rattle.asg_app.specs.CostCounts.{RefusesCosts}
-use Rattle.asg_app.specs.SolverRefusals.{IsCostRefusal}
-use Rattle.asg_app.specs.DueToSolve.{DueToSolve, TooManyCosts}
+use Rattle.asg_app.specs.SolverLimits.{SolverRefuses}
+use Rattle.asg_app.specs.SolverRefusals.{IsSolverRefusal}
+use Rattle.asg_app.specs.DueToSolve.{DueToSolve, TooLarge}
 use Rattle.asg_app.specs.Texts.{refused_instance_text}
 use Rattle.asg_app.proofs.ReplyLemmas.{replied}
 use Rattle.asg_app.proofs.commands.solve.reply.Goals as goal
 
-pub returns-in-Err-TooManyCosts : goal.returns-in-Err-TooManyCosts
-returns-in-Err-TooManyCosts c =
+pub returns-in-Err-TooLarge : goal.returns-in-Err-TooLarge
+returns-in-Err-TooLarge c =
     let job = c.args.job.now in
     let X = c.args.inst.now in
-    let refuses = subst (IsCostRefusal job.objective X) c.in-Err-TooManyCosts.field-0-is c.in-Err-TooManyCosts.ensures.refusal in
-    replied (DueToSolve job X) Instance (refused_instance_text (16 ∷ c.from.result ∷ [])) c.refusal.result
-    (TooManyCosts c.from.result (subst (RefusesCosts job.objective X) (sym c.from.ensures) refuses) refl refl)
+    let refuses = subst (IsSolverRefusal job.objective X) c.in-Err-TooLarge.field-0-is c.in-Err-TooLarge.ensures.refusal in
+    replied (DueToSolve job X) Instance (refused_instance_text (c.limit_number.result ∷ c.from.result ∷ [])) c.refusal.result
+    (TooLarge c.from.result (subst (SolverRefuses job.objective X) (sym c.from.ensures) refuses) refl (ap (λ n. refused_instance_text (n ∷ c.from.result ∷ [])) c.limit_number.ensures))
     c.refusal.ensures

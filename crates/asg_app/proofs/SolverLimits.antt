@@ -1,14 +1,15 @@
--- The live cells of an instance have one number of different costs: a solver either takes it, or refuses it.
+-- A solver either takes an instance or refuses it: its live cells have one number of different costs, and it has one
+-- number of rows.
 use Rattle.std.proofs.Common.{◌≡◌, ℕ, ◌≤◌, List, length, arith}
 use Rattle.std.specs.Prelude.{ℤ}
 use Rattle.std.proofs.lemmas.Bool.Decides.{Decides-int_eq}
 use Rattle.std.proofs.lemmas.Cmp.{int_eq_equiv}
 use Rattle.std.proofs.lemmas.Map.Made.{length-le_from_is_member, IsDistinct-from_AllPairs, is_member-Decides}
 use Rattle.asg_model.specs.declared.objectives.Objective.{Objective}
-use Rattle.asg_model.specs.declared.objectives.Objective.TheVariants.{Balanced}
+use Rattle.asg_model.specs.declared.objectives.Objective.TheVariants.{Balanced, Lex}
 use Rattle.asg_model.specs.Problem.{Problem}
 use Rattle.asg_model.specs.DifferentCosts.{AreLiveCosts, HasCosts}
-use Rattle.asg_app.specs.CostCounts.{RefusesCosts, TakesCosts}
+use Rattle.asg_app.specs.SolverLimits.{SolverRefuses, SolverTakes}
 
 -- different costs of live cells are no more than all of them
 no_more : (X : Problem) (costs others : List ℤ) → AreLiveCosts X costs → AreLiveCosts X others → length costs ≤ length others
@@ -21,13 +22,15 @@ one_count X n m first second =
     omega (arith, first.counted, second.counted, no_more X first.costs second.costs first.all second.all, no_more X second.costs first.costs second.all first.all)
 
 -- no instance is both taken and refused
-pub taken_apart : {P : Type 0} (objective : Objective) (X : Problem) (count : ℕ) → TakesCosts objective X → RefusesCosts objective X count → P
+pub taken_apart : {P : Type 0} (objective : Objective) (X : Problem) (count : ℕ) → SolverTakes objective X → SolverRefuses objective X count → P
 taken_apart Balanced X count takes refuses =
     let same = one_count X takes.count count takes.costs refuses.0 in
     absurd (omega (arith, same, takes.few, refuses.1))
+taken_apart Lex X count takes refuses = absurd (omega (arith, takes, refuses.0, refuses.1))
 taken_apart _ X count takes refuses = absurd refuses
 
 -- a refusal tells one number
-pub refused_once : (objective : Objective) (X : Problem) (n m : ℕ) → RefusesCosts objective X n → RefusesCosts objective X m → n ≡ m
+pub refused_once : (objective : Objective) (X : Problem) (n m : ℕ) → SolverRefuses objective X n → SolverRefuses objective X m → n ≡ m
 refused_once Balanced X n m first second = one_count X n m first.0 second.0
+refused_once Lex X n m first second = omega (arith, first.0, second.0)
 refused_once _ X n m first second = absurd first

@@ -1,6 +1,7 @@
 //! Tests of `asg_check`.
 
 mod grade_tests;
+mod level_tests;
 mod phase_cases;
 mod phase_tests;
 mod tests;

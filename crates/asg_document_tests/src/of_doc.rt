@@ -1,5 +1,6 @@
 //! Tests of `asg_doc`.
 
+mod level_tests;
 mod phase_tests;
 mod reading_tests;
 mod tests;

@@ -1,7 +1,8 @@
 //! Command lines, and what they ask for.
 
 use crate::of_words::lines::{refused, requests};
-use asg_words::{FileName, Job, Request, Task, WordsRefusal, parse};
+use asg_requests::{FileName, Job, Request, Task, WordsRefusal};
+use asg_words::parse;
 use std::alloc::{AllocError, Global};
 use std::test::Fail;
 

@@ -102,7 +102,7 @@ fn documents() -> &'static [Judged] {
 }
 
 // The lines of the cells 1-2, 2-1 and 3-3.
-const CELLS: &[u8] = b"cells 3\n1 2\n2 1\n3 3\n";
+pub(crate) const CELLS: &[u8] = b"cells 3\n1 2\n2 1\n3 3\n";
 
 // The lines of objective, status and value where there is no spread.
 const NO_SPREAD: &[u8] = b"balanced\nstatus best\nvalue 0\n";
@@ -162,7 +162,7 @@ fn judged(
 }
 
 // Whether the document of these parts is judged so.
-fn is_judged(
+pub(crate) fn is_judged(
     alloc: Global,
     inst: &Instance,
     asked: Objective,

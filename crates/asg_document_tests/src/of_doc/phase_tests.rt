@@ -154,7 +154,7 @@ fn is_text_of(alloc: Global, documents: &[Document], text: &[u8]) -> Result<bool
 }
 
 // Whether the text is read, and exactly it is written of what it is read as.
-fn is_rewritten(alloc: Global, text: &[u8]) -> Result<bool, AllocError> {
+pub(crate) fn is_rewritten(alloc: Global, text: &[u8]) -> Result<bool, AllocError> {
     if text.len() > LONGEST_TEXT {
         return Ok(false);
     }

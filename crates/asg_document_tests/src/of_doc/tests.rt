@@ -1,9 +1,10 @@
 //! Documents written over a page, and a page's own calls.
 
-ghost use Rattle.std.specs.Prelude.{◌≡◌, ◌<◌, false, length, IfOk};
+ghost use Rattle.std.specs.Prelude.{◌≡◌, ◌<◌, length, IfOk};
 ghost use Rattle.asg_doc.specs.HasText.{HasText, AreCells};
 ghost use Rattle.asg_doc.specs.PageState.{blank};
-ghost use Rattle.asg_doc.specs.Words.{HasWord, has_pairs};
+ghost use Rattle.asg_doc.specs.declared.documents.ValueForm.TheVariants.{One};
+ghost use Rattle.asg_doc.specs.Words.{HasWord, form_of};
 
 use asg_doc::*;
 use asg_io::{MemorySink, PutFault};
@@ -20,7 +21,7 @@ fn best(
     rows: &[u32],
 ) -> Result<Document, AllocError>
     requires objective { HasWord objective }
-    requires form { has_pairs objective ≡ false }
+    requires form { form_of objective ≡ One }
     requires cells { AreCells cells.now }
     requires rows { 0 < length rows.now }
     ensures { IfOk result HasText }

@@ -165,12 +165,17 @@ const STEPS: [u128; 2] = [5, 3];
 // A cell, when its row enters and its column leaves, and what the two steps make of it.
 type SingleCell = (u128, u32, u32, Option<u128>);
 
-const CELLS: [SingleCell; 4] = [
+static CELLS: [SingleCell; 4] = [
     (9, 0, 2, Some(1)),
     (7, 0, 2, None),
     (7, 0, 1, Some(2)),
     (7, 9, 1, Some(10)),
 ];
+
+// These, for a caller that needn't know them.
+fn cells() -> &'static [SingleCell] {
+    &CELLS
+}
 
 // What two steps make of a cell.
 fn cell_after(x: u128, enter: u32, leave: u32) -> Option<u128> {
@@ -202,7 +207,7 @@ fn products() -> Option<[u128; 3]> {
 
 #[test]
 fn single_cells(rt: HostRuntime) {
-    for cell in &CELLS {
+    for cell in cells() {
         assert!(rt; is_cell_after(cell));
     }
     assert!(rt; products() == Some([8, 3, 0]));

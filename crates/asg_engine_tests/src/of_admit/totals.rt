@@ -77,11 +77,16 @@ fn fit_worked(alloc: Global, first: &[u64; 1]) -> Result<bool, Fault> {
 }
 
 // The step of the first phase, and a greater one, and whether the phases fit then.
-const FIRST_STEPS: [([u64; 1], bool); 2] = [([SHIFT + 1], true), ([SHIFT + 2], false)];
+static FIRST_STEPS: [([u64; 1], bool); 2] = [([SHIFT + 1], true), ([SHIFT + 2], false)];
+
+// These, for a caller that needn't know them.
+fn first_steps() -> &'static [([u64; 1], bool)] {
+    &FIRST_STEPS
+}
 
 #[test]
 fn a_list_in_one_pass(rt: HostRuntime) -> Result<(), Fail> {
-    for (first, want) in &FIRST_STEPS {
+    for (first, want) in first_steps() {
         assert!(rt; fit_worked(rt.alloc(), first)? == *want);
     }
     Ok(())
@@ -154,15 +159,20 @@ fn told(alloc: Global, first: &[u64; 1]) -> Result<Option<bool>, Fault> {
 }
 
 // The step of the first phase, a greater one, and one at which nothing is told, and what is told.
-const TOLD: [([u64; 1], Option<bool>); 3] = [
+static TOLD: [([u64; 1], Option<bool>); 3] = [
     ([SHIFT + 1], Some(true)),
     ([SHIFT + 2], Some(false)),
     ([1 << 62], None),
 ];
 
+// These, for a caller that needn't know them.
+fn told_cases() -> &'static [([u64; 1], Option<bool>)] {
+    &TOLD
+}
+
 #[test]
 fn a_list_by_segments(rt: HostRuntime) -> Result<(), Fail> {
-    for (first, want) in &TOLD {
+    for (first, want) in told_cases() {
         assert!(rt; told(rt.alloc(), first)? == *want);
     }
     Ok(())

@@ -116,16 +116,21 @@ fn index_of_three(alloc: Global, first: &[u64], columns: &[u32]) -> Result<Optio
 }
 
 // The steps of the first phase, the columns, and the index.
-const GIVEN: [(&'static [u64], &'static [u32], Option<u64>); 4] = [
+static GIVEN: [(&'static [u64], &'static [u32], Option<u64>); 4] = [
     (&[1, 1_002], &COLUMNS, Some(3_005)),
     (&[2, 1_002], &COLUMNS, None),
     (&[1, 1_002], &[0, 1, 2], None),
     (&[1, 1_002], &[1, 0], None),
 ];
 
+// These, for a caller that needn't know them.
+fn given() -> &'static [(&'static [u64], &'static [u32], Option<u64>)] {
+    &GIVEN
+}
+
 #[test]
 fn what_is_given_is_tested(rt: HostRuntime) -> Result<(), Fail> {
-    for (first, columns, index) in &GIVEN {
+    for (first, columns, index) in given() {
         assert!(rt; index_of_three(rt.alloc(), first, columns)? == *index);
     }
     Ok(())
@@ -187,15 +192,20 @@ fn peak_index(alloc: Global, step: &[u64]) -> Result<Option<u64>, Fault> {
 }
 
 // The step of a phase, and the index.
-const PEAK_STEPS: [(&'static [u64], Option<u64>); 3] = [
+static PEAK_STEPS: [(&'static [u64], Option<u64>); 3] = [
     (&[2], Some(2)),
     (&[1], None),
     (&[3], None),
 ];
 
+// These, for a caller that needn't know them.
+fn peak_steps() -> &'static [(&'static [u64], Option<u64>)] {
+    &PEAK_STEPS
+}
+
 #[test]
 fn greatest_cells_are_given(rt: HostRuntime) -> Result<(), Fail> {
-    for (step, index) in &PEAK_STEPS {
+    for (step, index) in peak_steps() {
         assert!(rt; peak_index(rt.alloc(), step)? == *index);
     }
     Ok(())
@@ -208,15 +218,20 @@ fn graded_index(alloc: Global, step: &[(u64, u128)]) -> Result<Option<(u64, u128
 }
 
 // The step of a phase, and the index.
-const GRADED_STEPS: [(&'static [(u64, u128)], Option<(u64, u128)>); 3] = [
+static GRADED_STEPS: [(&'static [(u64, u128)], Option<(u64, u128)>); 3] = [
     (&[(1, 3)], Some((1, 3))),
     (&[(1, 2)], None),
     (&[(1, 4)], None),
 ];
 
+// These, for a caller that needn't know them.
+fn graded_steps() -> &'static [(&'static [(u64, u128)], Option<(u64, u128)>)] {
+    &GRADED_STEPS
+}
+
 #[test]
 fn grades_are_given(rt: HostRuntime) -> Result<(), Fail> {
-    for (step, index) in &GRADED_STEPS {
+    for (step, index) in graded_steps() {
         assert!(rt; graded_index(rt.alloc(), step)? == *index);
     }
     Ok(())

@@ -118,15 +118,20 @@ fn pairs_solved(alloc: Global, side: u32, cells: &[Option<u128>]) -> Result<Opti
 const CARRIED: [Option<u128>; 4] = [Some(UNIT - 1), Some(UNIT), Some(0), Some(UNIT - 1)];
 
 // Squares of pairs, each with its side, and what phases lead to.
-const OF_PAIRS: [(u32, &'static [Option<u128>], Option<u128>); 3] = [
+static OF_PAIRS: [(u32, &'static [Option<u128>], Option<u128>); 3] = [
     (2, &PAIRS, Some(2 * UNIT + 5)),
     (3, &DECIDED, Some(5 * UNIT + 18)),
     (2, &CARRIED, None),
 ];
 
+// These, for a caller that needn't know them.
+fn of_pairs() -> &'static [(u32, &'static [Option<u128>], Option<u128>)] {
+    &OF_PAIRS
+}
+
 #[test]
 fn guesses_phases_of_pairs(rt: HostRuntime) -> Result<(), Fail> {
-    for (side, cells, index) in &OF_PAIRS {
+    for (side, cells, index) in of_pairs() {
         assert!(rt; pairs_solved(rt.alloc(), *side, cells)? == *index);
     }
     Ok(())
@@ -221,15 +226,20 @@ fn grades_solved(
 }
 
 // Squares of graded sums, each with its side, and what phases lead to.
-const OF_GRADES: [(u32, &'static [Option<(u64, u128)>], (u64, u128)); 3] = [
+static OF_GRADES: [(u32, &'static [Option<(u64, u128)>], (u64, u128)); 3] = [
     (2, &EQUAL, (3, 2)),
     (2, &UNEQUAL, (1, 0)),
     (3, &SHARED, (4, 2)),
 ];
 
+// These, for a caller that needn't know them.
+fn of_grades() -> &'static [(u32, &'static [Option<(u64, u128)>], (u64, u128))] {
+    &OF_GRADES
+}
+
 #[test]
 fn guesses_phases_of_graded_sums(rt: HostRuntime) -> Result<(), Fail> {
-    for (side, cells, index) in &OF_GRADES {
+    for (side, cells, index) in of_grades() {
         assert!(rt; grades_solved(rt.alloc(), *side, cells)? == Some(*index));
     }
     Ok(())
@@ -263,15 +273,20 @@ fn peaks_solved(alloc: Global, side: u32, cells: &[Option<u64>]) -> Result<Optio
 }
 
 // Squares of numbers, each with its side, and what phases lead to.
-const OF_NUMBERS: [(u32, &'static [Option<u64>], Option<u64>); 3] = [
+static OF_NUMBERS: [(u32, &'static [Option<u64>], Option<u64>); 3] = [
     (2, &OF_COLUMN, Some(5)),
     (3, &OF_ROWS, Some(4)),
     (2, &NONE, None),
 ];
 
+// These, for a caller that needn't know them.
+fn of_numbers() -> &'static [(u32, &'static [Option<u64>], Option<u64>)] {
+    &OF_NUMBERS
+}
+
 #[test]
 fn guesses_a_phase_of_maxima(rt: HostRuntime) -> Result<(), Fail> {
-    for (side, cells, index) in &OF_NUMBERS {
+    for (side, cells, index) in of_numbers() {
         assert!(rt; peaks_solved(rt.alloc(), *side, cells)? == *index);
     }
     Ok(())

@@ -93,7 +93,7 @@ static NO_REQUESTS: [&[&str]; 18] = [
     &["edit", "lex", "f", "g"],
     &["rank", "sum", "f"],
     &["solve", "sum"],
-    &["check", "lex", "f", "g"],
+    &["check", "lex", "f", "g", "--count", "1"],
     &["solve", "capped=0", "f"],
     &["solve", "bottleneck", "f", "--brief"],
     &["check", "bottleneck", "f", "g", "--count", "1"],

@@ -154,13 +154,18 @@ fn replays_all(dual: &mut DualSquare) -> bool {
 // come near the top nothing is tested.
 type Unapplied = (&'static [u128], &'static [u32], &'static [u32], Replayed);
 
-const UNAPPLIED: [Unapplied; 5] = [
+static UNAPPLIED: [Unapplied; 5] = [
     (&[SHIFT + 2], &[0, 1, 1], &[1, 1, 1], Replayed::Refused),
     (&[SHIFT], &[0, 1, 1], &[0, 1, 1], Replayed::Refused),
     (&[SHIFT], &[0, 1], &[1, 1, 1], Replayed::Refused),
     (&[SUMS.top - 5], &[0, 1, 1], &[1, 1, 1], Replayed::Full),
     (&[SUMS.top, 1], &[0, 1, 1], &[1, 1, 1], Replayed::Full),
 ];
+
+// These, for a caller that needn't know them.
+fn unapplied() -> &'static [Unapplied] {
+    &UNAPPLIED
+}
 
 // Whether a phase isn't applied as is told of it.
 fn is_unapplied(dual: &mut DualSquare, phase: &Unapplied) -> bool {
@@ -170,7 +175,7 @@ fn is_unapplied(dual: &mut DualSquare, phase: &Unapplied) -> bool {
 
 // Whether each of these phases isn't applied as is told of it.
 fn applies_none(dual: &mut DualSquare) -> bool {
-    for phase in &UNAPPLIED {
+    for phase in unapplied() {
         if !is_unapplied(dual, phase) {
             return false;
         }

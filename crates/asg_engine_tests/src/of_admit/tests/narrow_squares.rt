@@ -153,16 +153,21 @@ fn start(alloc: Global) -> Result<NarrowSquare, Fault> {
 
 // Sums, and whether there is room for them: none for one of 2^62, and none for one that reaches it
 // with the greatest cell.
-const ROOM: [(u64, bool); 4] = [
+static ROOM: [(u64, bool); 4] = [
     (u64::MAX, false),
     (1 << 62, false),
     ((1 << 62) - 1_000_000_005, false),
     ((1 << 62) - 1_000_000_006, true),
 ];
 
+// These, for a caller that needn't know them.
+fn room() -> &'static [(u64, bool)] {
+    &ROOM
+}
+
 // Whether the square has room for these sums and no others.
 fn has_room_as_told(narrow: &NarrowSquare) -> bool {
-    for (sum, want) in &ROOM {
+    for (sum, want) in room() {
         if narrow.has_room(*sum) != *want {
             return false;
         }
@@ -189,13 +194,18 @@ fn replayed(
 // come near 2^62 nothing is tested.
 type Unapplied = (&'static [u64], &'static [u32], &'static [u32], Replayed);
 
-const UNAPPLIED: [Unapplied; 5] = [
+static UNAPPLIED: [Unapplied; 5] = [
     (&[1_000_000_002], &[0, 1, 1], &[1, 1, 1], Replayed::Refused),
     (&[1_000_000_000], &[0, 1, 1], &[0, 1, 1], Replayed::Refused),
     (&[1_000_000_000], &[0, 1], &[1, 1, 1], Replayed::Refused),
     (&[(1 << 62) - 5], &[0, 1, 1], &[1, 1, 1], Replayed::Full),
     (&[u64::MAX, 1], &[0, 1, 1], &[1, 1, 1], Replayed::Full),
 ];
+
+// These, for a caller that needn't know them.
+fn unapplied() -> &'static [Unapplied] {
+    &UNAPPLIED
+}
 
 // Whether a phase isn't applied as is told of it.
 fn is_unapplied(narrow: &mut NarrowSquare, phase: &Unapplied) -> bool {
@@ -205,7 +215,7 @@ fn is_unapplied(narrow: &mut NarrowSquare, phase: &Unapplied) -> bool {
 
 // Whether each of these phases isn't applied as is told of it.
 fn applies_none(narrow: &mut NarrowSquare) -> bool {
-    for phase in &UNAPPLIED {
+    for phase in unapplied() {
         if !is_unapplied(narrow, phase) {
             return false;
         }

@@ -97,15 +97,24 @@ fn joins_the_steps_of_a_long_phase(rt: HostRuntime) -> Result<(), Fail> {
 const GREATER: [u128; 1] = [SHIFT + 2];
 
 // Cells, steps, and a phase whose marks they have, that isn't admitted.
-const REFUSED: [(
+static REFUSED: [(
     &'static [Option<u128>; 9],
     &'static [u128],
     &'static WorkedPhase,
 ); 2] = [(&THREE, &GREATER, &FIRST), (&CELLS, &TOO_MUCH, &LONG)];
 
+// These, for a caller that needn't know them.
+fn refused() -> &'static [(
+    &'static [Option<u128>; 9],
+    &'static [u128],
+    &'static WorkedPhase,
+)] {
+    &REFUSED
+}
+
 #[test]
 fn refuses_greater_steps_in_one_pass(rt: HostRuntime) -> Result<(), Fail> {
-    for (cells, steps, phase) in &REFUSED {
+    for (cells, steps, phase) in refused() {
         let mut reduced = start(rt.alloc(), cells)?;
         assert!(rt; !replays_steps(&mut reduced, steps, phase));
     }

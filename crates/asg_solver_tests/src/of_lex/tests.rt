@@ -1,0 +1,169 @@
+//! Best choices, levels and Hall sets of small instances of every shape, by hand.
+
+ghost use Rattle.std.specs.Prelude.{◌≤◌};
+ghost use Rattle.asg_model.specs.Limits.{most_side};
+ghost use Rattle.asg_model.specs.Shapes.{square_side};
+
+use asg_lex::{LexRefusal, lexicographic};
+use asg_model::Place::{All, Exactly};
+use asg_model::limits::MOST_SIDE;
+use asg_model::{ABSENT, Band, Instance, Objective, Place, Value, is_hall, is_valid, value};
+use asg_proof::{Level, Outcome, Proof};
+use asg_samples::{Fours, ONE_COLUMN, PRODUCTS, SIGNED, Sample, THREE, TWO_COLUMNS, four_by_four};
+use std::alloc::Global;
+use std::test::Fail;
+
+// The second column has one cost, the others different ones.
+const ONE_COST: Fours = [
+    1, 5, 9, ABSENT, 2, 5, 8, ABSENT, 3, 5, 7, ABSENT, ABSENT, ABSENT, ABSENT, ABSENT,
+];
+
+// The place rule, whether the second column holds three, whether the last row is active and the
+// last column open, the costs, and the value from the greatest cost down, if a choice is valid: the
+// places behind its end are absent.
+type Case = (Place, bool, bool, Fours, Option<[i64; 4]>);
+
+static CASES: [Case; 17] = [
+    (All, false, true, [5; 16], Some([5, 5, 5, 5])),
+    (All, false, true, SIGNED, Some([-2, -3, -3, -5])),
+    (All, false, true, PRODUCTS, Some([6, 6, 4, 4])),
+    (All, false, false, THREE, Some([2, 2, 1, ABSENT])),
+    (All, true, false, THREE, Some([2, 1, 0, ABSENT])),
+    (
+        Exactly(2),
+        false,
+        false,
+        THREE,
+        Some([2, 0, ABSENT, ABSENT]),
+    ),
+    (
+        Exactly(1),
+        false,
+        false,
+        THREE,
+        Some([0, ABSENT, ABSENT, ABSENT]),
+    ),
+    (All, false, false, ONE_COST, Some([7, 5, 1, ABSENT])),
+    (All, true, false, ONE_COST, Some([5, 5, 1, ABSENT])),
+    (
+        Exactly(1),
+        false,
+        true,
+        PRODUCTS,
+        Some([1, ABSENT, ABSENT, ABSENT]),
+    ),
+    (Exactly(3), false, true, PRODUCTS, Some([4, 3, 3, ABSENT])),
+    (Exactly(4), false, true, PRODUCTS, Some([6, 6, 4, 4])),
+    (Exactly(4), false, false, PRODUCTS, None),
+    (All, false, true, ONE_COLUMN, None),
+    (All, true, true, TWO_COLUMNS, Some([7, 6, 5, 4])),
+    (All, false, true, TWO_COLUMNS, None),
+    (All, false, true, [ABSENT; 16], None),
+];
+
+// The costs before the first absent one.
+fn present(costs: &[i64]) -> &[i64] {
+    let count = costs.iter().take_while(|cost| **cost != ABSENT).count();
+    &costs[..count]
+}
+
+// How many of the costs are this one.
+fn count_of(costs: &[i64], cost: i64) -> usize {
+    costs.iter().filter(|other| **other == cost).count()
+}
+
+// Whether the levels count the costs, each as often as it stands there.
+fn are_counted(levels: &[Level], costs: &[i64]) -> bool {
+    costs.iter().all(|cost| {
+        levels.iter().any(|level| level.cost == *cost
+            && level.count as usize == count_of(costs, *cost))
+    })
+}
+
+// Whether the levels are those of the value: they count its costs, and each has as many phases as
+// it counts.
+fn is_proved(proof: &Proof, costs: &[i64]) -> bool {
+    match proof {
+        Proof::Levels { levels, .. } => {
+            let levels = levels.as_slice();
+            are_counted(levels, costs)
+                && levels
+                    .iter()
+                    .all(|level| level.phases.len() == level.count as usize)
+        }
+        _ => false,
+    }
+}
+
+// Whether the outcome is a valid choice of this value with its proof, or where there is no value, a
+// Hall set of the instance.
+fn is_right(alloc: Global, inst: &Instance, want: &Option<[i64; 4]>) -> Result<bool, Fail>
+    requires { square_side inst.now ≤ most_side }
+{
+    match (lexicographic(alloc, inst)?, want) {
+        (Outcome::Best { choice, proof }, Some(costs)) => {
+            let costs = present(costs);
+            let found = value(alloc, Objective::Lex, inst, &choice)?;
+            let is_value = matches!(&found, Value::Many(many) if many.as_slice() == costs);
+            Ok(is_value && is_valid(inst, &choice) && is_proved(&proof, costs))
+        }
+        (Outcome::Nothing { rows }, None) => Ok(is_hall(inst, Band::Whole, rows.as_slice())),
+        _ => Ok(false),
+    }
+}
+
+// Whether the instance of a case has its outcome.
+fn is_right_on(alloc: Global, case: &Case) -> Result<bool, Fail> {
+    let (place, wide, last, costs, want) = case;
+    let inst = four_by_four(alloc, *place, *wide, *last, costs)?;
+    if inst.side() > MOST_SIDE {
+        return Ok(false);
+    }
+    is_right(alloc, &inst, want)
+}
+
+// Why there is no outcome of an instance of these rows and one column.
+fn refusal_of(alloc: Global, active: &[bool], firsts: &[i64]) -> Result<Option<LexRefusal>, Fail> {
+    let sample = Sample {
+        rows: active,
+        columns: &[(1, true)],
+        firsts,
+        seconds: &[],
+        place: All,
+    };
+    let inst = sample.instance(alloc)?;
+    if inst.side() > MOST_SIDE {
+        return Ok(None);
+    }
+    Ok(lexicographic(alloc, &inst).err())
+}
+
+// These cases, for a caller that needn't know them.
+fn cases() -> &'static [Case] {
+    &CASES
+}
+
+// The place of the first case whose instance has another outcome.
+fn first_not_right(alloc: Global) -> Result<Option<usize>, Fail> {
+    for (place, case) in cases().iter().enumerate() {
+        if !is_right_on(alloc, case)? {
+            return Ok(Some(place));
+        }
+    }
+    Ok(None)
+}
+
+#[test]
+fn finds_best_choices_and_hall_sets(rt: HostRuntime) -> Result<(), Fail> {
+    assert!(rt; first_not_right(rt.alloc())?.is_none());
+    Ok(())
+}
+
+#[test]
+fn refuses_more_than_200_rows(rt: HostRuntime) -> Result<(), Fail> {
+    let more = refusal_of(rt.alloc(), &[true; 201], &[ABSENT; 201])?;
+    assert!(rt; more == Some(LexRefusal::LexTooLarge(201)));
+    let most = refusal_of(rt.alloc(), &[true; 200], &[ABSENT; 200])?;
+    assert!(rt; most.is_none());
+    Ok(())
+}

@@ -1,0 +1,215 @@
+//! Requests with the objective `lex`, as runs over memory.
+
+use crate::of_app::memory_runs::{Case, THREE, ends, held};
+use crate::of_app::solve_tests::is_answered;
+use std::alloc::{AllocError, Global};
+use std::test::Fail;
+
+// Requests to solve with their answers: a square, one with two best choices, fewer rows to be
+// placed, a greater capacity, a table with absent cells, a graph without a valid choice, and one
+// cell.
+static LEX: [Case; 7] = [
+    (
+        "lex",
+        &[],
+        "3\n4 1 3\n2 0 5\n3 2 2\n",
+        0,
+        "status best\nvalue 2 2 1\ncells 3\n1 2\n2 1\n3 3\nproof levels 2\nperm 2 1 3\n",
+    ),
+    (
+        "lex",
+        &[],
+        "2\n1 2\n1 2\n",
+        0,
+        "status best\nvalue 2 1\ncells 2\n1 ",
+    ),
+    (
+        "lex",
+        &["--place", "2"],
+        "3\n4 1 3\n2 0 5\n3 2 2\n",
+        0,
+        "status best\nvalue 2 0\ncells 2\n2 2\n3 3\nproof levels 2\n",
+    ),
+    (
+        "lex",
+        &["--format", "rect", "--each", "2"],
+        "2 1\n1\n2\n",
+        0,
+        "status best\nvalue 2 1\ncells 2\n1 1\n2 1\nproof levels 2\n",
+    ),
+    (
+        "lex",
+        &["--format", "rect"],
+        "2 3\n5 - 1\n- 2 1\n",
+        0,
+        "status best\nvalue 2 1\ncells 2\n1 3\n2 2\nproof levels 2\n",
+    ),
+    (
+        "lex",
+        &["--format", "asn"],
+        "p asn 4 2\nn 1\nn 2\na 1 3 5\na 2 3 6\n",
+        1,
+        "status none\nhall ",
+    ),
+    (
+        "lex",
+        &[],
+        "1\n-1000000000\n",
+        0,
+        "status best\nvalue -1000000000\ncells 1\n1 1\nproof levels 1\nperm 1\n\
+         level -1000000000 1 1\nsteps 1\nenters 0\nleaves 1\nend\n",
+    ),
+];
+
+// These requests, for a caller that needn't know them.
+fn lexicographic() -> &'static [Case] {
+    &LEX
+}
+
+#[test]
+fn lexicographic_documents(rt: HostRuntime) -> Result<(), Fail> {
+    for case in lexicographic() {
+        assert!(rt; is_answered(rt.alloc(), case)?, "{}", case.2);
+    }
+    Ok(())
+}
+
+// What comes before the proof of an answer for the square `THREE`.
+const HEAD: &str =
+    "assignment 1\ncommand solve\nobjective lex\nstatus best\nvalue 2 2 1\ncells 3\n1 2\n2 1\n\
+     3 3\n";
+
+// A proof of this answer, the status, and what is told of it.
+type Judged = (&'static str, u8, &'static str);
+
+// The phases of the level of the cost 2, and of that of the cost 1.
+static PROOFS: [Judged; 9] = [
+    (
+        "proof levels 2\nperm 2 1 3\nlevel 2 2 2\nsteps 1\nenters 0 0 1\nleaves 1 0 1\n\
+         steps 1\nenters 1 1 0\nleaves 1 1 1\nlevel 1 1 1\nsteps 1\nenters 0 1 1\n\
+         leaves 1 1 1\nend\n",
+        0,
+        "yes 1\n",
+    ),
+    // Two cells have the cost 2.
+    (
+        "proof levels 2\nperm 2 1 3\nlevel 2 1 2\nsteps 1\nenters 0 0 1\nleaves 1 0 1\n\
+         steps 1\nenters 1 1 0\nleaves 1 1 1\nlevel 1 1 1\nsteps 1\nenters 0 1 1\n\
+         leaves 1 1 1\nend\n",
+        6,
+        "no 1 9 1\n",
+    ),
+    // A column stands twice.
+    (
+        "proof levels 1\nperm 2 2 3\nlevel 5 0 0\nend\n",
+        6,
+        "no 1 9 0\n",
+    ),
+    // A level that counts no cell.
+    (
+        "proof levels 1\nperm 2 1 3\nlevel 5 0 0\nend\n",
+        6,
+        "no 1 9 1\n",
+    ),
+    // The assignment has one cell of the cost 2.
+    (
+        "proof levels 1\nperm 1 2 3\nlevel 2 2 2\nsteps 1\nenters 0 0 1\nleaves 1 0 1\n\
+         steps 1\nenters 1 1 0\nleaves 1 1 1\nend\n",
+        6,
+        "no 1 9 1\n",
+    ),
+    // The first phase has three rows and two columns.
+    (
+        "proof levels 1\nperm 2 1 3\nlevel 2 2 2\nsteps 1\nenters 0 0 0\nleaves 1 0 1\n\
+         steps 1\nenters 1 1 0\nleaves 1 1 1\nend\n",
+        6,
+        "no 1 9 1\n",
+    ),
+    // The costs go up.
+    (
+        "proof levels 2\nperm 2 1 3\nlevel 1 1 1\nsteps 1\nenters 0 1 1\nleaves 1 1 1\n\
+         level 2 2 2\nsteps 1\nenters 0 0 1\nleaves 1 0 1\nsteps 1\nenters 1 1 0\n\
+         leaves 1 1 1\nend\n",
+        6,
+        "no 1 9 2\n",
+    ),
+    // Without the level of the cost 1 its cell isn't left.
+    (
+        "proof levels 1\nperm 2 1 3\nlevel 2 2 2\nsteps 1\nenters 0 0 1\nleaves 1 0 1\n\
+         steps 1\nenters 1 1 0\nleaves 1 1 1\nend\n",
+        6,
+        "no 1 9 0\n",
+    ),
+    // Another kind of proof.
+    ("proof below 3\nend\n", 6, "no 1 2 0\n"),
+];
+
+// Whether this is told of a proof.
+fn is_told(alloc: Global, case: &Judged) -> Result<bool, AllocError> {
+    let proof = case.0;
+    let answer = format!(in alloc; "{HEAD}{proof}")?;
+    let files = held(THREE, answer.as_bytes());
+    let words = ["check", "lex", "f", "g"];
+    ends(alloc, &words, &[], files, (case.1, case.2.as_bytes()))
+}
+
+// These proofs, for a caller that needn't know them.
+fn proofs() -> &'static [Judged] {
+    &PROOFS
+}
+
+#[test]
+fn levels_that_are_checked(rt: HostRuntime) -> Result<(), Fail> {
+    for case in proofs() {
+        assert!(rt; is_told(rt.alloc(), case)?, "{}", case.0);
+    }
+    Ok(())
+}
+
+// The square of so many rows and columns with the cost 0 everywhere.
+fn zeros(alloc: Global, side: u32) -> Result<String, AllocError> {
+    let mut file = format!(in alloc; "{side}\n")?;
+    for _ in 0..side {
+        for _ in 0..side {
+            file.push_str("0 ")?;
+        }
+    }
+    Ok(file)
+}
+
+// A request for a square of 201 rows, and how it ends: one to solve is refused, one to check for its
+// answer alone.
+type Large = (&'static [&'static str], u8, &'static str);
+
+static LARGE: [Large; 2] = [
+    (&["solve", "lex", "f"], 3, "refused instance 17 201\n"),
+    (&["check", "lex", "f", "g"], 5, "refused document 0\n"),
+];
+
+// These, for a caller that needn't know them.
+fn large() -> &'static [Large] {
+    &LARGE
+}
+
+// Whether the file of so many rows is refused as a case says.
+fn is_too_large(alloc: Global, file: &[u8], case: &Large) -> Result<bool, AllocError> {
+    let want = (case.1, case.2.as_bytes());
+    ends(alloc, case.0, &[], held(file, b""), want)
+}
+
+// What the first case says that isn't so.
+fn first_not_refused(alloc: Global) -> Result<Option<&'static str>, AllocError> {
+    let file = zeros(alloc, 201)?;
+    for case in large() {
+        if !is_too_large(alloc, file.as_bytes(), case)? {
+            return Ok(Some(case.2));
+        }
+    }
+    Ok(None)
+}
+
+#[test]
+fn too_many_rows(rt: HostRuntime) -> Result<(), Fail> {
+    assert_eq!(rt; first_not_refused(rt.alloc())?, None);
+    Ok(())
+}

@@ -16,4 +16,5 @@ pub mod TableRows
 pub mod ShapeLemmas
 pub mod Positions
 pub mod Slots
+pub mod RetainedStores
 pub mod Decisions

@@ -165,7 +165,7 @@ all_from n top seconds P each start (a ∷ firsts) within all =
     (all_from n top seconds P each (start + 1) firsts (omega arith) (All-tail IsEntry a firsts all))
 
 -- where there is an index there are columns
-columns_below : (rows n k : ℕ) → k < rows * n → 0 < n
+pub columns_below : (rows n k : ℕ) → k < rows * n → 0 < n
 columns_below rows zero k below = absurd (omega (arith, below))
 columns_below rows (suc n) k below = omega arith
 

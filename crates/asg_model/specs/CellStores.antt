@@ -1,4 +1,6 @@
 use Rattle.std.specs.Prelude.{◌≡◌, ℕ, List, length}
+use Rattle.std.specs.List.Sorted.{IsStrictlySortedBy}
+use Rattle.std.specs.Map.{keys_of}
 use Rattle.asg_model.specs.declared.parts.Cost.{Cost}
 use Rattle.asg_model.specs.declared.parts.Row.{Row}
 use Rattle.asg_model.specs.declared.parts.Column.{Column}
@@ -6,7 +8,7 @@ use Rattle.asg_model.specs.declared.parts.Place.{Place}
 use Rattle.asg_model.specs.declared.cell_store.CellStore.{CellStore}
 use Rattle.asg_model.specs.declared.cell_store.CellStore.TheVariants.{Map, Table}
 use Rattle.asg_model.specs.Problem.{Problem, problem_of}
-use Rattle.asg_model.specs.Instances.{IsInstance}
+use Rattle.asg_model.specs.Instances.{IsInstance, AreCellsOf, by_places}
 use Rattle.asg_model.specs.Table.{table_cells, IsTable}
 
 -- the cells that stand in a map, or in a table with so many columns
@@ -34,3 +36,9 @@ pub record IsStored (rows : List Row) (columns : List Column) (store : CellStore
 pub record IsCopyOf (store copy : CellStore) : Type 0 where
   pub cells : (columns : ℕ) → cells_in columns copy ≡ cells_in columns store
   pub whole : (rows columns : ℕ) → IsStoreOf rows columns store → IsStoreOf rows columns copy
+
+-- a store of cells of so many rows and columns: a table is whole, and the cells are those of an instance
+pub record IsCellStore (rows columns : ℕ) (store : CellStore) : Type 0 where
+  pub whole : IsStoreOf rows columns store
+  pub cells : AreCellsOf rows columns (cells_in columns store)
+  pub ascend : IsStrictlySortedBy by_places (keys_of (cells_in columns store))

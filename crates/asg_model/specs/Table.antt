@@ -1,4 +1,4 @@
-use Rattle.std.specs.Prelude.{◌≡◌, ◌⊎◌, ℕ, ◌<◌, ◌≤◌, ◌*◌, ◌/◌, ◌%◌, ℤ, pos, negsuc, if◌then◌else◌, Option, Some, None, List, length, filter_map, slice_index_or, All}
+use Rattle.std.specs.Prelude.{◌≡◌, ◌⊎◌, ℕ, ◌<◌, ◌≤◌, ◌*◌, ◌/◌, ◌%◌, Bool, ℤ, pos, negsuc, if◌then◌else◌, Option, Some, None, List, length, filter_map, slice_index_or, All}
 use Rattle.std.specs.List.{enumerate_from}
 use Rattle.std.specs.Option.{option_map}
 use Rattle.std.specs.Ordering.{int_eq}
@@ -67,3 +67,11 @@ pub record AreRowParts (X : Problem) (r : ℕ) (firsts seconds : List ℤ) : Typ
   pub whole : length firsts ≡ length X.columns
   pub costs : (c : ℕ) → c < length X.columns →
       cost_at X.cells r c ≡ table_cost seconds c (slice_index_or firsts c absent)
+
+-- of the first parts of a table with so many columns those stay at whose places the answer is true, and all
+-- others are absent
+pub record RetainsFirsts (answers : ℕ → ℕ → Bool → Type 0) (columns : ℕ) (firsts after : List ℤ) : Type 0 where
+  pub count : length after ≡ length firsts
+  pub each : (k : ℕ) → k < length firsts →
+      (b : Bool) × answers (k / columns) (k % columns) b
+      × (slice_index_or after k absent ≡ (if b then slice_index_or firsts k absent else absent))

@@ -162,8 +162,8 @@ impl Instance {
         }
     }
 
-    // Whether there is a row at this place, and it is active.
-    pub(crate) fn is_active(&self, row: u32) -> bool
+    /// Whether there is a row at this place, and it is active.
+    pub fn is_active(&self, row: u32) -> bool
         ensures { result ≡ is_active self.now row }
     {
         match self.rows.get(row as usize) {

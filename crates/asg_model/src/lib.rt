@@ -25,6 +25,7 @@ mod objectives;
 mod parts;
 mod places;
 mod reach;
+mod retaining;
 mod row_rooms;
 mod shapes;
 mod sums;

@@ -5,7 +5,7 @@ use Rattle.std.proofs.lemmas.Bool.{false≢true, and_from, cases_lt}
 use Rattle.std.proofs.lemmas.Nat.Bits.{bit_at-zero}
 use Rattle.asg_square.specs.BitTable.{BitTable, has_bit, is_bit_set}
 use Rattle.asg_levels.specs.Tight.{tight_bit}
-use Rattle.asg_levels.specs.laws.RowWords.{is_and}
+use Rattle.asg_square.specs.laws.Words.{is_and}
 
 -- words without a common bit
 no_common : (a b k : ℕ) → bit_and a b ≡ 0 → is_bit_set a k ≡ true → is_bit_set b k ≡ true → ⊥

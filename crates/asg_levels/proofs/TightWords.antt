@@ -12,7 +12,7 @@ use Rattle.asg_square.specs.BitTable.{BitTable, word_count, is_bit_set, has_bit,
 use Rattle.asg_square.specs.laws.Places.{place_hit, place_missed}
 use Rattle.asg_levels.specs.Tight.{TightensWords, Tightens, is_tight}
 use Rattle.asg_square.specs.laws.Bits.{HasBit-or}
-use Rattle.asg_levels.specs.laws.RowWords.{bit_in_row, bit_of, of_bit, same_bool}
+use Rattle.asg_square.specs.laws.Words.{bit_in_row, bit_of, of_bit, same_bool}
 
 or_cases : (b d : Bool) → (b || d) ≡ true → (b ≡ true) ⊎ (d ≡ true)
 or_cases true d e = inl refl

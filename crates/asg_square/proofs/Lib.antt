@@ -7,6 +7,7 @@ pub mod PermSteps
 pub mod Presences
 pub mod BitLemmas
 pub mod WordLemmas
+pub mod RunLemmas
 pub mod TablePieces
 pub mod PieceLemmas
 pub mod TableLemmas

@@ -1,5 +1,5 @@
 -- Rows of bits, in words of 64.
-use Rattle.std.specs.Prelude.{◌≡◌, ℕ, ◌*◌, ◌+◌, ◌/◌, ◌%◌, ◌<◌, ◌≤◌, ◌&&◌, ◌==◌, if◌then◌else◌, nat_lt, Bool, IsTrue, List, length, slice_index}
+use Rattle.std.specs.Prelude.{◌≡◌, ℕ, ◌*◌, ◌+◌, ◌/◌, ◌%◌, ◌<◌, ◌≤◌, ◌&&◌, ◌==◌, if◌then◌else◌, nat_lt, nat_le, Bool, IsTrue, List, length, slice_index}
 use Rattle.std.specs.Int.{bit_at}
 use Rattle.asg_model.specs.Limits.{most_side}
 
@@ -49,3 +49,19 @@ pub record PutsWord (B after : BitTable) (r number word : ℕ) : Type 0 where
 pub record AreWordsOf (has : ℕ → Bool) (columns : ℕ) (words : List ℕ) : Type 0 where
   pub count : length words ≡ word_count columns
   pub each : (c : ℕ) → c < 64 * length words → is_bit_set (slice_index words (c / 64)) (c % 64) ≡ has c
+
+-- a column is one of those from one on and before another
+abbrev pub is_from_to : ℕ → ℕ → ℕ → Bool
+is_from_to from to c = nat_le from c && nat_lt c to
+
+-- the bits of a row at the columns from one on and before another were set or cleared
+pub record PutsColumns (B after : BitTable) (r from to : ℕ) (is_set : Bool) : Type 0 where
+  pub rows : after.rows ≡ B.rows
+  pub columns : after.columns ≡ B.columns
+  pub bits : (s d : ℕ) → has_bit after s d ≡ (if (s == r) && is_from_to from to d then is_set else has_bit B s d)
+
+-- the bits of a row are set at the columns from one on and before another, and clear at all others
+pub record PutsOnly (B after : BitTable) (r from to : ℕ) : Type 0 where
+  pub rows : after.rows ≡ B.rows
+  pub columns : after.columns ≡ B.columns
+  pub bits : (s d : ℕ) → has_bit after s d ≡ (if s == r then is_from_to from to d else has_bit B s d)

@@ -1,12 +1,14 @@
 pub mod Labels
 pub mod Cells
 pub mod Presence
+pub mod HallColumns
 pub mod WordBits
 pub mod BitTable
 pub mod CellTable
 pub mod Filling
 pub mod Changes
 pub mod Grid
+pub mod Masked
 pub mod Completion
 pub mod ChoiceAssignment
 pub mod laws

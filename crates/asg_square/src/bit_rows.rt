@@ -79,6 +79,31 @@ impl BitRows {
         self.words[(r * self.width + number) as usize] = word;
     }
 
+    /// How many rows there are. It takes no memory.
+    pub fn rows(&self) -> u32
+        ensures rows { result ≡ self.now.rows }
+        ensures table { IsBitTable self.now }
+    {
+        self.rows
+    }
+
+    /// How many columns there are. It takes no memory.
+    pub fn columns(&self) -> u32
+        ensures columns { result ≡ self.now.columns }
+        ensures table { IsBitTable self.now }
+    {
+        self.columns
+    }
+
+    /// All words, row by row, as many for each row as its columns need; no bit past the last column
+    /// is set. It takes no memory.
+    pub fn words(&self) -> &[u64]
+        ensures words { result.now ≡ self.now.words }
+        ensures table { IsBitTable self.now }
+    {
+        self.words.as_slice()
+    }
+
     /// The words of a row: bit `c % 64` of word `c / 64` says whether column `c` is set, and no bit
     /// past the last column is. It takes no memory.
     pub fn row(&self, r: u32) -> &[u64]
@@ -126,8 +151,8 @@ fn with_bit(word: u64, bit: u32, is_set: bool) -> u64
     }
 }
 
-// Takes over the values of a list of the same length.
-pub(crate) fn overwrite<T: Copy>(values: &mut Vec<T>, from: &[T])
+/// Takes over the values of a list of the same length. It takes no memory.
+pub fn overwrite<T: Copy>(values: &mut Vec<T>, from: &[T])
     requires { length values.old.items ≡ length from.now }
     ensures { values.new.items ≡ from.now }
 {

@@ -1,8 +1,10 @@
 //! Laws of squares: each is the contract of a function that does nothing.
 
-ghost use Rattle.std.specs.Prelude.{◌≡◌, ◌<◌, ◌↔◌, ℕ, Option, Some, List, is_some, slice_index, IfSome};
+ghost use Rattle.std.specs.Prelude.{◌≡◌, ◌<◌, ◌↔◌, ℕ, Bool, Option, Some, List, is_some, slice_index, IfSome};
 ghost use Rattle.asg_model.specs.declared.bands.Band.TheVariants.{Whole};
 ghost use Rattle.asg_model.specs.declared.parts.Cost.{Cost};
+ghost use Rattle.asg_model.specs.declared.parts.Place.TheVariants.{All as PlaceAll};
+ghost use Rattle.asg_model.specs.HallSet.{IsHall};
 ghost use Rattle.asg_model.specs.Problem.{Problem};
 ghost use Rattle.asg_model.specs.Instances.{IsInstance};
 ghost use Rattle.asg_model.specs.Live.{live_at};
@@ -13,6 +15,7 @@ ghost use Rattle.asg_order.specs.Bridge.{costs_fold};
 ghost use Rattle.asg_model.specs.Shapes.{square_side};
 ghost use Rattle.asg_square.specs.Cells.{square_cell, IsAssignment, IsSquareChoice, choice_of, assignment_values, entered_or_free};
 ghost use Rattle.asg_square.specs.Grid.{Grid, IsSquareOf, IsWithinSquareOf, CoversSquareOf, IsPerm, grid_choice};
+ghost use Rattle.asg_square.specs.HallColumns.{TellsCells, OutnumberColumns};
 ghost use Rattle.asg_square.specs.Presence.{has_cell};
 
 /// The square law: the choices of the perfect assignments of an instance's square are exactly the
@@ -45,4 +48,12 @@ pub fn grid_law<V: Copy>()
         IsPerm Q p ↔ IsAssignment (square_cell X free enter) (square_side X) p }
     ensures choice { (X : Problem) (Q : Grid V) (p : List ℕ) → IsInstance X →
         IsWithinSquareOf X Q → IsPerm Q p → grid_choice Q p ≡ choice_of X p }
+{}
+
+/// The law of Hall sets on the square: where all rows are placed, rows by id are a Hall set of the
+/// instance exactly where they differ, are counted, and are more than the columns of its square in
+/// which some of them have a cell. So a Hall set is told from the square alone.
+pub fn square_hall_law()
+    ensures { (X : Problem) (has : ℕ → ℕ → Bool) (ids : List ℕ) → X.place ≡ PlaceAll → TellsCells X has
+        → IsHall X Whole ids ↔ OutnumberColumns X has ids }
 {}

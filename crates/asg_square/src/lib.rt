@@ -13,14 +13,17 @@ mod bit_rows;
 mod cell_tables;
 mod cells;
 mod choices;
+mod kept_words;
 mod labels;
 pub mod laws;
 mod pieces;
+mod row_bits;
 mod row_changes;
 mod rows;
 mod squares;
 
-pub use bit_rows::BitRows;
+pub use bit_rows::{BitRows, overwrite};
+pub use row_bits::first_bits;
 pub use squares::Square;
 
 /// There was not enough memory.

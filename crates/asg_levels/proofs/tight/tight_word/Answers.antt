@@ -3,7 +3,7 @@ use Rattle.std.specs.Prelude.{bit_and}
 use Rattle.std.specs.Int.{bit_not}
 use Rattle.std.proofs.Math.Facts.{Fits-lt-pow}
 use Rattle.asg_square.specs.BitTable.{is_bit_set}
-use Rattle.asg_levels.specs.laws.RowWords.{is_and}
+use Rattle.asg_square.specs.laws.Words.{is_and}
 use Rattle.asg_levels.proofs.TightWords.{is_or, is_not, two_parts}
 use Rattle.asg_levels.proofs.tight.tight_word.Goals as goal
 

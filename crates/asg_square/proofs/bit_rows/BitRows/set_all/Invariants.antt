@@ -1,0 +1,15 @@
+use Rattle.std.proofs.Common.{◌≡◌, ℕ, ◌<◌}
+use Rattle.std.specs.Prelude.{IsTrue}
+use Rattle.asg_square.specs.BitTable.{has_bit}
+use Rattle.asg_square.proofs.bit_rows.BitRows.set_all.Given as goal
+
+-- the rows so far are set
+abbrev pub invariant-loop-r : goal.invariant-loop-r
+invariant-loop-r l =
+    record {
+      end : l.r-end ≡ l.fn.self.rows;
+      width : l.columns ≡ l.fn.self.columns;
+      rows : l.self.rows ≡ l.fn.self.rows;
+      columns : l.self.columns ≡ l.fn.self.columns;
+      all : (s d : ℕ) → s < l.r → d < l.fn.self.columns → IsTrue (has_bit l.self s d);
+    }

@@ -1,17 +1,9 @@
 //! Sets of columns, as words of bits.
 
 ghost use Rattle.std.specs.Prelude.{◌≡◌, ◌≢◌, ℕ, ◌<◌, ◌↔◌, length};
-ghost use Rattle.asg_match.specs.ColumnSet.{HasBit, HasColumn, IsColumnSet, word_count};
+ghost use Rattle.asg_match.specs.ColumnSet.{HasColumn, IsColumnSet, word_count};
 
-// The bits of the first columns of a word, where so many columns are left.
-fn first_bits(left: usize) -> u64
-    ensures { (k : ℕ) → HasBit result k ↔ ((k < left) × (k < 64)) }
-{
-    if left >= 64 {
-        return u64::MAX;
-    }
-    (1 << left) - 1
-}
+use asg_square::first_bits;
 
 // Makes the set that of all columns below the side.
 pub(crate) fn fill(words: &mut Vec<u64>, side: usize)

@@ -5,6 +5,7 @@ ghost use Rattle.std.specs.Prelude.{IfSome, IfNone, replicate, slice_set, slice_
 ghost use Rattle.asg_match.specs.Matching.{column_at, Matches, IsMatched, IsMatching, IsFree};
 
 use crate::NoMemory;
+use asg_square::overwrite;
 use std::alloc::Global;
 use std::marker::Model;
 
@@ -81,6 +82,16 @@ impl Matching {
         for row in 0..self.side() {
             columns[row as usize] = self.column_of(row).unwrap();
         }
+    }
+
+    /// Makes this matching equal to one over the same side. It takes no memory.
+    pub fn take(&mut self, other: &Matching)
+        requires { length self.old ≡ length other.now }
+        ensures { self.new ≡ other.now }
+    {
+        self.side = other.side;
+        overwrite(&mut self.columns, other.columns.as_slice());
+        overwrite(&mut self.rows, other.rows.as_slice());
     }
 
     /// Takes its column from row `r`, if it has one. Every other row keeps what it has.

@@ -17,3 +17,9 @@ pub mod LesserLists
 pub mod LevelCounts
 pub mod LevelsAreBest
 pub mod StepWordLemmas
+mod ChildRows
+mod RankingLaw
+mod Rankings
+mod TreesAreRankings
+pub mod WorkedTree
+mod TreeTops

@@ -4,6 +4,7 @@ mod SettleLemmas
 mod SettledRows
 mod ReplayLemmas
 mod AdmissionLemmas
+mod RowCells
 mod GreatestLemmas
 mod SumLemmas
 mod DualLemmas

@@ -1,7 +1,7 @@
 //! Whether a phase is admitted.
 
-ghost use Rattle.std.specs.Prelude.{◌≡◌, ◌↔◌, ◌<◌, ◌/◌, ℕ, Option, Some, length, All, IsTrue, slice_index};
-ghost use Rattle.asg_admit.specs.Admission.{AllowsAt, AllowsRow, AllowsRows, IsPhaseOver, cell_in_row};
+ghost use Rattle.std.specs.Prelude.{◌≡◌, ◌↔◌, ◌<◌, ◌/◌, ℕ, length, All, IsTrue};
+ghost use Rattle.asg_admit.specs.Admission.{AllowsRow, AllowsRows, IsPhaseOver, cell_in_row};
 ghost use Rattle.asg_admit.specs.Reduced.{phase_of};
 ghost use Rattle.asg_admit.specs.Settling.{HasValueAt};
 ghost use Rattle.asg_order.specs.Monoid.{IsValue};
@@ -11,7 +11,7 @@ ghost use Rattle.asg_square.specs.BitTable.{is_bit_set};
 ghost use Rattle.asg_square.specs.Grid.{cell_at};
 
 use crate::counting::are_counted;
-use crate::replayed_cells::replay_cell;
+use crate::row_cells::cells_allow;
 use asg_order::DMonoid;
 use asg_square::Square;
 
@@ -118,13 +118,7 @@ fn row_allows<M: DMonoid>(
     square.side();
     let words = square.row_words(row);
     let values = square.row_values(row);
-    for column in 0..leaves.len() {
-        let cell = stored_cell(values, words, column);
-        if !cell_allows(m, cell, steps, enter, leaves[column]) {
-            return false;
-        }
-    }
-    true
+    cells_allow(m, values, words, steps, leaves, enter)
 }
 
 // The cell at a column, by the values of a row and the words that say which of them are present.
@@ -148,27 +142,4 @@ fn is_set(word: u64, bit: usize) -> bool
     ensures { result ≡ is_bit_set word bit }
 {
     word >> bit & 1 == 1
-}
-
-// Whether a cell allows the steps at which its row has entered and its column stays.
-#[inline]
-fn cell_allows<M: DMonoid>(
-    m: &M,
-    cell: Option<M::Value>,
-    steps: &[M::Value],
-    enter: u32,
-    leave: u32,
-) -> bool
-    requires values { All (IsValue (M.monoid_of m.now)) steps.now }
-    requires cell { (x : M.Value) → cell ≡ Some x → IsValue (M.monoid_of m.now) x }
-    ensures { IsTrue result
-        ↔ AllowsAt (M.monoid_of m.now) (M.difference m.now) steps.now enter leave cell }
-{
-    if leave <= enter {
-        return true;
-    }
-    match cell {
-        Some(x) => replay_cell(m, x, steps, enter, leave).is_some(),
-        None => true,
-    }
 }

@@ -17,6 +17,7 @@
 #![tactic(auto)]
 
 mod admission;
+mod admission_within;
 mod blocks;
 mod counting;
 mod dual_cells;
@@ -45,11 +46,13 @@ mod products;
 mod reduced;
 mod replayed_cells;
 mod replaying;
+mod row_cells;
 mod segments;
 mod settling;
 mod stepping;
 
 pub use admission::{admits, are_values};
+pub use admission_within::admits_within;
 pub use dual_rows::DualRow;
 pub use dual_squares::{DualSquare, Replayed};
 pub use graded_squares::GradedSquare;

@@ -1,0 +1,54 @@
+use Rattle.std.proofs.Common.{◌≡◌, ◌+◌, ◌*◌, ◌/◌, ◌%◌, ◌<◌, length, refl, sym, ◌∙◌, subst, arith}
+use Rattle.std.specs.Prelude.{slice_get, slice_index}
+use Rattle.std.proofs.Math.Facts.{Fits-lt-pow}
+use Rattle.asg_admit.specs.Admission.{AllowsAt, cell_in_row}
+use Rattle.asg_admit.proofs.AdmissionLemmas.{not_both, never}
+use Rattle.asg_admit.proofs.MarkLemmas.{marked_at, bit_set, set_bit}
+use Rattle.asg_admit.proofs.RowCells.{cell_of_bit, bit_of_cell}
+use Rattle.asg_admit.proofs.WordBits.{bit_below}
+use Rattle.asg_admit.proofs.row_cells.cells_allow.Goals as goal
+
+pub bits_allow-requires-clause-first : goal.bits_allow-requires-clause-first
+bits_allow-requires-clause-first g c = omega (arith, c.loop-number-test.true, c.requires.words)
+
+pub bits_allow-requires-clause-inside : goal.bits_allow-requires-clause-inside
+bits_allow-requires-clause-inside g c k has =
+    let n = c.loop-number.number in
+    let words = c.args.words.now in
+    let low = bit_below (slice_index words n) k (Fits-lt-pow (c.type_inv.words n)) has in
+    c.requires.inside (64 * n + k) (omega (arith, c.loop-number-test.true, low)) (marked_at words n k low ∙ bit_set (slice_index words n) k has)
+
+pub bits_allow-requires-clause-values : goal.bits_allow-requires-clause-values
+bits_allow-requires-clause-values g c k x has is =
+    let n = c.loop-number.number in
+    let words = c.args.words.now in
+    let low = bit_below (slice_index words n) k (Fits-lt-pow (c.type_inv.words n)) has in
+    c.requires.values (64 * n + k) x (cell_of_bit c.args.values.now words n k low has ∙ is)
+
+pub returns-then-not-bits_allow : goal.returns-then-not-bits_allow
+returns-then-not-bits_allow g c =
+    let m = c.args.m.now in
+    let n = c.loop-number.number in
+    let values = c.args.values.now in
+    let words = c.args.words.now in
+    never (λ all. not_both c.bits_allow.result
+    (c.bits_allow.ensures.1 (λ k low has.
+    let within = c.requires.inside (64 * n + k) (omega (arith, c.loop-number-test.true, low)) (marked_at words n k low ∙ bit_set (slice_index words n) k has) in
+    subst (AllowsAt (g.M.Ordered.monoid_of m) (g.M.DMonoid.difference m) c.args.steps.now c.args.enter (slice_index c.args.leaves.now (64 * n + k))) (cell_of_bit values words n k low has)
+    (all (64 * n + k) (omega (arith, within, c.requires.leaves)))))
+    c.if-not-bits_allow.true)
+
+pub returns : goal.returns
+returns g c = (
+  λ _ k h x is.
+      let m = c.args.m.now in
+      let values = c.args.values.now in
+      let words = c.args.words.now in
+      let number : k / 64 < length words = omega (arith, h, c.requires.leaves, c.requires.words) in
+      let has = set_bit (slice_index words (k / 64)) (k % 64) (bit_of_cell values words k x is) in
+      let at : 64 * (k / 64) + k % 64 ≡ k = omega arith in
+      let there = subst (λ j. AllowsAt (g.M.Ordered.monoid_of m) (g.M.DMonoid.difference m) c.args.steps.now c.args.enter (slice_index c.args.leaves.now j) (slice_get values j)) at
+      (c.loop-number.invariant (k / 64) (k % 64) (omega (arith, number, c.loop-number-test.false)) (omega arith) has) in
+      there x (sym (subst (λ j. cell_in_row values words j ≡ slice_get values j) at (cell_of_bit values words (k / 64) (k % 64) (omega arith) has)) ∙ is),
+  λ _. refl,
+)

@@ -14,6 +14,8 @@ pub mod GrowthLaws
 pub mod EnteringLaws
 pub mod SolvedLaws
 pub mod FinishLaws
+pub mod BranchLaws
+pub mod BranchStarts
 pub mod SolvingLaws
 pub mod FoldLaws
 mod TakenLaws

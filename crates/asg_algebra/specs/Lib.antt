@@ -2,6 +2,7 @@ pub mod Growing
 pub mod Searching
 pub mod Keys
 pub mod Leads
+pub mod Masked
 pub mod Nearest
 pub mod Scanned
 pub mod Underway
@@ -11,3 +12,4 @@ pub mod Solved
 pub mod Served
 pub mod Benches
 pub mod Ended
+pub mod Branches

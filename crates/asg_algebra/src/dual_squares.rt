@@ -13,7 +13,7 @@ ghost use Rattle.asg_algebra.specs.Solved.{HasSolved, unmatched};
 use crate::NoMemory;
 use crate::bench::Bench;
 use crate::given::solve_kept_given;
-use crate::reduced_squares::ReducedSquare;
+use crate::reduced_squares::{ReducedSquare, RowSquare};
 use crate::row_values::{RowValues, is_present};
 use crate::scanning::scan;
 use crate::square_solvers::{SolvedSquare, SquareSolver, solve_kept};
@@ -33,15 +33,8 @@ impl<'a> RowValues<Bounded> for DualRow<'a> {
     }
 }
 
-impl ReducedSquare<Bounded> for DualSquare {
-    ghost use Rattle.std.specs.Prelude.{false};
-    ghost use Rattle.asg_admit.specs.Duals.{HasRoom};
-
+impl RowSquare<Bounded> for DualSquare {
     ghost as_reduced = { λ dual. dual };
-
-    ghost takes = { λ dual m sum. HasRoom m.top dual sum };
-
-    ghost takes_all = { false };
 
     fn side(&self) -> u32 {
         DualSquare::side(self)
@@ -49,14 +42,6 @@ impl ReducedSquare<Bounded> for DualSquare {
 
     fn index(&self) -> u128 {
         DualSquare::index(self)
-    }
-
-    fn at(&self, row: u32, column: u32) -> Option<u128> {
-        if is_present(self.row_words(row), column) {
-            Some(self.row(row).value(column))
-        } else {
-            None
-        }
     }
 
     fn offer_row(
@@ -77,6 +62,23 @@ impl ReducedSquare<Bounded> for DualSquare {
         scan(
             m, matching, &values, present, sum, unseen, keys, keyed, places, nearest, place,
         )
+    }
+}
+
+impl ReducedSquare<Bounded> for DualSquare {
+    ghost use Rattle.std.specs.Prelude.{false};
+    ghost use Rattle.asg_admit.specs.Duals.{HasRoom};
+
+    ghost takes = { λ dual m sum. HasRoom m.top dual sum };
+
+    ghost takes_all = { false };
+
+    fn at(&self, row: u32, column: u32) -> Option<u128> {
+        if is_present(self.row_words(row), column) {
+            Some(self.row(row).value(column))
+        } else {
+            None
+        }
     }
 
     fn takes_sum(&self, m: &Bounded, sum: u128) -> bool {

@@ -14,7 +14,7 @@ ghost use Rattle.asg_algebra.specs.Solved.{HasSolved, unmatched};
 use crate::NoMemory;
 use crate::bench::Bench;
 use crate::given::solve_kept_given;
-use crate::reduced_squares::ReducedSquare;
+use crate::reduced_squares::{ReducedSquare, RowSquare};
 use crate::row_values::{PlainRow, is_present};
 use crate::scanning::scan;
 use crate::square_solvers::{SolvedSquare, SquareSolver, solve_kept};
@@ -25,14 +25,8 @@ use asg_pool::{Region, Trail};
 use asg_proof::Phase;
 use std::alloc::Global;
 
-impl ReducedSquare<Graded<Bounded>> for GradedSquare {
-    ghost use Rattle.std.specs.Prelude.{true, ⊤};
-
+impl RowSquare<Graded<Bounded>> for GradedSquare {
     ghost as_reduced = { λ graded. graded };
-
-    ghost takes = { λ graded m sum. ⊤ };
-
-    ghost takes_all = { true };
 
     fn side(&self) -> u32 {
         GradedSquare::side(self)
@@ -40,14 +34,6 @@ impl ReducedSquare<Graded<Bounded>> for GradedSquare {
 
     fn index(&self) -> (u64, u128) {
         GradedSquare::index(self)
-    }
-
-    fn at(&self, row: u32, column: u32) -> Option<(u64, u128)> {
-        if is_present(self.row_words(row), column) {
-            Some(self.row_values(row)[column as usize])
-        } else {
-            None
-        }
     }
 
     fn offer_row(
@@ -70,6 +56,22 @@ impl ReducedSquare<Graded<Bounded>> for GradedSquare {
         scan(
             m, matching, &values, present, sum, unseen, keys, keyed, places, nearest, place,
         )
+    }
+}
+
+impl ReducedSquare<Graded<Bounded>> for GradedSquare {
+    ghost use Rattle.std.specs.Prelude.{true, ⊤};
+
+    ghost takes = { λ graded m sum. ⊤ };
+
+    ghost takes_all = { true };
+
+    fn at(&self, row: u32, column: u32) -> Option<(u64, u128)> {
+        if is_present(self.row_words(row), column) {
+            Some(self.row_values(row)[column as usize])
+        } else {
+            None
+        }
     }
 
     fn takes_sum(&self, m: &Graded<Bounded>, sum: (u64, u128)) -> bool {

@@ -12,7 +12,7 @@ ghost use Rattle.asg_algebra.specs.Growths.{Searches, IsReady, HasNoLead, Ends};
 ghost use Rattle.asg_algebra.specs.Growths.{Enters, CanRenew, Renews, Climbs, leads_in};
 
 use crate::nearest::nearest_in_word;
-use crate::reduced_squares::ReducedSquare;
+use crate::reduced_squares::RowSquare;
 use asg_match::{Branches, Matching, remove};
 use asg_order::DMonoid;
 
@@ -112,7 +112,7 @@ fn climb<M: DMonoid>(m: &M, growth: &mut Growth<M::Value>, sum: &mut M::Value, c
 
 // Looks at each column that wasn't reached from the row that entered last. The column with the
 // least key of those that weren't reached, if one has a key.
-fn look<M: DMonoid, S: ReducedSquare<M>>(
+fn look<M: DMonoid, S: RowSquare<M>>(
     m: &M,
     reduced: &S,
     matching: &Matching,
@@ -148,7 +148,7 @@ fn look<M: DMonoid, S: ReducedSquare<M>>(
 
 // Looks from the row that entered last, and takes the sum up to the least key of a column that
 // wasn't reached. None where no such column has a key.
-fn reach<M: DMonoid, S: ReducedSquare<M>>(
+fn reach<M: DMonoid, S: RowSquare<M>>(
     m: &M,
     reduced: &S,
     matching: &Matching,
@@ -173,7 +173,7 @@ fn reach<M: DMonoid, S: ReducedSquare<M>>(
 }
 
 // One round of growth: a row enters, or a column that no row has is reached, or none can be.
-fn advance_round<M: DMonoid, S: ReducedSquare<M>>(
+pub(crate) fn advance_round<M: DMonoid, S: RowSquare<M>>(
     m: &M,
     reduced: &S,
     matching: &Matching,
@@ -205,7 +205,7 @@ fn advance_round<M: DMonoid, S: ReducedSquare<M>>(
 
 // Grows the tree up to the first column that no row has. `None` where its rows have too few
 // columns.
-pub(crate) fn grow<M: DMonoid, S: ReducedSquare<M>>(
+pub(crate) fn grow<M: DMonoid, S: RowSquare<M>>(
     m: &M,
     reduced: &S,
     matching: &Matching,

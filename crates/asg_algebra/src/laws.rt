@@ -1,11 +1,16 @@
 //! What follows from the engine's answers. A call does nothing: it tells its caller the law.
 
-ghost use Rattle.std.specs.Prelude.{◌≡◌, ℕ, ◌<◌, List, Option, length, slice_index};
+ghost use Rattle.std.specs.Prelude.{◌≡◌, ◌≢◌, ℕ, ◌<◌, Bool, true, List, Option, None, length};
+ghost use Rattle.std.specs.Prelude.{slice_index, slice_set, if◌then◌else◌};
+ghost use Rattle.asg_admit.specs.declared.reduced.Reduced.{Reduced};
 ghost use Rattle.asg_match.specs.Matching.{Matches, IsPerfect};
 ghost use Rattle.asg_proof.specs.Phases.{PhaseOf, AreAdmittedPhases, after_phases, index_of};
 ghost use Rattle.asg_proof.specs.Steps.{HasSide, HasValues, assignment_fold};
 ghost use Rattle.asg_square.specs.Cells.{IsAssignment};
+ghost use Rattle.asg_square.specs.Masked.{keeps};
 ghost use Rattle.asg_algebra.specs.Growing.{IsAbsorbed};
+ghost use Rattle.asg_algebra.specs.Masked.{masked_reduced};
+ghost use Rattle.asg_algebra.specs.Rest.{IsRest, IsRestOf};
 
 use asg_order::DMonoid;
 use asg_proof::laws::phases_law;
@@ -30,3 +35,24 @@ pub fn fold_law<M: DMonoid>(m: &M)
 {
     phases_law(m);
 }
+
+/// The law of branches: where a matching stands in absorbed cells, it does so without the column of
+/// a row on the square without some cells, if its other cells are kept. `masked` says it of rows of
+/// bits.
+pub fn branch_law<M: DMonoid>(m: &M)
+    ensures rest { let monoid = M.monoid_of m.now in
+        (side : ℕ) (square : ℕ → ℕ → Option M.Value) (index : M.Value) (matching : List (Option ℕ))
+        (root : ℕ) (keep : ℕ → ℕ → Bool)
+        → root < length matching
+        → IsRest monoid side square index matching
+        → ((r k : ℕ) → r ≢ root → Matches matching r k → keep r k ≡ true)
+        → IsRest monoid side (λ r k. if keep r k then square r k else None) index
+        (slice_set matching root None) }
+    ensures masked { let monoid = M.monoid_of m.now in
+        (reduced : Reduced M.Value) (words : List ℕ) (matching : List (Option ℕ)) (root : ℕ)
+        → root < length matching
+        → IsRestOf monoid reduced matching
+        → ((r k : ℕ) → r ≢ root → Matches matching r k
+        → keeps reduced.now.side words r k ≡ true)
+        → IsRestOf monoid (masked_reduced reduced words) (slice_set matching root None) }
+{}

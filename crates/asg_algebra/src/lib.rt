@@ -15,12 +15,14 @@
 
 mod absorbed_cells;
 mod bench;
+mod branching;
 mod dual_squares;
 mod given;
 mod graded_squares;
 mod growth;
 pub mod laws;
 mod leads;
+mod masked;
 mod narrow_squares;
 mod nearest;
 mod phases;
@@ -35,6 +37,7 @@ mod tested_lists;
 mod whole_words;
 
 pub use bench::Bench;
+pub use branching::{Branch, branch_from};
 pub use solving::{Solved, solve};
 pub use square_solvers::{SolvedSquare, SquareSolver};
 

@@ -13,7 +13,7 @@ ghost use Rattle.asg_algebra.specs.Solved.{HasSolved, unmatched};
 use crate::NoMemory;
 use crate::bench::Bench;
 use crate::given::solve_kept_given;
-use crate::reduced_squares::ReducedSquare;
+use crate::reduced_squares::{ReducedSquare, RowSquare};
 use crate::row_values::{RowValues, is_present};
 use crate::scanning::scan;
 use crate::square_solvers::{SolvedSquare, SquareSolver, solve_kept};
@@ -40,16 +40,8 @@ impl<'a> RowValues<NarrowSums> for NarrowRow<'a> {
     }
 }
 
-impl ReducedSquare<NarrowSums> for NarrowSquare {
-    ghost use Rattle.std.specs.Prelude.{false};
-    ghost use Rattle.asg_admit.specs.Duals.{HasRoom};
-    ghost use Rattle.asg_monoids.specs.BoundedSums.{narrow_top};
-
+impl RowSquare<NarrowSums> for NarrowSquare {
     ghost as_reduced = { λ narrow. narrow };
-
-    ghost takes = { λ narrow m sum. HasRoom narrow_top narrow sum };
-
-    ghost takes_all = { false };
 
     fn side(&self) -> u32 {
         NarrowSquare::side(self)
@@ -57,14 +49,6 @@ impl ReducedSquare<NarrowSums> for NarrowSquare {
 
     fn index(&self) -> u64 {
         NarrowSquare::index(self)
-    }
-
-    fn at(&self, row: u32, column: u32) -> Option<u64> {
-        if is_present(self.row_words(row), column) {
-            Some(self.row(row).value(column))
-        } else {
-            None
-        }
     }
 
     fn offer_row(
@@ -85,6 +69,24 @@ impl ReducedSquare<NarrowSums> for NarrowSquare {
         scan(
             m, matching, &values, present, sum, unseen, keys, keyed, places, nearest, place,
         )
+    }
+}
+
+impl ReducedSquare<NarrowSums> for NarrowSquare {
+    ghost use Rattle.std.specs.Prelude.{false};
+    ghost use Rattle.asg_admit.specs.Duals.{HasRoom};
+    ghost use Rattle.asg_monoids.specs.BoundedSums.{narrow_top};
+
+    ghost takes = { λ narrow m sum. HasRoom narrow_top narrow sum };
+
+    ghost takes_all = { false };
+
+    fn at(&self, row: u32, column: u32) -> Option<u64> {
+        if is_present(self.row_words(row), column) {
+            Some(self.row(row).value(column))
+        } else {
+            None
+        }
     }
 
     fn takes_sum(&self, m: &NarrowSums, sum: u64) -> bool {

@@ -33,7 +33,7 @@ pub(crate) enum Served {
 }
 
 // Cuts marks to a number of steps.
-fn cut_marks(marks: &mut [u32], steps: u32)
+pub(crate) fn cut_marks(marks: &mut [u32], steps: u32)
     ensures { marks.new ≡ cut steps marks.old }
 {
     for mark in marks.iter_mut() {

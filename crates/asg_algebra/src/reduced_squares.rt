@@ -18,16 +18,10 @@ use asg_admit::{Reduced, replay_within};
 use asg_match::Matching;
 use asg_order::DMonoid;
 
-/// A reduced square over a d-monoid, however it is kept.
-pub(crate) trait ReducedSquare<M: DMonoid> {
+/// A reduced square over a d-monoid, however it is kept, whose rows can be looked at.
+pub(crate) trait RowSquare<M: DMonoid> {
     // The reduced square.
     ghost as_reduced: { Self → Reduced M.Value };
-
-    // Phases whose steps have this product can be settled.
-    ghost takes: { Self → M → M.Value → Type 0 };
-
-    // All phases can be settled.
-    ghost takes_all: { Bool };
 
     /// The side.
     fn side(&self) -> u32
@@ -37,12 +31,6 @@ pub(crate) trait ReducedSquare<M: DMonoid> {
     /// The product of the steps that led to it.
     fn index(&self) -> M::Value
         ensures { result ≡ (as_reduced self.now).index };
-
-    /// The cell at a row and a column.
-    fn at(&self, row: u32, column: u32) -> Option<M::Value>
-        requires row { row < (as_reduced self.now).now.side }
-        requires column { column < (as_reduced self.now).now.side }
-        ensures { result ≡ cell_at (as_reduced self.now).now row column };
 
     /// Offers each column of a set at which the row has a cell the product of a sum and this cell,
     /// from the row at a place. The column of the set with the least key, if one has a key; of
@@ -82,10 +70,25 @@ pub(crate) trait ReducedSquare<M: DMonoid> {
         ensures picks { Picks (M.monoid_of m.now)
             (lead_at (M.monoid_of m.now) (leads_of keys.new keyed.new places.new))
             (HasColumn unseen.now) result };
+}
+
+/// A reduced square over a d-monoid, however it is kept.
+pub(crate) trait ReducedSquare<M: DMonoid>: RowSquare<M> {
+    // Phases whose steps have this product can be settled.
+    ghost takes: { Self → M → M.Value → Type 0 };
+
+    // All phases can be settled.
+    ghost takes_all: { Bool };
+
+    /// The cell at a row and a column.
+    fn at(&self, row: u32, column: u32) -> Option<M::Value>
+        requires row { row < (Self.as_reduced self.now).now.side }
+        requires column { column < (Self.as_reduced self.now).now.side }
+        ensures { result ≡ cell_at (Self.as_reduced self.now).now row column };
 
     /// Whether phases whose steps have this product can be settled.
     fn takes_sum(&self, m: &M, sum: M::Value) -> bool
-        requires reduced { IsReduced (M.monoid_of m.now) (as_reduced self.now) }
+        requires reduced { IsReduced (M.monoid_of m.now) (Self.as_reduced self.now) }
         requires sum { IsValue (M.monoid_of m.now) sum }
         ensures takes { IsTrue result → takes self.now m.now sum }
         ensures all { IsTrue takes_all → IsTrue result };
@@ -100,15 +103,15 @@ pub(crate) trait ReducedSquare<M: DMonoid> {
         leaves: &[u32],
         room: &mut [M::Value],
     )
-        requires reduced { IsReduced (M.monoid_of m.now) (as_reduced self.old) }
+        requires reduced { IsReduced (M.monoid_of m.now) (Self.as_reduced self.old) }
         requires admitted { let phase = phase_of steps.now enters.now leaves.now in
-            IsAdmittedPhase (M.monoid_of m.now) (M.difference m.now) (as_reduced self.old).now.side
-            phase (cell_at (as_reduced self.old).now) }
+            IsAdmittedPhase (M.monoid_of m.now) (M.difference m.now)
+            (Self.as_reduced self.old).now.side phase (cell_at (Self.as_reduced self.old).now) }
         requires takes { takes self.old m.now (fold_of (M.monoid_of m.now) steps.now) }
         requires room { length steps.now < length room.old }
         ensures phase { let phase = phase_of steps.now enters.now leaves.now in
-            IsPhaseTo (M.monoid_of m.now) (M.difference m.now) phase (as_reduced self.old)
-            (as_reduced self.new) }
+            IsPhaseTo (M.monoid_of m.now) (M.difference m.now) phase (Self.as_reduced self.old)
+            (Self.as_reduced self.new) }
         ensures room { length room.new ≡ length room.old };
 
     /// Applies a phase where it is admitted, and multiplies the index by its steps; whether it did.
@@ -122,29 +125,23 @@ pub(crate) trait ReducedSquare<M: DMonoid> {
         leaves: &[u32],
         room: &mut [M::Value],
     ) -> bool
-        requires reduced { IsReduced (M.monoid_of m.now) (as_reduced self.old) }
+        requires reduced { IsReduced (M.monoid_of m.now) (Self.as_reduced self.old) }
         requires room { length steps.now < length room.old }
         ensures admitted { let phase = phase_of steps.now enters.now leaves.now in IsTrue result
             → IsAdmittedPhase (M.monoid_of m.now) (M.difference m.now)
-            (as_reduced self.old).now.side phase (cell_at (as_reduced self.old).now) }
+            (Self.as_reduced self.old).now.side phase (cell_at (Self.as_reduced self.old).now) }
         ensures phase { let phase = phase_of steps.now enters.now leaves.now in IsTrue result
-            → IsPhaseTo (M.monoid_of m.now) (M.difference m.now) phase (as_reduced self.old)
-            (as_reduced self.new) }
+            → IsPhaseTo (M.monoid_of m.now) (M.difference m.now) phase (Self.as_reduced self.old)
+            (Self.as_reduced self.new) }
         ensures room { length room.new ≡ length room.old };
 
     /// The reduced square with its cells written out.
     fn into_reduced(self) -> Reduced<M::Value>
-        ensures { result ≡ as_reduced self };
+        ensures { result ≡ Self.as_reduced self };
 }
 
-impl<M: DMonoid> ReducedSquare<M> for Reduced<M::Value> {
-    ghost use Rattle.std.specs.Prelude.{true, ⊤};
-
+impl<M: DMonoid> RowSquare<M> for Reduced<M::Value> {
     ghost as_reduced = { λ reduced. reduced };
-
-    ghost takes = { λ reduced m sum. ⊤ };
-
-    ghost takes_all = { true };
 
     fn side(&self) -> u32 {
         self.now.side()
@@ -152,10 +149,6 @@ impl<M: DMonoid> ReducedSquare<M> for Reduced<M::Value> {
 
     fn index(&self) -> M::Value {
         self.index
-    }
-
-    fn at(&self, row: u32, column: u32) -> Option<M::Value> {
-        self.now.at(row, column)
     }
 
     fn offer_row(
@@ -178,6 +171,18 @@ impl<M: DMonoid> ReducedSquare<M> for Reduced<M::Value> {
         scan(
             m, matching, &values, present, sum, unseen, keys, keyed, places, nearest, place,
         )
+    }
+}
+
+impl<M: DMonoid> ReducedSquare<M> for Reduced<M::Value> {
+    ghost use Rattle.std.specs.Prelude.{true, ⊤};
+
+    ghost takes = { λ reduced m sum. ⊤ };
+
+    ghost takes_all = { true };
+
+    fn at(&self, row: u32, column: u32) -> Option<M::Value> {
+        self.now.at(row, column)
     }
 
     fn takes_sum(&self, m: &M, sum: M::Value) -> bool {

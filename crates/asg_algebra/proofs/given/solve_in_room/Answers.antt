@@ -10,7 +10,7 @@ pub returns-clause-solved : goal.returns-clause-solved
 returns-clause-solved g c =
     let m = c.args.m.now in
     let lead = c.take_phases.ensures c.if-not-take_phases.false in
-    subst (λ after. HasSolved (g.M.Ordered.monoid_of m) (g.M.DMonoid.difference m) (g.S.ReducedSquare.as_reduced c.args.square) after c.args.matching.now c.match_columns.new.matching c.args.region.now c.take_phases.new.region None c.take_phases.new.last)
+    subst (λ after. HasSolved (g.M.Ordered.monoid_of m) (g.M.DMonoid.difference m) (g.S.RowSquare.as_reduced c.args.square) after c.args.matching.now c.match_columns.new.matching c.args.region.now c.take_phases.new.region None c.take_phases.new.last)
     (sym c.into_reduced.ensures)
     (HasSolved-led lead c.args.matching.now c.match_columns.new.matching c.requires.few tt c.match_columns.ensures)
 
@@ -18,7 +18,7 @@ pub returns-clause-ends : goal.returns-clause-ends
 returns-clause-ends g c = λ rows.
     let M = g.M.Ordered.monoid_of c.args.m.now in
     let lead = c.take_phases.ensures c.if-not-take_phases.false in
-    let after = g.S.ReducedSquare.as_reduced c.take_phases.new.square in
+    let after = g.S.RowSquare.as_reduced c.take_phases.new.square in
     subst (λ d. IsPerfect (IsAbsorbed M d.index (cell_at d.now)) d.now.side c.match_columns.new.matching)
     (sym c.into_reduced.ensures)
     (KeepsRows-perfect M after c.args.matching.now c.match_columns.new.matching (c.requires.matching_side ∙ sym lead.labels.side) c.match_columns.ensures (c.is_perfect.ensures c.if-not-is_perfect.false))

@@ -18,7 +18,7 @@ offer_row-requires-clause-reduced g c =
 
 pub offer_row-requires-clause-row : goal.offer_row-requires-clause-row
 offer_row-requires-clause-row g c =
-    let whole = g.S.ReducedSquare.as_reduced c.args.reduced.now in
+    let whole = g.S.RowSquare.as_reduced c.args.reduced.now in
     let b = c.args.growth.now in
     let s = c.requires.search in
     let place = c.args.place in
@@ -37,7 +37,7 @@ offer_row-requires-clause-sum g c =
 
 pub offer_row-requires-clause-unseen : goal.offer_row-requires-clause-unseen
 offer_row-requires-clause-unseen g c =
-    let whole = g.S.ReducedSquare.as_reduced c.args.reduced.now in
+    let whole = g.S.RowSquare.as_reduced c.args.reduced.now in
     subst (IsColumnSet whole.now.side) (sym c.deref.ensures.value) c.requires.search.unseen
 
 pub offer_row-requires-clause-leads : goal.offer_row-requires-clause-leads
@@ -69,7 +69,7 @@ returns-clause-search g c =
     let laws = g.met.M.Ordered.laws m in
     let d = g.M.DMonoid.difference m in
     let has = g.met.M.DMonoid.difference_laws m in
-    let whole = g.S.ReducedSquare.as_reduced c.args.reduced.now in
+    let whole = g.S.RowSquare.as_reduced c.args.reduced.now in
     let b = c.args.growth.now in
     let s = c.requires.search in
     let place = c.args.place in

@@ -43,7 +43,7 @@ returns-in_default-clause-none g c =
     subst (λ o. IfNone o (HasNoLead M b)) (sym c.in_default.is)
     (subst (Picks M (lead_at M (leads_in b)) (HasColumn b.tree.unseen.items)) c.in_default.is picked)
 
-climbed : (g : Over) (c : goal.After-climb g) → IsSearch (g.M.Ordered.monoid_of c.args.m.now) (g.M.DMonoid.difference c.args.m.now) (g.S.ReducedSquare.as_reduced c.args.reduced.now).now (g.S.ReducedSquare.as_reduced c.args.reduced.now).index c.args.matching.now c.climb.new.growth c.climb.new.sum (c.args.place + 1) × IsReady (g.M.Ordered.monoid_of c.args.m.now) c.climb.new.growth c.climb.new.sum c.in-Some.column
+climbed : (g : Over) (c : goal.After-climb g) → IsSearch (g.M.Ordered.monoid_of c.args.m.now) (g.M.DMonoid.difference c.args.m.now) (g.S.RowSquare.as_reduced c.args.reduced.now).now (g.S.RowSquare.as_reduced c.args.reduced.now).index c.args.matching.now c.climb.new.growth c.climb.new.sum (c.args.place + 1) × IsReady (g.M.Ordered.monoid_of c.args.m.now) c.climb.new.growth c.climb.new.sum c.in-Some.column
 climbed g c =
     let m = c.args.m.now in
     let M = g.M.Ordered.monoid_of m in

@@ -59,7 +59,7 @@ returns-in-Some-clause-roomy g c = c.finish.ensures.roomy
 
 pub returns-in-Some-clause-below : goal.returns-in-Some-clause-below
 returns-in-Some-clause-below g c =
-    let side = (g.S.ReducedSquare.as_reduced c.args.reduced.now).now.side in
+    let side = (g.S.RowSquare.as_reduced c.args.reduced.now).now.side in
     subst (λ t. All (λ r. r < side) t.rows.items) (sym c.finish.ensures.tree) c.grow.ensures.search.underway.scanned.below
 
 pub returns-in-Some-clause-apart : goal.returns-in-Some-clause-apart

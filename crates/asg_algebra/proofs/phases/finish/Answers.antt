@@ -38,7 +38,7 @@ keep-requires-clause-few g c =
     let m = c.args.m.now in
     let laws = g.met.M.Ordered.laws m in
     let has = g.met.M.DMonoid.difference_laws m in
-    let old = g.S.ReducedSquare.as_reduced c.args.reduced.now in
+    let old = g.S.RowSquare.as_reduced c.args.reduced.now in
     let b = c.args.growth.now in
     let r = c.requires in
     let s = r.search in
@@ -50,10 +50,10 @@ returns-clause-serves g c =
     let m = c.args.m.now in
     let laws = g.met.M.Ordered.laws m in
     let has = g.met.M.DMonoid.difference_laws m in
-    let old = g.S.ReducedSquare.as_reduced c.args.reduced.now in
+    let old = g.S.RowSquare.as_reduced c.args.reduced.now in
     let b = c.args.growth.now in
     let r = c.requires in
     let s = r.search in
     let at = place_read laws has s refl r.ready.least c.index-place.result.now c.index-place.ensures in
     let few : length b.steps.items ≤ old.now.side = omega (arith, s.few_steps, b.steps.ok.0, few_rows laws has s) in
-    finished laws has old (g.S.ReducedSquare.as_reduced c.keep.new.reduced) s r.reduced few r.ready at c.flip.ensures c.keep.ensures.phase c.keep.ensures.pushed
+    finished laws has old (g.S.RowSquare.as_reduced c.keep.new.reduced) s r.reduced few r.ready at c.flip.ensures c.keep.ensures.phase c.keep.ensures.pushed

@@ -21,7 +21,7 @@ no_step g c =
 pub returns-then-is_empty-clause-phase : goal.returns-then-is_empty-clause-phase
 returns-then-is_empty-clause-phase g c =
     let m = c.args.m.now in
-    no_steps (g.M.Ordered.monoid_of m) (g.met.M.Ordered.laws m) (g.M.DMonoid.difference m) (phase_in c.args.growth.now) (g.S.ReducedSquare.as_reduced c.args.reduced.now) c.requires.reduced (no_step g c)
+    no_steps (g.M.Ordered.monoid_of m) (g.met.M.Ordered.laws m) (g.M.DMonoid.difference m) (phase_in c.args.growth.now) (g.S.RowSquare.as_reduced c.args.reduced.now) c.requires.reduced (no_step g c)
 
 pub returns-then-is_empty-clause-pushed : goal.returns-then-is_empty-clause-pushed
 returns-then-is_empty-clause-pushed g c =
@@ -41,7 +41,7 @@ settle-requires-clause-reduced g c = c.requires.reduced
 pub settle-requires-clause-admitted : goal.settle-requires-clause-admitted
 settle-requires-clause-admitted g c =
     let m = c.args.m.now in
-    let before = g.S.ReducedSquare.as_reduced c.args.reduced.now in
+    let before = g.S.RowSquare.as_reduced c.args.reduced.now in
     let closes = c.close.ensures in
     let steps = c.deref.ensures.value ∙ ap (λ v. v.items) closes.steps in
     let enters = c.deref-2.ensures.value ∙ closes.enters in
@@ -66,8 +66,8 @@ settle-requires-clause-room g c =
 pub returns-clause-phase : goal.returns-clause-phase
 returns-clause-phase g c =
     let m = c.args.m.now in
-    let before = g.S.ReducedSquare.as_reduced c.args.reduced.now in
-    let after = g.S.ReducedSquare.as_reduced c.settle.new.self in
+    let before = g.S.RowSquare.as_reduced c.args.reduced.now in
+    let after = g.S.RowSquare.as_reduced c.settle.new.self in
     let closes = c.close.ensures in
     let steps = c.deref.ensures.value ∙ ap (λ v. v.items) closes.steps in
     let enters = c.deref-2.ensures.value ∙ closes.enters in
@@ -95,7 +95,7 @@ pub returns-clause-roomy : goal.returns-clause-roomy
 returns-clause-roomy g c =
     let r = c.requires.roomy in
     let closes = c.close.ensures in
-    let side = (g.S.ReducedSquare.as_reduced c.args.reduced.now).now.side in
+    let side = (g.S.RowSquare.as_reduced c.args.reduced.now).now.side in
     record {
       rows_room = subst (λ t. side ≤ vec_capacity t.rows) (sym closes.tree) r.rows_room;
       parents_side = ap (λ t. vec_len t.parents) closes.tree ∙ r.parents_side;

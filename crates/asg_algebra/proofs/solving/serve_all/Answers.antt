@@ -7,7 +7,7 @@ use Rattle.asg_algebra.proofs.solving.serve_all.Goals as goal
 pub loop-root-init : goal.loop-root-init
 loop-root-init g c =
     let M = g.M.Ordered.monoid_of c.args.m.now in
-    let before = g.S.ReducedSquare.as_reduced c.args.reduced.now in
+    let before = g.S.RowSquare.as_reduced c.args.reduced.now in
     let rest = c.requires.rest in
     record {
       solving = IsSolving-start M (g.met.M.Ordered.laws c.args.m.now) (g.M.DMonoid.difference c.args.m.now) before c.args.matching.now c.args.region.now c.args.trail (IsReduced-rest M before c.args.matching.now rest) rest.columns rest.absorbed;
@@ -28,13 +28,13 @@ serve-requires-clause-region_side g c =
 pub returns-in-Lacks-clause-solved : goal.returns-in-Lacks-clause-solved
 returns-in-Lacks-clause-solved g c =
     let same = c.in-Lacks.ensures.serves.0 in
-    subst (λ A. A) (λ i. HasSolved (g.M.Ordered.monoid_of c.args.m.now) (g.M.DMonoid.difference c.args.m.now) (g.S.ReducedSquare.as_reduced c.args.reduced.now) ((sym same.same_square) i) c.args.matching.now ((sym same.same_matching) i) c.args.region.now ((sym same.same_forest) i) c.args.trail ((sym same.same_trail) i))
+    subst (λ A. A) (λ i. HasSolved (g.M.Ordered.monoid_of c.args.m.now) (g.M.DMonoid.difference c.args.m.now) (g.S.RowSquare.as_reduced c.args.reduced.now) ((sym same.same_square) i) c.args.matching.now ((sym same.same_matching) i) c.args.region.now ((sym same.same_forest) i) c.args.trail ((sym same.same_trail) i))
     (HasSolved-from c.loop-root.invariant.solving c.requires.live)
 
 pub returns-in-Full-clause-solved : goal.returns-in-Full-clause-solved
 returns-in-Full-clause-solved g c =
     let same = c.in-Full.ensures.serves.0 in
-    subst (λ A. A) (λ i. HasSolved (g.M.Ordered.monoid_of c.args.m.now) (g.M.DMonoid.difference c.args.m.now) (g.S.ReducedSquare.as_reduced c.args.reduced.now) ((sym same.same_square) i) c.args.matching.now ((sym same.same_matching) i) c.args.region.now ((sym same.same_forest) i) c.args.trail ((sym same.same_trail) i))
+    subst (λ A. A) (λ i. HasSolved (g.M.Ordered.monoid_of c.args.m.now) (g.M.DMonoid.difference c.args.m.now) (g.S.RowSquare.as_reduced c.args.reduced.now) ((sym same.same_square) i) c.args.matching.now ((sym same.same_matching) i) c.args.region.now ((sym same.same_forest) i) c.args.trail ((sym same.same_trail) i))
     (HasSolved-from c.loop-root.invariant.solving c.requires.live)
 
 pub returns-in-Lacks-clause-left : goal.returns-in-Lacks-clause-left
@@ -54,9 +54,9 @@ pub loop-root-preserved : goal.loop-root-preserved
 loop-root-preserved g c =
     let s = c.loop-root.invariant.solving in
     let new = c.serve.new in
-    let is = IsReduced-rest (g.M.Ordered.monoid_of c.args.m.now) (g.S.ReducedSquare.as_reduced c.args.reduced.now) c.args.matching.now c.requires.rest in
+    let is = IsReduced-rest (g.M.Ordered.monoid_of c.args.m.now) (g.S.RowSquare.as_reduced c.args.reduced.now) c.args.matching.now c.requires.rest in
     record {
-      solving = IsSolving-next s (g.met.M.Ordered.laws c.args.m.now) is (omega (arith, c.loop-root-test.true, c.side-root-end.ensures.side)) (g.S.ReducedSquare.as_reduced new.reduced) new.matching new.region c.in-Has.next c.in-Has.ensures.serves;
+      solving = IsSolving-next s (g.met.M.Ordered.laws c.args.m.now) is (omega (arith, c.loop-root-test.true, c.side-root-end.ensures.side)) (g.S.RowSquare.as_reduced new.reduced) new.matching new.region c.in-Has.next c.in-Has.ensures.serves;
       bench = subst (λ n. IsBench n new.growth) s.lead.labels.side c.serve.ensures.bench;
     }
 

@@ -6,6 +6,6 @@ use Rattle.asg_algebra.proofs.solving.serve_all.Given as goal
 abbrev pub invariant-loop-root : goal.invariant-loop-root
 invariant-loop-root g l =
     record {
-      solving : IsSolving (g.M.Ordered.monoid_of l.m) (g.M.DMonoid.difference l.m) (g.S.ReducedSquare.as_reduced l.fn.reduced) (g.S.ReducedSquare.as_reduced l.reduced) l.fn.matching l.matching l.fn.region l.region l.fn.trail l.last l.root;
-      bench : IsBench (g.S.ReducedSquare.as_reduced l.fn.reduced).now.side l.growth;
+      solving : IsSolving (g.M.Ordered.monoid_of l.m) (g.M.DMonoid.difference l.m) (g.S.RowSquare.as_reduced l.fn.reduced) (g.S.RowSquare.as_reduced l.reduced) l.fn.matching l.matching l.fn.region l.region l.fn.trail l.last l.root;
+      bench : IsBench (g.S.RowSquare.as_reduced l.fn.reduced).now.side l.growth;
     }

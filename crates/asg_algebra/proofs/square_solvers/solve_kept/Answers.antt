@@ -55,8 +55,8 @@ pub returns-in-Full-clause-solved : goal.returns-in-Full-clause-solved
 returns-in-Full-clause-solved g c =
     let M = g.M.Ordered.monoid_of c.args.m.now in
     let difference = g.M.DMonoid.difference c.args.m.now in
-    let first = g.S.ReducedSquare.as_reduced c.args.square in
-    let second = g.S.ReducedSquare.as_reduced c.serve_all.new.reduced in
+    let first = g.S.RowSquare.as_reduced c.args.square in
+    let second = g.S.RowSquare.as_reduced c.serve_all.new.reduced in
     let third = c.solve_rewriting.result.reduced in
     let m = c.args.matching.now in
     let m' = c.serve_all.new.matching in
@@ -76,7 +76,7 @@ returns-in-Full-clause-ends g c = c.solve_rewriting.ensures.ends
 pub returns-in-Ended-clause-solved : goal.returns-in-Ended-clause-solved
 returns-in-Ended-clause-solved g c =
     let M = g.M.Ordered.monoid_of c.args.m.now in
-    let before = g.S.ReducedSquare.as_reduced c.args.square in
+    let before = g.S.RowSquare.as_reduced c.args.square in
     let new = c.serve_all.new in
     subst (λ d. HasSolved M (g.M.DMonoid.difference c.args.m.now) before d c.args.matching.now new.matching c.args.region.now new.region c.args.trail (last_of c.in-Ended.ended)) (sym c.into_reduced.ensures) c.in-Ended.ensures.solved
 

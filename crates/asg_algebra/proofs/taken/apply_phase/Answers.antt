@@ -7,7 +7,7 @@ use Rattle.asg_algebra.proofs.taken.apply_phase.Goals as goal
 pub fold-requires : goal.fold-requires
 fold-requires g c =
     let m = c.args.m.now in
-    let before = g.S.ReducedSquare.as_reduced c.args.square.now in
+    let before = g.S.RowSquare.as_reduced c.args.square.now in
     phase_has_values (g.M.Ordered.monoid_of m) (g.M.DMonoid.difference m) before.now.side
     (phase_of c.args.steps.now c.args.enters.now c.args.leaves.now) (cell_at before.now) (c.requires.known c.if-not-is_known.false)
 

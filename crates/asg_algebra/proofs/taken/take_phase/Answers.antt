@@ -17,8 +17,8 @@ push-requires-clause-leaves g c =
 pub returns-then-apply_phase-clause-leads : goal.returns-then-apply_phase-clause-leads
 returns-then-apply_phase-clause-leads g c =
     let m = c.args.m.now in
-    let before = g.S.ReducedSquare.as_reduced c.args.square.now in
-    let after = g.S.ReducedSquare.as_reduced c.apply_phase.new.square in
+    let before = g.S.RowSquare.as_reduced c.args.square.now in
+    let after = g.S.RowSquare.as_reduced c.apply_phase.new.square in
     let some : 1 ≤ length c.args.steps.now = grind (arith, common_steps) in
     let few : length c.args.steps.now ≤ before.now.side = omega (arith, c.if-steps-side.false, c.side-side.ensures.side) in
     LeadTo-one (g.M.Ordered.monoid_of m) (g.met.M.Ordered.laws m) (g.M.DMonoid.difference m)

@@ -9,7 +9,7 @@ pub phases-init : goal.phases-init
 phases-init g c =
     let m = c.args.m.now in
     record {
-      lead = LeadTo-none (g.M.Ordered.monoid_of m) (g.met.M.Ordered.laws m) (g.M.DMonoid.difference m) (g.S.ReducedSquare.as_reduced c.args.square.now) c.args.region.now c.args.last.now c.requires.reduced;
+      lead = LeadTo-none (g.M.Ordered.monoid_of m) (g.met.M.Ordered.laws m) (g.M.DMonoid.difference m) (g.S.RowSquare.as_reduced c.args.square.now) c.args.region.now c.args.last.now c.requires.reduced;
       room = refl;
     }
 
@@ -34,7 +34,7 @@ take_phase-requires-clause-room g c =
 pub take_phase-requires-clause-known : goal.take_phase-requires-clause-known
 take_phase-requires-clause-known g c = λ known.
     IsAdmitted-next (g.M.Ordered.monoid_of c.args.m.now) (g.met.M.Ordered.laws c.args.m.now) (g.M.DMonoid.difference c.args.m.now) c.args.given.now c.phases.k c.index-given-k.result c.steps.result.now c.enters.result.now c.leaves.result.now
-    (g.S.ReducedSquare.as_reduced c.args.square.now) (g.S.ReducedSquare.as_reduced c.phases.square) c.args.region.now c.phases.region c.args.last.now c.phases.last
+    (g.S.RowSquare.as_reduced c.args.square.now) (g.S.RowSquare.as_reduced c.phases.square) c.args.region.now c.phases.region c.args.last.now c.phases.last
     c.phases-test.true c.index-given-k.is c.steps.ensures c.enters.ensures.enters c.leaves.ensures.leaves
     (c.requires.known known) c.phases.invariant.lead
 
@@ -44,7 +44,7 @@ phases-preserved g c =
     let new = c.take_phase.new in
     record {
       lead = LeadTo-more (g.M.Ordered.monoid_of m) (g.met.M.Ordered.laws m) (g.M.DMonoid.difference m) c.args.given.now c.phases.k c.index-given-k.result c.steps.result.now c.enters.result.now c.leaves.result.now
-          (g.S.ReducedSquare.as_reduced c.args.square.now) (g.S.ReducedSquare.as_reduced c.phases.square) (g.S.ReducedSquare.as_reduced new.square)
+          (g.S.RowSquare.as_reduced c.args.square.now) (g.S.RowSquare.as_reduced c.phases.square) (g.S.RowSquare.as_reduced new.square)
           c.args.region.now c.phases.region new.region c.args.last.now c.phases.last (Some c.in-Some.next)
           c.phases-test.true c.index-given-k.is c.steps.ensures c.enters.ensures.enters c.leaves.ensures.leaves
           c.requires.reduced c.phases.invariant.lead c.in-Some.ensures.leads;
@@ -55,5 +55,5 @@ pub returns : goal.returns
 returns g c = λ _.
     let m = c.args.m.now in
     let all : length c.args.given.now ≤ c.phases.k = omega (arith, c.phases-test.false) in
-    subst (λ phases. LeadTo (g.M.Ordered.monoid_of m) (g.M.DMonoid.difference m) phases (g.S.ReducedSquare.as_reduced c.args.square.now) (g.S.ReducedSquare.as_reduced c.phases.square) c.args.region.now c.phases.region c.args.last.now c.phases.last)
+    subst (λ phases. LeadTo (g.M.Ordered.monoid_of m) (g.M.DMonoid.difference m) phases (g.S.RowSquare.as_reduced c.args.square.now) (g.S.RowSquare.as_reduced c.phases.square) c.args.region.now c.phases.region c.args.last.now c.phases.last)
     (take_all c.phases.k c.args.given.now all) c.phases.invariant.lead

@@ -2,7 +2,7 @@ use Rattle.std.proofs.Common.{◌/◌, ◌%◌, arith}
 use Rattle.asg_square.specs.Grid.{cell_at}
 use Rattle.asg_algebra.specs.Leads.{leads_of}
 use Rattle.asg_algebra.proofs.ScanLemmas.{OffersRow-scanned, present_values}
-use Rattle.asg_algebra.proofs.reduced_squares.ReducedValueReducedSquare.offer_row.Goals as goal
+use Rattle.asg_algebra.proofs.reduced_squares.ReducedValueRowSquare.offer_row.Goals as goal
 
 pub scan-requires-clause-sum : goal.scan-requires-clause-sum
 scan-requires-clause-sum g c = c.requires.sum

@@ -3,7 +3,7 @@ use Rattle.asg_monoids.specs.Grades.{graded}
 use Rattle.asg_square.specs.Grid.{cell_at}
 use Rattle.asg_algebra.specs.Leads.{leads_of}
 use Rattle.asg_algebra.proofs.ScanLemmas.{OffersRow-scanned}
-use Rattle.asg_algebra.proofs.graded_squares.GradedSquareReducedSquareGradedBounded.offer_row.Goals as goal
+use Rattle.asg_algebra.proofs.graded_squares.GradedSquareRowSquareGradedBounded.offer_row.Goals as goal
 
 pub returns-clause-offers : goal.returns-clause-offers
 returns-clause-offers c =

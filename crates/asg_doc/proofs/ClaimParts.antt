@@ -8,6 +8,7 @@ use Rattle.asg_model.specs.declared.objectives.Objective.{Objective}
 use Rattle.asg_proof.specs.declared.outcomes.Proof.{Proof}
 use Rattle.asg_proof.specs.declared.outcomes.Proof.TheVariants.{Below, Levels, Phases, Windows}
 use Rattle.asg_proof.specs.declared.levels.Level.{Level}
+use Rattle.asg_proof.specs.declared.nodes.Node.{Node}
 use Rattle.asg_proof.specs.declared.windows.Window.{Window}
 use Rattle.asg_proof.specs.Phases.{PhaseOf}
 use Rattle.asg_order.specs.declared.words.Word.{Word}
@@ -15,20 +16,22 @@ use Rattle.asg_parts.specs.Parts.{Part, the_line, no_lines, and_then, counted, I
 use Rattle.asg_parts.specs.laws.PartLaws.{IsReadable-none, IsReadable-counted, IsReadable-chain, IsReadable-shape, Chain, Shape}
 use Rattle.asg_doc.specs.declared.documents.Answer.{Answer}
 use Rattle.asg_doc.specs.declared.documents.Claim.{Claim}
-use Rattle.asg_doc.specs.declared.documents.Claim.TheVariants.{Best, Nothing}
+use Rattle.asg_doc.specs.declared.documents.Claim.TheVariants.{Best, Nothing, Ranked}
 use Rattle.asg_doc.specs.declared.documents.Command.{Command}
 use Rattle.asg_doc.specs.declared.documents.ProofHead.{ProofHead}
 use Rattle.asg_doc.specs.declared.documents.ProofHead.TheVariants as heads
 use Rattle.asg_doc.specs.declared.documents.Status.{Status}
 use Rattle.asg_doc.specs.declared.documents.Status.TheVariants as statuses
-use Rattle.asg_doc.specs.DocumentParts.{answer_part, claim_part, command_part, objective_part, status_part, value_part, count_part, cell_part, hall_part, proof_head_part, HasProofHead, phase_part, window_part, perm_part, level_part, proof_part, proved_part, document_part}
+use Rattle.asg_doc.specs.DocumentParts.{answer_part, claim_part, command_part, ended_part, objective_part, status_part, hall_part, proof_head_part, HasProofHead, phase_part, window_part, perm_part, level_part, proof_part, proved_part, ranking_part, document_part}
 use Rattle.asg_doc.specs.HasText.{HasProofText, HasClaimText}
-use Rattle.asg_doc.specs.Text.{answer_lines, cell_line, value_line, phase_lines, proof_lines, window_line, perm_line, level_lines}
+use Rattle.asg_doc.specs.Text.{answer_lines, listed_lines, phase_lines, proof_lines, tree_lines, window_line, perm_line, level_lines}
 use Rattle.asg_doc.specs.Words.{has_grades}
 use Rattle.asg_doc.proofs.PhaseParts.{phase_law}
+use Rattle.asg_doc.proofs.AnswerParts.{answer_law}
+use Rattle.asg_doc.proofs.RankingParts.{ranking_law}
 use Rattle.asg_doc.proofs.WindowParts.{window_law}
 use Rattle.asg_doc.proofs.LevelParts.{perm_levels}
-use Rattle.asg_doc.proofs.Leaves.{title_law, command_law, objective_law, status_law, value_law, count_law, cell_law, hall_law, proof_head_law, end_law}
+use Rattle.asg_doc.proofs.Leaves.{title_law, command_law, objective_law, status_law, hall_law, proof_head_law, end_law}
 
 -- ---- proofs
 
@@ -84,76 +87,65 @@ proof_shape o = record { make = λ t. proof_of t.0 t.1; has = λ t. has t.0 t.1;
 pub proof_law : (o : Objective) → IsReadable (proof_part o)
 proof_law o = IsReadable-shape (proof_shape o) (IsReadable-chain (head_rest o))
 
--- ---- answers
-
-pub counted_cells : Chain count_part (λ count. counted count cell_part)
-counted_cells = record { first_law = count_law; second_law = λ count _. IsReadable-counted cell_law count }
-
-abbrev cells_part : Part ((count : ℕ) × List (ℕ × ℕ))
-cells_part = and_then count_part (λ count. counted count cell_part)
-
-pub value_cells : (o : Objective) → Chain (value_part o) (λ _. cells_part)
-value_cells o = record { first_law = value_law o; second_law = λ _ _. IsReadable-chain counted_cells }
-
-unfoldable pub answer_shape : (o : Objective) → Shape (and_then (value_part o) (λ _. cells_part)) (answer_part o)
-answer_shape o = record {
-  make = λ t. record { value = t.0; cells = t.1.1 };
-  has = λ t h. record { value = h.0; cells = record { some = omega (arith, h.1.0.0, h.1.1.0); few = omega (arith, h.1.0.1, h.1.1.0); ids = h.1.1.1 } };
-  lines = λ t h. ap (λ n. value_line t.0 ∷ (codes "cells " ++ decimal n) ∷ map cell_line t.1.1) h.1.1.0
-      ∙ ap (λ ls. value_line t.0 ∷ (codes "cells " ++ decimal t.1.0) ∷ ls) (sym (flat_map_single cell_line t.1.1));
-  back = λ a h. ((a.value, (length a.cells, a.cells)), (h.value, ((h.cells.some, h.cells.few), (refl, h.cells.ids))), refl);
-}
-
-pub answer_law : (o : Objective) → IsReadable (answer_part o)
-answer_law o = IsReadable-shape (answer_shape o) (IsReadable-chain (value_cells o))
-
 -- ---- claims
 
-abbrev end_part : Part (Unit {0})
-end_part = the_line (codes "end")
+-- a part is read, and then the last line
+pub ended_chain : {A : Type 0} {part : Part A} → IsReadable part → Chain part (λ _. the_line (codes "end"))
+ended_chain law = record { first_law = law; second_law = λ _ _. end_law }
 
-pub answer_proof : (o : Objective) → Chain (answer_part o) (λ _. proof_part o)
-answer_proof o = record { first_law = answer_law o; second_law = λ _ _. proof_law o }
+unfoldable pub ended_shape : {A : Type 0} (part : Part A) → Shape (and_then part (λ _. the_line (codes "end"))) (ended_part part)
+ended_shape part = record { make = λ t. t.0; has = λ t h. h.0; lines = λ t h. refl; back = λ a h. ((a, tt), (h, tt), refl) }
 
-pub proved_end : (o : Objective) → Chain (proved_part o) (λ _. end_part)
-proved_end o = record { first_law = IsReadable-chain (answer_proof o); second_law = λ _ _. end_law }
+ended_law : {A : Type 0} {part : Part A} → IsReadable part → IsReadable (ended_part part)
+ended_law {part = part} law = IsReadable-shape (ended_shape part) (IsReadable-chain (ended_chain law))
 
-pub hall_end : Chain hall_part (λ _. end_part)
-hall_end = record { first_law = hall_law; second_law = λ _ _. end_law }
+pub answer_proof : (o : Objective) → Chain (answer_part (codes "value") o) (λ _. proof_part o)
+answer_proof o = record { first_law = answer_law (codes "value") refl o; second_law = λ _ _. proof_law o }
+
+pub proved_law : (o : Objective) → IsReadable (proved_part o)
+proved_law o = IsReadable-chain (answer_proof o)
 
 abbrev Claimed : Status → Type 0
-Claimed statuses.Best = (proved : (answer : Answer) × Proof) × Unit {0}
-Claimed statuses.Nothing = (rows : List ℕ) × Unit {0}
+Claimed statuses.Best = (answer : Answer) × Proof
+Claimed statuses.Nothing = List ℕ
+Claimed statuses.Ranked = (count : ℕ) × ((answers : List Answer) × List Node)
 
 abbrev claimed_part : Objective → (status : Status) → Part (Claimed status)
-claimed_part o statuses.Best = and_then (proved_part o) (λ _. end_part)
-claimed_part o statuses.Nothing = and_then hall_part (λ _. end_part)
+claimed_part o statuses.Best = ended_part (proved_part o)
+claimed_part o statuses.Nothing = ended_part hall_part
+claimed_part o statuses.Ranked = ended_part (ranking_part o)
 
 claimed_law : (o : Objective) (status : Status) → IsReadable (claimed_part o status)
-claimed_law o statuses.Best = IsReadable-chain (proved_end o)
-claimed_law o statuses.Nothing = IsReadable-chain hall_end
+claimed_law o statuses.Best = ended_law (proved_law o)
+claimed_law o statuses.Nothing = ended_law hall_law
+claimed_law o statuses.Ranked = ended_law (ranking_law o)
 
 pub status_claimed : (o : Objective) → Chain status_part (claimed_part o)
 status_claimed o = record { first_law = status_law; second_law = λ status _. claimed_law o status }
 
 abbrev claim_of : (status : Status) → Claimed status → Claim
-claim_of statuses.Best rest = Best rest.0.0 rest.0.1
-claim_of statuses.Nothing rest = Nothing rest.0
+claim_of statuses.Best rest = Best rest.0 rest.1
+claim_of statuses.Nothing rest = Nothing rest
+claim_of statuses.Ranked rest = Ranked rest.0 rest.1.0 rest.1.1
 
 unfoldable pub claim_shape : (o : Objective) → Shape (and_then status_part (claimed_part o)) (claim_part o)
 claim_shape o = record { make = λ t. claim_of t.0 t.1; has = λ t. has t.0 t.1; lines = λ t. lines t.0 t.1; back = back } where
   has : (s : Status) (r : Claimed s) → (and_then status_part (claimed_part o)).Has (s, r) → HasClaimText o (claim_of s r)
-  has statuses.Best r h = (h.1.0.0, h.1.0.1)
-  has statuses.Nothing r h = h.1.0
+  has statuses.Best r h = (h.1.0, h.1.1)
+  has statuses.Nothing r h = h.1
+  has statuses.Ranked r h = (h.1.0, (h.1.1.0, h.1.1.1))
 
   lines : (s : Status) (r : Claimed s) → (and_then status_part (claimed_part o)).Has (s, r) → (claim_part o).lines (claim_of s r) ≡ (and_then status_part (claimed_part o)).lines (s, r)
   lines statuses.Best r h =
-      ap (λ ls. codes "status best" ∷ ls) (sym (append_assoc (answer_lines r.0.0) (proof_lines o r.0.1) (codes "end" ∷ [])))
+      ap (λ ls. codes "status best" ∷ ls) (sym (append_assoc (answer_lines r.0) (proof_lines o r.1) (codes "end" ∷ [])))
   lines statuses.Nothing r h = refl
+  lines statuses.Ranked r h =
+      ap (λ ls. codes "status ranked" ∷ (codes "count " ++ decimal r.0) ∷ ls) (sym (append_assoc (listed_lines r.1.0) (tree_lines (has_grades o) r.1.1) (codes "end" ∷ [])))
 
   back : (c : Claim) → HasClaimText o c → (t : (s : Status) × Claimed s) × (and_then status_part (claimed_part o)).Has t × (c ≡ claim_of t.0 t.1)
-  back (Best answer proof) h = ((statuses.Best, ((answer, proof), tt)), (tt, ((h.0, h.1), tt)), refl)
-  back (Nothing rows) h = ((statuses.Nothing, (rows, tt)), (tt, (h, tt)), refl)
+  back (Best answer proof) h = ((statuses.Best, (answer, proof)), (tt, (h.0, h.1)), refl)
+  back (Nothing rows) h = ((statuses.Nothing, rows), (tt, h), refl)
+  back (Ranked count answers nodes) h = ((statuses.Ranked, (count, (answers, nodes))), (tt, (h.0, (h.1.0, h.1.1))), refl)
 
 pub claim_law : (o : Objective) → IsReadable (claim_part o)
 claim_law o = IsReadable-shape (claim_shape o) (IsReadable-chain (status_claimed o))

@@ -10,28 +10,22 @@ use Rattle.std.specs.Str.{bytes_eq}
 use Rattle.std.specs.Int.{w64, w128}
 use Rattle.asg_model.specs.declared.objectives.Objective.{Objective}
 use Rattle.asg_model.specs.declared.objectives.Objective.TheVariants.{Sum, SumMax, SumPair, Capped, Bottleneck, BottleneckMax, TimeCost, Balanced, Lex}
-use Rattle.asg_model.specs.declared.objectives.Value.{Value}
-use Rattle.asg_model.specs.declared.objectives.Value.TheVariants.{One, Two, Many}
 use Rattle.asg_parts.specs.Lines.{Lacks, IsCutAt}
 use Rattle.asg_parts.specs.Parts.{the_line, IsReadable}
-use Rattle.asg_parts.specs.Spellings.{behind, number_spelling, positive_spelling, pair_spelling, list_spelling, listed, IsListOf}
-use Rattle.asg_parts.specs.laws.JoinLaws.{joined_cut, IsLegible-joined, IsLegible-signed_pair, IsLegible-graded}
+use Rattle.asg_parts.specs.Spellings.{behind, number_spelling, positive_spelling, pair_spelling, list_spelling, listed}
+use Rattle.asg_parts.specs.laws.JoinLaws.{joined_cut, IsLegible-joined, IsLegible-graded}
 use Rattle.asg_parts.specs.laws.LineCuts.{heads_same}
 use Rattle.asg_parts.specs.laws.ListLaws.{IsWord, IsLegible-listed}
 use Rattle.asg_parts.specs.laws.LineLaws.{IsReadable-line, IsReadable-this}
-use Rattle.asg_parts.specs.laws.PartLaws.{IsReadable-shape, Shape}
 use Rattle.asg_parts.specs.laws.SpellingLaws.{IsLegible, IsLegible-behind, IsLegible-decoded, IsLegible-number, IsLegible-wide, IsLegible-positive, IsLegible-signed, IsLegible-pair, IsLegible-list, is_plain, Lacks-literal, Lacks-decimal, Lacks-signed, decimal_same}
 use Rattle.asg_doc.specs.declared.documents.Command.{Command}
-use Rattle.asg_doc.specs.declared.documents.Command.TheVariants.{Solve}
+use Rattle.asg_doc.specs.declared.documents.Command.TheVariants.{Solve, Rank}
 use Rattle.asg_doc.specs.declared.documents.ProofHead.{ProofHead}
 use Rattle.asg_doc.specs.declared.documents.ProofHead.TheVariants as heads
 use Rattle.asg_doc.specs.declared.documents.Status.{Status}
-use Rattle.asg_doc.specs.declared.documents.ValueForm.{ValueForm}
-use Rattle.asg_doc.specs.declared.documents.ValueForm.TheVariants as forms
-use Rattle.asg_doc.specs.declared.documents.Status.TheVariants.{Best, Nothing}
-use Rattle.asg_doc.specs.DocumentParts.{command_part, objective_part, status_part, number_part, number_pair_part, costs_part, bound_spelling, formed_part, value_part, column_spelling, perm_part, level_head_spelling, level_head_part, step_spelling, steps_part, enters_part, leaves_part, count_part, cell_part, hall_part, proof_head_part, proof_head_spelling, proof_head_text, HasProofHead}
-use Rattle.asg_doc.specs.HasText.{IsWrittenValue}
-use Rattle.asg_doc.specs.Words.{HasWord, form_of, cap_spelling, command_word, status_word, command_spelling, objective_spelling, status_spelling}
+use Rattle.asg_doc.specs.declared.documents.Status.TheVariants.{Best, Nothing, Ranked}
+use Rattle.asg_doc.specs.DocumentParts.{command_part, objective_part, status_part, bound_spelling, column_spelling, perm_part, level_head_spelling, level_head_part, step_spelling, steps_part, enters_part, leaves_part, count_part, cell_part, hall_part, proof_head_part, proof_head_spelling, proof_head_text, HasProofHead}
+use Rattle.asg_doc.specs.Words.{HasWord, cap_spelling, command_word, status_word, command_spelling, objective_spelling, status_spelling}
 use Rattle.asg_model.specs.Objectives.{objective_word}
 
 pub title_law : IsReadable (the_line (codes "assignment 1"))
@@ -48,12 +42,14 @@ named word values bytes = find (λ a. bytes_eq (word a) bytes) values
 
 pub command_legible : IsLegible command_spelling
 unfolding named
-command_legible = IsLegible-decoded (named command_word (Solve ∷ [])) Solve tt inverse plain where
-  inverse : (c : Command) → Unit {0} → named command_word (Solve ∷ []) (command_word c) ≡ Some c
+command_legible = IsLegible-decoded (named command_word (Solve ∷ Rank ∷ [])) Solve tt inverse plain where
+  inverse : (c : Command) → Unit {0} → named command_word (Solve ∷ Rank ∷ []) (command_word c) ≡ Some c
   inverse Solve has = refl
+  inverse Rank has = refl
 
   plain : (c : Command) → Unit {0} → is_plain (command_word c) ≡ true
   plain Solve has = refl
+  plain Rank has = refl
 
 pub command_law : IsReadable command_part
 command_law = IsReadable-line (IsLegible-behind (codes "command ") refl command_legible)
@@ -107,37 +103,21 @@ objective_law = IsReadable-line (IsLegible-behind (codes "objective ") refl obje
 
 pub status_legible : IsLegible status_spelling
 unfolding named
-status_legible = IsLegible-decoded (named status_word (Best ∷ Nothing ∷ [])) Best tt inverse plain where
-  inverse : (s : Status) → Unit {0} → named status_word (Best ∷ Nothing ∷ []) (status_word s) ≡ Some s
+status_legible = IsLegible-decoded (named status_word (Best ∷ Nothing ∷ Ranked ∷ [])) Best tt inverse plain where
+  inverse : (s : Status) → Unit {0} → named status_word (Best ∷ Nothing ∷ Ranked ∷ []) (status_word s) ≡ Some s
   inverse Best has = refl
   inverse Nothing has = refl
+  inverse Ranked has = refl
 
   plain : (s : Status) → Unit {0} → is_plain (status_word s) ≡ true
   plain Best has = refl
   plain Nothing has = refl
+  plain Ranked has = refl
 
 pub status_law : IsReadable status_part
 status_law = IsReadable-line (IsLegible-behind (codes "status ") refl status_legible)
 
--- ---- values
-
-number_law : IsReadable number_part
-number_law = IsReadable-line (IsLegible-behind (codes "value ") refl IsLegible-signed)
-
-number_pair_law : IsReadable number_pair_part
-number_pair_law = IsReadable-line (IsLegible-behind (codes "value ") refl IsLegible-signed_pair)
-
-pub one_shape : Shape number_part (formed_part forms.One)
-one_shape = record { make = One; has = λ n h. h; lines = λ n h. refl; back = back } where
-  back : (v : Value) → IsWrittenValue forms.One v → (n : ℤ) × FitsSigned w128 n × (v ≡ One n)
-  back (One n) h = (n, h, refl)
-  back _ h = absurd h
-
-pub two_shape : Shape number_pair_part (formed_part forms.Two)
-two_shape = record { make = λ p. Two p.0 p.1; has = λ p h. h; lines = λ p h. refl; back = back } where
-  back : (v : Value) → IsWrittenValue forms.Two v → (p : ℤ × ℤ) × (FitsSigned w128 p.0 × FitsSigned w128 p.1) × (v ≡ Two p.0 p.1)
-  back (Two x y) h = ((x, y), h, refl)
-  back _ h = absurd h
+-- ---- costs
 
 -- a signed number of 64 bits is one of 128 bits
 pub wider : (z : ℤ) → FitsSigned w64 z → FitsSigned w128 z
@@ -159,23 +139,6 @@ bound_word = record { legible = bound_legible; no_space = no_space-signed }
 
 pub costs_legible : IsLegible (listed bound_spelling)
 costs_legible = IsLegible-listed bound_word
-
-costs_law : IsReadable costs_part
-costs_law = IsReadable-line (IsLegible-behind (codes "value") refl costs_legible)
-
-pub many_shape : Shape costs_part (formed_part forms.Many)
-many_shape = record { make = Many; has = λ costs h. h; lines = λ costs h. refl; back = back } where
-  back : (v : Value) → IsWrittenValue forms.Many v → (costs : List ℤ) × IsListOf (FitsSigned w64) costs × (v ≡ Many costs)
-  back (Many costs) h = (costs, h, refl)
-  back _ h = absurd h
-
-pub formed_law : (form : ValueForm) → IsReadable (formed_part form)
-formed_law forms.One = IsReadable-shape one_shape number_law
-formed_law forms.Two = IsReadable-shape two_shape number_pair_law
-formed_law forms.Many = IsReadable-shape many_shape costs_law
-
-pub value_law : (o : Objective) → IsReadable (value_part o)
-value_law o = formed_law (form_of o)
 
 -- ---- counts, cells and lists
 

@@ -4,6 +4,9 @@ pub mod Leaves
 pub mod PhaseParts
 pub mod WindowParts
 pub mod LevelParts
+pub mod AnswerParts
+pub mod NodeParts
+pub mod RankingParts
 pub mod ClaimParts
 pub mod DocumentTexts
 pub mod RefusedLines

@@ -4,11 +4,9 @@ use Rattle.std.proofs.Common.{◌≡◌, ◌+◌, ◌<◌, ℕ, ℤ, Bool, List,
 use Rattle.std.specs.Fmt.{decimal, signed_decimal}
 use Rattle.std.proofs.lemmas.List.{take_more, flat_map_more, map-append}
 use Rattle.asg_order.specs.declared.words.Word.{Word}
-use Rattle.asg_proof.specs.declared.levels.Level.{Level}
 use Rattle.asg_proof.specs.declared.windows.Window.{Window}
-use Rattle.asg_proof.specs.Phases.{PhaseOf}
 use Rattle.asg_parts.specs.laws.LineCuts.{ended-append}
-use Rattle.asg_doc.specs.Text.{spaced, spaced_costs, column_text, spaced_columns, ended, cell_line, step_text, spaced_steps, phase_lines, window_line, level_lines}
+use Rattle.asg_doc.specs.Text.{spaced, spaced_costs, column_text, spaced_columns, ended, cell_line, step_text, spaced_steps, window_line}
 
 pub spaced_more : (numbers : List ℕ) (i : ℕ) → i < length numbers
     → spaced (take i numbers) ++ 32 ∷ decimal (get_or numbers i 0) ≡ spaced (take (i + 1) numbers)
@@ -52,16 +50,17 @@ steps_more graded steps i step found within is =
     ap (λ one. spaced_steps graded (take i steps) ++ 32 ∷ step_text graded one) is
     ∙ flat_map_more (λ one. 32 ∷ step_text graded one) [] (take i steps) (get_or steps i step) ∙ ap (spaced_steps graded) (sym (take_more steps i step within))
 
-pub phases_more : (graded : Bool) (phases : List (PhaseOf Word)) (i : ℕ) (phase : PhaseOf Word) → i < length phases
-    → ended (flat_map (phase_lines graded) (take i phases)) ++ ended (phase_lines graded (get_or phases i phase)) ≡ ended (flat_map (phase_lines graded) (take (i + 1) phases))
-phases_more graded phases i phase within =
-    let last = get_or phases i phase in
-    sym (ended-append (flat_map (phase_lines graded) (take i phases)) (phase_lines graded last))
-    ∙ ap ended (flat_map_more (phase_lines graded) [] (take i phases) last ∙ ap (flat_map (phase_lines graded)) (sym (take_more phases i phase within)))
+-- lines of a list, one member more
+pub lines_more : {A : Type 0} (lines : A → List (List ℕ)) (xs : List A) (i : ℕ) (x : A) → i < length xs
+    → ended (flat_map lines (take i xs)) ++ ended (lines (get_or xs i x)) ≡ ended (flat_map lines (take (i + 1) xs))
+lines_more lines xs i x within =
+    let last = get_or xs i x in
+    sym (ended-append (flat_map lines (take i xs)) (lines last))
+    ∙ ap ended (flat_map_more lines [] (take i xs) last ∙ ap (flat_map lines) (sym (take_more xs i x within)))
 
-pub levels_more : (levels : List Level) (i : ℕ) (level : Level) → i < length levels
-    → ended (flat_map level_lines (take i levels)) ++ ended (level_lines (get_or levels i level)) ≡ ended (flat_map level_lines (take (i + 1) levels))
-levels_more levels i level within =
-    let last = get_or levels i level in
-    sym (ended-append (flat_map level_lines (take i levels)) (level_lines last))
-    ∙ ap ended (flat_map_more level_lines [] (take i levels) last ∙ ap (flat_map level_lines) (sym (take_more levels i level within)))
+-- the first line of a node, piece by piece
+pub node_whole : (parent branch : ℕ) (marked : List ℕ) → codes "node" ++ ((32 ∷ decimal parent) ++ ((32 ∷ decimal branch) ++ (codes " " ++ (marked ++ 10 ∷ []))))
+    ≡ (codes "node " ++ (decimal parent ++ 32 ∷ (decimal branch ++ 32 ∷ marked))) ++ 10 ∷ []
+node_whole parent branch marked =
+    ap (λ rest. codes "node " ++ rest) (ap (λ rest. decimal parent ++ 32 ∷ rest) (sym (append_assoc (decimal branch) (32 ∷ marked) (10 ∷ [])))
+    ∙ sym (append_assoc (decimal parent) (32 ∷ (decimal branch ++ 32 ∷ marked)) (10 ∷ [])))

@@ -1,5 +1,5 @@
 -- The parts that a document is made of.
-use Rattle.std.specs.Prelude.{◌≡◌, ℕ, ◌<◌, ◌^◌, ℤ, Bool, List, ◌∷◌, ◌++◌, codes, FitsSigned}
+use Rattle.std.specs.Prelude.{◌≡◌, ℕ, ◌<◌, ◌^◌, ℤ, Bool, List, [], ◌∷◌, ◌++◌, codes, FitsSigned}
 use Rattle.std.specs.Fmt.{decimal, signed_decimal}
 use Rattle.std.specs.Int.{w64}
 use Rattle.asg_model.specs.declared.objectives.Objective.{Objective}
@@ -7,11 +7,13 @@ use Rattle.asg_model.specs.declared.objectives.Value.{Value}
 use Rattle.asg_order.specs.declared.words.Word.{Word}
 use Rattle.asg_proof.specs.declared.outcomes.Proof.{Proof}
 use Rattle.asg_proof.specs.declared.levels.Level.{Level}
+use Rattle.asg_proof.specs.declared.nodes.Mark.{Mark}
+use Rattle.asg_proof.specs.declared.nodes.Node.{Node}
 use Rattle.asg_proof.specs.declared.windows.Window.{Window}
 use Rattle.asg_proof.specs.Phases.{PhaseOf}
 use Rattle.asg_parts.specs.Lines.{IsCutAt}
 use Rattle.asg_parts.specs.Parts.{Part, and_then, one_line}
-use Rattle.asg_parts.specs.Spellings.{Spelling, behind, joined, signed_spelling, signed_pair_spelling, positive_spelling, pair_spelling, list_spelling, listed, spaced}
+use Rattle.asg_parts.specs.Spellings.{Spelling, behind, joined, number_spelling, positive_spelling, pair_spelling, list_spelling, listed, spaced}
 use Rattle.asg_doc.specs.declared.documents.Answer.{Answer}
 use Rattle.asg_doc.specs.declared.documents.Claim.{Claim}
 use Rattle.asg_doc.specs.declared.documents.Command.{Command}
@@ -21,9 +23,9 @@ use Rattle.asg_doc.specs.declared.documents.ProofHead.TheVariants as heads
 use Rattle.asg_doc.specs.declared.documents.Status.{Status}
 use Rattle.asg_doc.specs.declared.documents.ValueForm.{ValueForm}
 use Rattle.asg_doc.specs.CellIds.{IsCellOfIds}
-use Rattle.asg_doc.specs.HasText.{AreRows, IsWrittenValue, HasAnswerText, HasStepText, HasPhaseText, HasWindowText, HasColumnText, HasLevelText, HasProofText, HasClaimText, HasText}
-use Rattle.asg_doc.specs.Text.{cell_line, value_line, answer_lines, step_text, phase_lines, window_text, column_text, level_lines, proof_lines, claim_lines, lines_of}
-use Rattle.asg_doc.specs.Words.{command_spelling, objective_spelling, status_spelling, form_of}
+use Rattle.asg_doc.specs.HasText.{AreRows, IsWrittenValue, HasAnswerText, HaveAnswerText, HasStepText, HasPhaseText, HasWindowText, HasColumnText, HasLevelText, HasMarkText, HasNodeText, HasTreeText, HasProofText, HasClaimText, HasText}
+use Rattle.asg_doc.specs.Text.{cell_line, value_text, answer_lines_behind, listed_lines, step_text, phase_lines, window_text, column_text, level_lines, mark_text, node_lines, tree_lines, proof_lines, claim_lines, lines_of}
+use Rattle.asg_doc.specs.Words.{asked_spelling, command_spelling, objective_spelling, status_spelling, form_of, has_grades}
 
 -- ---- single lines
 
@@ -36,25 +38,17 @@ objective_part = one_line (behind (codes "objective ") objective_spelling)
 abbrev pub status_part : Part Status
 status_part = one_line (behind (codes "status ") status_spelling)
 
-abbrev pub number_part : Part ℤ
-number_part = one_line (behind (codes "value ") signed_spelling)
-
-abbrev pub number_pair_part : Part (ℤ × ℤ)
-number_pair_part = one_line (behind (codes "value ") signed_pair_spelling)
-
 -- a signed number of 64 bits
 abbrev pub bound_spelling : Spelling ℤ
 bound_spelling = record { bytes = signed_decimal; Has = FitsSigned w64 }
 
-abbrev pub costs_part : Part (List ℤ)
-costs_part = one_line (behind (codes "value") (listed bound_spelling))
+-- a value of this form, behind its word
+abbrev pub value_spelling : ValueForm → Spelling Value
+value_spelling form = record { bytes = value_text; Has = IsWrittenValue form }
 
--- the line of a value of this form
-abbrev pub formed_part : ValueForm → Part Value
-formed_part form = one_line (record { bytes = value_line; Has = IsWrittenValue form })
-
-abbrev pub value_part : Objective → Part Value
-value_part objective = formed_part (form_of objective)
+-- the line of a value behind a word
+abbrev pub value_part : List ℕ → Objective → Part Value
+value_part word objective = one_line (behind word (value_spelling (form_of objective)))
 
 abbrev pub count_part : Part ℕ
 count_part = one_line (behind (codes "cells ") positive_spelling)
@@ -105,6 +99,39 @@ level_head_spelling = joined 32 bound_spelling pair_spelling
 abbrev pub level_head_part : Part (ℤ × (ℕ × ℕ))
 level_head_part = one_line (behind (codes "level ") level_head_spelling)
 
+-- how many answers were asked for, how many are listed, and how many nodes
+abbrev pub asked_part : Part ℕ
+asked_part = one_line (behind (codes "count ") asked_spelling)
+
+abbrev pub answer_count_part : Part ℕ
+answer_count_part = one_line (behind (codes "answers ") positive_spelling)
+
+abbrev pub node_count_part : Part ℕ
+node_count_part = one_line (behind (codes "proof tree ") positive_spelling)
+
+-- a mark, and how many phases follow
+abbrev pub mark_spelling : Spelling (Mark × ℕ)
+mark_spelling = record {
+  bytes = λ marked. mark_text marked.0 marked.1;
+  Has = λ marked. (marked.1 < 2 ^ 32) × HasMarkText marked.0 marked.1;
+}
+
+-- a branch, and the same
+abbrev pub branch_spelling : Spelling (ℕ × (Mark × ℕ))
+branch_spelling = joined 32 number_spelling mark_spelling
+
+-- a parent, and the same
+abbrev pub node_head_spelling : Spelling (ℕ × (ℕ × (Mark × ℕ)))
+node_head_spelling = joined 32 number_spelling branch_spelling
+
+abbrev pub node_head_part : Part (ℕ × (ℕ × (Mark × ℕ)))
+node_head_part = one_line (behind (codes "node ") node_head_spelling)
+
+-- the text is a number, a space, and what follows
+pub record HasFront (text : List ℕ) (number : ℕ) (rest : List ℕ) : Type 0 where
+  pub fits : number < 2 ^ 32
+  pub whole : text ≡ decimal number ++ 32 ∷ rest
+
 -- what the first line of a proof says behind its word
 abbrev pub proof_head_text : ProofHead → List ℕ
 proof_head_text (heads.Phases count) = codes "phases " ++ decimal count
@@ -126,8 +153,13 @@ proof_head_part = one_line (behind (codes "proof ") proof_head_spelling)
 
 -- ---- larger parts
 
-abbrev pub answer_part : Objective → Part Answer
-answer_part objective = record { lines = answer_lines; Has = HasAnswerText objective }
+-- an answer, its value behind a word
+abbrev pub answer_part : List ℕ → Objective → Part Answer
+answer_part word objective = record { lines = answer_lines_behind word; Has = HasAnswerText objective }
+
+-- listed answers
+abbrev pub answers_part : Objective → Part (List Answer)
+answers_part objective = record { lines = listed_lines; Has = HaveAnswerText objective }
 
 abbrev pub phase_part : Bool → Part (PhaseOf Word)
 phase_part graded = record { lines = phase_lines graded; Has = HasPhaseText graded }
@@ -138,9 +170,27 @@ level_part = record { lines = level_lines; Has = HasLevelText }
 abbrev pub proof_part : Objective → Part Proof
 proof_part objective = record { lines = proof_lines objective; Has = HasProofText objective }
 
+-- a part, and the last line of a document
+abbrev pub ended_part : {A : Type 0} → Part A → Part A
+ended_part part = record { lines = λ a. part.lines a ++ codes "end" ∷ []; Has = part.Has }
+
 -- an answer and its proof
 abbrev pub proved_part : Objective → Part ((answer : Answer) × Proof)
-proved_part objective = and_then (answer_part objective) (λ _. proof_part objective)
+proved_part objective = and_then (answer_part (codes "value") objective) (λ _. proof_part objective)
+
+abbrev pub node_part : Bool → Part Node
+node_part graded = record { lines = node_lines graded; Has = HasNodeText graded }
+
+abbrev pub tree_part : Bool → Part (List Node)
+tree_part graded = record { lines = tree_lines graded; Has = HasTreeText graded }
+
+-- listed answers and their tree
+abbrev pub ranked_part : Objective → Part ((answers : List Answer) × List Node)
+ranked_part objective = and_then (answers_part objective) (λ _. tree_part (has_grades objective))
+
+-- a ranking: how many answers were asked for, those listed, and their tree
+abbrev pub ranking_part : Objective → Part ((count : ℕ) × ((answers : List Answer) × List Node))
+ranking_part objective = and_then asked_part (λ _. ranked_part objective)
 
 abbrev pub claim_part : Objective → Part Claim
 claim_part objective = record { lines = claim_lines objective; Has = HasClaimText objective }

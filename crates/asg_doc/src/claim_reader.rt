@@ -1,22 +1,21 @@
 //! Readers of what a document claims.
 
-ghost use Rattle.asg_parts.specs.Parts.{counted};
 ghost use Rattle.asg_parts.specs.Reading.{Reads, ReadsOrFails};
 ghost use Rattle.asg_parts.specs.Spellings.{SpellsOrFails};
-ghost use Rattle.asg_doc.specs.declared.documents.ValueForm.TheVariants.{One, Two, Many};
-ghost use Rattle.asg_doc.specs.DocumentParts.{status_part, formed_part, value_part, cell_part};
-ghost use Rattle.asg_doc.specs.DocumentParts.{answer_part, proof_head_spelling, proof_head_part};
-ghost use Rattle.asg_doc.specs.DocumentParts.{proof_part, proved_part, hall_part, claim_part};
+ghost use Rattle.asg_doc.specs.DocumentParts.{status_part, proof_head_spelling, proof_head_part};
+ghost use Rattle.asg_doc.specs.DocumentParts.{proof_part, proved_part, hall_part, ended_part};
+ghost use Rattle.asg_doc.specs.DocumentParts.{ranking_part, claim_part};
 
-use crate::cost_reader::costs_of;
-use crate::documents::{Answer, Cells, Claim, ProofHead, Status, ValueForm};
+use crate::answer_reader::answer;
+use crate::documents::{Answer, Answers, Claim, ProofHead, Status};
 use crate::level_reader::levels;
 use crate::phase_reader::phases;
+use crate::ranking_reader::ranking;
 use crate::window_reader::windows;
-use crate::words::{form_of, has_grades, status_of};
-use asg_model::{Objective, Value};
+use crate::words::{has_grades, status_of};
+use asg_model::Objective;
 use asg_parts::{Fault, Lines, Refusal, after, number, numbers, positive};
-use asg_proof::{Ids, Proof};
+use asg_proof::{Ids, Nodes, Proof};
 use std::alloc::Global;
 
 // The status of its line.
@@ -24,71 +23,6 @@ fn status(lines: &mut Lines) -> Result<Status, Refusal>
     ensures { Reads status_part lines.old lines.new result }
 {
     lines.read(b"status ", status_of)
-}
-
-// The value of its line: one number.
-fn one_value(lines: &mut Lines) -> Result<Value, Fault>
-    ensures { ReadsOrFails (formed_part One) lines.old lines.new result }
-{
-    let number = lines.signed(b"value ")?;
-    Ok(Value::One(number))
-}
-
-// The value of its line: two numbers.
-fn two_value(lines: &mut Lines) -> Result<Value, Fault>
-    ensures { ReadsOrFails (formed_part Two) lines.old lines.new result }
-{
-    let (first, second) = lines.signed_pair(b"value ")?;
-    Ok(Value::Two(first, second))
-}
-
-// The value of its line: a list of costs.
-fn many_value(alloc: Global, lines: &mut Lines) -> Result<Value, Fault>
-    ensures { ReadsOrFails (formed_part Many) lines.old lines.new result }
-{
-    let (text, left) = lines.next_behind(b"value")?;
-    let costs = costs_of(alloc, text)?;
-    *lines = left;
-    Ok(Value::Many(costs))
-}
-
-// The value of its line, of a form.
-fn formed_value(alloc: Global, form: ValueForm, lines: &mut Lines) -> Result<Value, Fault>
-    ensures { ReadsOrFails (formed_part form) lines.old lines.new result }
-{
-    match form {
-        ValueForm::One => one_value(lines),
-        ValueForm::Two => two_value(lines),
-        ValueForm::Many => many_value(alloc, lines),
-    }
-}
-
-// The value of its line, which has the form that the objective asks for.
-fn value(alloc: Global, objective: Objective, lines: &mut Lines) -> Result<Value, Fault>
-    ensures { ReadsOrFails (value_part objective) lines.old lines.new result }
-{
-    formed_value(alloc, form_of(objective), lines)
-}
-
-// As many cells as the count says. The count takes no memory, only the cells that are read.
-fn cells(alloc: Global, count: u32, lines: &mut Lines) -> Result<Cells, Fault>
-    ensures { ReadsOrFails (counted count cell_part) lines.old lines.new result }
-{
-    let mut cells = Vec::new(alloc);
-    for _ in 0..count {
-        cells.push(lines.pair()?)?;
-    }
-    Ok(Cells::from_vec(cells))
-}
-
-// A value and cells.
-fn answer(alloc: Global, objective: Objective, lines: &mut Lines) -> Result<Answer, Fault>
-    ensures { ReadsOrFails (answer_part objective) lines.old lines.new result }
-{
-    let value = value(alloc, objective, lines)?;
-    let count = lines.positive(b"cells ")?;
-    let cells = cells(alloc, count, lines)?;
-    Ok(Answer { value, cells })
 }
 
 // What the first line of a proof says.
@@ -155,7 +89,7 @@ fn proof(alloc: Global, objective: Objective, lines: &mut Lines) -> Result<Proof
 fn proved(alloc: Global, objective: Objective, lines: &mut Lines) -> Result<(Answer, Proof), Fault>
     ensures { ReadsOrFails (proved_part objective) lines.old lines.new result }
 {
-    let answer = answer(alloc, objective, lines)?;
+    let answer = answer(alloc, b"value", objective, lines)?;
     let proof = proof(alloc, objective, lines)?;
     Ok((answer, proof))
 }
@@ -167,20 +101,57 @@ fn hall(alloc: Global, lines: &mut Lines) -> Result<Ids, Fault>
     Ok(Ids::from_vec(lines.numbers(alloc, b"hall")?.into_vec()))
 }
 
+// An answer and its proof, and the last line.
+fn best(alloc: Global, objective: Objective, lines: &mut Lines) -> Result<(Answer, Proof), Fault>
+    ensures { ReadsOrFails (ended_part (proved_part objective)) lines.old lines.new result }
+{
+    let proved = proved(alloc, objective, lines)?;
+    lines.pass(b"end")?;
+    Ok(proved)
+}
+
+// The rows of a Hall set, and the last line.
+fn nothing(alloc: Global, lines: &mut Lines) -> Result<Ids, Fault>
+    ensures { ReadsOrFails (ended_part hall_part) lines.old lines.new result }
+{
+    let rows = hall(alloc, lines)?;
+    lines.pass(b"end")?;
+    Ok(rows)
+}
+
+// A ranking, and the last line.
+fn ranked(
+    alloc: Global,
+    objective: Objective,
+    lines: &mut Lines,
+) -> Result<(u32, (Answers, Nodes)), Fault>
+    ensures { ReadsOrFails (ended_part (ranking_part objective)) lines.old lines.new result }
+{
+    let ranking = ranking(alloc, objective, lines)?;
+    lines.pass(b"end")?;
+    Ok(ranking)
+}
+
 // What a document claims, with its last line.
 pub(crate) fn claim(alloc: Global, objective: Objective, lines: &mut Lines) -> Result<Claim, Fault>
     ensures { ReadsOrFails (claim_part objective) lines.old lines.new result }
 {
     match status(lines)? {
         Status::Best => {
-            let (answer, proof) = proved(alloc, objective, lines)?;
-            lines.pass(b"end")?;
+            let (answer, proof) = best(alloc, objective, lines)?;
             Ok(Claim::Best { answer, proof })
         }
         Status::Nothing => {
-            let rows = hall(alloc, lines)?;
-            lines.pass(b"end")?;
+            let rows = nothing(alloc, lines)?;
             Ok(Claim::Nothing { rows })
+        }
+        Status::Ranked => {
+            let (count, (answers, nodes)) = ranked(alloc, objective, lines)?;
+            Ok(Claim::Ranked {
+                count,
+                answers,
+                nodes,
+            })
         }
     }
 }

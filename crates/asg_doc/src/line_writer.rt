@@ -8,7 +8,7 @@ ghost use Rattle.asg_parts.specs.Spellings.{spaced};
 ghost use Rattle.asg_doc.specs.declared.documents.ValueForm.{ValueForm};
 ghost use Rattle.asg_doc.specs.Flow.{Wrote};
 ghost use Rattle.asg_doc.specs.HasText.{IsWrittenValue};
-ghost use Rattle.asg_doc.specs.Text.{cell_line, spaced_costs, value_line};
+ghost use Rattle.asg_doc.specs.Text.{cell_line, spaced_costs, value_text};
 
 use crate::page_buffer::{Page, emit};
 use asg_io::Sink;
@@ -33,26 +33,24 @@ fn emit_signed<K: Sink>(number: i128, page: &mut Page, out: &mut K)
     emit(buffer.format(number).as_bytes(), page, out);
 }
 
-// Appends the line of a value of one number.
+// Appends one number, behind a space.
 fn emit_one<K: Sink>(number: i128, page: &mut Page, out: &mut K)
     ensures { Wrote K.written K.faults out.old out.new page.old page.new
-        (value_line (Value.One number) ++ 10 ∷ []) }
+        (value_text (Value.One number)) }
 {
-    emit(b"value ", page, out);
+    emit(b" ", page, out);
     emit_signed(number, page, out);
-    emit(b"\n", page, out);
 }
 
-// Appends the line of a value of two numbers.
+// Appends two numbers with a colon between them, behind a space.
 fn emit_two<K: Sink>(first: i128, second: i128, page: &mut Page, out: &mut K)
     ensures { Wrote K.written K.faults out.old out.new page.old page.new
-        (value_line (Value.Two first second) ++ 10 ∷ []) }
+        (value_text (Value.Two first second)) }
 {
-    emit(b"value ", page, out);
+    emit(b" ", page, out);
     emit_signed(first, page, out);
     emit(b":", page, out);
     emit_signed(second, page, out);
-    emit(b"\n", page, out);
 }
 
 // Appends a signed number of 64 bits.
@@ -74,28 +72,36 @@ fn emit_costs<K: Sink>(costs: &[i64], page: &mut Page, out: &mut K)
     }
 }
 
-// Appends the line of a value that lists costs.
+// Appends listed costs.
 fn emit_many<K: Sink>(costs: &Costs, page: &mut Page, out: &mut K)
     requires { All (FitsSigned w64) costs.now }
     ensures { Wrote K.written K.faults out.old out.new page.old page.new
-        (value_line (Value.Many costs.now) ++ 10 ∷ []) }
+        (value_text (Value.Many costs.now)) }
 {
-    emit(b"value", page, out);
     emit_costs(costs.as_slice(), page, out);
-    emit(b"\n", page, out);
 }
 
-// Appends the line of a value, of one number, of two, or of a list.
-pub(crate) fn emit_value<K: Sink>(value: &Value, page: &mut Page, out: &mut K)
+// Appends what the line of a value says behind its word: one number, two, or a list.
+fn emit_numbers<K: Sink>(value: &Value, page: &mut Page, out: &mut K)
     requires { (form : ValueForm) × IsWrittenValue form value.now }
-    ensures { Wrote K.written K.faults out.old out.new page.old page.new
-        (value_line value.now ++ 10 ∷ []) }
+    ensures { Wrote K.written K.faults out.old out.new page.old page.new (value_text value.now) }
 {
     match value {
         Value::One(number) => emit_one(*number, page, out),
         Value::Two(first, second) => emit_two(*first, *second, page, out),
         Value::Many(costs) => emit_many(costs, page, out),
     }
+}
+
+// Appends the line of a value behind a word.
+pub(crate) fn emit_value<K: Sink>(word: &[u8], value: &Value, page: &mut Page, out: &mut K)
+    requires { (form : ValueForm) × IsWrittenValue form value.now }
+    ensures { Wrote K.written K.faults out.old out.new page.old page.new
+        ((word.now ++ value_text value.now) ++ 10 ∷ []) }
+{
+    emit(word, page, out);
+    emit_numbers(value, page, out);
+    emit(b"\n", page, out);
 }
 
 // Appends the line of a number behind its word.

@@ -4,12 +4,16 @@ ghost use Rattle.std.specs.Prelude.{◌≡◌};
 ghost use Rattle.asg_parts.specs.Spellings.{Spells};
 ghost use Rattle.asg_doc.specs.Words.{command_word, status_word, form_of, has_grades};
 ghost use Rattle.asg_doc.specs.Words.{command_spelling, cap_spelling, named_spelling};
+ghost use Rattle.asg_doc.specs.Words.{asked_spelling};
 ghost use Rattle.asg_doc.specs.Words.{objective_spelling, status_spelling};
 
 use crate::documents::{Command, Status, ValueForm};
 use asg_model::limits::MOST_CAP;
 use asg_model::{Objective, uncapped_named};
-use asg_parts::{after, wide_number};
+use asg_parts::{after, number, wide_number};
+
+// The greatest number of answers that can be asked for.
+const MOST_RANKED: u32 = 4_000_000;
 
 // The word of a command.
 pub(crate) fn word_of_command(command: Command) -> &'static [u8]
@@ -17,6 +21,7 @@ pub(crate) fn word_of_command(command: Command) -> &'static [u8]
 {
     match command {
         Command::Solve => b"solve",
+        Command::Rank => b"rank",
     }
 }
 
@@ -26,6 +31,9 @@ pub(crate) fn command_of(word: &[u8]) -> Option<Command>
 {
     if word == word_of_command(Command::Solve) {
         return Some(Command::Solve);
+    }
+    if word == word_of_command(Command::Rank) {
+        return Some(Command::Rank);
     }
     None
 }
@@ -42,6 +50,20 @@ fn cap_of(word: &[u8]) -> Option<u64>
         return None;
     }
     Some(cap as u64)
+}
+
+// How many answers a word asks for, 1 to 4,000,000.
+pub(crate) fn asked_of(word: &[u8]) -> Option<u32>
+    ensures { Spells asked_spelling word.now result }
+{
+    let count = number(word)?;
+    if count == 0 {
+        return None;
+    }
+    if count > MOST_RANKED {
+        return None;
+    }
+    Some(count)
 }
 
 // The objective without a cap that has this word; none where none has.
@@ -86,6 +108,7 @@ fn word_of_status(status: Status) -> &'static [u8]
     match status {
         Status::Best => b"best",
         Status::Nothing => b"none",
+        Status::Ranked => b"ranked",
     }
 }
 
@@ -98,6 +121,9 @@ pub(crate) fn status_of(word: &[u8]) -> Option<Status>
     }
     if word == word_of_status(Status::Nothing) {
         return Some(Status::Nothing);
+    }
+    if word == word_of_status(Status::Ranked) {
+        return Some(Status::Ranked);
     }
     None
 }

@@ -2,7 +2,7 @@ use Rattle.std.proofs.Common.{ap, sym, subst}
 use Rattle.asg_doc.specs.HasText.{HasLevelText}
 use Rattle.asg_doc.specs.Text.{ended, level_lines}
 use Rattle.asg_doc.proofs.Flows.{Wrote-append, Wrote-as, Wrote-nothing}
-use Rattle.asg_doc.proofs.ListTexts.{levels_more}
+use Rattle.asg_doc.proofs.ListTexts.{lines_more}
 use Rattle.asg_doc.proofs.level_writer.emit_levels.Goals as goal
 
 pub levels-init : goal.levels-init
@@ -10,7 +10,7 @@ levels-init g c = Wrote-nothing _ _ _ _
 
 pub levels-preserved : goal.levels-preserved
 levels-preserved g c =
-    Wrote-as (levels_more c.args.levels.now c.levels.level-index c.level-item.result c.levels-test.true)
+    Wrote-as (lines_more level_lines c.args.levels.now c.levels.level-index c.level-item.result c.levels-test.true)
     (Wrote-append c.levels.invariant (Wrote-as (ap (λ level. ended (level_lines level)) c.level-item.is) c.emit_level.ensures))
 
 pub emit_level-requires : goal.emit_level-requires

@@ -7,4 +7,4 @@ use Rattle.asg_doc.proofs.line_writer.emit_one.Goals as goal
 
 pub returns : goal.returns
 returns g c = Wrote-append c.emit.ensures
-    (Wrote-append (Wrote-as (ap signed_decimal (to_z-of_z w128 c.args.number c.ranges.number)) c.emit_signed.ensures) c.emit-2.ensures)
+    (Wrote-as (ap signed_decimal (to_z-of_z w128 c.args.number c.ranges.number)) c.emit_signed.ensures)

@@ -1,4 +1,4 @@
-use Rattle.std.proofs.Common.{◌∷◌, [], ◌++◌, codes, sym, ap, append_assoc}
+use Rattle.std.proofs.Common.{ap}
 use Rattle.std.specs.Fmt.{signed_decimal}
 use Rattle.std.specs.Int.{w128}
 use Rattle.std.proofs.lemmas.Int.{to_z-of_z}
@@ -6,9 +6,7 @@ use Rattle.asg_doc.proofs.Flows.{Wrote-append, Wrote-as}
 use Rattle.asg_doc.proofs.line_writer.emit_two.Goals as goal
 
 pub returns : goal.returns
-returns g c =
-    Wrote-as (ap (λ bytes. codes "value " ++ bytes) (sym (append_assoc (signed_decimal c.args.first) (58 ∷ signed_decimal c.args.second) (10 ∷ []))))
-    (Wrote-append c.emit.ensures
+returns g c = Wrote-append c.emit.ensures
     (Wrote-append (Wrote-as (ap signed_decimal (to_z-of_z w128 c.args.first c.ranges.first)) c.emit_signed.ensures)
     (Wrote-append c.emit-2.ensures
-    (Wrote-append (Wrote-as (ap signed_decimal (to_z-of_z w128 c.args.second c.ranges.second)) c.emit_signed-2.ensures) c.emit-3.ensures))))
+    (Wrote-as (ap signed_decimal (to_z-of_z w128 c.args.second c.ranges.second)) c.emit_signed-2.ensures)))

@@ -1,17 +1,12 @@
-use Rattle.std.proofs.Common.{List, subst}
-use Rattle.std.specs.Prelude.{ℤ, All, FitsSigned}
-use Rattle.std.specs.Int.{w64}
-use Rattle.asg_model.specs.declared.objectives.Value.TheVariants.{Many}
-use Rattle.asg_doc.specs.declared.documents.ValueForm.{ValueForm}
-use Rattle.asg_doc.specs.declared.documents.ValueForm.TheVariants as forms
-use Rattle.asg_doc.specs.HasText.{IsWrittenValue}
+use Rattle.std.proofs.Common.{◌∷◌, [], sym, append_assoc}
+use Rattle.asg_doc.specs.Text.{value_text}
+use Rattle.asg_doc.proofs.Flows.{Wrote-append, Wrote-as}
 use Rattle.asg_doc.proofs.line_writer.emit_value.Goals as goal
 
--- the costs of a value that is written fit 64 bits
-costs_fit : (form : ValueForm) (costs : List ℤ) → IsWrittenValue form (Many costs) → All (FitsSigned w64) costs
-costs_fit forms.One costs has = absurd has
-costs_fit forms.Two costs has = absurd has
-costs_fit forms.Many costs has = has.each
+pub emit_numbers-requires : goal.emit_numbers-requires
+emit_numbers-requires g c = c.requires
 
-pub emit_many-requires : goal.emit_many-requires
-emit_many-requires g c = costs_fit c.requires.0 _ (subst (IsWrittenValue c.requires.0) c.in-Many.is c.requires.1)
+pub returns : goal.returns
+returns g c =
+    Wrote-as (sym (append_assoc c.args.word.now (value_text c.args.value.now) (10 ∷ [])))
+    (Wrote-append c.emit.ensures (Wrote-append c.emit_numbers.ensures c.emit-2.ensures))

@@ -1,0 +1,7 @@
+use Rattle.asg_parts.specs.Parts.{counted}
+use Rattle.asg_parts.specs.Reading.{IsRead}
+use Rattle.asg_doc.specs.DocumentParts.{cell_part}
+use Rattle.asg_doc.proofs.answer_reader.cells.Given as goal
+
+abbrev pub invariant-loop : goal.invariant-loop
+invariant-loop l = IsRead (counted l.counter cell_part) l.fn.lines l.lines l.cells.items

@@ -1,0 +1,12 @@
+use Rattle.std.proofs.Common.{codes}
+use Rattle.asg_parts.specs.laws.LineLaws.{Halts-front, Halts-text}
+use Rattle.asg_parts.specs.laws.PartLaws.{ReadsOrFails-err}
+use Rattle.asg_doc.proofs.NodeParts.{node_head_legible}
+use Rattle.asg_doc.proofs.node_reader.node_head.Goals as goal
+
+pub returns-in_err-text : goal.returns-in_err-text
+returns-in_err-text c = ReadsOrFails-err c.from_residual.result c.from_residual.ensures.1 (Halts-front (codes "node ") node_head_legible c.in_err-text.ensures)
+
+pub returns-in_err-head : goal.returns-in_err-head
+returns-in_err-head c = ReadsOrFails-err c.from_residual-in_err-head.result c.from_residual-in_err-head.ensures.1
+    (Halts-text (codes "node ") _ node_head_legible c.in_ok-text.ensures c.in_err-head.ensures)

@@ -1,0 +1,9 @@
+use Rattle.std.proofs.Common.{ap}
+use Rattle.std.specs.List.{flat_map}
+use Rattle.asg_doc.specs.Text.{ended, phase_lines}
+use Rattle.asg_doc.proofs.Flows.{Wrote-append, Wrote-as}
+use Rattle.asg_doc.proofs.node_writer.emit_node.Goals as goal
+
+pub returns : goal.returns
+returns g c = Wrote-append c.emit_node_head.ensures
+    (Wrote-as (ap (λ phases. ended (flat_map (phase_lines c.args.has_grades) phases)) c.as_slice.ensures.items) c.emit_phases.ensures)

@@ -16,7 +16,7 @@ use Rattle.asg_proof.specs.declared.outcomes.Proof.TheVariants.{Below, Levels, P
 use Rattle.asg_proof.specs.declared.windows.Window.{Window}
 use Rattle.asg_proof.specs.laws.LiveCosts.{live_in_range}
 use Rattle.asg_doc.specs.declared.documents.Claim.{Claim}
-use Rattle.asg_doc.specs.declared.documents.Claim.TheVariants.{Best, Nothing}
+use Rattle.asg_doc.specs.declared.documents.Claim.TheVariants.{Best, Nothing, Ranked}
 use Rattle.asg_doc.specs.declared.documents.Document.{Document}
 use Rattle.asg_doc.specs.HasText.{HasClaimText, HasText}
 use Rattle.asg_check.specs.declared.verdicts.Form.{Form}
@@ -47,6 +47,7 @@ bad_fits objective own X (Best answer (Below rows)) place text bad = absurd bad
 bad_fits objective own X (Best answer (Windows windows)) place text bad = absurd bad
 bad_fits objective own X (Best answer (Levels perm levels)) place text bad = absurd bad
 bad_fits objective own X (Nothing rows) place text bad = absurd bad
+bad_fits objective own X (Ranked count answers nodes) place text bad = absurd bad
 
 -- the place of a window that is no Hall set
 no_hall_fits : (X : Problem) (windows : List Window) (place : ℤ) → length windows < 2 ^ 32 → AreNoHallSetsAt X windows (At place) → FitsSigned w64 place
@@ -60,6 +61,7 @@ lacks_fits objective own X (Best answer (Phases words)) place text lacks = absur
 lacks_fits objective own X (Best answer (Below rows)) place text lacks = absurd lacks
 lacks_fits objective own X (Best answer (Levels perm levels)) place text lacks = absurd lacks
 lacks_fits objective own X (Nothing rows) place text lacks = absurd lacks
+lacks_fits objective own X (Ranked count answers nodes) place text lacks = absurd lacks
 
 -- the cost of a live cell
 gap_fits : (X : Problem) (value : Value) (windows : List Window) (place : ℤ) → IsInstance X → LeaveGapAt X value windows (At place) → FitsSigned w64 place
@@ -73,6 +75,7 @@ leaves_fits X (Best answer (Phases words)) place instance leaves = absurd leaves
 leaves_fits X (Best answer (Below rows)) place instance leaves = absurd leaves
 leaves_fits X (Best answer (Levels perm levels)) place instance leaves = absurd leaves
 leaves_fits X (Nothing rows) place instance leaves = absurd leaves
+leaves_fits X (Ranked count answers nodes) place instance leaves = absurd leaves
 
 -- the place of a level that is none
 level_fits : (own : Objective) (X : Problem) (claim : Claim) (place : ℤ) → HasClaimText own claim → HasBadLevel X claim (At place) → FitsSigned w64 place
@@ -84,6 +87,7 @@ level_fits own X (Best answer (Phases words)) place text bad = absurd bad
 level_fits own X (Best answer (Below rows)) place text bad = absurd bad
 level_fits own X (Best answer (Windows windows)) place text bad = absurd bad
 level_fits own X (Nothing rows) place text bad = absurd bad
+level_fits own X (Ranked count answers nodes) place text bad = absurd bad
 
 pub place_fits : (objective : Objective) (X : Problem) (form : Form) (document : Document) (number : ℕ) (place : ℤ) → IsInstance X → HasText document → IsFirstReason objective X form document number place → FitsSigned w64 place
 place_fits objective X form document number place instance text first = by_reasons reasons_in_order first.told

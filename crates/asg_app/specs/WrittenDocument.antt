@@ -12,7 +12,7 @@ use Rattle.asg_proof.specs.LevelRows.{most_level_rows}
 use Rattle.asg_proof.specs.PromisedProofs.{AreFewWindows, HasFewLevels, HasFewPhases, IsThresholdProof}
 use Rattle.asg_doc.specs.declared.documents.Answer.{Answer}
 use Rattle.asg_doc.specs.declared.documents.Claim.{Claim}
-use Rattle.asg_doc.specs.declared.documents.Claim.TheVariants.{Best, Nothing}
+use Rattle.asg_doc.specs.declared.documents.Claim.TheVariants.{Best, Nothing, Ranked}
 use Rattle.asg_doc.specs.declared.documents.Document.{Document}
 use Rattle.asg_doc.specs.HasText.{HasText}
 use Rattle.asg_check.specs.declared.verdicts.Form.{Form}
@@ -35,10 +35,11 @@ abbrev pub IsPromisedOutcome : Objective → Problem → Outcome → Type 0
 IsPromisedOutcome objective X (outcomes.Best choice proof) = IsPromisedProof objective X proof
 IsPromisedOutcome objective X (outcomes.Nothing rows) = Unit {0}
 
--- a claim whose proof is promised; the one that nothing is valid has none
+-- a claim whose proof is promised; the one that nothing is valid has none, and no ranking is written yet
 abbrev pub IsPromisedClaim : Objective → Problem → Claim → Type 0
 IsPromisedClaim objective X (Best answer proof) = IsPromisedProof objective X proof
 IsPromisedClaim objective X (Nothing rows) = Unit {0}
+IsPromisedClaim objective X (Ranked count answers nodes) = ⊥
 
 -- a document that a command may write for an objective, an instance and a form: it has a text and
 -- certifies, what it claims is true, and its proof is one that is promised

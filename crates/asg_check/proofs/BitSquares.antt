@@ -19,7 +19,7 @@ use Rattle.asg_square.specs.laws.Places.{place_hit, place_missed}
 use Rattle.asg_proof.specs.declared.levels.Level.{Level}
 use Rattle.asg_proof.specs.Levels.{is_between, level_square, without}
 use Rattle.asg_levels.specs.UnitSteps.{bit_square}
-use Rattle.asg_levels.specs.laws.RowWords.{bit_in_row, is_and}
+use Rattle.asg_square.specs.laws.Words.{bit_in_row, is_and}
 use Rattle.asg_check.specs.declared.level_walks.Walk.{Walk}
 use Rattle.asg_check.specs.LevelBits.{value_in, value_of}
 use Rattle.asg_check.specs.LevelWalks.{IsCostSquare, IsLeft, free_cost, passes_cost}

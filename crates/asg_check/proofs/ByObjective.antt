@@ -24,8 +24,9 @@ use Rattle.asg_square.specs.Cells.{square_cell}
 use Rattle.asg_proof.specs.FoldProofs.{FoldFact, ProvesFold, ProvesPhases}
 use Rattle.asg_proof.specs.Phases.{PhaseOf, index_of}
 use Rattle.asg_model.specs.Objectives.{is_algebraic}
-use Rattle.asg_check.specs.PhaseReasons.{AreAdmitted, AreAdmittedFor, AreAdmittedFrom, HaveIndexBut, HaveOtherIndex, HaveOtherIndexFor}
-use Rattle.asg_check.proofs.PhaseWords.{admitted-take, dec_admitted, phases-once}
+use Rattle.asg_replays.specs.Replays.{AreAdmittedFrom}
+use Rattle.asg_check.specs.PhaseReasons.{AreAdmitted, AreAdmittedFor, HaveIndexBut, HaveOtherIndex, HaveOtherIndexFor}
+use Rattle.asg_replays.specs.laws.PhaseWords.{admitted-take, dec_admitted, phases-once}
 
 -- the values have words, and are decided to be the same or not
 pub record AreSpelled {V : Type 0} (M : Monoid V) (word_of : V → Word) : Type 0 where

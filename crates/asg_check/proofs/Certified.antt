@@ -32,7 +32,7 @@ use Rattle.asg_proof.specs.Windows.{IsHallWindow, ProvesWindows}
 use Rattle.asg_doc.specs.ChosenCells.{cells_by_id}
 use Rattle.asg_doc.specs.declared.documents.Answer.{Answer}
 use Rattle.asg_doc.specs.declared.documents.Claim.{Claim}
-use Rattle.asg_doc.specs.declared.documents.Claim.TheVariants.{Best, Nothing}
+use Rattle.asg_doc.specs.declared.documents.Claim.TheVariants.{Best, Nothing, Ranked}
 use Rattle.asg_doc.specs.declared.documents.Document.{Document}
 use Rattle.asg_check.specs.declared.verdicts.Form.{Form}
 use Rattle.asg_check.specs.declared.verdicts.Reason.{Reason}
@@ -110,6 +110,7 @@ module _ (objective : Objective) (X : Problem) (i : IsInstance X) where
 
   -- nothing stands against a claim that certifies
   stands_nowhere : (claim : Claim) → CertifiesClaim objective X claim → (reason : Reason) → Nowhere (StandsAgainst objective X claim reason)
+  stands_nowhere (Ranked count answers nodes) w reason = absurd w
   stands_nowhere (Best answer proof) w NotValid = nowhere (λ none. none w.choice w.written)
   stands_nowhere (Best answer proof) w WrongValue = nowhere (one_value answer proof w.choice w.written w.value)
   stands_nowhere (Best answer (Phases words)) w NotHall = nowhere (λ fails. fails tt)
@@ -171,6 +172,7 @@ module _ (decided : record { valid : (X : Problem) (f : List (Option ℕ)) → D
     no_hall_set (Best answer (Windows windows)) = tested_halls X windows hall_window
     no_hall_set (Best answer (Levels perm levels)) = inr (nowhere (λ fails. fails tt))
     no_hall_set (Nothing rows) = tested NotHall (not (decided.hall X Whole rows))
+    no_hall_set (Ranked count answers nodes) = inr (nowhere (λ fails. fails tt))
 
     hall_set : (claim : Claim) → Nowhere (LacksHallSet objective X claim) → HasHallSet objective X claim
     hall_set (Best answer (Phases words)) none = tt
@@ -178,6 +180,7 @@ module _ (decided : record { valid : (X : Problem) (f : List (Option ℕ)) → D
     hall_set (Best answer (Windows windows)) none = halls_from_nowhere X windows hall_window none
     hall_set (Best answer (Levels perm levels)) none = tt
     hall_set (Nothing rows) none = dec→stable (decided.hall X Whole rows) (none Overall)
+    hall_set (Ranked count answers nodes) none = tt
 
     -- windows that leave a gap
     gap : (claim : Claim) → Tested (LeavesGap X claim) WindowGap
@@ -186,6 +189,7 @@ module _ (decided : record { valid : (X : Problem) (f : List (Option ℕ)) → D
     gap (Best answer (Below rows)) = inr (λ spot none. none)
     gap (Best answer (Levels perm levels)) = inr (λ spot none. none)
     gap (Nothing rows) = inr (λ spot none. none)
+    gap (Ranked count answers nodes) = inr (λ spot none. none)
 
     -- of an answer: its cells spell the choice that is read, or none, and its value is that of it
     module _ (answer : Answer) (proof : Proof) where
@@ -210,10 +214,12 @@ module _ (decided : record { valid : (X : Problem) (f : List (Option ℕ)) → D
     no_choice : (claim : Claim) → Dec (HasNoChoice X claim)
     no_choice (Best answer proof) = of_iff (unwritten answer proof) (not (written answer proof))
     no_choice (Nothing rows) = no (λ none. none)
+    no_choice (Ranked count answers nodes) = no (λ none. none)
 
     other_value : (claim : Claim) → Dec (HasOtherValue objective X claim)
     other_value (Best answer proof) = revalued answer proof
     other_value (Nothing rows) = no (λ none. none)
+    other_value (Ranked count answers nodes) = no (λ none. none)
 
     -- phases that aren't admitted, and an index that differs
     bad_phase : (claim : Claim) → Tested (HasBadPhase objective X claim) BadPhase
@@ -222,6 +228,7 @@ module _ (decided : record { valid : (X : Problem) (f : List (Option ℕ)) → D
     bad_phase (Best answer (Windows windows)) = inr (λ spot none. none)
     bad_phase (Best answer (Levels perm levels)) = inr (λ spot none. none)
     bad_phase (Nothing rows) = inr (λ spot none. none)
+    bad_phase (Ranked count answers nodes) = inr (λ spot none. none)
 
     other_index : (claim : Claim) → Dec (HasOtherIndex objective X claim)
     other_index (Best answer (Phases words)) =
@@ -237,6 +244,7 @@ module _ (decided : record { valid : (X : Problem) (f : List (Option ℕ)) → D
     other_index (Best answer (Windows windows)) = no (λ none. none)
     other_index (Best answer (Levels perm levels)) = no (λ none. none)
     other_index (Nothing rows) = no (λ none. none)
+    other_index (Ranked count answers nodes) = no (λ none. none)
 
     -- levels that are bad for the choice that is written
     bad_level : (claim : Claim) → Tested (HasBadLevel X claim) BadLevel
@@ -244,6 +252,7 @@ module _ (decided : record { valid : (X : Problem) (f : List (Option ℕ)) → D
     bad_level (Best answer (Below rows)) = inr (λ spot none. none)
     bad_level (Best answer (Windows windows)) = inr (λ spot none. none)
     bad_level (Nothing rows) = inr (λ spot none. none)
+    bad_level (Ranked count answers nodes) = inr (λ spot none. none)
     bad_level (Best answer (Levels perm levels)) = by (written answer (Levels perm levels))
       where
         f : List (Option ℕ)
@@ -283,6 +292,7 @@ module _ (decided : record { valid : (X : Problem) (f : List (Option ℕ)) → D
     -- a claim of a kind that the objective takes, against which nothing stands, certifies
     claimed : (claim : Claim) → IsTrue (takes_claim objective claim) → ¬ HasNoChoice X claim → ¬ HasOtherValue objective X claim → HasHallSet objective X claim → Nowhere (LeavesGap X claim) → Nowhere (HasBadPhase objective X claim) → ¬ HasOtherIndex objective X claim → Nowhere (HasBadLevel X claim) → CertifiesClaim objective X claim
     claimed (Nothing rows) fits chosen valued proved whole bad other level = proved
+    claimed (Ranked count answers nodes) fits chosen valued proved whole bad other level = absurd (cc (fits))
     claimed (Best answer proof) fits chosen valued proved whole bad other level =
         let w = dec→stable (written answer proof) (λ none. chosen ((unwritten answer proof).0 none)) in
         let same = dec→stable (value answer proof) (λ differs. valued (read answer proof, w, differs)) in

@@ -14,10 +14,10 @@ use Rattle.asg_proof.specs.Phases.{after_phases, index_of}
 use Rattle.asg_proof.specs.laws.PhaseLists.{index_is_value}
 use Rattle.asg_admit.specs.declared.reduced.Reduced.{Reduced}
 use Rattle.asg_check.specs.LevelWalks.{IsDue, IsLeft, IsRefused}
-use Rattle.asg_check.specs.PhaseReasons.{AreAdmittedFrom}
-use Rattle.asg_check.specs.Replays.{AreReplayed, IsFirstBad}
+use Rattle.asg_replays.specs.Replays.{AreAdmittedFrom}
+use Rattle.asg_replays.specs.Replays.{AreReplayed, IsFirstBad}
 use Rattle.asg_check.proofs.LevelTold.{Admitted, from_parts, numbers_back, to_parts}
-use Rattle.asg_check.proofs.PhaseWords.{admitted-take}
+use Rattle.asg_replays.specs.laws.PhaseWords.{admitted-take}
 
 module _ (X : Problem) (perm : List ℕ) (before : Option ℤ) (left : ℕ → ℕ → Bool) (level : Level) where
   abbrev IsIt : Type 0

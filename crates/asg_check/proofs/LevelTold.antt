@@ -29,10 +29,10 @@ use Rattle.asg_proof.specs.Proves.{is_rank_objective}
 use Rattle.asg_check.specs.declared.verdicts.Reason.TheVariants.{BadLevel}
 use Rattle.asg_check.specs.declared.verdicts.Verdict.TheVariants.{No, Yes}
 use Rattle.asg_check.specs.LevelReasons.{cost_before, left_before, IsColumnList, IsNoLevelAt, HoldInAll, AreBadLevelsAt, LevelsStand}
-use Rattle.asg_check.specs.PhaseReasons.{AreAdmittedFrom}
+use Rattle.asg_replays.specs.Replays.{AreAdmittedFrom}
 use Rattle.asg_check.specs.Reasons.{IsToldOf, Tells, level_reasons}
 use Rattle.asg_check.specs.Spots.{At, IsNoLater, Overall, Spot}
-use Rattle.asg_check.proofs.PhaseWords.{dec_admitted}
+use Rattle.asg_replays.specs.laws.PhaseWords.{dec_admitted}
 use Rattle.asg_check.proofs.ToldReasons.{Nowhere, Tested, least_below}
 
 -- ---- levels by place

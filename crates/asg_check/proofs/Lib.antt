@@ -1,13 +1,9 @@
 pub mod Reading
 pub mod ToldReasons
 pub mod Decisions
-pub mod PhaseWords
-pub mod Replaying
-pub mod PhaseParts
 pub mod Outcomes
 pub mod NarrowSums
 pub mod ByObjective
-pub mod LiveCosts
 pub mod PhaseTold
 pub mod WindowGaps
 pub mod WindowOrder

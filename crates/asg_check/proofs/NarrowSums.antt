@@ -14,7 +14,7 @@ use Rattle.asg_monoids.specs.Entered.{cost_reach, sum_entered, top_of}
 use Rattle.asg_admit.specs.declared.reduced.Reduced.{Reduced}
 use Rattle.asg_admit.specs.Reduced.{IsReduced}
 use Rattle.asg_proof.specs.Phases.{PhaseOf, AreAdmittedPhases, index_of}
-use Rattle.asg_check.specs.Replays.{IsStart}
+use Rattle.asg_replays.specs.Replays.{IsStart}
 use Rattle.asg_check.specs.WholeLists.{HaveIndex}
 
 -- what holds where sums stop at a top holds where they stop at one that is no less

@@ -17,21 +17,21 @@ use Rattle.asg_model.specs.Objectives.{is_bottleneck}
 use Rattle.asg_monoids.specs.Grades.{graded, graded_difference, graded_word}
 use Rattle.asg_monoids.specs.Maxima.{maxima, maxima_difference}
 use Rattle.asg_square.specs.Cells.{square_cell}
-use Rattle.asg_square.specs.Grid.{IsSquareOf, cell_at}
-use Rattle.asg_proof.specs.PhaseProofs.{EntersValues}
+use Rattle.asg_square.specs.Grid.{cell_at}
 use Rattle.asg_proof.specs.Phases.{PhaseOf, index_of}
 use Rattle.asg_proof.specs.laws.PhaseLists.{index_is_value}
-use Rattle.asg_proof.specs.laws.Squares.{HasValues-square_cell}
 use Rattle.asg_admit.specs.declared.reduced.Reduced.{Reduced}
 use Rattle.asg_check.specs.declared.verdicts.Reason.TheVariants.{IndexDiffers}
 use Rattle.asg_check.specs.declared.verdicts.Verdict.{Verdict}
 use Rattle.asg_check.specs.declared.verdicts.Verdict.TheVariants.{No, Yes}
-use Rattle.asg_check.specs.PhaseReasons.{AreAdmittedFrom, HaveIndexBut}
+use Rattle.asg_replays.specs.Replays.{AreAdmittedFrom}
+use Rattle.asg_check.specs.PhaseReasons.{HaveIndexBut}
 use Rattle.asg_check.specs.Reasons.{Tells, phase_reasons}
-use Rattle.asg_check.specs.Replays.{AreReplayed, IsFirstBad, IsStart, StandsFor, StandsFrom, StandsOver}
+use Rattle.asg_replays.specs.Replays.{AreReplayed, IsFirstBad, IsStart}
+use Rattle.asg_check.specs.Replays.{StandsFor, StandsFrom, StandsOver}
 use Rattle.asg_check.specs.WholeLists.{HaveIndex}
 use Rattle.asg_check.proofs.ByObjective.{no_other_from}
-use Rattle.asg_check.proofs.PhaseWords.{admitted-take, take-take}
+use Rattle.asg_replays.specs.laws.PhaseWords.{admitted-take, take-take}
 use Rattle.asg_check.proofs.ToldReasons.{bad_told, none_bad, nowhere, overall}
 
 -- ---- from a square
@@ -93,19 +93,6 @@ module _ {V : Type 0} (M : Monoid V) (laws : IsOrderedMonoid M) (difference : V 
   told_index is_unit after all value_of spelled verdict either = told_have after.index (replayed_index is_unit after all) value_of spelled verdict either
 
 -- ---- over an instance
-
-module _ {V : Type 0} (M : Monoid V) (laws : IsOrderedMonoid M) (enter : Cost → V) (X : Problem) where
-  -- the square of the instance is reduced by nothing
-  pub start_of : (start : Reduced V) → EntersValues M enter X → IsSquareOf X M.unit enter start.now → start.index ≡ M.unit → IsStart M enter X start
-  start_of start live square unit = record {
-    square = square;
-    index = unit;
-    reduced = record {
-      cells = λ r k x hr hk at.
-          HasValues-square_cell M laws enter X live r k x (subst (λ side. r < side) square.labels.side hr) (subst (λ side. k < side) square.labels.side hk) (sym (square.cells r k) ∙ at);
-      index = subst (IsValue M) (sym unit) laws.unit_is_value;
-    };
-  }
 
 -- what is told from the square of the instance is told over the instance
 pub told_over : {V : Type 0} (M : Monoid V) (difference : V → V → V) (word_of : V → Word) (enter : Cost → V) (X : Problem) (start : Reduced V) (value : V) (choice : List (Option ℕ)) (words : List (PhaseOf Word)) (verdict : Verdict)

@@ -9,7 +9,7 @@ use Rattle.asg_proof.specs.Proves.{Proves}
 use Rattle.asg_proof.specs.declared.outcomes.Proof.{Proof}
 use Rattle.asg_doc.specs.declared.documents.Answer.{Answer}
 use Rattle.asg_doc.specs.declared.documents.Claim.{Claim}
-use Rattle.asg_doc.specs.declared.documents.Claim.TheVariants.{Best, Nothing}
+use Rattle.asg_doc.specs.declared.documents.Claim.TheVariants.{Best, Nothing, Ranked}
 use Rattle.asg_doc.specs.declared.documents.Document.{Document}
 use Rattle.asg_check.specs.declared.verdicts.Form.{Form}
 use Rattle.asg_check.specs.DocumentForm.{has_form}
@@ -23,10 +23,11 @@ pub record CertifiesAnswer (objective : Objective) (X : Problem) (answer : Answe
   pub value : answer.value ≡ choice_value objective X choice
   pub proved : Proves objective X choice proof
 
--- a claim certifies: its answer with its proof, or its rows as a Hall set of the instance
+-- a claim certifies: its answer with its proof, or its rows as a Hall set of the instance; no ranking does yet
 abbrev pub CertifiesClaim : Objective → Problem → Claim → Type 0
 CertifiesClaim objective X (Best answer proof) = CertifiesAnswer objective X answer proof
 CertifiesClaim objective X (Nothing rows) = IsHall X Whole rows
+CertifiesClaim objective X (Ranked count answers nodes) = ⊥
 
 -- a document certifies for an objective, an instance and a form: it is of the asked objective and
 -- has the asked form, and its claim certifies

@@ -5,7 +5,7 @@ use Rattle.asg_order.specs.Monoid.{Monoid}
 use Rattle.asg_proof.specs.Phases.{PhaseOf}
 use Rattle.asg_square.specs.Grid.{cell_at}
 use Rattle.asg_admit.specs.declared.reduced.Reduced.{Reduced}
-use Rattle.asg_check.specs.Replays.{AreReplayed, IsFirstBad}
+use Rattle.asg_replays.specs.Replays.{AreReplayed, IsFirstBad}
 
 -- the phases lead from one reduced square to another, or the first bad one has this place
 abbrev pub LeadOrStop : {V : Type 0} → Monoid V → (V → V → V) → (V → Word) → List (PhaseOf Word)

@@ -15,7 +15,7 @@ use Rattle.asg_proof.specs.Phases.{PhaseOf}
 use Rattle.asg_admit.specs.declared.reduced.Reduced.{Reduced}
 use Rattle.asg_check.specs.declared.level_walks.Walk.{Walk}
 use Rattle.asg_check.specs.LevelReasons.{IsNoLevelAt, cost_before, left_before}
-use Rattle.asg_check.specs.Replays.{AreReplayed, IsFirstBad}
+use Rattle.asg_replays.specs.Replays.{AreReplayed, IsFirstBad}
 
 -- what a free cell holds in a square of costs: no cost is as little
 abbrev pub free_cost : ℤ

@@ -9,15 +9,9 @@ use Rattle.asg_order.specs.Bridge.{choice_fold}
 use Rattle.asg_order.specs.Monoid.{Monoid}
 use Rattle.asg_monoids.specs.ObjectiveMonoids.{InMonoidOf}
 use Rattle.asg_square.specs.Cells.{square_cell}
-use Rattle.asg_proof.specs.Phases.{PhaseOf, AreAdmittedPhases, index_of, worded}
+use Rattle.asg_proof.specs.Phases.{PhaseOf, index_of}
+use Rattle.asg_replays.specs.Replays.{AreAdmittedFrom}
 use Rattle.asg_check.specs.Spots.{Spot, At, Overall}
-
--- the words are those of phases of values that are admitted in turn from a square
-pub record AreAdmittedFrom {V : Type 0} (M : Monoid V) (difference : V → V → V) (word_of : V → Word)
-    (side : ℕ) (square : ℕ → ℕ → Option V) (words : List (PhaseOf Word)) : Type 0 where
-  pub phases : List (PhaseOf V)
-  pub written : map (worded word_of) phases ≡ words
-  pub admitted : AreAdmittedPhases M difference side phases square
 
 -- the same from the square of the instance
 abbrev pub AreAdmitted : {V : Type 0} → Monoid V → (V → V → V) → (V → Word) → (Cost → V) → Problem

@@ -9,7 +9,7 @@ use Rattle.asg_proof.specs.Threshold.{ProvesBelow}
 use Rattle.asg_proof.specs.declared.outcomes.Proof.TheVariants.{Below, Levels, Phases, Windows}
 use Rattle.asg_proof.specs.Windows.{IsHallWindow}
 use Rattle.asg_doc.specs.declared.documents.Claim.{Claim}
-use Rattle.asg_doc.specs.declared.documents.Claim.TheVariants.{Best, Nothing}
+use Rattle.asg_doc.specs.declared.documents.Claim.TheVariants.{Best, Nothing, Ranked}
 use Rattle.asg_doc.specs.declared.documents.Document.{Document}
 use Rattle.asg_check.specs.declared.verdicts.Form.{Form}
 use Rattle.asg_check.specs.declared.verdicts.Reason.{Reason}
@@ -59,6 +59,7 @@ reasons_in_order = OtherObjective ∷ (WrongForm ∷ claim_reasons)
 abbrev pub HasNoChoice : Problem → Claim → Type 0
 HasNoChoice X (Best answer proof) = (f : List (Option ℕ)) → IsWrittenAs X answer.cells f → ⊥
 HasNoChoice X (Nothing rows) = ⊥
+HasNoChoice X (Ranked count answers nodes) = ⊥
 
 -- the answer's cells are those of a valid choice, and its value is another than the choice's
 abbrev pub HasOtherValue : Objective → Problem → Claim → Type 0
@@ -66,6 +67,7 @@ HasOtherValue objective X (Best answer proof) =
     (f : List (Option ℕ)) × IsWrittenAs X answer.cells f
     × (answer.value ≢ choice_value objective X f)
 HasOtherValue objective X (Nothing rows) = ⊥
+HasOtherValue objective X (Ranked count answers nodes) = ⊥
 
 -- the rows, where the claim names some, are the Hall set that they must be: of the costs strictly better
 -- than the answer's value, of the bands of windows, or of the whole instance
@@ -75,6 +77,7 @@ HasHallSet objective X (Best answer (Below rows)) = ProvesBelow objective X answ
 HasHallSet objective X (Best answer (Windows windows)) = All (IsHallWindow X) windows
 HasHallSet objective X (Best answer (Levels perm levels)) = Unit {0}
 HasHallSet objective X (Nothing rows) = IsHall X Whole rows
+HasHallSet objective X (Ranked count answers nodes) = Unit {0}
 
 -- where they aren't: at a window, or for the whole
 abbrev pub LacksHallSet : Objective → Problem → Claim → Spot → Type 0

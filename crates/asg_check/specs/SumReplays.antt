@@ -7,7 +7,7 @@ use Rattle.asg_square.specs.Grid.{cell_at}
 use Rattle.asg_admit.specs.declared.reduced.Reduced.{Reduced}
 use Rattle.asg_check.specs.declared.sum_replays.Stop.{Stop}
 use Rattle.asg_check.specs.declared.sum_replays.Stop.TheVariants.{End, Bad, Full}
-use Rattle.asg_check.specs.Replays.{AreReplayed, IsFirstBad}
+use Rattle.asg_replays.specs.Replays.{AreReplayed, IsFirstBad}
 
 -- the phases lead from one reduced square to another: all of them, or those before the first bad one, or
 -- before some other

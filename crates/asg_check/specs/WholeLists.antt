@@ -5,7 +5,7 @@ use Rattle.asg_monoids.specs.BoundedSums.{plain_word}
 use Rattle.asg_order.specs.declared.words.Word.{Word}
 use Rattle.asg_order.specs.Monoid.{Monoid}
 use Rattle.asg_proof.specs.Phases.{PhaseOf, index_of, worded}
-use Rattle.asg_check.specs.PhaseReasons.{AreAdmittedFrom}
+use Rattle.asg_replays.specs.Replays.{AreAdmittedFrom}
 
 -- the words are those of phases that are admitted in turn from a square, and this is their index
 pub record HaveIndex {V : Type 0} (M : Monoid V) (difference : V → V → V) (word_of : V → Word)

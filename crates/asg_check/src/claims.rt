@@ -45,6 +45,8 @@ pub(crate) fn claim_verdict(
                 Ok(Reason::NotHall.verdict())
             }
         }
+        // No ranking is taken yet.
+        Claim::Ranked { .. } => Ok(Reason::WrongForm.verdict()),
     }
 }
 

@@ -23,6 +23,7 @@ fn is_command_of(form: Form, command: Command) -> bool
 {
     match (form, command) {
         (Form::Solve, Command::Solve) => true,
+        (Form::Solve, Command::Rank) => false,
     }
 }
 
@@ -33,6 +34,7 @@ fn takes_claim(objective: Objective, claim: &Claim) -> bool
     match claim {
         Claim::Best { proof, .. } => takes(objective, proof),
         Claim::Nothing { .. } => true,
+        Claim::Ranked { .. } => false,
     }
 }
 

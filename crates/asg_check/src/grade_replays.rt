@@ -6,13 +6,13 @@ ghost use Rattle.asg_monoids.specs.BoundedSums.{bounded_sums, bounded_difference
 ghost use Rattle.asg_monoids.specs.Grades.{graded, graded_difference, graded_word};
 ghost use Rattle.asg_square.specs.Grid.{cell_at};
 ghost use Rattle.asg_check.specs.GradeReplays.{LeadOrStop};
-ghost use Rattle.asg_check.specs.Replays.{IsAdmittedFrom, IsReplayed};
+ghost use Rattle.asg_replays.specs.Replays.{IsAdmittedFrom, IsReplayed};
 
 use crate::NoMemory;
-use crate::replays::{make_room, read_steps};
 use asg_admit::GradedSquare;
 use asg_monoids::{Bounded, Graded};
 use asg_proof::WrittenPhase;
+use asg_replays::{make_room, read_steps};
 use std::alloc::Global;
 
 // Applies a phase where it is admitted, and tells whether it is. Its steps are read into the list

@@ -11,12 +11,12 @@ ghost use Rattle.asg_check.specs.Replays.{StandsFrom};
 
 use crate::NoMemory;
 use crate::grade_replays::first_bad_grade;
-use crate::replays::has_long;
 use crate::square_verdicts::{index_verdict, square_verdict};
 use crate::verdicts::{Reason, Verdict};
 use asg_admit::{GradedSquare, Reduced};
 use asg_monoids::{Bounded, Graded};
 use asg_proof::WrittenPhase;
+use asg_replays::has_long;
 use std::alloc::Global;
 
 // The verdict on phases that are to be admitted in turn from the square, of which no step was taken

@@ -23,12 +23,12 @@ use crate::level_units::take_units;
 use crate::level_walks::{
     Walk, cost_square, first_walk, is_after, keep_zeros, leave_between, level_start,
 };
-use crate::replays::first_bad;
 use crate::verdicts::{Reason, Verdict};
 use asg_admit::Reduced;
 use asg_model::{Choice, Instance};
 use asg_monoids::Bounded;
 use asg_proof::Level;
+use asg_replays::first_bad;
 use asg_square::{BitRows, Square};
 use std::alloc::Global;
 

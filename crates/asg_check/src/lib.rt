@@ -25,7 +25,6 @@ mod level_verdicts;
 mod level_walks;
 mod narrow_starts;
 mod phase_verdicts;
-mod replays;
 mod square_verdicts;
 mod sum_replays;
 mod sum_squares;

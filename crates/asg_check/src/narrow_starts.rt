@@ -8,7 +8,7 @@ ghost use Rattle.asg_model.specs.Shapes.{square_side};
 ghost use Rattle.asg_monoids.specs.BoundedSums.{bounded_sums, narrow_top};
 ghost use Rattle.asg_monoids.specs.Entered.{cost_reach, sum_entered};
 ghost use Rattle.asg_order.specs.Entering.{LiesWithin, MayEnter};
-ghost use Rattle.asg_check.specs.Replays.{IsStart};
+ghost use Rattle.asg_replays.specs.Replays.{IsStart};
 
 use crate::NoMemory;
 use asg_admit::Reduced;

@@ -1,34 +1,29 @@
 //! What stands against phases for a choice of an instance.
 
-ghost use Rattle.std.specs.Prelude.{◌≡◌, ◌≤◌, ◌<◌, IsTrue, IfOk, IfSome, MatchOption, length};
+ghost use Rattle.std.specs.Prelude.{◌≡◌, ◌≤◌, IsTrue, IfOk, IfSome};
 ghost use Rattle.asg_model.specs.declared.objectives.Objective.TheVariants.{Capped, TimeCost};
 ghost use Rattle.asg_model.specs.Instances.{IsInstance};
 ghost use Rattle.asg_model.specs.Limits.{most_side};
 ghost use Rattle.asg_model.specs.Refused.{PassesNegative};
 ghost use Rattle.asg_model.specs.Shapes.{square_side};
-ghost use Rattle.asg_model.specs.Values.{chosen_cost};
 ghost use Rattle.asg_monoids.specs.Entered.{is_sum_objective};
-ghost use Rattle.asg_order.specs.Bridge.{choice_fold};
-ghost use Rattle.asg_order.specs.Entering.{LiesWithin, MayEnter};
-ghost use Rattle.asg_order.specs.Monoid.{IsValue};
+ghost use Rattle.asg_order.specs.Entering.{LiesWithin};
 ghost use Rattle.asg_model.specs.Objectives.{is_algebraic};
 ghost use Rattle.asg_check.specs.Reasons.{Tells, phase_reasons};
-ghost use Rattle.asg_check.specs.Replays.{IsStart, StandsFor, StandsOver};
+ghost use Rattle.asg_check.specs.Replays.{StandsFor, StandsOver};
 
 use crate::NoMemory;
 use crate::capped_verdicts::capped_verdict;
 use crate::grade_verdicts::grade_verdict;
 use crate::narrow_starts::{capped_start, narrow_start};
-use crate::replays::has_long;
 use crate::square_verdicts::square_verdict;
 use crate::sum_verdicts::{narrow_verdict, sum_verdict};
 use crate::verdicts::Verdict;
-use asg_admit::Reduced;
-use asg_model::{Choice, Cost, Instance, Objective};
+use asg_model::{Choice, Instance, Objective};
 use asg_monoids::{PeakKind, SumKind, TimeKind};
-use asg_order::{Kind, Ordered};
+use asg_order::Kind;
 use asg_proof::WrittenPhase;
-use asg_square::Square;
+use asg_replays::{chosen_fold, has_long, start};
 use std::alloc::Global;
 
 // The verdict on phases for a choice, by the reasons against phases in order. The error is want of
@@ -182,71 +177,4 @@ fn replayed_verdict<K: Kind>(
     let fold = chosen_fold(kind, inst, choice);
     let verdict = square_verdict(alloc, kind.monoid(), start, phases, 0, fold)?;
     Ok(verdict)
-}
-
-// The square of the instance, before any step. The error is want of memory.
-fn start<K: Kind>(
-    alloc: Global,
-    kind: &K,
-    inst: &Instance,
-) -> Result<Reduced<<<K as Kind>::M as Ordered>::Value>, NoMemory>
-    requires side { square_side inst.now ≤ most_side }
-    requires near { LiesWithin (K.reach kind.now) inst.now }
-    requires passes { PassesNegative (K.objective kind.now) inst.now }
-    ensures { IfOk result (IsStart (K.M.monoid_of (K.monoid kind.now)) (K.entered kind.now)
-        inst.now) }
-{
-    let m = kind.monoid();
-    let enter = |cost: Cost| -> <K::M as Ordered>::Value
-        requires { MayEnter (K.objective kind.now) (K.reach kind.now) cost }
-        ensures { result ≡ K.entered kind.entry.now cost }
-    { kind.enter(cost) };
-    let now = Square::of(alloc, inst, m.unit(), &enter)?;
-    let index = m.unit();
-    Ok(Reduced { now, index })
-}
-
-// The product of the entered costs of the choice.
-fn chosen_fold<K: Kind>(
-    kind: &K,
-    inst: &Instance,
-    choice: &Choice,
-) -> <<K as Kind>::M as Ordered>::Value
-    requires near { LiesWithin (K.reach kind.now) inst.now }
-    requires passes { PassesNegative (K.objective kind.now) inst.now }
-    ensures fold { result ≡ choice_fold (K.M.monoid_of (K.monoid kind.now)) (K.entered kind.now)
-        inst.now choice.now }
-    ensures is_value { IsValue (K.M.monoid_of (K.monoid kind.now)) result }
-{
-    let mut product = kind.monoid().unit();
-    for row in 0..choice.len() {
-        product = with_chosen(kind, inst, choice, row, product);
-    }
-    product
-}
-
-// The product with the entered cost of the cell that the row chooses, if it chooses one.
-fn with_chosen<K: Kind>(
-    kind: &K,
-    inst: &Instance,
-    choice: &Choice,
-    row: u32,
-    product: <<K as Kind>::M as Ordered>::Value,
-) -> <<K as Kind>::M as Ordered>::Value
-    requires near { LiesWithin (K.reach kind.now) inst.now }
-    requires passes { PassesNegative (K.objective kind.now) inst.now }
-    requires row { row < length choice.now }
-    requires product { IsValue (K.M.monoid_of (K.monoid kind.now)) product }
-    ensures product { MatchOption (chosen_cost inst.now choice.now row) (result ≡ product)
-        (λ cost. result ≡ (K.M.monoid_of (K.monoid kind.now)).product product
-        (K.entered kind.now cost)) }
-    ensures is_value { IsValue (K.M.monoid_of (K.monoid kind.now)) result }
-{
-    match choice.get(row) {
-        Some(column) => match inst.live(row, column) {
-            Some(cost) => kind.monoid().op(product, kind.enter(cost)),
-            None => product,
-        },
-        None => product,
-    }
 }

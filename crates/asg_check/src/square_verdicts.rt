@@ -6,11 +6,11 @@ ghost use Rattle.asg_order.specs.Monoid.{IsValue};
 ghost use Rattle.asg_check.specs.Replays.{TellsFrom};
 
 use crate::NoMemory;
-use crate::replays::first_bad;
 use crate::verdicts::{Reason, Verdict};
 use asg_admit::Reduced;
 use asg_order::{Ordered, Written};
 use asg_proof::WrittenPhase;
+use asg_replays::first_bad;
 use std::alloc::Global;
 
 // The verdict on phases that are to have the value as their index, of which those before a place

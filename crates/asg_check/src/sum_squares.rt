@@ -6,13 +6,13 @@ ghost use Rattle.asg_admit.specs.declared.dual_squares.Replayed.TheVariants.{Ful
 ghost use Rattle.asg_admit.specs.declared.reduced.Reduced.{Reduced};
 ghost use Rattle.asg_monoids.specs.BoundedSums.{bounded_sums, bounded_difference, plain_word};
 ghost use Rattle.asg_square.specs.Grid.{cell_at};
-ghost use Rattle.asg_check.specs.Replays.{IsAdmittedFrom, IsReplayed};
+ghost use Rattle.asg_replays.specs.Replays.{IsAdmittedFrom, IsReplayed};
 
 use crate::NoMemory;
-use crate::replays::{make_room, read_steps};
 use asg_admit::{DualSquare, NarrowSquare, Replayed};
 use asg_monoids::{Bounded, NarrowSums};
 use asg_proof::WrittenPhase;
+use asg_replays::{make_room, read_steps};
 
 // A reduced square of sums.
 pub(crate) trait SumSquare {

@@ -10,7 +10,6 @@ ghost use Rattle.asg_check.specs.Reasons.{Tells, phase_reasons};
 ghost use Rattle.asg_check.specs.Replays.{StandsFrom};
 
 use crate::NoMemory;
-use crate::replays::has_long;
 use crate::square_verdicts::{index_verdict, square_verdict};
 use crate::sum_replays::{Stop, first_stop};
 use crate::verdicts::{Reason, Verdict};
@@ -18,6 +17,7 @@ use crate::whole_lists::list_index;
 use asg_admit::{DualSquare, NarrowSquare, Reduced};
 use asg_monoids::Bounded;
 use asg_proof::WrittenPhase;
+use asg_replays::has_long;
 use std::alloc::Global;
 
 // The verdict on phases that are to be admitted in turn from the square, of which no step was taken

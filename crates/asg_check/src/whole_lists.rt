@@ -8,10 +8,10 @@ ghost use Rattle.asg_square.specs.Grid.{cell_at};
 ghost use Rattle.asg_check.specs.WholeLists.{AreTotalsOf, HaveIndex, TakesIn};
 
 use crate::NoMemory;
-use crate::replays::{make_room, read_steps};
 use asg_admit::PhaseTotals;
 use asg_monoids::NarrowSums;
 use asg_proof::WrittenPhase;
+use asg_replays::{make_room, read_steps};
 use asg_square::Square;
 use std::alloc::Global;
 

@@ -2,7 +2,7 @@ use Rattle.std.proofs.Common.{sym, subst}
 use Rattle.asg_monoids.specs.BoundedSums.{bounded_sums, bounded_difference, narrow_top, plain_word}
 use Rattle.asg_monoids.specs.laws.Bounded.{bounded_laws}
 use Rattle.asg_square.specs.Grid.{cell_at}
-use Rattle.asg_check.specs.Replays.{AreReplayed}
+use Rattle.asg_replays.specs.Replays.{AreReplayed}
 use Rattle.asg_check.specs.SumReplays.{StopsAt}
 use Rattle.asg_check.specs.WholeLists.{HaveIndex}
 use Rattle.asg_check.proofs.PhaseTold.{replayed_index}

@@ -5,8 +5,8 @@ use Rattle.asg_monoids.specs.Grades.{graded, graded_difference, graded_value, gr
 use Rattle.asg_monoids.specs.laws.Bounded.{bounded_laws}
 use Rattle.asg_monoids.specs.laws.Graded.{graded_laws, graded_word_laws}
 use Rattle.asg_square.specs.Grid.{cell_at}
-use Rattle.asg_check.specs.Replays.{AreReplayed, IsAdmittedFrom, IsReplayed}
-use Rattle.asg_check.proofs.Replaying.{first-bad, replayed-none, replayed-push}
+use Rattle.asg_replays.specs.Replays.{AreReplayed, IsAdmittedFrom, IsReplayed}
+use Rattle.asg_replays.specs.laws.Replaying.{first-bad, replayed-none, replayed-push}
 use Rattle.asg_check.proofs.grade_replays.first_bad_grade.Goals as goal
 
 pub loop-place-init : goal.loop-place-init

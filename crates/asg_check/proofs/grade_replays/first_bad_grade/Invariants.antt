@@ -1,7 +1,7 @@
 use Rattle.std.proofs.Common.{take}
 use Rattle.asg_monoids.specs.BoundedSums.{bounded_sums, bounded_difference}
 use Rattle.asg_monoids.specs.Grades.{graded, graded_difference, graded_word}
-use Rattle.asg_check.specs.Replays.{AreReplayed}
+use Rattle.asg_replays.specs.Replays.{AreReplayed}
 use Rattle.asg_check.proofs.grade_replays.first_bad_grade.Given as goal
 
 -- the phases so far lead to the square as it is

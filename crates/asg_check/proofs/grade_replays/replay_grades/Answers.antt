@@ -7,7 +7,7 @@ use Rattle.asg_monoids.specs.Grades.{graded, graded_difference, graded_value, gr
 use Rattle.asg_monoids.specs.laws.Graded.{graded_word_laws}
 use Rattle.asg_proof.specs.Phases.{phase_of}
 use Rattle.asg_square.specs.Grid.{cell_at}
-use Rattle.asg_check.proofs.Replaying.{phase-words, refused-words, unread-words}
+use Rattle.asg_replays.specs.laws.Replaying.{phase-words, refused-words, unread-words}
 use Rattle.asg_check.proofs.grade_replays.replay_grades.Goals as goal
 
 pub returns-then-not-branch-clause-refused : goal.returns-then-not-branch-clause-refused

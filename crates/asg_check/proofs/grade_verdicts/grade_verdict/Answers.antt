@@ -10,7 +10,7 @@ use Rattle.asg_monoids.specs.laws.Graded.{graded_laws}
 use Rattle.asg_square.specs.Grid.{cell_at}
 use Rattle.asg_check.specs.Reasons.{Tells, phase_reasons}
 use Rattle.asg_check.specs.Replays.{StandsFrom}
-use Rattle.asg_check.proofs.Replaying.{replayed-none}
+use Rattle.asg_replays.specs.laws.Replaying.{replayed-none}
 use Rattle.asg_check.proofs.grade_verdicts.grade_verdict.Goals as goal
 
 pub replay_verdict-requires-clause-reduced : goal.replay_verdict-requires-clause-reduced

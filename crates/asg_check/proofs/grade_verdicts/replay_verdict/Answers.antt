@@ -8,7 +8,7 @@ use Rattle.asg_order.specs.Monoid.{IsValue}
 use Rattle.asg_square.specs.Grid.{cell_at}
 use Rattle.asg_check.specs.declared.verdicts.Verdict.TheVariants.{No, Yes}
 use Rattle.asg_check.specs.GradeReplays.{LeadOrStop}
-use Rattle.asg_check.specs.Replays.{AreReplayed, IsFirstBad}
+use Rattle.asg_replays.specs.Replays.{AreReplayed, IsFirstBad}
 use Rattle.asg_check.proofs.PhaseTold.{bad_from, told_index}
 use Rattle.asg_check.proofs.grade_verdicts.replay_verdict.Goals as goal
 

@@ -1,7 +1,7 @@
 use Rattle.std.proofs.Common.{◌∙◌, ◌<◌, ◌≤◌, ◌*◌, refl, ap, subst, arith, ⊎_elim}
 use Rattle.std.proofs.lemmas.Bool.{cases_lt}
 use Rattle.asg_square.specs.BitTable.{has_bit, word_count}
-use Rattle.asg_levels.specs.laws.RowWords.{bit_in_row}
+use Rattle.asg_square.specs.laws.Words.{bit_in_row}
 use Rattle.asg_check.proofs.level_bits.split_row.Goals as goal
 
 pub loop-number-init : goal.loop-number-init

@@ -4,8 +4,8 @@ use Rattle.asg_monoids.specs.BoundedSums.{bounded_difference, plain_word}
 use Rattle.asg_monoids.specs.laws.Bounded.{bounded_laws}
 use Rattle.asg_proof.specs.Levels.{level_sums}
 use Rattle.asg_square.specs.Grid.{cell_at}
-use Rattle.asg_check.specs.Replays.{AreReplayed, IsFirstBad}
-use Rattle.asg_check.proofs.Replaying.{replayed-none}
+use Rattle.asg_replays.specs.Replays.{AreReplayed, IsFirstBad}
+use Rattle.asg_replays.specs.laws.Replaying.{replayed-none}
 use Rattle.asg_check.proofs.level_verdicts.are_counted.Goals as goal
 
 -- a phase is bad

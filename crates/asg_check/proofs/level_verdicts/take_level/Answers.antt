@@ -15,12 +15,12 @@ leave_between-requires-clause-sized c = subst (IsSized (square_side c.args.inst.
 pub keep_zeros-requires : goal.keep_zeros-requires
 keep_zeros-requires c =
     let led = (c.in_ok-are_counted.ensures.applied c.if-not-branch.false).0 in
-    record { sized = subst (λ n. IsSized n c.leave_between.new.walk) (sym (led.side ∙ c.in_ok-reduced.ensures.side)) c.leave_between.ensures.sized }
+    record { sized = subst (λ n. IsSized n c.leave_between.new.walk) (sym (led.labels.side ∙ c.in_ok-reduced.ensures.side)) c.leave_between.ensures.sized }
 
 pub returns-clause-sized : goal.returns-clause-sized
 returns-clause-sized c so =
     let led = (c.in_ok-are_counted.ensures.applied c.if-not-branch.false).0 in
-    subst (λ n. IsSized n c.keep_zeros.new.walk) (led.side ∙ c.in_ok-reduced.ensures.side) c.keep_zeros.ensures.sized
+    subst (λ n. IsSized n c.keep_zeros.new.walk) (led.labels.side ∙ c.in_ok-reduced.ensures.side) c.keep_zeros.ensures.sized
 
 -- its phases each have one step, by 1
 pub returns-then-branch-clause-level : goal.returns-then-branch-clause-level
@@ -101,6 +101,6 @@ returns-clause-behind c before left behind so =
     let after = c.are_counted.new.reduced in
     record {
       left_is = left_is X [] before left level start c.in_ok-reduced.ensures.side cells after led (square_side X) c.keep_zeros.new.walk.left
-          (subst (λ n. IsLeft n (λ r d. is_zero (cell_at after.now r d)) c.keep_zeros.new.walk.left) (led.side ∙ c.in_ok-reduced.ensures.side) c.keep_zeros.ensures.left);
+          (subst (λ n. IsLeft n (λ r d. is_zero (cell_at after.now r d)) c.keep_zeros.new.walk.left) (led.labels.side ∙ c.in_ok-reduced.ensures.side) c.keep_zeros.ensures.left);
       before_is = c.keep_zeros.ensures.before ∙ ap Some cost;
     }

@@ -3,8 +3,8 @@ use Rattle.asg_model.specs.declared.objectives.Objective.TheVariants.{SumMax}
 use Rattle.asg_monoids.specs.BoundedSums.{bounded_sums, narrow_top}
 use Rattle.asg_monoids.specs.laws.Bounded.{bounded_laws}
 use Rattle.asg_monoids.specs.Entered.{cost_reach, sum_entered}
-use Rattle.asg_check.proofs.LiveCosts.{live_values}
-use Rattle.asg_check.proofs.PhaseTold.{start_of}
+use Rattle.asg_replays.specs.laws.LiveCosts.{live_values}
+use Rattle.asg_replays.specs.laws.Starts.{start_of}
 use Rattle.asg_check.proofs.NarrowSums.{narrow_values}
 use Rattle.asg_check.proofs.narrow_starts.sum_max_start.Goals as goal
 

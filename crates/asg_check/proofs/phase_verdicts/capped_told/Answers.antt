@@ -6,7 +6,8 @@ use Rattle.asg_monoids.specs.Entered.{cost_reach, sum_entered}
 use Rattle.asg_square.specs.Grid.{cell_at}
 use Rattle.asg_proof.specs.laws.LiveCosts.{lies_within}
 use Rattle.asg_check.specs.Reasons.{Tells, phase_reasons}
-use Rattle.asg_check.specs.Replays.{IsStart, StandsFrom}
+use Rattle.asg_replays.specs.Replays.{IsStart}
+use Rattle.asg_check.specs.Replays.{StandsFrom}
 use Rattle.asg_check.proofs.NarrowSums.{reduced_up}
 use Rattle.asg_check.proofs.PhaseTold.{told_over, told_sums}
 use Rattle.asg_check.proofs.phase_verdicts.capped_told.Goals as goal

@@ -7,7 +7,8 @@ use Rattle.asg_monoids.specs.Entered.{cost_reach, sum_entered}
 use Rattle.asg_square.specs.Grid.{cell_at}
 use Rattle.asg_proof.specs.laws.LiveCosts.{lies_within}
 use Rattle.asg_check.specs.Reasons.{Tells, phase_reasons}
-use Rattle.asg_check.specs.Replays.{IsStart, StandsFor, StandsFrom}
+use Rattle.asg_replays.specs.Replays.{IsStart}
+use Rattle.asg_check.specs.Replays.{StandsFor, StandsFrom}
 use Rattle.asg_check.proofs.NarrowSums.{start_up, wide_top}
 use Rattle.asg_check.proofs.PhaseTold.{told_over, told_sums}
 use Rattle.asg_check.proofs.phase_verdicts.narrow_told.Goals as goal

@@ -2,9 +2,10 @@ use Rattle.std.proofs.Common.{sym, ap, subst, ◌∙◌}
 use Rattle.asg_order.specs.Bridge.{choice_fold}
 use Rattle.asg_order.specs.Monoid.{IsValue}
 use Rattle.asg_check.specs.Reasons.{Tells, phase_reasons}
-use Rattle.asg_check.specs.Replays.{IsStart, StandsOver}
+use Rattle.asg_replays.specs.Replays.{IsStart}
+use Rattle.asg_check.specs.Replays.{StandsOver}
 use Rattle.asg_check.proofs.PhaseTold.{told_over}
-use Rattle.asg_check.proofs.Replaying.{replayed-none}
+use Rattle.asg_replays.specs.laws.Replaying.{replayed-none}
 use Rattle.asg_check.proofs.phase_verdicts.replayed_verdict.Goals as goal
 
 pub square_verdict-requires-clause-reduced : goal.square_verdict-requires-clause-reduced

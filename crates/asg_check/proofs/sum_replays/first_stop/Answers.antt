@@ -2,8 +2,8 @@ use Rattle.std.proofs.Common.{take, sym, subst}
 use Rattle.asg_monoids.specs.BoundedSums.{bounded_sums, bounded_difference, bounded_value, plain_word}
 use Rattle.asg_monoids.specs.laws.Bounded.{bounded_laws, bounded_word_laws}
 use Rattle.asg_square.specs.Grid.{cell_at}
-use Rattle.asg_check.specs.Replays.{AreReplayed, IsAdmittedFrom, IsReplayed}
-use Rattle.asg_check.proofs.Replaying.{first-bad, replayed-none, replayed-push}
+use Rattle.asg_replays.specs.Replays.{AreReplayed, IsAdmittedFrom, IsReplayed}
+use Rattle.asg_replays.specs.laws.Replaying.{first-bad, replayed-none, replayed-push}
 use Rattle.asg_check.proofs.sum_replays.first_stop.Goals as goal
 
 pub loop-place-init : goal.loop-place-init

@@ -1,6 +1,6 @@
 use Rattle.std.proofs.Common.{take}
 use Rattle.asg_monoids.specs.BoundedSums.{bounded_sums, bounded_difference, plain_word}
-use Rattle.asg_check.specs.Replays.{AreReplayed}
+use Rattle.asg_replays.specs.Replays.{AreReplayed}
 use Rattle.asg_check.proofs.sum_replays.first_stop.Given as goal
 
 -- the phases so far lead to the square as it is

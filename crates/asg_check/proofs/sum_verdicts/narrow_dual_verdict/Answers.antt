@@ -4,7 +4,7 @@ use Rattle.asg_monoids.specs.BoundedSums.{bounded_sums, bounded_difference, boun
 use Rattle.asg_monoids.specs.laws.Bounded.{bounded_laws, bounded_word_laws}
 use Rattle.asg_square.specs.Grid.{cell_at}
 use Rattle.asg_check.specs.declared.verdicts.Verdict.TheVariants.{No, Yes}
-use Rattle.asg_check.specs.Replays.{AreReplayed, IsFirstBad}
+use Rattle.asg_replays.specs.Replays.{AreReplayed, IsFirstBad}
 use Rattle.asg_check.specs.SumReplays.{StopsAt}
 use Rattle.asg_check.proofs.PhaseTold.{bad_from, told_index}
 use Rattle.asg_check.proofs.sum_verdicts.narrow_dual_verdict.Goals as goal

@@ -8,7 +8,7 @@ use Rattle.asg_monoids.specs.laws.Bounded.{bounded_laws}
 use Rattle.asg_square.specs.Grid.{cell_at}
 use Rattle.asg_check.specs.Reasons.{Tells, phase_reasons}
 use Rattle.asg_check.specs.Replays.{StandsFrom}
-use Rattle.asg_check.proofs.Replaying.{replayed-none}
+use Rattle.asg_replays.specs.laws.Replaying.{replayed-none}
 use Rattle.asg_check.proofs.sum_verdicts.sum_verdict.Goals as goal
 
 pub dual_verdict-requires-clause-reduced : goal.dual_verdict-requires-clause-reduced

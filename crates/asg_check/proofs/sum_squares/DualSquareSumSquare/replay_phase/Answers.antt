@@ -6,7 +6,7 @@ use Rattle.asg_monoids.specs.laws.Bounded.{bounded_word_laws}
 use Rattle.asg_proof.specs.Phases.{phase_of}
 use Rattle.asg_square.specs.Grid.{cell_at}
 use Rattle.asg_check.proofs.Outcomes.{applied_not_full, applied_not_refused, refused_not_full}
-use Rattle.asg_check.proofs.Replaying.{phase-words, refused-words, unread-words}
+use Rattle.asg_replays.specs.laws.Replaying.{phase-words, refused-words, unread-words}
 use Rattle.asg_check.proofs.sum_squares.DualSquareSumSquare.replay_phase.Goals as goal
 
 pub returns-then-not-branch-clause-refused : goal.returns-then-not-branch-clause-refused

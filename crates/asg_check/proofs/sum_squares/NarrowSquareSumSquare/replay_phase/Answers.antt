@@ -8,7 +8,7 @@ use Rattle.asg_proof.specs.Phases.{phase_of}
 use Rattle.asg_square.specs.Grid.{cell_at}
 use Rattle.asg_check.proofs.NarrowSums.{value_up}
 use Rattle.asg_check.proofs.Outcomes.{applied_not_full, applied_not_refused, refused_not_full}
-use Rattle.asg_check.proofs.Replaying.{phase-words, refused-words}
+use Rattle.asg_replays.specs.laws.Replaying.{phase-words, refused-words}
 use Rattle.asg_check.proofs.sum_squares.NarrowSquareSumSquare.replay_phase.Goals as goal
 
 pub returns-clause-applied : goal.returns-clause-applied

@@ -1,7 +1,7 @@
 use Rattle.std.proofs.Common.{take}
 use Rattle.asg_admit.specs.Reduced.{IsReduced}
-use Rattle.asg_check.specs.Replays.{LeadOn}
-use Rattle.asg_check.proofs.replays.first_bad.Given as goal
+use Rattle.asg_replays.specs.Replays.{LeadOn}
+use Rattle.asg_replays.proofs.replays.first_bad.Given as goal
 
 -- the phases so far lead to the square as it is
 abbrev pub invariant-loop-place : goal.invariant-loop-place

@@ -1,9 +1,9 @@
 use Rattle.std.proofs.Common.{◌≡◌, take, sym, subst, arith}
 use Rattle.std.proofs.lemmas.List.{take_all}
 use Rattle.asg_square.specs.Grid.{cell_at}
-use Rattle.asg_check.specs.Replays.{AreReplayed, IsAdmittedFrom, IsReplayed}
-use Rattle.asg_check.proofs.Replaying.{first-bad, replayed-push}
-use Rattle.asg_check.proofs.replays.first_bad.Goals as goal
+use Rattle.asg_replays.specs.Replays.{AreReplayed, IsAdmittedFrom, IsReplayed}
+use Rattle.asg_replays.specs.laws.Replaying.{first-bad, replayed-push}
+use Rattle.asg_replays.proofs.replays.first_bad.Goals as goal
 
 pub loop-place-init : goal.loop-place-init
 loop-place-init g c = record { led = λ start is led. led; reduced = c.requires.reduced }

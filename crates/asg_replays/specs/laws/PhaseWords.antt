@@ -15,7 +15,7 @@ use Rattle.asg_proof.specs.Phases.{PhaseOf, phase_of, worded, entered_at, stayin
 use Rattle.asg_proof.specs.Steps.{IsAdmittedStep, count_below}
 use Rattle.asg_proof.specs.laws.PhaseLists.{AreAdmittedPhases-front}
 use Rattle.asg_proof.specs.laws.PhaseSteps.{phase_has_values}
-use Rattle.asg_check.specs.PhaseReasons.{AreAdmittedFrom}
+use Rattle.asg_replays.specs.Replays.{AreAdmittedFrom}
 use Rattle.asg_model.specs.laws.Tests.{dec_below}
 
 -- ---- finite tests

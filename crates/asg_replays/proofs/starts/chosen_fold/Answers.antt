@@ -1,6 +1,6 @@
 use Rattle.asg_model.specs.Values.{chosen_cost}
-use Rattle.asg_check.proofs.LiveCosts.{fold_more}
-use Rattle.asg_check.proofs.phase_verdicts.chosen_fold.Goals as goal
+use Rattle.asg_replays.specs.laws.LiveCosts.{fold_more}
+use Rattle.asg_replays.proofs.starts.chosen_fold.Goals as goal
 
 pub loop-row-preserved : goal.loop-row-preserved
 loop-row-preserved g c =

@@ -1,7 +1,7 @@
 use Rattle.std.proofs.Common.{◌≡◌, ◌-◌, ◌≤◌, length}
-use Rattle.asg_check.specs.PhaseParts.{first_part}
-use Rattle.asg_check.specs.Replays.{IsReplayed}
-use Rattle.asg_check.proofs.replays.replay_words.Given as goal
+use Rattle.asg_replays.specs.PhaseParts.{first_part}
+use Rattle.asg_replays.specs.Replays.{IsReplayed}
+use Rattle.asg_replays.proofs.replays.replay_words.Given as goal
 
 -- the steps so far are applied
 abbrev pub invariant-parts : goal.invariant-parts

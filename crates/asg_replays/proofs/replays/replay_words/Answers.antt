@@ -1,8 +1,8 @@
 use Rattle.std.proofs.Common.{subst, ap, ◌∙◌, ◌≤◌, length, arith}
 use Rattle.asg_square.specs.Grid.{cell_at}
-use Rattle.asg_check.specs.Replays.{IsReplayed}
-use Rattle.asg_check.proofs.PhaseParts.{refused-first, refused-part, replayed-part, whole-part}
-use Rattle.asg_check.proofs.replays.replay_words.Goals as goal
+use Rattle.asg_replays.specs.Replays.{IsReplayed}
+use Rattle.asg_replays.specs.laws.PhaseParts.{refused-first, refused-part, replayed-part, whole-part}
+use Rattle.asg_replays.proofs.replays.replay_words.Goals as goal
 
 pub returns-then-not-branch-clause-refused : goal.returns-then-not-branch-clause-refused
 returns-then-not-branch-clause-refused g c =

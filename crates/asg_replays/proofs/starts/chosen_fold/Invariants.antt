@@ -3,7 +3,7 @@ use Rattle.std.specs.Prelude.{filter_map}
 use Rattle.std.specs.List.{range_with_len}
 use Rattle.asg_model.specs.Values.{chosen_cost}
 use Rattle.asg_order.specs.Monoid.{IsValue, fold_of}
-use Rattle.asg_check.proofs.phase_verdicts.chosen_fold.Given as goal
+use Rattle.asg_replays.proofs.starts.chosen_fold.Given as goal
 
 -- the product is that of the rows so far
 abbrev pub invariant-loop-row : goal.invariant-loop-row

@@ -13,9 +13,9 @@ use Rattle.asg_proof.specs.laws.PhaseSteps.{phase_has_values}
 use Rattle.asg_square.specs.Grid.{cell_at}
 use Rattle.asg_admit.specs.declared.reduced.Reduced.{Reduced}
 use Rattle.asg_admit.specs.Reduced.{IsReduced}
-use Rattle.asg_check.specs.PhaseReasons.{AreAdmittedFrom}
-use Rattle.asg_check.specs.Replays.{AreReplayed, IsAdmittedFrom, IsFirstBad, IsReplayed}
-use Rattle.asg_check.proofs.PhaseWords.{phase-once, phases-once}
+use Rattle.asg_replays.specs.Replays.{AreAdmittedFrom}
+use Rattle.asg_replays.specs.Replays.{AreReplayed, IsAdmittedFrom, IsFirstBad, IsReplayed}
+use Rattle.asg_replays.specs.laws.PhaseWords.{phase-once, phases-once}
 
 module _ {V : Type 0} (M : Monoid V) (word_of : V → Word) (value_of : Word → Option V) (spelled : HasWords M word_of value_of) where
   -- where a word has no value, the words are those of no values
@@ -46,7 +46,7 @@ module _ {V : Type 0} (M : Monoid V) (laws : IsOrderedMonoid M) (difference : V 
     phases = [];
     written = refl;
     admitted = tt;
-    side = refl;
+    labels = record { side = refl; rows = refl; row_labels = refl; column_labels = refl };
     cells = refl;
     index = sym (laws.commutative reduced.index M.unit is.index laws.unit_is_value ∙ laws.unit_neutral reduced.index is.index);
     reduced = is;
@@ -59,7 +59,7 @@ module _ {V : Type 0} (M : Monoid V) (laws : IsOrderedMonoid M) (difference : V 
       let phase = one.first.phase in
       let square = after_phases M difference a.phases (cell_at start.now) in
       let admitted : IsAdmittedPhase M difference start.now.side phase square =
-      subst (λ side. IsAdmittedPhase M difference side phase square) a.side (subst (IsAdmittedPhase M difference before.now.side phase) a.cells one.first.admitted) in
+      subst (λ side. IsAdmittedPhase M difference side phase square) a.labels.side (subst (IsAdmittedPhase M difference before.now.side phase) a.cells one.first.admitted) in
       record {
         phases = a.phases ++ phase ∷ [];
         written = map-append (worded word_of) a.phases (phase ∷ [])
@@ -67,7 +67,12 @@ module _ {V : Type 0} (M : Monoid V) (laws : IsOrderedMonoid M) (difference : V 
             ∙ ap (λ w. take i words ++ w ∷ []) one.first.written
             ∙ sym (take_more words i d below);
         admitted = AreAdmittedPhases-push M difference start.now.side a.phases phase (cell_at start.now) a.admitted admitted;
-        side = one.leads.labels.side ∙ a.side;
+        labels = record {
+          side = one.leads.labels.side ∙ a.labels.side;
+          rows = one.leads.labels.rows ∙ a.labels.rows;
+          row_labels = one.leads.labels.row_labels ∙ a.labels.row_labels;
+          column_labels = one.leads.labels.column_labels ∙ a.labels.column_labels;
+        };
         cells = fun_ext (λ r. fun_ext (λ k. one.leads.cells r k))
             ∙ ap (after_phase M difference phase) a.cells
             ∙ sym (after_phases-push M difference a.phases phase (cell_at start.now));
@@ -106,7 +111,7 @@ module _ {V : Type 0} (M : Monoid V) (difference : V → V → V) (word_of : V �
       let same = phases-once M word_of value_of spelled difference side square s.0 a.phases front a.admitted (s.3 ∙ sym a.written) in
       let at_start = subst (λ phases. IsAdmittedPhase M difference side s.1 (after_phases M difference phases square)) same back.0 in
       let at_before = subst (IsAdmittedPhase M difference side s.1) (sym a.cells) at_start in
-      refused (record { phase = s.1; written = s.4; admitted = subst (λ n. IsAdmittedPhase M difference n s.1 (cell_at before.now)) (sym a.side) at_before })
+      refused (record { phase = s.1; written = s.4; admitted = subst (λ n. IsAdmittedPhase M difference n s.1 (cell_at before.now)) (sym a.labels.side) at_before })
 
   -- then the next is the first bad one
   pub first-bad : (words : List (PhaseOf Word)) (i : ℕ) (d : PhaseOf Word) (start before : Reduced V) → i < length words → AreReplayed M difference word_of (take i words) start before

@@ -1,6 +1,6 @@
 use Rattle.std.proofs.Common.{◌≡◌, length, take}
-use Rattle.asg_check.specs.PhaseParts.{counted_from}
-use Rattle.asg_check.proofs.replays.marks_from.Given as goal
+use Rattle.asg_replays.specs.PhaseParts.{counted_from}
+use Rattle.asg_replays.proofs.replays.marks_from.Given as goal
 
 -- the marks so far are counted from the place on
 abbrev pub invariant-loop-place : goal.invariant-loop-place

@@ -4,9 +4,9 @@ use Rattle.std.proofs.lemmas.Bool.{false≢true}
 use Rattle.asg_order.specs.Monoid.{IsValue}
 use Rattle.asg_proof.specs.Phases.{phase_of}
 use Rattle.asg_square.specs.Grid.{cell_at}
-use Rattle.asg_check.specs.PhaseParts.{steps_between}
-use Rattle.asg_check.proofs.Replaying.{phase-words, refused-words, unread-words}
-use Rattle.asg_check.proofs.replays.replay_between.Goals as goal
+use Rattle.asg_replays.specs.PhaseParts.{steps_between}
+use Rattle.asg_replays.specs.laws.Replaying.{phase-words, refused-words, unread-words}
+use Rattle.asg_replays.proofs.replays.replay_between.Goals as goal
 
 pub returns-then-not-branch-clause-refused : goal.returns-then-not-branch-clause-refused
 returns-then-not-branch-clause-refused g c =

@@ -1,10 +1,10 @@
 use Rattle.std.proofs.Common.{sym, subst}
 use Rattle.asg_proof.specs.PhaseProofs.{EntersValues}
 use Rattle.asg_square.specs.Grid.{IsSquareOf}
-use Rattle.asg_check.specs.Replays.{IsStart}
-use Rattle.asg_check.proofs.LiveCosts.{live_values}
-use Rattle.asg_check.proofs.PhaseTold.{start_of}
-use Rattle.asg_check.proofs.phase_verdicts.start.Goals as goal
+use Rattle.asg_replays.specs.Replays.{IsStart}
+use Rattle.asg_replays.specs.laws.LiveCosts.{live_values}
+use Rattle.asg_replays.specs.laws.Starts.{start_of}
+use Rattle.asg_replays.proofs.starts.start.Goals as goal
 
 pub returns : goal.returns
 returns g c =

@@ -1,8 +1,8 @@
 use Rattle.std.proofs.Common.{◌≡◌, ◌≤◌, map}
 use Rattle.std.specs.Prelude.{All}
 use Rattle.asg_order.specs.Monoid.{IsValue}
-use Rattle.asg_check.specs.PhaseParts.{steps_between}
-use Rattle.asg_check.proofs.replays.read_between.Given as goal
+use Rattle.asg_replays.specs.PhaseParts.{steps_between}
+use Rattle.asg_replays.proofs.replays.read_between.Given as goal
 
 -- the values so far have the words so far
 abbrev pub invariant-loop-place : goal.invariant-loop-place

@@ -6,8 +6,8 @@ ghost use Rattle.asg_admit.specs.Reduced.{IsReduced};
 ghost use Rattle.asg_order.specs.Monoid.{IsValue};
 ghost use Rattle.asg_proof.specs.Phases.{phase_of};
 ghost use Rattle.asg_square.specs.Grid.{cell_at};
-ghost use Rattle.asg_check.specs.PhaseParts.{counted_from, first_part, part_of, steps_between};
-ghost use Rattle.asg_check.specs.Replays.{IsAdmittedFrom, IsBadFrom, IsReplayed, LeadOn};
+ghost use Rattle.asg_replays.specs.PhaseParts.{counted_from, first_part, part_of, steps_between};
+ghost use Rattle.asg_replays.specs.Replays.{IsAdmittedFrom, IsBadFrom, IsReplayed, LeadOn};
 
 use crate::NoMemory;
 use asg_admit::{Reduced, replay_within};
@@ -15,9 +15,9 @@ use asg_order::{Ordered, Written};
 use asg_proof::{StepWords, WrittenPhase};
 use std::alloc::Global;
 
-// Reads the values that have the words, in order, into the list in place of what it had, and tells
-// whether each word has one. The error is want of memory.
-pub(crate) fn read_steps<M: Written>(
+/// Reads the values that have the words, in order, into the list in place of what it had, and tells
+/// whether each word has one. The error is want of memory.
+pub fn read_steps<M: Written>(
     m: &M,
     words: &StepWords,
     values: &mut Vec<M::Value>,
@@ -60,12 +60,8 @@ fn read_between<M: Written>(
     Ok(true)
 }
 
-// Lets the list have more places than the count. The error is want of memory.
-pub(crate) fn make_room<M: Ordered>(
-    m: &M,
-    room: &mut Vec<M::Value>,
-    count: usize,
-) -> Result<(), NoMemory>
+/// Lets the list have more places than the count. The error is want of memory.
+pub fn make_room<M: Ordered>(m: &M, room: &mut Vec<M::Value>, count: usize) -> Result<(), NoMemory>
     requires { count < 2 ^ 63 }
     ensures { IfOk result (λ _. count < length room.new.items) }
 {
@@ -83,8 +79,8 @@ fn most_steps(side: u32) -> usize
     (1 << 14) + (side as usize).saturating_mul(side as usize) / 4
 }
 
-// Whether some phase has more steps than are replayed at a time on a square of this side.
-pub(crate) fn has_long(phases: &[WrittenPhase], side: u32) -> bool {
+/// Whether some phase has more steps than are replayed at a time on a square of this side.
+pub fn has_long(phases: &[WrittenPhase], side: u32) -> bool {
     let most = most_steps(side);
     phases.iter().any(|phase| phase.steps().len() > most)
 }
@@ -258,10 +254,10 @@ fn replay_words<M: Written>(
     Ok(true)
 }
 
-// Applies the phases from a place on in turn, up to the first that isn't admitted after those
-// before it, and gives its place. Where all are admitted there is none. The error is want of
-// memory.
-pub(crate) fn first_bad<M: Written>(
+/// Applies the phases from a place on in turn, up to the first that isn't admitted after those
+/// before it, and gives its place. Where all are admitted there is none. The error is want of
+/// memory.
+pub fn first_bad<M: Written>(
     alloc: Global,
     m: &M,
     reduced: &mut Reduced<M::Value>,

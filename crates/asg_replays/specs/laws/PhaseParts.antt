@@ -16,10 +16,10 @@ use Rattle.asg_proof.specs.laws.PhaseSteps.{phase_has_values}
 use Rattle.asg_square.specs.Grid.{Grid, cell_at}
 use Rattle.asg_admit.specs.declared.reduced.Reduced.{Reduced}
 use Rattle.asg_admit.specs.Reduced.{IsReduced, KeepsLabels}
-use Rattle.asg_check.specs.PhaseParts.{counted_from, first_part, part_of, steps_between}
-use Rattle.asg_check.specs.Replays.{IsAdmittedFrom, IsReplayed}
-use Rattle.asg_check.proofs.PhaseWords.{phase-once, take-take}
-use Rattle.asg_check.proofs.Replaying.{none_at, phase-words}
+use Rattle.asg_replays.specs.PhaseParts.{counted_from, first_part, part_of, steps_between}
+use Rattle.asg_replays.specs.Replays.{IsAdmittedFrom, IsReplayed}
+use Rattle.asg_replays.specs.laws.PhaseWords.{phase-once, take-take}
+use Rattle.asg_replays.specs.laws.Replaying.{none_at, phase-words}
 
 -- ---- marks that are counted from a place on
 

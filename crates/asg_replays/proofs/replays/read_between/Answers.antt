@@ -3,8 +3,8 @@ use Rattle.std.specs.Prelude.{All}
 use Rattle.std.proofs.lemmas.List.Elements.{All-push}
 use Rattle.asg_order.specs.declared.words.Word.{Word}
 use Rattle.asg_order.specs.Monoid.{IsValue}
-use Rattle.asg_check.proofs.PhaseParts.{none_at-between, values-between}
-use Rattle.asg_check.proofs.replays.read_between.Goals as goal
+use Rattle.asg_replays.specs.laws.PhaseParts.{none_at-between, values-between}
+use Rattle.asg_replays.proofs.replays.read_between.Goals as goal
 
 abbrev none : Word
 none = record { grade = 0; amount = 0 }

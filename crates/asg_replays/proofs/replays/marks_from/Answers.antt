@@ -1,7 +1,7 @@
 use Rattle.std.proofs.Common.{◌<◌, ◌∷◌, [], ◌++◌, length, take, ap, sym, arith, ◌-◌, ◌∙◌}
 use Rattle.std.proofs.lemmas.List.{map_more, take_all}
-use Rattle.asg_check.specs.PhaseParts.{counted_from}
-use Rattle.asg_check.proofs.replays.marks_from.Goals as goal
+use Rattle.asg_replays.specs.PhaseParts.{counted_from}
+use Rattle.asg_replays.proofs.replays.marks_from.Goals as goal
 
 pub loop-place-preserved : goal.loop-place-preserved
 loop-place-preserved c =

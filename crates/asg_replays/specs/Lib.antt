@@ -1,0 +1,3 @@
+pub mod PhaseParts
+pub mod Replays
+pub mod laws

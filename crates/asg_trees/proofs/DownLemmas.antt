@@ -1,0 +1,199 @@
+-- From the square of a node's parent to that of the node.
+use Rattle.std.proofs.Common.{◌≡◌, ℕ, suc, ◌+◌, ◌<◌, ◌≤◌, true, List, [], ◌++◌, take, Option, Some, None, refl, sym, ap, subst, ◌∙◌, arith}
+use Rattle.std.specs.Prelude.{IfSome}
+use Rattle.asg_model.specs.Problem.{Problem}
+use Rattle.asg_model.specs.Shapes.{square_side}
+use Rattle.asg_order.specs.declared.words.Word.{Word}
+use Rattle.asg_order.specs.Monoid.{IsOrderedMonoid}
+use Rattle.asg_square.specs.BitTable.{BitTable, has_bit}
+use Rattle.asg_square.specs.Cells.{square_cell}
+use Rattle.asg_square.specs.Grid.{Grid, cell_at}
+use Rattle.asg_square.specs.Masked.{masked_grid}
+use Rattle.std.proofs.Math.Path.{fun_ext}
+use Rattle.asg_proof.specs.Masks.{keeps_cell}
+use Rattle.asg_proof.specs.Nodes.{node_answer, node_at, node_trail}
+use Rattle.asg_proof.specs.Phases.{PhaseOf, after_phases}
+use Rattle.asg_proof.specs.SearchTrees.{AreAdmittedWords, HasTrail, IsMarked, is_answered}
+use Rattle.asg_proof.specs.declared.nodes.Mark.{Mark}
+use Rattle.asg_proof.specs.declared.nodes.Mark.TheVariants.{Answered, Open, Empty}
+use Rattle.asg_proof.specs.laws.PhaseLists.{after_phases-append}
+use Rattle.asg_admit.specs.declared.reduced.Reduced.{Reduced}
+use Rattle.asg_admit.specs.Reduced.{IsReduced, KeepsLabels}
+use Rattle.asg_replays.specs.Replays.{AreAdmittedFrom, AreReplayed, IsBadFrom, IsStart, LeadOn}
+use Rattle.asg_replays.specs.laws.PhaseWords.{admitted-take}
+use Rattle.asg_replays.specs.laws.Replaying.{replayed-none}
+use Rattle.asg_order.specs.Words.{HasWords}
+use Rattle.asg_trees.specs.Kept.{HasSize, IsMaskOf, KeepsAll}
+use Rattle.asg_trees.specs.Tallies.{AreSoundUpto, HavePlaces}
+use Rattle.asg_trees.specs.Trails.{IsTrailSquare, StandsAbove, StandsAt}
+use Rattle.asg_trees.specs.Trees.{IsSound, TreeOf, instance_at}
+use Rattle.asg_trees.proofs.MaskedTrails.{child_square, masked_by, trail_side}
+use Rattle.asg_trees.proofs.NodeBounds.{instance_child, trail_child}
+use Rattle.asg_trees.proofs.NodeFacts.{keeps_cell-node, side-of_node}
+use Rattle.asg_trees.proofs.OwnTrails.{own_of, whole_index, whole_of}
+
+module _ {V : Type 0} (T : TreeOf V) where
+  -- a square with the same labels and cells as one after a trail is one
+  pub same_square : (Y : Problem) (trail : List (PhaseOf Word)) (Q R : Grid V) (index : V) → IsTrailSquare T Y trail Q index → R.side ≡ Q.side → R.rows ≡ Q.rows → R.row_labels ≡ Q.row_labels → R.column_labels ≡ Q.column_labels → cell_at R ≡ cell_at Q → IsTrailSquare T Y trail R index
+  same_square Y trail Q R index s side rows row_labels column_labels cells = record {
+    admitted = s.admitted;
+    labels = record { side = side ∙ s.labels.side; rows = rows ∙ s.labels.rows; row_labels = row_labels ∙ s.labels.row_labels; column_labels = column_labels ∙ s.labels.column_labels };
+    cells = cells ∙ s.cells;
+    product = s.product;
+    values = λ r k x hr hk at. s.values r k x (subst (λ n. r < n) side hr) (subst (λ n. k < n) side hk) (sym (ap (λ square. square r k) cells) ∙ at);
+    is_value = s.is_value;
+  }
+
+  -- the square of the instance before any step is that of the root before its own phases
+  pub start_square : IsOrderedMonoid T.monoid → (start : Reduced V) → IsStart T.monoid T.enter T.problem start → IsTrailSquare T T.problem [] start.now start.index
+  start_square laws start at = record {
+    admitted = record { phases = []; written = refl; admitted = tt };
+    labels = at.square.labels;
+    cells = fun_ext (λ r. fun_ext (λ k. at.square.cells r k));
+    product = at.index;
+    values = at.reduced.cells;
+    is_value = at.reduced.index;
+  }
+
+  -- where a square after a trail is led on by phases, it is one after the trail and them
+  pub led_square : IsOrderedMonoid T.monoid → (Y : Problem) (trail own : List (PhaseOf Word)) (before after : Reduced V) → IsTrailSquare T Y trail before.now before.index → AreReplayed T.monoid T.difference T.word_of own before after
+      → IsTrailSquare T Y (trail ++ own) after.now after.index
+  led_square laws Y trail own before after s led =
+      let o : AreAdmittedFrom T.monoid T.difference T.word_of before.now.side (cell_at before.now) own = record { phases = led.phases; written = led.written; admitted = led.admitted } in
+      record {
+        admitted = whole_of T Y trail own before.now before.index s o;
+        labels = record {
+          side = led.labels.side ∙ s.labels.side;
+          rows = led.labels.rows ∙ s.labels.rows;
+          row_labels = led.labels.row_labels ∙ s.labels.row_labels;
+          column_labels = led.labels.column_labels ∙ s.labels.column_labels;
+        };
+        cells = led.cells
+            ∙ ap (after_phases T.monoid T.difference led.phases) s.cells
+            ∙ sym (after_phases-append T.monoid T.difference s.admitted.phases led.phases (square_cell Y T.monoid.unit T.enter));
+        product = led.index ∙ sym (whole_index T Y trail own before.now before.index s laws o);
+        values = led.reduced.cells;
+        is_value = led.reduced.index;
+      }
+
+  module _ (n : ℕ) (below : 1 < n) (places : HavePlaces T (n + 1)) where
+    falls : (m : ℕ) → 1 < m → m ≤ n → (node_at T.nodes m).parent < m
+    falls m h upto = ((places m (omega (arith, h)) (omega (arith, upto))).below h).before
+
+    rises : (m : ℕ) → 1 < m → m ≤ n → 1 ≤ (node_at T.nodes m).parent
+    rises m h upto = ((places m (omega (arith, h)) (omega (arith, upto))).below h).there
+
+    abbrev parent : ℕ
+    parent = (node_at T.nodes n).parent
+
+    -- the trail of a node below the root
+    pub trail_is : node_trail T.nodes n ≡ node_trail T.nodes parent ++ (node_at T.nodes n).own
+    trail_is = trail_child T.nodes n falls rises n below (omega arith)
+
+    -- with the cells that its branch keeps the parent's square is that of the node's instance
+    pub stands_above : (Q : Grid V) (index : V) (bits : BitTable) → StandsAt T parent Q index → IsMaskOf T.problem (node_answer T.answers T.nodes parent) (node_at T.nodes n).branch bits → StandsAbove T n Q bits index
+    stands_above Q index bits s mask =
+        let Y = instance_at T parent in
+        let f = node_answer T.answers T.nodes parent in
+        let branch = (node_at T.nodes n).branch in
+        let side : square_side Y ≡ square_side T.problem = side-of_node T.problem T.answers T.nodes parent in
+        let size : HasSize (square_side Y) bits = subst (λ n. HasSize n bits) (sym side) mask.size in
+        let each : (r k : ℕ) → r < square_side Y → k < square_side Y → has_bit bits r k ≡ keeps_cell Y f branch r k =
+        λ r k hr hk. mask.each r k (subst (λ n. r < n) side hr) (subst (λ n. k < n) side hk) ∙ sym (keeps_cell-node T.problem T.answers T.nodes parent f branch r k) in
+        subst (λ (Z : Problem). IsTrailSquare T Z (node_trail T.nodes parent) (masked_grid Q bits.words) index)
+        (sym (instance_child T.nodes n falls T.problem T.answers n below (omega arith)))
+        (child_square T Y (node_trail T.nodes parent) Q index s f branch bits size each)
+
+    -- led on by its own phases it is that of the node
+    pub stands_at : IsOrderedMonoid T.monoid → (before after : Reduced V) → IsTrailSquare T (instance_at T n) (node_trail T.nodes parent) before.now before.index → AreReplayed T.monoid T.difference T.word_of (node_at T.nodes n).own before after
+        → StandsAt T n after.now after.index
+    stands_at laws before after s led =
+        subst (λ words. IsTrailSquare T (instance_at T n) words after.now after.index) (sym trail_is)
+        (led_square laws (instance_at T n) (node_trail T.nodes parent) (node_at T.nodes n).own before after s led)
+
+-- an answered node has a trail
+trail_from : {V : Type 0} (T : TreeOf V) (n : ℕ) (mark : Mark) → IsMarked T.monoid T.difference T.word_of T.enter T.problem T.answers T.nodes n mark → is_answered mark ≡ true → HasTrail T.monoid T.difference T.word_of T.enter T.problem T.answers T.nodes n
+trail_from T n (Answered a) marked is = marked.1
+trail_from T n Open marked is = absurd (cc is)
+trail_from T n (Empty rows) marked is = absurd (cc is)
+
+module _ {V : Type 0} (T : TreeOf V) (laws : IsOrderedMonoid T.monoid) (value_of : Word → Option V) (spelled : HasWords T.monoid T.word_of value_of) (n : ℕ) (below : 1 < n) (sound : AreSoundUpto T n) where
+  pub places_of : HavePlaces T (n + 1)
+  places_of m from upto = (sound m from (omega (arith, upto))).has_place
+
+  -- the square of a node's parent, from which the cells that its branch doesn't keep are taken out
+  pub taken_square : (Q R : Grid V) (index : V) (bits : BitTable) → StandsAt T (node_at T.nodes n).parent Q index → IsMaskOf T.problem (node_answer T.answers T.nodes (node_at T.nodes n).parent) (node_at T.nodes n).branch bits → KeepsLabels Q R
+      → ((r k : ℕ) → cell_at R r k ≡ cell_at (masked_grid Q bits.words) r k) → IsTrailSquare T (instance_at T n) (node_trail T.nodes (node_at T.nodes n).parent) R index
+  taken_square Q R index bits s mask labels cells =
+      same_square T (instance_at T n) (node_trail T.nodes (node_at T.nodes n).parent) (masked_grid Q bits.words) R index
+      (stands_above T n below places_of Q index bits s mask)
+      labels.side labels.rows labels.row_labels labels.column_labels (fun_ext (λ r. fun_ext (λ k. cells r k)))
+
+  -- the own phases of an answered node are admitted from it
+  own_admitted : (R : Grid V) (index : V) → IsTrailSquare T (instance_at T n) (node_trail T.nodes (node_at T.nodes n).parent) R index → is_answered (node_at T.nodes n).mark ≡ true → AreAdmittedFrom T.monoid T.difference T.word_of R.side (cell_at R) (node_at T.nodes n).own
+  own_admitted R index s answered =
+      let trail = trail_from T n (node_at T.nodes n).mark (sound n (omega (arith, below)) (omega arith)).marked answered in
+      own_of T (instance_at T n) (node_trail T.nodes (node_at T.nodes n).parent) (node_at T.nodes n).own R index s value_of spelled
+      (subst (λ words. AreAdmittedWords T.monoid T.difference T.word_of T.enter (instance_at T n) words) (trail_is T n below places_of) trail)
+
+  -- so replaying them leads to the square of the node
+  pub gone_down : (before after : Reduced V) (found : Option ℕ) (own : List (PhaseOf Word)) → own ≡ (node_at T.nodes n).own → IsTrailSquare T (instance_at T n) (node_trail T.nodes (node_at T.nodes n).parent) before.now before.index → is_answered (node_at T.nodes n).mark ≡ true
+      → IfSome found (IsBadFrom T.monoid T.difference T.word_of own 0 before) → (found ≡ None → LeadOn T.monoid T.difference T.word_of (take 0 own) own before after) → StandsAt T n after.now after.index
+  gone_down before after found own same s answered bad none = by found refl bad
+    where
+      reduced : IsReduced T.monoid before
+      reduced = record { cells = s.values; index = s.is_value }
+
+      start : AreReplayed T.monoid T.difference T.word_of [] before before
+      start = replayed-none T.monoid laws T.difference T.word_of before reduced
+
+      by : (o : Option ℕ) → found ≡ o → IfSome o (IsBadFrom T.monoid T.difference T.word_of own 0 before) → StandsAt T n after.now after.index
+      by None e b =
+          stands_at T n below places_of laws before after s
+          (subst (λ words. AreReplayed T.monoid T.difference T.word_of words before after) same (none e before reduced start))
+      by (Some place) e b =
+          let all = subst (AreAdmittedFrom T.monoid T.difference T.word_of before.now.side (cell_at before.now)) (sym same) (own_admitted before.now before.index s answered) in
+          absurd ((b before reduced start).bad (admitted-take T.monoid T.difference T.word_of before.now.side (cell_at before.now) (suc place) own all))
+
+-- ---- the root
+
+module _ {V : Type 0} (T : TreeOf V) (laws : IsOrderedMonoid T.monoid) (value_of : Word → Option V) (spelled : HasWords T.monoid T.word_of value_of) (start : Reduced V) (at : IsStart T.monoid T.enter T.problem start) where
+  begun : IsTrailSquare T T.problem [] start.now start.index
+  begun = start_square T laws start at
+
+  -- where bits keep all cells, the square before any step is the root's before its own phases
+  pub root_above : (bits : BitTable) → KeepsAll T.problem bits → IsTrailSquare T (instance_at T 1) [] (masked_grid start.now bits.words) start.index
+  root_above bits all =
+      let side = begun.labels.side in
+      let size : HasSize start.now.side bits = subst (λ n. HasSize n bits) (sym side) all.size in
+      let each : (r k : ℕ) → r < start.now.side → k < start.now.side → has_bit bits r k ≡ true = λ r k hr hk. all.each r k (subst (λ n. r < n) side hr) (subst (λ n. k < n) side hk) in
+      same_square T T.problem [] start.now (masked_grid start.now bits.words) start.index begun refl refl refl refl
+      (masked_by start.now bits (λ r k. true) size each (trail_side T T.problem [] start.now start.index begun))
+
+  -- the own phases of a sound root are admitted
+  root_admitted : IsSound T 1 → AreAdmittedFrom T.monoid T.difference T.word_of start.now.side (cell_at start.now) (node_at T.nodes 1).own
+  root_admitted sound = by (node_at T.nodes 1).mark sound.marked
+    where
+      from_trail : AreAdmittedWords T.monoid T.difference T.word_of T.enter T.problem (node_at T.nodes 1).own → AreAdmittedFrom T.monoid T.difference T.word_of start.now.side (cell_at start.now) (node_at T.nodes 1).own
+      from_trail trail = own_of T T.problem [] (node_at T.nodes 1).own start.now start.index begun value_of spelled trail
+
+      by : (mark : Mark) → IsMarked T.monoid T.difference T.word_of T.enter T.problem T.answers T.nodes 1 mark → AreAdmittedFrom T.monoid T.difference T.word_of start.now.side (cell_at start.now) (node_at T.nodes 1).own
+      by (Answered a) marked = from_trail marked.1
+      by Open marked = from_trail marked
+      by (Empty rows) marked = record { phases = []; written = sym marked.1; admitted = tt }
+
+  -- so replaying them leads to its square
+  pub root_down : IsSound T 1 → (after : Reduced V) (found : Option ℕ) (own : List (PhaseOf Word)) → own ≡ (node_at T.nodes 1).own → IfSome found (IsBadFrom T.monoid T.difference T.word_of own 0 start)
+      → (found ≡ None → LeadOn T.monoid T.difference T.word_of (take 0 own) own start after) → StandsAt T 1 after.now after.index
+  root_down sound after found own same bad none = by found refl bad
+    where
+      from_start : AreReplayed T.monoid T.difference T.word_of [] start start
+      from_start = replayed-none T.monoid laws T.difference T.word_of start at.reduced
+
+      by : (o : Option ℕ) → found ≡ o → IfSome o (IsBadFrom T.monoid T.difference T.word_of own 0 start) → StandsAt T 1 after.now after.index
+      by None e b =
+          led_square T laws T.problem [] (node_at T.nodes 1).own start after begun
+          (subst (λ words. AreReplayed T.monoid T.difference T.word_of words start after) same (none e start at.reduced from_start))
+      by (Some place) e b =
+          let all = subst (AreAdmittedFrom T.monoid T.difference T.word_of start.now.side (cell_at start.now)) (sym same) (root_admitted sound) in
+          absurd ((b start at.reduced from_start).bad (admitted-take T.monoid T.difference T.word_of start.now.side (cell_at start.now) (suc place) own all))

@@ -1,0 +1,15 @@
+pub mod NodeBounds
+pub mod MaskedTrails
+pub mod OwnTrails
+pub mod NodeFacts
+pub mod CellLemmas
+pub mod MaskLemmas
+pub mod HallLemmas
+pub mod OwnPhases
+pub mod MarkLemmas
+pub mod OpenLemmas
+pub mod DownLemmas
+pub mod GroupLemmas
+pub mod TallyLemmas
+pub mod SiblingLemmas
+pub mod PathLemmas

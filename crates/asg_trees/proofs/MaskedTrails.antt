@@ -1,0 +1,129 @@
+-- Phases on squares from which cells are taken out, and the square of a child after its parent's trail.
+use Rattle.std.proofs.Common.{◌≡◌, ◌⊎◌, ℕ, ◌+◌, ◌*◌, ◌/◌, ◌%◌, ◌<◌, ◌≤◌, Bool, true, false, ◌&&◌, cond, List, [], ◌∷◌, length, get_or, Option, Some, None, refl, sym, ap, subst, ◌∙◌, arith, ⊎_elim, inl, inr, is_some}
+use Rattle.std.specs.Prelude.{nat_lt}
+use Rattle.std.proofs.Math.Path.{fun_ext}
+use Rattle.std.proofs.lemmas.Bool.{cases_lt}
+use Rattle.asg_model.specs.Problem.{Problem}
+use Rattle.asg_model.specs.Shapes.{square_side}
+use Rattle.asg_order.specs.declared.words.Word.{Word}
+use Rattle.asg_order.specs.Monoid.{Monoid}
+use Rattle.asg_square.specs.BitTable.{BitTable, has_bit, is_bit_set, word_count}
+use Rattle.asg_square.specs.Cells.{square_cell}
+use Rattle.asg_square.specs.Grid.{Grid, cell_at}
+use Rattle.asg_square.specs.Masked.{keeps, masked_grid}
+use Rattle.asg_square.specs.laws.Masks.{cell_at-masked}
+use Rattle.asg_proof.specs.Children.{child}
+use Rattle.asg_proof.specs.Masks.{masked, keeps_cell}
+use Rattle.asg_proof.specs.Phases.{PhaseOf, entered_at, staying_at, square_after, after_phase, IsAdmittedPhase, AreAdmittedPhases}
+use Rattle.asg_proof.specs.Steps.{IsAdmittedStep, HasSide}
+use Rattle.asg_proof.specs.laws.MaskedSquares.{square_after-masked, square_cell-child, after_phases-child}
+use Rattle.asg_proof.specs.laws.PhaseLists.{HasSide-phases}
+use Rattle.asg_proof.specs.laws.Squares.{HasSide-square_cell}
+use Rattle.asg_trees.specs.Kept.{HasSize}
+use Rattle.asg_trees.specs.Trees.{TreeOf}
+use Rattle.asg_trees.specs.Trails.{IsTrailSquare}
+
+-- ---- cells taken out
+
+pub from_kept : {V : Type 0} (b : Bool) (o : Option V) (x : V) → cond b o None ≡ Some x → o ≡ Some x
+from_kept true o x e = e
+from_kept false o x e = absurd (cc e)
+
+pub none_kept : {V : Type 0} (a b : Bool) (o : Option V) → o ≡ None → cond a o None ≡ cond b o None
+none_kept true true o e = refl
+none_kept true false o e = e
+none_kept false true o e = sym e
+none_kept false false o e = refl
+
+module _ {V : Type 0} (M : Monoid V) (difference : V → V → V) (side : ℕ) (keep : ℕ → ℕ → Bool) where
+  step-masked : (entered staying : ℕ → Bool) (c : V) (square : ℕ → ℕ → Option V) → IsAdmittedStep M side entered staying c square → IsAdmittedStep M side entered staying c (masked keep square)
+  step-masked entered staying c square step = record {
+    value = step.value;
+    count = step.count;
+    least = λ r k x hr hk e s at. step.least r k x hr hk e s (from_kept (keep r k) (square r k) x at);
+  }
+
+  phase-masked : (phase : PhaseOf V) (square : ℕ → ℕ → Option V) → IsAdmittedPhase M difference side phase square → IsAdmittedPhase M difference side phase (masked keep square)
+  phase-masked phase square one = record {
+    rows = one.rows;
+    columns = one.columns;
+    admitted = λ t h.
+        subst (IsAdmittedStep M side (entered_at phase.enters t) (staying_at phase.leaves t) (get_or phase.steps t M.unit))
+        (sym (square_after-masked M difference keep phase square t))
+        (step-masked (entered_at phase.enters t) (staying_at phase.leaves t) (get_or phase.steps t M.unit) (square_after M difference phase square t) (one.admitted t h));
+  }
+
+  -- admitted phases are admitted where cells are taken out
+  pub phases-masked : (phases : List (PhaseOf V)) (square : ℕ → ℕ → Option V) → AreAdmittedPhases M difference side phases square → AreAdmittedPhases M difference side phases (masked keep square)
+  phases-masked [] square all = tt
+  phases-masked (phase ∷ rest) square all = (
+    phase-masked phase square all.0,
+    subst (AreAdmittedPhases M difference side rest) (sym (square_after-masked M difference keep phase square (length phase.steps)))
+        (phases-masked rest (after_phase M difference phase square) all.1),
+  )
+
+-- ---- squares that bits keep
+
+-- a cell is kept where its bit is set
+pub keeps-bit : (bits : BitTable) (side : ℕ) → bits.columns ≡ side → (r k : ℕ) → keeps side bits.words r k ≡ has_bit bits r k
+keeps-bit bits side same r k =
+    ap (λ n. nat_lt (k / 64) (word_count n) && is_bit_set (get_or bits.words (r * word_count n + k / 64) 0) (k % 64)) (sym same)
+
+pub outside : {V : Type 0} (side : ℕ) (square : ℕ → ℕ → Option V) → HasSide side square → (r k : ℕ) → (side ≤ r) ⊎ (side ≤ k) → square r k ≡ None
+outside {V} side square has r k past = by (square r k) refl
+  where
+    by : (o : Option V) → square r k ≡ o → square r k ≡ None
+    by None e = e
+    by (Some x) e =
+        let there = has r k (ap is_some e) in
+        ⊎_elim (λ (h : side ≤ r). absurd (omega (arith, h, there.0))) (λ (h : side ≤ k). absurd (omega (arith, h, there.1))) past
+
+module _ {V : Type 0} (Q : Grid V) (bits : BitTable) (keep : ℕ → ℕ → Bool) (size : HasSize Q.side bits) (each : (r k : ℕ) → r < Q.side → k < Q.side → has_bit bits r k ≡ keep r k) (has : HasSide Q.side (cell_at Q)) where
+  -- the square with the cells that bits keep has those that the test of the bits keeps
+  pub masked_by : cell_at (masked_grid Q bits.words) ≡ masked keep (cell_at Q)
+  masked_by = fun_ext (λ r. fun_ext (λ k. at r k))
+    where
+      at : (r k : ℕ) → cell_at (masked_grid Q bits.words) r k ≡ masked keep (cell_at Q) r k
+      at r k =
+          cell_at-masked Q bits.words r k
+          ∙ ⊎_elim
+          (λ (row : r < Q.side).
+          ⊎_elim
+          (λ (column : k < Q.side). ap (λ b. cond b (cell_at Q r k) None) (keeps-bit bits Q.side size.columns r k ∙ each r k row column))
+          (λ (past : Q.side ≤ k). none_kept (keeps Q.side bits.words r k) (keep r k) (cell_at Q r k) (outside Q.side (cell_at Q) has r k (inr past)))
+          (cases_lt k Q.side))
+          (λ (past : Q.side ≤ r). none_kept (keeps Q.side bits.words r k) (keep r k) (cell_at Q r k) (outside Q.side (cell_at Q) has r k (inl past)))
+          (cases_lt r Q.side)
+
+-- ---- the square of a child
+
+module _ {V : Type 0} (T : TreeOf V) (Y : Problem) (trail : List (PhaseOf Word)) (Q : Grid V) (index : V) (s : IsTrailSquare T Y trail Q index) where
+  -- a square after a trail has its side
+  pub trail_side : HasSide Q.side (cell_at Q)
+  trail_side =
+      let has = HasSide-phases T.monoid T.difference (square_side Y) s.admitted.phases (square_cell Y T.monoid.unit T.enter) (HasSide-square_cell Y T.monoid.unit T.enter) in
+      subst (λ n. HasSide n (cell_at Q)) (sym s.labels.side) (subst (HasSide (square_side Y)) (sym s.cells) has)
+
+  module _ (f : List (Option ℕ)) (branch : ℕ) (bits : BitTable) (size : HasSize (square_side Y) bits) (each : (r k : ℕ) → r < square_side Y → k < square_side Y → has_bit bits r k ≡ keeps_cell Y f branch r k) where
+    -- with the cells that a branch keeps it is that of the child
+    pub child_square : IsTrailSquare T (child Y f branch) trail (masked_grid Q bits.words) index
+    child_square =
+        let M = T.monoid in
+        let keep = keeps_cell Y f branch in
+        let phases = s.admitted.phases in
+        let sized : HasSize Q.side bits = subst (λ n. HasSize n bits) (sym s.labels.side) size in
+        let kept : (r k : ℕ) → r < Q.side → k < Q.side → has_bit bits r k ≡ keep r k = λ r k hr hk. each r k (subst (λ n. r < n) s.labels.side hr) (subst (λ n. k < n) s.labels.side hk) in
+        let is = masked_by Q bits keep sized kept trail_side in
+        record {
+          admitted = record {
+            phases = phases;
+            written = s.admitted.written;
+            admitted = subst (AreAdmittedPhases M T.difference (square_side Y) phases) (sym (square_cell-child Y M.unit T.enter f branch))
+                (phases-masked M T.difference (square_side Y) keep phases (square_cell Y M.unit T.enter) s.admitted.admitted);
+          };
+          labels = record { side = s.labels.side; rows = s.labels.rows; row_labels = s.labels.row_labels; column_labels = s.labels.column_labels };
+          cells = is ∙ ap (masked keep) s.cells ∙ sym (after_phases-child M T.difference T.enter Y f branch phases);
+          product = s.product;
+          values = λ r k x hr hk at. s.values r k x hr hk (from_kept (keep r k) (cell_at Q r k) x (sym (ap (λ square. square r k) is) ∙ at));
+          is_value = s.is_value;
+        }

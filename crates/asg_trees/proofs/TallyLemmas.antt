@@ -1,0 +1,218 @@
+-- The tally of a tree, node by node, and the verdict at its end.
+use Rattle.std.proofs.Common.{◌≡◌, ◌⊎◌, ℕ, ◌+◌, ◌<◌, ◌≤◌, ◌-◌, min, cond, true, false, [], length, Option, Some, None, inl, inr, refl, sym, ap, subst, ◌∙◌, arith, ⊎_elim}
+use Rattle.std.specs.Prelude.{IfSome}
+use Rattle.std.proofs.lemmas.Bool.{false≢true, cases_lt, le-leb, lt-leb}
+use Rattle.std.proofs.lemmas.List.Elements.{All-get_or}
+use Rattle.asg_model.specs.ValidChoice.{IsValid}
+use Rattle.asg_proof.specs.declared.nodes.Mark.{Mark}
+use Rattle.asg_proof.specs.declared.nodes.Mark.TheVariants.{Answered, Open, Empty}
+use Rattle.asg_proof.specs.Nodes.{IsNumber, answer_number, node_answer, node_at}
+use Rattle.asg_proof.specs.SearchTrees.{IsMarked, is_answered}
+use Rattle.asg_trees.specs.declared.verdicts.Judgement.{Judgement}
+use Rattle.asg_trees.specs.declared.verdicts.Judgement.TheVariants.{AtFault, LeftOpen, Fine}
+use Rattle.asg_trees.specs.declared.verdicts.Tally.{Tally}
+use Rattle.asg_trees.specs.declared.verdicts.TreeVerdict.{TreeVerdict}
+use Rattle.asg_trees.specs.declared.verdicts.TreeVerdict.TheVariants.{Tree, FaultAt, OpenAt}
+use Rattle.asg_trees.specs.Judged.{AreGiven, IsLacking, TellsTree, conclusion, conclusion_sound}
+use Rattle.asg_trees.specs.Tallies.{AreSoundUpto, HavePlaces, IsJudged, IsTallied, IsTalliedBy, IsWholeTally, Judges, with_judgement}
+use Rattle.asg_trees.specs.Trees.{IsOpenWrongly, IsSound, IsTree, MayBeOpen, TreeOf}
+
+module _ {V : Type 0} (T : TreeOf V) (count : ℕ) where
+  -- what is tallied of nodes is tallied of some of them
+  pub tally_fewer : (Judged Fewer : ℕ → Type 0) (tally : Tally) → IsTalliedBy T count Judged tally → ((n : ℕ) → 1 ≤ n → n < tally.fault → Fewer n → Judged n) → IsTalliedBy T count Fewer tally
+  tally_fewer Judged Fewer tally t fewer = record {
+    from = t.from;
+    upto = t.upto;
+    places = t.places;
+    at_fault = t.at_fault;
+    sound = λ n from below j. t.sound n from below (fewer n from below j);
+    left_from = t.left_from;
+    left_open = t.left_open;
+    stay = λ n from below before j. t.stay n from below before (fewer n from below j);
+  }
+
+  module _ (Judged More : ℕ → Type 0) (tally : Tally) (t : IsTalliedBy T count Judged tally) (c : ℕ) (from : 1 ≤ c) (below : c < tally.fault) (more : (n : ℕ) → 1 ≤ n → n < tally.fault → More n → (n ≡ c) ⊎ Judged n) where
+    -- one node more
+    pub tally_more : (judgement : Judgement) → Judges T count c judgement → IsTalliedBy T count More (with_judgement tally c judgement)
+    tally_more AtFault h = record {
+      from = from;
+      upto = omega (arith, below, t.upto);
+      places = λ n low high. t.places n low (omega (arith, high, below));
+      at_fault = λ within. h;
+      sound = λ n low high j. t.sound n low (omega (arith, high, below)) (before n low high j);
+      left_from = t.left_from;
+      left_open = t.left_open;
+      stay = λ n low high left j. t.stay n low (omega (arith, high, below)) left (before n low high j);
+    }
+      where
+        before : (n : ℕ) → 1 ≤ n → n < c → More n → Judged n
+        before n low high j =
+            ⊎_elim (λ (same : n ≡ c). absurd (omega (arith, same, high))) (λ (k : Judged n). k) (more n low (omega (arith, high, below)) j)
+    tally_more LeftOpen h = record {
+      from = t.from;
+      upto = t.upto;
+      places = t.places;
+      at_fault = t.at_fault;
+      sound = λ n low high j. ⊎_elim (λ (same : n ≡ c). subst (IsSound T) (sym same) h.0) (λ (k : Judged n). t.sound n low high k) (more n low high j);
+      left_from = omega (arith, from, t.left_from);
+      left_open = λ within.
+          ⊎_elim
+          (λ (less : tally.left < c).
+          let is : tally.left ≡ min tally.left c = omega (arith, less) in
+          subst (IsOpenWrongly T count) is (t.left_open (omega (arith, within, is))))
+          (λ (least : c ≤ tally.left).
+          let is : c ≡ min tally.left c = omega (arith, least) in
+          subst (IsOpenWrongly T count) is h.1)
+          (cases_lt tally.left c);
+      stay = λ n low high left j.
+          ⊎_elim
+          (λ (same : n ≡ c). absurd (omega (arith, same, left)))
+          (λ (k : Judged n). t.stay n low high (omega (arith, left)) k)
+          (more n low high j);
+    }
+    tally_more Fine h = record {
+      from = t.from;
+      upto = t.upto;
+      places = t.places;
+      at_fault = t.at_fault;
+      sound = λ n low high j. ⊎_elim (λ (same : n ≡ c). subst (IsSound T) (sym same) h.0) (λ (k : Judged n). t.sound n low high k) (more n low high j);
+      left_from = t.left_from;
+      left_open = t.left_open;
+      stay = λ n low high left j. ⊎_elim (λ (same : n ≡ c). subst (MayBeOpen T count) (sym same) h.1) (λ (k : Judged n). t.stay n low high left k) (more n low high j);
+    }
+
+  -- nothing was judged
+  pub tally_none : (tally : Tally) → 1 ≤ tally.fault → tally.fault ≤ length T.nodes + 1 → HavePlaces T tally.fault → (tally.fault ≤ length T.nodes → ¬ IsSound T tally.fault) → tally.left ≡ length T.nodes + 1 → IsTalliedBy T count (λ n. ⊥) tally
+  tally_none tally from upto places fault left = record {
+    from = from;
+    upto = upto;
+    places = places;
+    at_fault = fault;
+    sound = λ n low high j. absurd j;
+    left_from = omega (arith, left);
+    left_open = λ within. absurd (omega (arith, within, left));
+    stay = λ n low high before j. absurd j;
+  }
+
+  -- where only the root and what names a parent before the first was judged, the root alone was
+  pub root_alone : (bound : ℕ) → HavePlaces T bound → (n : ℕ) → 1 ≤ n → n < bound → IsJudged T.nodes 1 0 n → n ≡ 1
+  root_alone bound places n low high (inl same) = same
+  root_alone bound places n low high (inr (inl less)) =
+      ⊎_elim
+      (λ (first : n < 2). omega (arith, first, low))
+      (λ (later : 2 ≤ n). absurd (omega (arith, less, ((places n low high).below (omega (arith, later))).there)))
+      (cases_lt n 2)
+  root_alone bound places n low high (inr (inr more)) = absurd (omega (arith, more.1))
+
+  -- where all parents before the first node at fault were gone through, all is tallied
+  pub tally_whole : (parent : ℕ) (tally : Tally) → tally.fault ≤ parent → IsTallied T count parent 0 tally → IsWholeTally T count tally
+  tally_whole parent tally past t = record {
+    from = t.from;
+    upto = t.upto;
+    at_fault = t.at_fault;
+    sound = λ n low high. t.sound n low high (judged n low high);
+    left_from = t.left_from;
+    left_open = t.left_open;
+    stay = λ n low high left. t.stay n low high left (judged n low high);
+  }
+    where
+      judged : (n : ℕ) → 1 ≤ n → n < tally.fault → IsJudged T.nodes parent 0 n
+      judged n low high =
+          ⊎_elim
+          (λ (first : n < 2). inl (omega (arith, first, low)))
+          (λ (later : 2 ≤ n). inr (inl (omega (arith, ((t.places n low high).below (omega (arith, later))).before, high, past))))
+          (cases_lt n 2)
+
+  abbrev Tells : TreeVerdict → Type 0
+  Tells = TellsTree T.monoid T.difference T.word_of T.enter T.problem count T.answers T.nodes
+
+  -- the verdict at the end
+  module _ (tally : Tally) (w : IsWholeTally T count tally) (some : 1 ≤ length T.answers) where
+    module _ (none : length T.nodes < tally.fault) where
+      all_sound : (n : ℕ) → IsNumber T.nodes n → IsSound T n
+      all_sound n number = w.sound n number.0 (omega (arith, number.1, none))
+
+      told_sound : (lacking : Option ℕ) → IfSome lacking (IsLacking T.answers T.nodes) → (lacking ≡ None → AreGiven T.answers T.nodes) → Tells (conclusion_sound tally.left (length T.nodes) lacking)
+      told_sound (Some a) lacks given = (all_sound, record { number = a; from = lacks.from; upto = lacks.upto; none = lacks.none })
+      told_sound None lacks given =
+          ⊎_elim
+          (λ (within : tally.left < length T.nodes + 1).
+          subst (λ b. Tells (cond b (OpenAt tally.left) Tree)) (sym (le-leb tally.left (length T.nodes) (omega (arith, within)))) (
+            all_sound,
+            given refl,
+            record {
+              there = (w.left_from, omega (arith, within));
+              marked = (w.left_open (omega (arith, within))).0;
+              may_not = (w.left_open (omega (arith, within))).1;
+            },
+            λ m less o. o.may_not (w.stay m o.there.0 (omega (arith, o.there.1, none)) less o.marked),
+          ))
+          (λ (past : length T.nodes + 1 ≤ tally.left).
+          let first = given refl 1 (omega arith) some in
+          subst (λ b. Tells (cond b (OpenAt tally.left) Tree)) (sym (lt-leb tally.left (length T.nodes) (omega (arith, past))))
+          (record {
+            root = omega (arith, first.there.0, first.there.1);
+            sound = all_sound;
+            given = given refl;
+            open_nodes = λ n number opened. w.stay n number.0 (omega (arith, number.1, none)) (omega (arith, number.1, past)) opened;
+          }))
+          (cases_lt tally.left (length T.nodes + 1))
+
+    pub told : (lacking : Option ℕ) → IfSome lacking (IsLacking T.answers T.nodes) → (lacking ≡ None → AreGiven T.answers T.nodes) → Tells (conclusion tally (length T.nodes) lacking)
+    told lacking lacks given =
+        ⊎_elim
+        (λ (within : tally.fault < length T.nodes + 1).
+        subst (λ b. Tells (cond b (FaultAt tally.fault) (conclusion_sound tally.left (length T.nodes) lacking))) (sym (le-leb tally.fault (length T.nodes) (omega (arith, within)))) (
+          record { there = (w.from, omega (arith, within)); fault = w.at_fault (omega (arith, within)) },
+          λ m less a. a.fault (w.sound m a.there.0 less),
+        ))
+        (λ (past : length T.nodes + 1 ≤ tally.fault).
+        subst (λ b. Tells (cond b (FaultAt tally.fault) (conclusion_sound tally.left (length T.nodes) lacking))) (sym (lt-leb tally.fault (length T.nodes) (omega (arith, past))))
+        (told_sound (omega (arith, past)) lacking lacks given))
+        (cases_lt tally.fault (length T.nodes + 1))
+
+-- the number of a sound answered node's answer is that of one
+pub answer_within : {V : Type 0} (T : TreeOf V) (n : ℕ) → IsSound T n → is_answered (node_at T.nodes n).mark ≡ true → (1 ≤ answer_number (node_at T.nodes n).mark) × (answer_number (node_at T.nodes n).mark ≤ length T.answers)
+answer_within T n sound answered = by (node_at T.nodes n).mark sound.marked answered
+  where
+    by : (mark : Mark) → IsMarked T.monoid T.difference T.word_of T.enter T.problem T.answers T.nodes n mark → is_answered mark ≡ true → (1 ≤ answer_number mark) × (answer_number mark ≤ length T.answers)
+    by (Answered a) marked is = (marked.0.from, marked.0.upto)
+    by Open marked is = absurd (cc is)
+    by (Empty rows) marked is = absurd (cc is)
+
+module _ {V : Type 0} (T : TreeOf V) (count parent : ℕ) (tally : Tally) (t : IsTallied T count parent 0 tally) where
+  -- the nodes up to a parent whose children are judged next are sound
+  pub sound_upto : parent < tally.fault → AreSoundUpto T parent
+  sound_upto below m from upto =
+      t.sound m from (omega (arith, upto, below))
+      (⊎_elim
+      (λ (first : m < 2). inl (omega (arith, first, from)))
+      (λ (later : 2 ≤ m). inr (inl (omega (arith, ((t.places m from (omega (arith, upto, below))).below (omega (arith, later))).before, upto))))
+      (cases_lt m 2))
+
+  -- a parent without an answer is that of no node
+  pub tally_unanswered : is_answered (node_at T.nodes parent).mark ≡ false → IsTallied T count (parent + 1) 0 tally
+  tally_unanswered off =
+      tally_fewer T count (IsJudged T.nodes parent 0) (IsJudged T.nodes (parent + 1) 0) tally t (λ n low high j. fewer n low high j)
+    where
+      fewer : (n : ℕ) → 1 ≤ n → n < tally.fault → IsJudged T.nodes (parent + 1) 0 n → IsJudged T.nodes parent 0 n
+      fewer n low high (inl root) = inl root
+      fewer n low high (inr (inl less)) =
+          ⊎_elim
+          (λ (first : n < 2). inl (omega (arith, first, low)))
+          (λ (later : 2 ≤ n).
+          ⊎_elim
+          (λ (before : (node_at T.nodes n).parent < parent). inr (inl before))
+          (λ (from : parent ≤ (node_at T.nodes n).parent).
+          let same : (node_at T.nodes n).parent ≡ parent = omega (arith, from, less) in
+          let answered = ((t.places n low high).below (omega (arith, later))).answered in
+          absurd (false≢true (sym off ∙ sym (ap (λ m. is_answered (node_at T.nodes m).mark) same) ∙ answered)))
+          (cases_lt (node_at T.nodes n).parent parent))
+          (cases_lt n 2)
+      fewer n low high (inr (inr named)) = absurd (omega (arith, named.1))
+
+-- the answer of a sound answered node is over the rows
+pub answer_over : {V : Type 0} (T : TreeOf V) → IsTree T → (n : ℕ) → IsSound T n → is_answered (node_at T.nodes n).mark ≡ true → length (node_answer T.answers T.nodes n) ≡ length T.problem.rows
+answer_over T tree n sound answered =
+    let within = answer_within T n sound answered in
+    (All-get_or (IsValid T.problem) T.answers (answer_number (node_at T.nodes n).mark - 1) [] (omega (arith, within.0, within.1)) tree.valid).over

@@ -1,0 +1,7 @@
+use Rattle.std.proofs.Common.{ℕ, ◌≤◌}
+use Rattle.asg_proof.specs.SearchTrees.{IsGiven}
+use Rattle.asg_trees.proofs.trees.first_lacking.Given as goal
+
+-- each answer so far has a node
+abbrev pub invariant-loop-before : goal.invariant-loop-before
+invariant-loop-before l = (a : ℕ) → 1 ≤ a → a ≤ l.before → IsGiven l.nodes a

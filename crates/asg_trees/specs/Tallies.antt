@@ -1,0 +1,66 @@
+-- What is known of a tree so far: the least node at fault, and the least that is open and may not be.
+use Rattle.std.specs.Prelude.{◌≡◌, ◌⊎◌, ℕ, ◌+◌, ◌<◌, ◌≤◌, ◌==◌, min, if◌then◌else◌, List, length}
+use Rattle.asg_model.specs.Counts.{placed}
+use Rattle.asg_proof.specs.declared.nodes.Node.{Node}
+use Rattle.asg_proof.specs.Nodes.{node_at}
+use Rattle.asg_proof.specs.SearchTrees.{HasPlace}
+use Rattle.asg_trees.specs.declared.verdicts.Judgement.{Judgement}
+use Rattle.asg_trees.specs.declared.verdicts.Judgement.TheVariants.{AtFault, LeftOpen, Fine}
+use Rattle.asg_trees.specs.declared.verdicts.Tally.{Tally}
+use Rattle.asg_trees.specs.Trees.{TreeOf, IsSound, MayBeOpen, IsOpenWrongly}
+
+-- a judgement of a node
+abbrev pub Judges : {V : Type 0} → TreeOf V → ℕ → ℕ → Judgement → Type 0
+Judges T count n AtFault = ¬ IsSound T n
+Judges T count n LeftOpen = IsSound T n × IsOpenWrongly T count n
+Judges T count n Fine = IsSound T n × MayBeOpen T count n
+
+-- the nodes that were judged: the root, those that name a parent before this one, and of those that name it
+-- the ones before a number
+abbrev pub IsJudged : List Node → ℕ → ℕ → ℕ → Type 0
+IsJudged nodes parent before n =
+    (n ≡ 1) ⊎ ((node_at nodes n).parent < parent) ⊎ (((node_at nodes n).parent ≡ parent) × (n < before))
+
+-- each node before this number has its place
+abbrev pub HavePlaces : {V : Type 0} → TreeOf V → ℕ → Type 0
+HavePlaces T bound = (n : ℕ) → 1 ≤ n → n < bound → HasPlace (placed T.problem) T.nodes n
+
+-- the tally of nodes that were judged; a number past the last says that there is none
+pub record IsTalliedBy {V : Type 0} (T : TreeOf V) (count : ℕ) (Judged : ℕ → Type 0) (tally : Tally) : Type 0 where
+  pub from : 1 ≤ tally.fault
+  pub upto : tally.fault ≤ length T.nodes + 1
+  pub places : HavePlaces T tally.fault
+  pub at_fault : tally.fault ≤ length T.nodes → ¬ IsSound T tally.fault
+  pub sound : (n : ℕ) → 1 ≤ n → n < tally.fault → Judged n → IsSound T n
+  pub left_from : 1 ≤ tally.left
+  pub left_open : tally.left ≤ length T.nodes → IsOpenWrongly T count tally.left
+  pub stay : (n : ℕ) → 1 ≤ n → n < tally.fault → n < tally.left → Judged n → MayBeOpen T count n
+
+-- the same of the root, of the nodes that name a parent before this one, and of those that name it before a
+-- number
+abbrev pub IsTallied : {V : Type 0} → TreeOf V → ℕ → ℕ → ℕ → Tally → Type 0
+IsTallied T count parent before tally = IsTalliedBy T count (IsJudged T.nodes parent before) tally
+
+-- each node up to this one is as it must be
+abbrev pub AreSoundUpto : {V : Type 0} → TreeOf V → ℕ → Type 0
+AreSoundUpto T n = (m : ℕ) → 1 ≤ m → m ≤ n → IsSound T m
+
+-- the tally with a judgement of a node
+abbrev pub with_judgement : Tally → ℕ → Judgement → Tally
+with_judgement tally n AtFault = record tally { fault = n }
+with_judgement tally n LeftOpen = record tally { left = min tally.left n }
+with_judgement tally n Fine = tally
+
+-- the tally where all nodes before the first at fault were judged
+pub record IsWholeTally {V : Type 0} (T : TreeOf V) (count : ℕ) (tally : Tally) : Type 0 where
+  pub from : 1 ≤ tally.fault
+  pub upto : tally.fault ≤ length T.nodes + 1
+  pub at_fault : tally.fault ≤ length T.nodes → ¬ IsSound T tally.fault
+  pub sound : (n : ℕ) → 1 ≤ n → n < tally.fault → IsSound T n
+  pub left_from : 1 ≤ tally.left
+  pub left_open : tally.left ≤ length T.nodes → IsOpenWrongly T count tally.left
+  pub stay : (n : ℕ) → 1 ≤ n → n < tally.fault → n < tally.left → MayBeOpen T count n
+
+-- where the nodes that name a parent are gone through in order, those before this number were judged
+abbrev pub judged_before : ℕ → ℕ → ℕ
+judged_before nodes member = if member == 0 then nodes + 1 else member

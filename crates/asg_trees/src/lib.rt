@@ -1,0 +1,39 @@
+//! The judge of search trees: whether the nodes of a document prove that nothing better than its
+//! answers was left out.
+//!
+//! A node stands for a part of the valid choices: the root for all, any other node for the child of
+//! its parent's part by the parent's answer and the node's branch ([Murty 1968]). An answered node
+//! must have an answer of its part and a child for each branch, an open one a trail of admitted
+//! phases, an empty one a Hall set of its part. No part has a square of its own: a child's square is
+//! that of its parent without some cells, which rows of bits tell. So the judge keeps two squares
+//! besides that of the root, whatever the depth of the tree: that of the parent whose children are
+//! judged, and one for children whose trail has more than a short phase beyond the parent's. The
+//! memory is in proportion to the document and to the squares; the time, besides that of the
+//! squares of parents, at most in proportion to the cells for each node.
+//!
+//! It trusts nothing that nodes say. Contracts see answers as choices and nodes as they are
+//! declared. It stands on no solver.
+#![tactic(auto)]
+
+mod chosen_cells;
+mod groups;
+mod hall_tests;
+mod marks;
+mod masks;
+mod node_parts;
+mod objectives;
+mod own_answers;
+mod own_phases;
+mod paths;
+mod places;
+mod siblings;
+mod taking_out;
+mod trees;
+mod verdicts;
+
+pub use objectives::judge;
+pub use trees::judge_tree;
+pub use verdicts::TreeVerdict;
+
+/// There was not enough memory.
+pub type NoMemory = std::alloc::AllocError;

@@ -1,0 +1,191 @@
+//! Which cells of a square a branch keeps, as rows of bits.
+
+ghost use Rattle.std.specs.Prelude.{◌≡◌, ◌+◌, ◌<◌, ◌≤◌, IfOk, length};
+ghost use Rattle.asg_model.specs.declared.parts.Place.TheVariants.{All as PlaceAll};
+ghost use Rattle.asg_model.specs.Instances.{IsInstance};
+ghost use Rattle.asg_model.specs.Limits.{most_side};
+ghost use Rattle.asg_model.specs.Live.{is_active};
+ghost use Rattle.asg_model.specs.Shapes.{square_side};
+ghost use Rattle.asg_model.specs.Sums.{count_below};
+ghost use Rattle.asg_model.specs.ValidChoice.{takes};
+ghost use Rattle.asg_proof.specs.Children.{is_kept_at};
+ghost use Rattle.asg_square.specs.Grid.{HasLabelsOf};
+ghost use Rattle.asg_trees.specs.Kept.{HasSize, IsMaskOf, KeepsAll, KeepsOtherRows, MarksNumbered, MarksRow, MarksRows};
+ghost use Rattle.asg_trees.specs.Kept.{keeps_label};
+
+use crate::NoMemory;
+use asg_model::{Choice, Instance};
+use asg_square::{BitRows, Square};
+use std::alloc::Global;
+
+// Whether a branch keeps the cell of an active row, by its number and by whether the choice gives it
+// the cell.
+fn is_kept_at(branch: u32, number: u32, is_chosen: bool) -> bool
+    ensures { result ≡ is_kept_at branch number is_chosen }
+{
+    if number < branch {
+        is_chosen
+    } else if number == branch {
+        !is_chosen
+    } else {
+        true
+    }
+}
+
+// Whether a choice gives a row the column.
+fn takes(column: u32, chosen: Option<u32>) -> bool
+    ensures { result ≡ takes column chosen }
+{
+    match chosen {
+        Some(other) => other == column,
+        None => false,
+    }
+}
+
+// Whether a branch keeps the cell of an active row, by its number and by what the choice gives it,
+// in a column with this label.
+fn keeps_label(branch: u32, number: u32, chosen: Option<u32>, label: Option<u32>) -> bool
+    ensures { result ≡ keeps_label branch number chosen label }
+{
+    match label {
+        Some(column) => is_kept_at(branch, number, takes(column, chosen)),
+        None => true,
+    }
+}
+
+// Sets the bits of a row that stands for an active one to those that a branch keeps.
+fn mark_row<V: Copy>(
+    kept: &mut BitRows,
+    square: &Square<V>,
+    row: u32,
+    branch: u32,
+    number: u32,
+    chosen: Option<u32>,
+)
+    requires size { HasSize square.now.side kept.old }
+    requires row { row < square.now.side }
+    ensures { MarksRow square.now.column_labels square.now.side branch number chosen row kept.old
+        kept.new }
+{
+    for column in 0..square.side() {
+        let keeps = keeps_label(branch, number, chosen, square.column_label(column));
+        kept.put(row, column, keeps);
+    }
+}
+
+// Sets the bits of a row to those that a branch keeps, where it is active and its number is one of
+// those from one on up to another, and gives the number of active rows up to it, by that of those
+// before it.
+fn mark_active<V: Copy>(
+    kept: &mut BitRows,
+    inst: &Instance,
+    square: &Square<V>,
+    choice: &Choice,
+    branch: u32,
+    from: u32,
+    to: u32,
+    row: u32,
+    before: u32,
+) -> u32
+    requires size { HasSize square.now.side kept.old }
+    requires choice { length choice.now ≡ length inst.now.rows }
+    requires row { row < length inst.now.rows }
+    requires within { length inst.now.rows ≤ square.now.side }
+    requires before { before ≡ count_below (is_active inst.now) row }
+    ensures number { result ≡ count_below (is_active inst.now) (row + 1) }
+    ensures marks { MarksNumbered inst.now choice.now square.now.column_labels square.now.side
+        branch from to row kept.old kept.new }
+{
+    if !inst.rows()[row as usize].active {
+        return before;
+    }
+    let number = before + 1;
+    if number < from {
+        return number;
+    }
+    if to < number {
+        return number;
+    }
+    mark_row(kept, square, row, branch, number, choice.get(row));
+    number
+}
+
+// Sets the bits of the active rows whose numbers are those from one on up to another to those that a
+// branch keeps.
+fn mark_rows<V: Copy>(
+    kept: &mut BitRows,
+    inst: &Instance,
+    square: &Square<V>,
+    choice: &Choice,
+    branch: u32,
+    from: u32,
+    to: u32,
+)
+    requires size { HasSize square.now.side kept.old }
+    requires choice { length choice.now ≡ length inst.now.rows }
+    requires within { length inst.now.rows ≤ square.now.side }
+    ensures { MarksRows inst.now choice.now square.now.column_labels square.now.side branch from to
+        (length inst.now.rows) kept.old kept.new }
+{
+    let mut number = 0;
+    for row in 0..choice.len() {
+        number = mark_active(kept, inst, square, choice, branch, from, to, row, number);
+    }
+}
+
+/// Bits that keep all cells of a square of this side. The error is want of memory.
+pub(crate) fn whole_mask(alloc: Global, inst: &Instance) -> Result<BitRows, NoMemory>
+    requires { square_side inst.now ≤ most_side }
+    ensures { IfOk result (KeepsAll inst.now) }
+{
+    let _rows = inst.rows();
+    let side = inst.side();
+    let mut kept = BitRows::make(alloc, side, side)?;
+    kept.set_all();
+    Ok(kept)
+}
+
+/// Sets bits, of which those of rows that stand for no active one keep all cells, to those that a
+/// branch keeps.
+pub(crate) fn make_mask<V: Copy>(
+    kept: &mut BitRows,
+    inst: &Instance,
+    square: &Square<V>,
+    choice: &Choice,
+    branch: u32,
+)
+    requires instance { IsInstance inst.now }
+    requires place { inst.now.place ≡ PlaceAll }
+    requires few { square_side inst.now ≤ most_side }
+    requires labels { HasLabelsOf inst.now square.now }
+    requires choice { length choice.now ≡ length inst.now.rows }
+    requires kept { KeepsOtherRows inst.now kept.old }
+    ensures mask { IsMaskOf inst.now choice.now branch kept.new }
+    ensures kept { KeepsOtherRows inst.now kept.new }
+{
+    mark_rows(kept, inst, square, choice, branch, 0, u32::MAX);
+}
+
+/// Sets bits that a branch of the same choice keeps to those of another branch. The time is that of
+/// the rows, and of the cells of those whose numbers lie between the branches.
+pub(crate) fn move_mask<V: Copy>(
+    kept: &mut BitRows,
+    inst: &Instance,
+    square: &Square<V>,
+    choice: &Choice,
+    before: u32,
+    branch: u32,
+)
+    requires instance { IsInstance inst.now }
+    requires place { inst.now.place ≡ PlaceAll }
+    requires few { square_side inst.now ≤ most_side }
+    requires labels { HasLabelsOf inst.now square.now }
+    requires choice { length choice.now ≡ length inst.now.rows }
+    requires mask { IsMaskOf inst.now choice.now before kept.old }
+    ensures mask { IsMaskOf inst.now choice.now branch kept.new }
+    ensures kept { KeepsOtherRows inst.now kept.new }
+{
+    let from = before.min(branch);
+    let to = before.max(branch);
+    mark_rows(kept, inst, square, choice, branch, from, to);
+}

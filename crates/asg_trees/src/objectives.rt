@@ -1,0 +1,119 @@
+//! Search trees, judged by objective.
+
+ghost use Rattle.std.specs.Prelude.{◌≡◌, ◌≤◌, IsTrue, IfOk, All, length};
+ghost use Rattle.asg_model.specs.declared.objectives.Objective.TheVariants.{TimeCost};
+ghost use Rattle.asg_model.specs.declared.parts.Place.TheVariants.{All as PlaceAll};
+ghost use Rattle.asg_model.specs.Limits.{most_side};
+ghost use Rattle.asg_model.specs.Objectives.{is_algebraic, is_bottleneck};
+ghost use Rattle.asg_model.specs.Refused.{PassesNegative};
+ghost use Rattle.asg_model.specs.Shapes.{square_side};
+ghost use Rattle.asg_model.specs.ValidChoice.{IsValid};
+ghost use Rattle.asg_monoids.specs.Entered.{is_sum_objective};
+ghost use Rattle.asg_trees.specs.Judged.{TellsRanking};
+
+use crate::NoMemory;
+use crate::trees::judge_tree;
+use crate::verdicts::TreeVerdict;
+use asg_model::{Choice, Instance, Objective};
+use asg_monoids::{PeakKind, SumKind, TimeKind};
+use asg_proof::Node;
+use std::alloc::Global;
+
+// The verdict by an objective of sums.
+fn judge_sums(
+    alloc: Global,
+    objective: Objective,
+    inst: &Instance,
+    count: usize,
+    answers: &[Choice],
+    nodes: &[Node],
+) -> Result<TreeVerdict, NoMemory>
+    requires sums { IsTrue (is_sum_objective objective) }
+    requires place { inst.now.place ≡ PlaceAll }
+    requires side { square_side inst.now ≤ most_side }
+    requires passes { PassesNegative objective inst.now }
+    requires some { 1 ≤ length answers.now }
+    requires valid { All (IsValid inst.now) answers.now }
+    ensures { IfOk result (TellsRanking objective inst.now count answers.now nodes.now) }
+{
+    let kind = SumKind::of(objective);
+    let verdict = judge_tree(alloc, &kind, inst, count, answers, nodes)?;
+    Ok(verdict)
+}
+
+// The verdict by a bottleneck objective.
+fn judge_peaks(
+    alloc: Global,
+    objective: Objective,
+    inst: &Instance,
+    count: usize,
+    answers: &[Choice],
+    nodes: &[Node],
+) -> Result<TreeVerdict, NoMemory>
+    requires peaks { IsTrue (is_bottleneck objective) }
+    requires place { inst.now.place ≡ PlaceAll }
+    requires side { square_side inst.now ≤ most_side }
+    requires passes { PassesNegative objective inst.now }
+    requires some { 1 ≤ length answers.now }
+    requires valid { All (IsValid inst.now) answers.now }
+    ensures { IfOk result (TellsRanking objective inst.now count answers.now nodes.now) }
+{
+    let kind = PeakKind::of(objective);
+    let verdict = judge_tree(alloc, &kind, inst, count, answers, nodes)?;
+    Ok(verdict)
+}
+
+// The verdict by `time-cost`.
+fn judge_times(
+    alloc: Global,
+    inst: &Instance,
+    count: usize,
+    answers: &[Choice],
+    nodes: &[Node],
+) -> Result<TreeVerdict, NoMemory>
+    requires place { inst.now.place ≡ PlaceAll }
+    requires side { square_side inst.now ≤ most_side }
+    requires passes { PassesNegative TimeCost inst.now }
+    requires some { 1 ≤ length answers.now }
+    requires valid { All (IsValid inst.now) answers.now }
+    ensures { IfOk result (TellsRanking TimeCost inst.now count answers.now nodes.now) }
+{
+    let kind = TimeKind::new();
+    let verdict = judge_tree(alloc, &kind, inst, count, answers, nodes)?;
+    Ok(verdict)
+}
+
+/// Judges whether nodes are a search tree of answers in the monoid of an algebraic objective, where
+/// so many answers were asked for: the verdict tells the first node at fault; where none is,
+/// whether some answer has no node; where each has one, the first node that is open and may not be;
+/// and where there is none, that they are a search tree, so that nothing better than the answers was
+/// left out. The answers are valid choices of the instance, which places all rows, on a square whose
+/// side is at most 2,000, and none of whose costs the objective refuses. The error is want of
+/// memory.
+pub fn judge(
+    alloc: Global,
+    objective: Objective,
+    inst: &Instance,
+    count: usize,
+    answers: &[Choice],
+    nodes: &[Node],
+) -> Result<TreeVerdict, NoMemory>
+    requires algebraic { IsTrue (is_algebraic objective) }
+    requires place { inst.now.place ≡ PlaceAll }
+    requires side { square_side inst.now ≤ most_side }
+    requires passes { PassesNegative objective inst.now }
+    requires some { 1 ≤ length answers.now }
+    requires valid { All (IsValid inst.now) answers.now }
+    ensures { IfOk result (TellsRanking objective inst.now count answers.now nodes.now) }
+{
+    match objective {
+        Objective::Sum | Objective::SumMax | Objective::SumPair | Objective::Capped(_) => {
+            judge_sums(alloc, objective, inst, count, answers, nodes)
+        }
+        Objective::Bottleneck | Objective::BottleneckMax => {
+            judge_peaks(alloc, objective, inst, count, answers, nodes)
+        }
+        Objective::TimeCost => judge_times(alloc, inst, count, answers, nodes),
+        Objective::Balanced | Objective::Lex => unreachable!(),
+    }
+}

@@ -1,0 +1,316 @@
+//! Search trees, judged over the monoid of a kind.
+
+ghost use Rattle.std.specs.Prelude.{◌≡◌, ◌+◌, ◌<◌, ◌≤◌, List, None, IfOk, IfSome, All, length};
+ghost use Rattle.asg_model.specs.declared.parts.Place.TheVariants.{All as PlaceAll};
+ghost use Rattle.asg_model.specs.Limits.{most_cost, most_side};
+ghost use Rattle.asg_model.specs.Refused.{PassesNegative};
+ghost use Rattle.asg_model.specs.Shapes.{square_side};
+ghost use Rattle.asg_model.specs.ValidChoice.{IsValid};
+ghost use Rattle.asg_order.specs.Entering.{LiesWithin};
+ghost use Rattle.asg_proof.specs.declared.nodes.Node.{Node as N};
+ghost use Rattle.asg_replays.specs.Replays.{IsStart};
+ghost use Rattle.asg_trees.specs.Groups.{AreGroups, answer_keys, parent_keys};
+ghost use Rattle.asg_trees.specs.Judged.{AreGiven, IsLacking, TellsTree, conclusion, conclusion_sound};
+ghost use Rattle.asg_trees.specs.Kept.{KeepsAll, KeepsOtherRows};
+ghost use Rattle.asg_trees.specs.Marks.{IsLastProduct};
+ghost use Rattle.asg_trees.specs.Tallies.{HavePlaces, IsTallied, IsWholeTally};
+ghost use Rattle.asg_trees.specs.Trails.{StandsAt};
+ghost use Rattle.asg_trees.specs.Trees.{IsSound, IsTree, tree_of};
+
+use crate::NoMemory;
+use crate::groups::{Groups, by_answer, by_parent};
+use crate::marks::judge_mark;
+use crate::masks::whole_mask;
+use crate::node_parts::{has_answer, own_of};
+use crate::paths::square_of;
+use crate::places::first_misplaced;
+use crate::siblings::{judge_children, tallied};
+use crate::verdicts::{Tally, TreeVerdict};
+use asg_admit::Reduced;
+use asg_model::{Choice, Instance};
+use asg_order::{Kind, Ordered};
+use asg_proof::Node;
+use asg_replays::{chosen_fold, first_bad, start};
+use asg_square::BitRows;
+use asg_square::laws::square_law;
+use std::alloc::Global;
+
+// Judges the root, where it has its place, on the square before any step, and leads the square over
+// its trail. The error is want of memory.
+fn judge_root<K: Kind>(
+    alloc: Global,
+    kind: &K,
+    inst: &Instance,
+    answers: &[Choice],
+    nodes: &[Node],
+    members: &Groups,
+    given: &Groups,
+    count: usize,
+    last: Option<<<K as Kind>::M as Ordered>::Value>,
+    root: &mut Reduced<<<K as Kind>::M as Ordered>::Value>,
+    kept: &BitRows,
+    so_far: Tally,
+) -> Result<Tally, NoMemory>
+    requires tree { let T = tree_of (K.M.monoid_of (K.monoid kind.now))
+        (K.M.difference (K.monoid kind.now)) (K.M.word_of (K.monoid kind.now))
+        (K.entered kind.now) inst.now answers.now nodes.now in IsTree T }
+    requires members { AreGroups (parent_keys nodes.now) (length nodes.now) members.now }
+    requires given { AreGroups (answer_keys nodes.now) (length answers.now) given.now }
+    requires last { let T = tree_of (K.M.monoid_of (K.monoid kind.now))
+        (K.M.difference (K.monoid kind.now)) (K.M.word_of (K.monoid kind.now))
+        (K.entered kind.now) inst.now answers.now nodes.now in IsLastProduct T count last }
+    requires start { IsStart (K.M.monoid_of (K.monoid kind.now)) (K.entered kind.now) inst.now
+        root.old }
+    requires kept { KeepsAll inst.now kept.now }
+    requires from { 1 ≤ so_far.fault }
+    requires upto { so_far.fault ≤ length nodes.now + 1 }
+    requires places { let T = tree_of (K.M.monoid_of (K.monoid kind.now))
+        (K.M.difference (K.monoid kind.now)) (K.M.word_of (K.monoid kind.now))
+        (K.entered kind.now) inst.now answers.now nodes.now in HavePlaces T so_far.fault }
+    requires fault { let T = tree_of (K.M.monoid_of (K.monoid kind.now))
+        (K.M.difference (K.monoid kind.now)) (K.M.word_of (K.monoid kind.now))
+        (K.entered kind.now) inst.now answers.now nodes.now in
+        so_far.fault ≤ length nodes.now → IsSound T so_far.fault → ⊥ }
+    requires left { so_far.left ≡ length nodes.now + 1 }
+    ensures tallied { let T = tree_of (K.M.monoid_of (K.monoid kind.now))
+        (K.M.difference (K.monoid kind.now)) (K.M.word_of (K.monoid kind.now))
+        (K.entered kind.now) inst.now answers.now nodes.now in
+        IfOk result (IsTallied T count 1 0) }
+    ensures stands { let T = tree_of (K.M.monoid_of (K.monoid kind.now))
+        (K.M.difference (K.monoid kind.now)) (K.M.word_of (K.monoid kind.now))
+        (K.entered kind.now) inst.now answers.now nodes.now in
+        IfOk result (λ tally. 1 < tally.fault → StandsAt T 1 root.new.now root.new.index) }
+{
+    let _ = count;
+    if so_far.fault <= 1 {
+        return Ok(so_far);
+    }
+    square_law::<<<K as Kind>::M as Ordered>::Value>();
+    let judgement = judge_mark(
+        alloc,
+        kind.monoid(),
+        inst,
+        answers,
+        nodes,
+        members,
+        given,
+        last,
+        &root.now,
+        kept,
+        root.index,
+        1,
+    )?;
+    let _bad = first_bad(alloc, kind.monoid(), root, own_of(nodes, 1), 0)?;
+    Ok(tallied(so_far, 1, judgement))
+}
+
+// Judges the nodes that name a parent, if it has an answer, and tallies them. The error is want of
+// memory.
+fn judge_parent<K: Kind>(
+    alloc: Global,
+    kind: &K,
+    inst: &Instance,
+    answers: &[Choice],
+    nodes: &[Node],
+    members: &Groups,
+    given: &Groups,
+    count: usize,
+    last: Option<<<K as Kind>::M as Ordered>::Value>,
+    root: &Reduced<<<K as Kind>::M as Ordered>::Value>,
+    kept: &mut BitRows,
+    parent: usize,
+    so_far: Tally,
+) -> Result<Tally, NoMemory>
+    requires tree { let T = tree_of (K.M.monoid_of (K.monoid kind.now))
+        (K.M.difference (K.monoid kind.now)) (K.M.word_of (K.monoid kind.now))
+        (K.entered kind.now) inst.now answers.now nodes.now in IsTree T }
+    requires members { AreGroups (parent_keys nodes.now) (length nodes.now) members.now }
+    requires given { AreGroups (answer_keys nodes.now) (length answers.now) given.now }
+    requires last { let T = tree_of (K.M.monoid_of (K.monoid kind.now))
+        (K.M.difference (K.monoid kind.now)) (K.M.word_of (K.monoid kind.now))
+        (K.entered kind.now) inst.now answers.now nodes.now in IsLastProduct T count last }
+    requires from { 1 ≤ parent }
+    requires below { parent < so_far.fault }
+    requires upto { parent ≤ length nodes.now }
+    requires kept { KeepsOtherRows inst.now kept.old }
+    requires root { let T = tree_of (K.M.monoid_of (K.monoid kind.now))
+        (K.M.difference (K.monoid kind.now)) (K.M.word_of (K.monoid kind.now))
+        (K.entered kind.now) inst.now answers.now nodes.now in
+        StandsAt T 1 root.now.now root.now.index }
+    requires tallied { let T = tree_of (K.M.monoid_of (K.monoid kind.now))
+        (K.M.difference (K.monoid kind.now)) (K.M.word_of (K.monoid kind.now))
+        (K.entered kind.now) inst.now answers.now nodes.now in
+        IsTallied T count parent 0 so_far }
+    ensures kept { IfOk result (λ _. KeepsOtherRows inst.now kept.new) }
+    ensures tallied { let T = tree_of (K.M.monoid_of (K.monoid kind.now))
+        (K.M.difference (K.monoid kind.now)) (K.M.word_of (K.monoid kind.now))
+        (K.entered kind.now) inst.now answers.now nodes.now in
+        IfOk result (IsTallied T count (parent + 1) 0) }
+{
+    if !has_answer(nodes, parent) {
+        return Ok(so_far);
+    }
+    if members.first_of(parent) == 0 {
+        return Ok(so_far);
+    }
+    let reduced = square_of(alloc, kind, inst, answers, nodes, kept, root, parent)?;
+    judge_children(
+        alloc, kind, inst, answers, nodes, members, given, count, last, &reduced, kept, parent,
+        so_far,
+    )
+}
+
+// Judges the nodes below the root, parent by parent, up to the first node at fault, and tallies
+// them. The error is want of memory.
+fn judge_parents<K: Kind>(
+    alloc: Global,
+    kind: &K,
+    inst: &Instance,
+    answers: &[Choice],
+    nodes: &[Node],
+    members: &Groups,
+    given: &Groups,
+    count: usize,
+    last: Option<<<K as Kind>::M as Ordered>::Value>,
+    root: &Reduced<<<K as Kind>::M as Ordered>::Value>,
+    kept: &mut BitRows,
+    so_far: Tally,
+) -> Result<Tally, NoMemory>
+    requires tree { let T = tree_of (K.M.monoid_of (K.monoid kind.now))
+        (K.M.difference (K.monoid kind.now)) (K.M.word_of (K.monoid kind.now))
+        (K.entered kind.now) inst.now answers.now nodes.now in IsTree T }
+    requires members { AreGroups (parent_keys nodes.now) (length nodes.now) members.now }
+    requires given { AreGroups (answer_keys nodes.now) (length answers.now) given.now }
+    requires last { let T = tree_of (K.M.monoid_of (K.monoid kind.now))
+        (K.M.difference (K.monoid kind.now)) (K.M.word_of (K.monoid kind.now))
+        (K.entered kind.now) inst.now answers.now nodes.now in IsLastProduct T count last }
+    requires kept { KeepsOtherRows inst.now kept.old }
+    requires root { let T = tree_of (K.M.monoid_of (K.monoid kind.now))
+        (K.M.difference (K.monoid kind.now)) (K.M.word_of (K.monoid kind.now))
+        (K.entered kind.now) inst.now answers.now nodes.now in
+        1 < so_far.fault → StandsAt T 1 root.now.now root.now.index }
+    requires tallied { let T = tree_of (K.M.monoid_of (K.monoid kind.now))
+        (K.M.difference (K.monoid kind.now)) (K.M.word_of (K.monoid kind.now))
+        (K.entered kind.now) inst.now answers.now nodes.now in IsTallied T count 1 0 so_far }
+    ensures { let T = tree_of (K.M.monoid_of (K.monoid kind.now))
+        (K.M.difference (K.monoid kind.now)) (K.M.word_of (K.monoid kind.now))
+        (K.entered kind.now) inst.now answers.now nodes.now in
+        IfOk result (IsWholeTally T count) }
+{
+    let mut tally = so_far;
+    let mut parent = 1;
+    'parents: while parent < tally.fault {
+        tally = judge_parent(
+            alloc, kind, inst, answers, nodes, members, given, count, last, root, kept, parent,
+            tally,
+        )?;
+        parent += 1;
+    }
+    Ok(tally)
+}
+
+// The product of the last answer, where as many are listed as were asked for.
+fn last_product<K: Kind>(
+    kind: &K,
+    inst: &Instance,
+    count: usize,
+    answers: &[Choice],
+) -> Option<<<K as Kind>::M as Ordered>::Value>
+    requires near { LiesWithin (K.reach kind.now) inst.now }
+    requires passes { PassesNegative (K.objective kind.now) inst.now }
+    requires some { 1 ≤ length answers.now }
+    ensures { (nodes : List N) → let T = tree_of (K.M.monoid_of (K.monoid kind.now))
+        (K.M.difference (K.monoid kind.now)) (K.M.word_of (K.monoid kind.now))
+        (K.entered kind.now) inst.now answers.now nodes in IsLastProduct T count result }
+{
+    if answers.len() < count {
+        return None;
+    }
+    Some(chosen_fold(kind, inst, &answers[answers.len() - 1]))
+}
+
+// The first answer that has no node.
+fn first_lacking(given: &Groups, nodes: &[Node], answers: &[Choice]) -> Option<usize>
+    requires { AreGroups (answer_keys nodes.now) (length answers.now) given.now }
+    ensures some { IfSome result (IsLacking answers.now nodes.now) }
+    ensures none { result ≡ None → AreGiven answers.now nodes.now }
+{
+    let _ = nodes;
+    for before in 0..answers.len() {
+        if given.first_of(before + 1) == 0 {
+            return Some(before + 1);
+        }
+    }
+    None
+}
+
+// The verdict on a tree none of whose nodes is at fault, by the least that is open and may not be,
+// and by an answer that has no node.
+fn concluded_sound(left: usize, nodes: usize, lacking: Option<usize>) -> TreeVerdict
+    ensures { result ≡ conclusion_sound left nodes lacking }
+{
+    match lacking {
+        Some(_) => TreeVerdict::NodeLacks,
+        None => {
+            if left <= nodes {
+                TreeVerdict::OpenAt(left)
+            } else {
+                TreeVerdict::Tree
+            }
+        }
+    }
+}
+
+// The verdict on a tree of which all is tallied, by an answer that has no node.
+fn concluded(tally: Tally, nodes: usize, lacking: Option<usize>) -> TreeVerdict
+    ensures { result ≡ conclusion tally nodes lacking }
+{
+    if tally.fault <= nodes {
+        TreeVerdict::FaultAt(tally.fault)
+    } else {
+        concluded_sound(tally.left, nodes, lacking)
+    }
+}
+
+/// Judges whether nodes are a search tree of answers that are valid, of which so many were asked
+/// for, over the monoid of a kind: the verdict tells the first node at fault; where none is, whether
+/// some answer has no node; where each has one, the first node that is open and may not be; and
+/// where there is none, that they are a search tree. The error is want of memory.
+pub fn judge_tree<K: Kind>(
+    alloc: Global,
+    kind: &K,
+    inst: &Instance,
+    count: usize,
+    answers: &[Choice],
+    nodes: &[Node],
+) -> Result<TreeVerdict, NoMemory>
+    requires place { inst.now.place ≡ PlaceAll }
+    requires side { square_side inst.now ≤ most_side }
+    requires passes { PassesNegative (K.objective kind.now) inst.now }
+    requires reach { most_cost ≤ K.reach kind.now }
+    requires some { 1 ≤ length answers.now }
+    requires valid { All (IsValid inst.now) answers.now }
+    ensures { IfOk result (TellsTree (K.M.monoid_of (K.monoid kind.now))
+        (K.M.difference (K.monoid kind.now)) (K.M.word_of (K.monoid kind.now))
+        (K.entered kind.now) inst.now count answers.now nodes.now) }
+{
+    // What each instance keeps is told by a reader.
+    let _ = inst.rows();
+    let members = by_parent(alloc, nodes)?;
+    let given = by_answer(alloc, nodes, answers.len())?;
+    let last = last_product(kind, inst, count, answers);
+    let mut root = start(alloc, kind, inst)?;
+    let mut kept = whole_mask(alloc, inst)?;
+    let first = Tally {
+        fault: first_misplaced(nodes, inst.placed()),
+        left: nodes.len() + 1,
+    };
+    let at_root = judge_root(
+        alloc, kind, inst, answers, nodes, &members, &given, count, last, &mut root, &kept, first,
+    )?;
+    let tally = judge_parents(
+        alloc, kind, inst, answers, nodes, &members, &given, count, last, &root, &mut kept, at_root,
+    )?;
+    let lacking = first_lacking(&given, nodes, answers);
+    Ok(concluded(tally, nodes.len(), lacking))
+}

@@ -1,6 +1,7 @@
 //! Tests of `asg_model`.
 
 mod halls;
+mod kept_cells;
 mod negatives;
 mod squares;
 mod tests;

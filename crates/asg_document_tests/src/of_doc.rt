@@ -2,6 +2,7 @@
 
 mod level_tests;
 mod phase_tests;
+mod ranking_tests;
 mod reading_tests;
 mod tests;
 mod window_tests;

@@ -1,3 +1,4 @@
 //! Tests of `asg_proof`.
 
+mod rankings;
 mod tests;

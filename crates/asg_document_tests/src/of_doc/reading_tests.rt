@@ -19,7 +19,7 @@ static CLAIMS: [(&[u8], u32); 18] = [
     (b"status none\nhall 1 02\nend\n", 5),
     (b"status none\nhall 1\nend", 6),
     (b"status none\nhall 1\nend\nassignment 2\n", 7),
-    (b"status ranked\n", 4),
+    (b"status rank\n", 4),
     (
         b"status best\nvalue -170141183460469231731687303715884105728\ncells 1\n4294967295 0\n\
           proof below 0\nend\n",
@@ -88,7 +88,7 @@ fn a_document_is_read(rt: HostRuntime) {
 const TEXTS: [(&[u8], u32); 3] = [
     (b"", 0),
     (b"assignment 1", 1),
-    (b"assignment 1\ncommand rank\n", 2),
+    (b"assignment 1\ncommand edit\n", 2),
 ];
 
 // The first of these texts that isn't refused where it is to be.

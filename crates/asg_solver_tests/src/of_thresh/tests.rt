@@ -21,7 +21,7 @@ use std::test::Fail;
 // valid.
 type Case = (Place, bool, bool, Fours, Option<(i64, i64)>);
 
-const CASES: [Case; 19] = [
+static CASES: [Case; 19] = [
     (All, false, true, [5; 16], Some((5, 5))),
     (All, false, true, SIGNED, Some((-2, 2))),
     (
@@ -48,6 +48,11 @@ const CASES: [Case; 19] = [
     (Exactly(2), false, true, TWO_COLUMNS, Some((5, 4))),
     (All, false, true, [ABSENT; 16], None),
 ];
+
+// These, for a caller that needn't know them.
+fn cases() -> &'static [Case] {
+    &CASES
+}
 
 // The cells with a strictly better cost than a value.
 fn better_cells(objective: Objective, cost: i64) -> Band {
@@ -106,7 +111,7 @@ fn are_right(alloc: Global, case: &Case) -> Result<bool, Fault> {
 
 #[test]
 fn finds_best_choices_and_hall_sets(rt: HostRuntime) -> Result<(), Fail> {
-    for case in &CASES {
+    for case in cases() {
         assert!(rt; are_right(rt.alloc(), case)?, "{:?} {:?}", case.0, case.4);
     }
     Ok(())

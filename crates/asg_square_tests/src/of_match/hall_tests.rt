@@ -1,10 +1,12 @@
 //! Hall sets of instances with two columns, by hand.
 
-ghost use Rattle.std.specs.Prelude.{◌≤◌};
+ghost use Rattle.std.specs.Prelude.{◌≤◌, ◌<◌, IsSome};
 ghost use Rattle.asg_model.specs.Limits.{most_side};
 ghost use Rattle.asg_model.specs.Shapes.{square_side};
+ghost use Rattle.asg_match.specs.Deficient.{IsDeficient};
+ghost use Rattle.asg_square.specs.Grid.{HasLabelsOf, cell_at};
 
-use asg_match::{Allowed, NoMemory, Pairing, hall_list, perfect_or_hall};
+use asg_match::{Allowed, NoMemory, Pairing, Rows, hall_list, perfect_or_hall};
 use asg_model::limits::MOST_SIDE;
 use asg_model::{ABSENT, Band, Cost, Instance, Place, is_hall};
 use asg_samples::{Fault, Sample};
@@ -38,15 +40,37 @@ impl Allowed for PresentCells<'_> {
 // columns than they are, if there are such.
 type Case = (&'static [bool], &'static [i64], &'static [u32]);
 
-const CASES: [Case; 3] = [
+static CASES: [Case; 3] = [
     (&[true, true], &[4, 1, 2, ABSENT], &[]),
     (&[true, true, true], &[4, ABSENT, 2, ABSENT, 3, 1], &[2, 1]),
     (&[true, false, true], &[4, ABSENT, 2, 1, 3, ABSENT], &[3, 1]),
 ];
 
+// These, for a caller that needn't know them.
+fn cases() -> &'static [Case] {
+    &CASES
+}
+
 // The first part of a cost.
 fn first_part(cost: Cost) -> i64 {
     cost.a
+}
+
+// Whether deficient rows of the square have these ids, and are a Hall set.
+fn are_short(
+    alloc: Global,
+    square: &Square<i64>,
+    inst: &Instance,
+    rows: &Rows,
+    short: &[u32],
+) -> Result<bool, NoMemory>
+    requires labels { HasLabelsOf inst.now square.now }
+    requires short { IsDeficient (λ r c. (r < square.now.side) × (c < square.now.side)
+        × IsSome (cell_at square.now r c)) square.now.side rows.now }
+{
+    let cells = PresentCells { square };
+    let ids = hall_list(alloc, square, inst, &cells, rows.as_slice())?;
+    Ok(ids.as_slice() == short && is_hall(inst, Band::Whole, short))
 }
 
 // Whether the instance has a perfect assignment where no row is to be short, and else a Hall set of
@@ -58,10 +82,7 @@ fn is_right(alloc: Global, inst: &Instance, short: &[u32]) -> Result<bool, NoMem
     let cells = PresentCells { square: &square };
     match perfect_or_hall(alloc, square.side(), &cells)? {
         Pairing::Perfect(_) => Ok(short.is_empty()),
-        Pairing::Short(rows) => {
-            let ids = hall_list(alloc, &square, inst, &cells, rows.as_slice())?;
-            Ok(ids.as_slice() == short && is_hall(inst, Band::Whole, short))
-        }
+        Pairing::Short(rows) => are_short(alloc, &square, inst, &rows, short),
     }
 }
 
@@ -84,7 +105,7 @@ fn is_right_on(alloc: Global, case: &Case) -> Result<bool, Fault> {
 
 #[test]
 fn deficient_rows_are_told_by_id(rt: HostRuntime) -> Result<(), Fail> {
-    for case in &CASES {
+    for case in cases() {
         assert!(rt; is_right_on(rt.alloc(), case)?);
     }
     Ok(())

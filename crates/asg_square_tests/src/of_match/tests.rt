@@ -29,13 +29,18 @@ fn cells_of(text: &[u8; 9]) -> Grid {
 }
 
 // Allowed cells, and the columns of the perfect assignment that is found, or the deficient rows.
-const CASES: [(&[u8; 9], Option<[u32; 3]>, &[u32]); 5] = [
+static CASES: [(&[u8; 9], Option<[u32; 3]>, &[u32]); 5] = [
     (b"xxxxxxxxx", Some([0, 1, 2]), &[]),
     (b"x..x.x.xx", Some([0, 2, 1]), &[]),
     (b".x.x.xxx.", Some([1, 2, 0]), &[]),
     (b"x..x..xxx", None, &[1, 0]),
     (b"xx.......", None, &[1]),
 ];
+
+// These, for a caller that needn't know them.
+fn cases() -> &'static [(&'static [u8; 9], Option<[u32; 3]>, &'static [u32])] {
+    &CASES
+}
 
 // Whether the rows have these columns.
 fn has_columns(matching: &Matching, want: [Option<u32>; 3]) -> bool
@@ -69,8 +74,8 @@ fn are_short(short: Rows, want: &[u32]) -> bool {
 
 #[test]
 fn perfect_assignments_and_short_rows(rt: HostRuntime) -> Result<(), Fail> {
-    for (cells, columns, rows) in CASES {
-        let is_right = match (perfect_or_hall(rt.alloc(), 3, &cells_of(cells))?, columns) {
+    for (cells, columns, rows) in cases() {
+        let is_right = match (perfect_or_hall(rt.alloc(), 3, &cells_of(cells))?, *columns) {
             (Pairing::Perfect(matching), Some(want)) => is_perfect(&matching, want),
             (Pairing::Short(short), None) => are_short(short, rows),
             _ => false,

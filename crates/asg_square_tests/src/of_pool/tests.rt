@@ -105,16 +105,28 @@ fn cut(region: &mut Region<u64>, trail: Trail)
 }
 
 // How many records are reserved, and how many are spare then.
-const RESERVED: [(u32, u32); 3] = [(3, 3), (2, 3), (5, 5)];
+static RESERVED: [(u32, u32); 3] = [(3, 3), (2, 3), (5, 5)];
+
+// These, for a caller that needn't know them.
+fn reserves() -> &'static [(u32, u32)] {
+    &RESERVED
+}
+
+// Whether so many records are spare after each reserve.
+fn are_spare(region: &mut Region<u64>) -> Result<bool, NoMemory> {
+    for (records, spare) in reserves() {
+        region.reserve(*records)?;
+        if region.spare() != *spare {
+            return Ok(false);
+        }
+    }
+    Ok(true)
+}
 
 #[test]
 fn records_reserved_are_spare(rt: HostRuntime) -> Result<(), Fail> {
     let mut region: Region<u64> = Region::make(rt.alloc(), 2)?;
-    assert_eq!(rt; region.spare(), 0);
-    for (records, spare) in RESERVED {
-        region.reserve(records)?;
-        assert_eq!(rt; region.spare(), spare);
-    }
+    assert!(rt; region.spare() == 0 && are_spare(&mut region)?);
     Ok(())
 }
 
@@ -145,28 +157,56 @@ fn two_trails_grow_on_one(rt: HostRuntime) -> Result<(), Fail> {
     Ok(())
 }
 
+// A fork whose first trail is released.
+fn pruned(region: &mut Region<u64>) -> Fork
+    requires spare { 3 ≤ region.old.spare }
+    requires side { region.old.side ≡ 2 }
+    ensures stem { IsLive region.new result.stem }
+    ensures second { IsLive region.new result.second }
+    ensures spare { region.new.spare + 2 ≡ region.old.spare }
+    ensures side { region.new.side ≡ 2 }
+{
+    let fork = forked(region);
+    cut(region, fork.first);
+    fork
+}
+
+// Whether the other trails are as they were once the first trail of a fork is released.
+fn are_others_shown(region: &mut Region<u64>) -> bool
+    requires spare { 3 ≤ region.old.spare }
+    requires side { region.old.side ≡ 2 }
+{
+    let fork = pruned(region);
+    let stem = Some(fork.stem);
+    region.spare() == 1
+        && is_shown(region, fork.stem, None, 1, &P.0, &P.1, &P.2)
+        && is_shown(region, fork.second, stem, 2, &R.0, &R.1, &R.2)
+}
+
 #[test]
 fn a_trail_released_leaves_the_others(rt: HostRuntime) -> Result<(), Fail> {
     let mut region = reserved(rt.alloc(), 3)?;
-    let fork = forked(&mut region);
-    cut(&mut region, fork.first);
-    let stem = Some(fork.stem);
-    assert_eq!(rt; region.spare(), 1);
-    assert!(rt; is_shown(&region, fork.stem, None, 1, &P.0, &P.1, &P.2));
-    assert!(rt; is_shown(&region, fork.second, stem, 2, &R.0, &R.1, &R.2));
+    assert!(rt; are_others_shown(&mut region));
     Ok(())
+}
+
+// Whether a trail grows on the second one of a fork in the record of the first one.
+fn is_record_reused(region: &mut Region<u64>) -> bool
+    requires spare { 3 ≤ region.old.spare }
+    requires side { region.old.side ≡ 2 }
+{
+    let fork = pruned(region);
+    let last = grow(region, Some(fork.second), &S.0, &S.1, &S.2);
+    let (stem, second) = (Some(fork.stem), Some(fork.second));
+    region.spare() == 0
+        && is_shown(region, last, second, 3, &S.0, &S.1, &S.2)
+        && is_shown(region, fork.second, stem, 2, &R.0, &R.1, &R.2)
 }
 
 #[test]
 fn a_freed_record_serves_another_trail(rt: HostRuntime) -> Result<(), Fail> {
     let mut region = reserved(rt.alloc(), 3)?;
-    let fork = forked(&mut region);
-    cut(&mut region, fork.first);
-    let last = grow(&mut region, Some(fork.second), &S.0, &S.1, &S.2);
-    let (stem, second) = (Some(fork.stem), Some(fork.second));
-    assert_eq!(rt; region.spare(), 0);
-    assert!(rt; is_shown(&region, last, second, 3, &S.0, &S.1, &S.2));
-    assert!(rt; is_shown(&region, fork.second, stem, 2, &R.0, &R.1, &R.2));
+    assert!(rt; is_record_reused(&mut region));
     Ok(())
 }
 

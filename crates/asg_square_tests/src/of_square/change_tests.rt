@@ -39,16 +39,25 @@ fn is_replaced(square: &Square<u8>) -> bool {
     [square.at(3, 1), square.at(3, 0), square.at(0, 1)] == [Some(8), Some(1), Some(2)]
 }
 
+// Whether a row of a square of side 4 is changed so, and then the cell is replaced.
+fn changes_values(square: &mut Square<u8>) -> bool {
+    if square.side() != 4 {
+        return false;
+    }
+    square.map_row(2, &|k: u32, x: u8| if k == 2 { x / 2 + 6 } else { x });
+    if !is_row_changed(square) || square.at(3, 1) != Some(1) {
+        return false;
+    }
+    square.replace(3, 1, 8);
+    is_replaced(square)
+}
+
 #[test]
 fn changes_values_alone(rt: HostRuntime) -> Result<(), Fail> {
     let inst = sample(rt.alloc(), All, true)?;
     assert_eq!(rt; inst.side(), 4);
     let mut square = Square::of(rt.alloc(), &inst, 1, &two)?;
-    square.map_row(2, &|k: u32, x: u8| if k == 2 { x / 2 + 6 } else { x });
-    assert!(rt; is_row_changed(&square));
-    assert_eq!(rt; square.at(3, 1), Some(1));
-    square.replace(3, 1, 8);
-    assert!(rt; is_replaced(&square));
+    assert!(rt; changes_values(&mut square));
     Ok(())
 }
 
@@ -78,17 +87,25 @@ fn is_restored(square: &Square<i64>) -> bool {
         && labels == [Some(2), None, Some(0), Some(1)]
 }
 
+// Whether two cells of a square of side 4 are set, and it then takes those of its copy.
+fn is_changed_and_restored(square: &mut Square<i64>, copy: &Square<i64>) -> bool {
+    if square.side() != 4 || copy.side() != 4 {
+        return false;
+    }
+    square.set(1, 2, Some(7));
+    square.set(0, 0, None);
+    let is_changed = is_changed(square);
+    square.take(copy);
+    is_changed && is_restored(square)
+}
+
 #[test]
 fn copies_and_changes_squares(rt: HostRuntime) -> Result<(), Fail> {
     let inst = sample(rt.alloc(), All, true)?;
     assert_eq!(rt; inst.side(), 4);
     let mut square = filled(rt.alloc(), &inst)?;
-    let other = square.copy(rt.alloc())?;
-    square.set(1, 2, Some(7));
-    square.set(0, 0, None);
-    assert!(rt; is_changed(&square));
-    square.take(&other);
-    assert!(rt; is_restored(&square));
+    let copy = square.copy(rt.alloc())?;
+    assert!(rt; is_changed_and_restored(&mut square, &copy));
     Ok(())
 }
 
@@ -131,14 +148,21 @@ fn is_last_row_changed(square: &Square<u8>) -> bool {
     sevens == [Some(7); 3] && ones == [Some(1); 4]
 }
 
+// Whether these are cells of the greatest square, and its last row is changed so.
+fn is_greatest_changed(square: &mut Square<u8>) -> bool {
+    if square.side() != MOST_SIDE || !is_greatest(square) {
+        return false;
+    }
+    square.map_row(1999, &|k: u32, x: u8| if k % 64 == 1 { 7 } else { x });
+    is_last_row_changed(square)
+}
+
 #[test]
 fn fills_and_changes_the_greatest_square(rt: HostRuntime) -> Result<(), Fail> {
     let mut inst = sample(rt.alloc(), All, true)?;
     assert!(rt; has_side(&mut inst, Exactly(2), MOST_SIDE + 1));
     assert!(rt; has_side(&mut inst, All, MOST_SIDE));
     let mut square = Square::of(rt.alloc(), &inst, 1, &two)?;
-    assert!(rt; is_greatest(&square));
-    square.map_row(1999, &|k: u32, x: u8| if k % 64 == 1 { 7 } else { x });
-    assert!(rt; is_last_row_changed(&square));
+    assert!(rt; is_greatest_changed(&mut square));
     Ok(())
 }

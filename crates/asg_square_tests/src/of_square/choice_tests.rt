@@ -1,5 +1,9 @@
 //! The perfect assignments of squares, and their choices.
 
+ghost use Rattle.std.specs.Prelude.{◌≤◌};
+ghost use Rattle.asg_model.specs.ValidChoice.{IsValid};
+ghost use Rattle.asg_model.specs.Shapes.{square_side};
+
 use crate::of_square::samples::{filled, sample};
 use asg_model::Place::{All, Exactly};
 use asg_model::{Choice, Instance, Place, is_valid};
@@ -24,7 +28,24 @@ fn are_chosen(choice: &Choice, columns: [Option<u32>; 3]) -> bool {
     [choice.get(0), choice.get(1), choice.get(2)] == columns
 }
 
-// Whether the choice of these columns gives this perfect assignment, and the assignment the choice.
+// Whether a valid choice of these columns gives this perfect assignment, and the assignment the choice.
+fn is_perfect_of(
+    alloc: Global,
+    inst: &Instance,
+    choice: &Choice,
+    columns: [Option<u32>; 3],
+    want: &[u32],
+) -> Result<bool, NoMemory>
+    requires small { square_side inst.now ≤ 6 }
+    requires valid { IsValid inst.now choice.now }
+{
+    let square = filled(alloc, inst)?;
+    let perm = square.perm_of(alloc, inst, choice)?;
+    let back = square.choice_of(alloc, perm.as_slice())?;
+    Ok(perm.as_slice() == want && are_chosen(&back, columns))
+}
+
+// Whether the choice of these columns is valid, and gives this perfect assignment.
 fn is_perfect_with(
     alloc: Global,
     inst: &Instance,
@@ -35,23 +56,25 @@ fn is_perfect_with(
     if inst.side() > 6 || !is_valid(inst, &choice) {
         return Ok(false);
     }
-    let square = filled(alloc, inst)?;
-    let perm = square.perm_of(alloc, inst, &choice)?;
-    let back = square.choice_of(alloc, perm.as_slice())?;
-    Ok(perm.as_slice() == want && are_chosen(&back, columns))
+    is_perfect_of(alloc, inst, &choice, columns, want)
 }
 
 // A place rule, a choice, and the perfect assignment that it gives.
-const CHOICES: [(Place, [Option<u32>; 3], &[u32]); 2] = [
+static CHOICES: [(Place, [Option<u32>; 3], &[u32]); 2] = [
     (All, [Some(1), Some(0), Some(1)], &[1, 0, 2, 3]),
     (Exactly(1), [None, Some(0), None], &[5, 0, 4, 3, 2, 1]),
 ];
 
+// These, for a caller that needn't know them.
+fn choices() -> &'static [(Place, [Option<u32>; 3], &'static [u32])] {
+    &CHOICES
+}
+
 #[test]
 fn gives_a_perfect_assignment_and_its_choice(rt: HostRuntime) -> Result<(), Fail> {
-    for (place, columns, want) in CHOICES {
-        let inst = sample(rt.alloc(), place, true)?;
-        assert!(rt; is_perfect_with(rt.alloc(), &inst, columns, want)?);
+    for (place, columns, want) in choices() {
+        let inst = sample(rt.alloc(), *place, true)?;
+        assert!(rt; is_perfect_with(rt.alloc(), &inst, *columns, want)?);
     }
     Ok(())
 }

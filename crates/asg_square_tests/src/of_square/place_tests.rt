@@ -2,11 +2,14 @@
 
 use crate::of_square::samples::sample;
 use asg_model::Place::Exactly;
-use asg_model::{Instance, PlaceRange};
+use asg_model::{Instance, NoMemory, PlaceRange};
+use std::alloc::Global;
 use std::test::Fail;
 
 // How many rows are to be placed, the capacity of each column, and the answer.
-const RULES: [(u32, u32, Result<(), PlaceRange>); 6] = [
+type Rule = (u32, u32, Result<(), PlaceRange>);
+
+static RULES: [Rule; 6] = [
     (0, 1, Err(PlaceRange)),
     (4, 3, Err(PlaceRange)),
     (3, 1, Err(PlaceRange)),
@@ -14,6 +17,11 @@ const RULES: [(u32, u32, Result<(), PlaceRange>); 6] = [
     (2, 1, Ok(())),
     (3, 2, Ok(())),
 ];
+
+// These, for a caller that needn't know them.
+fn rules() -> &'static [Rule] {
+    &RULES
+}
 
 // Whether two instances have the same columns, the same count of placed rows and the same side.
 fn is_alike(inst: &Instance, before: &Instance) -> bool {
@@ -28,17 +36,32 @@ fn is_shaped(inst: &Instance, count: u32, each: u32) -> bool {
     inst.placed() == count && cap == Some(each)
 }
 
+// Whether the rule is answered so, and the instance is then as it should be.
+fn is_answered(inst: &mut Instance, before: &Instance, rule: &Rule) -> bool {
+    let (count, each, want) = *rule;
+    if each == 0 || each > 1000 || inst.shape(Exactly(count), each) != want {
+        return false;
+    }
+    match want {
+        Ok(()) => is_shaped(inst, count, each),
+        Err(PlaceRange) => is_alike(inst, before),
+    }
+}
+
+// Whether each rule in turn is.
+fn are_answered(alloc: Global, inst: &mut Instance) -> Result<bool, NoMemory> {
+    for rule in rules() {
+        let before = inst.copy(alloc)?;
+        if !is_answered(inst, &before, rule) {
+            return Ok(false);
+        }
+    }
+    Ok(true)
+}
+
 #[test]
 fn refuses_place_rules_out_of_range(rt: HostRuntime) -> Result<(), Fail> {
     let mut inst = sample(rt.alloc(), Exactly(2), true)?;
-    for (count, each, want) in RULES {
-        let before = inst.copy(rt.alloc())?;
-        assert_eq!(rt; inst.shape(Exactly(count), each), want);
-        let is_right = match want {
-            Ok(()) => is_shaped(&inst, count, each),
-            Err(PlaceRange) => is_alike(&inst, &before),
-        };
-        assert!(rt; is_right);
-    }
+    assert!(rt; are_answered(rt.alloc(), &mut inst)?);
     Ok(())
 }

@@ -9,7 +9,7 @@ use std::test::Fail;
 
 // The place rule, whether the second row is active and the second column open, the
 // side, and the cells of the square: -1 for an absent one, 9 for a free one.
-const SQUARES: [(Place, bool, u32, Cells); 4] = [
+static SQUARES: [(Place, bool, u32, Cells); 4] = [
     (
         All,
         true,
@@ -64,6 +64,11 @@ const SQUARES: [(Place, bool, u32, Cells); 4] = [
     ),
 ];
 
+// These, for a caller that needn't know them.
+fn squares() -> &'static [(Place, bool, u32, Cells)] {
+    &SQUARES
+}
+
 // Whether the square of the instance has this side and these cells.
 fn is_square_of(alloc: Global, inst: &Instance, side: u32, want: &Cells) -> Result<bool, NoMemory> {
     if inst.side() != side || side > 6 {
@@ -75,16 +80,16 @@ fn is_square_of(alloc: Global, inst: &Instance, side: u32, want: &Cells) -> Resu
 
 #[test]
 fn fills_the_square_of_an_instance(rt: HostRuntime) -> Result<(), Fail> {
-    for (place, second, side, want) in SQUARES {
-        let inst = sample(rt.alloc(), place, second)?;
-        assert!(rt; is_square_of(rt.alloc(), &inst, side, &want)?);
+    for (place, second, side, want) in squares() {
+        let inst = sample(rt.alloc(), *place, *second)?;
+        assert!(rt; is_square_of(rt.alloc(), &inst, *side, want)?);
     }
     Ok(())
 }
 
 // Whether the second row is active and the second column open, and the cells of the square where
 // three rows are placed and each column holds three.
-const SHAPED: [(bool, Cells); 2] = [
+static SHAPED: [(bool, Cells); 2] = [
     (
         true,
         [
@@ -109,18 +114,23 @@ const SHAPED: [(bool, Cells); 2] = [
     ),
 ];
 
+// These, for a caller that needn't know them.
+fn shaped() -> &'static [(bool, Cells)] {
+    &SHAPED
+}
+
 #[test]
 fn fills_the_square_of_a_shaped_instance(rt: HostRuntime) -> Result<(), Fail> {
-    for (second, want) in SHAPED {
-        let mut inst = sample(rt.alloc(), All, second)?;
+    for (second, want) in shaped() {
+        let mut inst = sample(rt.alloc(), All, *second)?;
         assert_eq!(rt; inst.shape(Exactly(3), 3), Ok(()));
-        assert!(rt; is_square_of(rt.alloc(), &inst, 6, &want)?);
+        assert!(rt; is_square_of(rt.alloc(), &inst, 6, want)?);
     }
     Ok(())
 }
 
 // Whether the second column of the table is open, and the cells of its square.
-const TABLES: [(bool, Cells); 2] = [
+static TABLES: [(bool, Cells); 2] = [
     (
         true,
         [
@@ -145,6 +155,11 @@ const TABLES: [(bool, Cells); 2] = [
     ),
 ];
 
+// These, for a caller that needn't know them.
+fn tables() -> &'static [(bool, Cells)] {
+    &TABLES
+}
+
 // Whether the values of the square of a table are 16, of which the second is 3.
 fn has_values(alloc: Global, inst: &Instance) -> Result<bool, NoMemory> {
     if inst.side() != 4 {
@@ -157,9 +172,9 @@ fn has_values(alloc: Global, inst: &Instance) -> Result<bool, NoMemory> {
 
 #[test]
 fn fills_the_square_of_a_table(rt: HostRuntime) -> Result<(), Fail> {
-    for (second, want) in TABLES {
-        let inst = table(rt.alloc(), second)?;
-        assert!(rt; is_square_of(rt.alloc(), &inst, 4, &want)?);
+    for (second, want) in tables() {
+        let inst = table(rt.alloc(), *second)?;
+        assert!(rt; is_square_of(rt.alloc(), &inst, 4, want)?);
         assert!(rt; has_values(rt.alloc(), &inst)?);
     }
     Ok(())

@@ -106,7 +106,8 @@ Wrote-whole {written = written} {before = before} {after = after} {middle = midd
           subst (Puts (written before) (written after)) (flow.whole ∙ ap (λ page. page.held ++ text) start) (Puts-append flow.puts (g.puts was standing))
     ]
 
--- a text was appended to a blank page, which broke, then or as it was emptied: a prefix of the text was put
+-- a text was appended to a blank page, which broke, then or as it was emptied: a prefix of the text
+-- was put
 pub Wrote-broken : {S : Type 0} {written : S → Option (List ℕ)} {faults : S → ℕ} {before between after : S} {old middle new : PageState} {text : List ℕ}
     → old ≡ blank → Wrote written faults before between old middle text → Emptied written faults between after middle new
     → new.broken ≡ true → PutsPrefix (written before) (written after) text × Rose (faults before) (faults after)

@@ -71,8 +71,8 @@ enters_part = one_line (behind (codes "enters") list_spelling)
 abbrev pub leaves_part : Part (List ℕ)
 leaves_part = one_line (behind (codes "leaves") list_spelling)
 
--- the text is two bounds with a space between them and what follows, which is nothing or begins with a
--- space
+-- the text is two bounds with a space between them and what follows, which is nothing or begins
+-- with a space
 pub record HasBounds (text : List ℕ) (lo hi : ℤ) (rest : List ℕ) : Type 0 where
   pub lo_fits : FitsSigned w64 lo
   pub hi_fits : FitsSigned w64 hi

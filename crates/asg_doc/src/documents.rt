@@ -146,8 +146,8 @@ pub enum Claim {
     Nothing {
         rows: Ids,
     },
-    /// The answers are the best choices in order, as many as the count says or all that are valid, as the
-    /// nodes of a search tree show.
+    /// The answers are the best choices in order, as many as the count says or all that are valid,
+    /// as the nodes of a search tree show.
     Ranked {
         count: u32,
         answers: Answers,

@@ -8,12 +8,9 @@ ghost use Rattle.asg_doc.specs.Words.{asked_spelling};
 ghost use Rattle.asg_doc.specs.Words.{objective_spelling, status_spelling};
 
 use crate::documents::{Command, Status, ValueForm};
-use asg_model::limits::MOST_CAP;
+use asg_model::limits::{MOST_CAP, MOST_RANKED};
 use asg_model::{Objective, uncapped_named};
 use asg_parts::{after, number, wide_number};
-
-// The greatest number of answers that can be asked for.
-const MOST_RANKED: u32 = 4_000_000;
 
 // The word of a command.
 pub(crate) fn word_of_command(command: Command) -> &'static [u8]

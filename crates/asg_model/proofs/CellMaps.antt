@@ -14,7 +14,8 @@ module _ {K V : Type 0} (A : K → Type 0) (B : V → Type 0) where
   insert_at Equal e es rest k v a b c d all more = All-cons (λ e. A e.0 × B e.1) (e.0, v) es (c, b) all
   insert_at Greater e es rest k v a b c d all more = All-cons (λ e. A e.0 × B e.1) e rest (c, d) more
 
-  -- what holds of each key and of each value holds after an insert of a key and a value of which it holds
+  -- what holds of each key and of each value holds after an insert of a key and a value of which it
+  -- holds
   pub All-insert_entry : (cmp : K → K → Ordering) (es : List (K × V)) (k : K) (v : V) → A k → B v → All (λ e. A e.0 × B e.1) es → All (λ e. A e.0 × B e.1) (insert_entry cmp es k v)
   All-insert_entry cmp [] k v a b all = All-cons (λ e. A e.0 × B e.1) (k, v) [] (a, b) all
   All-insert_entry cmp (e ∷ es) k v a b all =

@@ -1,4 +1,5 @@
--- `descending` is the one rearrangement of a list that goes down, so it is the sorted list turned round.
+-- `descending` is the one rearrangement of a list that goes down, so it is the sorted list turned
+-- round.
 use Rattle.std.proofs.Common.{◌≡◌, ℕ, zero, suc, ◌+◌, ◌-◌, ◌<◌, ◌≤◌, Bool, true, false, cond, List, [], ◌∷◌, length, get_or, refl, arith, sym, ap, ◌∙◌, ℤ, ◌<ℤ◌, ◌≤ℤ◌, reverse, ◌≢◌}
 use Rattle.std.specs.Prelude.{count_by, IsPermutation, IsSorted, int_lt, ⊤, pos}
 use Rattle.std.specs.List.{AllByRecursion}

@@ -1,6 +1,6 @@
--- The Hall law: an instance with a Hall set under a band has no valid choice whose cells lie in the band.
--- Each row of the set that chooses takes a column that the set reaches, and no more rows of it stay out
--- than the slack allows; so the set would be no more than it is short of.
+-- The Hall law: an instance with a Hall set under a band has no valid choice whose cells lie in the
+-- band. Each row of the set that chooses takes a column that the set reaches, and no more rows of
+-- it stay out than the slack allows; so the set would be no more than it is short of.
 use Rattle.std.proofs.Common.{◌≡◌, ℕ, ◌+◌, ◌<◌, ◌≤◌, Bool, true, false, cond, ◌&&◌, not, List, length, get_or, refl, arith, sym, ap, ◌∙◌, ⊎_elim, zero-add}
 use Rattle.std.specs.Prelude.{Option, Some, None, IsSome, is_some, count_by}
 use Rattle.std.specs.List.{enumerate_from}

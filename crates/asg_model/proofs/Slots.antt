@@ -37,7 +37,8 @@ absent_below low high below = ap (λ b. b && int_le absent high) (not_le low bel
     not_le : (low : ℤ) → unsigned_abs low ≤ most_cost + 1 → int_le low absent ≡ false
     not_le low below = grind (arith, ints)
 
--- what stands in a table lies between the ends of a band where its cell is there, with a cost of the band
+-- what stands in a table lies between the ends of a band where its cell is there, with a cost of
+-- the band
 pub slot_within : (band : Band) (low high : ℤ) → ((a : ℤ) → IsPartInRange a → in_band band a ≡ (int_le low a && int_le a high)) → unsigned_abs low ≤ most_cost + 1 → (o : Option Cost) (a : ℤ) → IsSlotOf o a → (int_le low a && int_le a high) ≡ option_map_or (λ cost. in_band band cost.a) o false
 slot_within band low high within below None a is = ap (λ b. int_le low b && int_le b high) is ∙ absent_below low high below
 slot_within band low high within below (Some cost) a is = sym (within a is.1) ∙ ap (in_band band) is.0

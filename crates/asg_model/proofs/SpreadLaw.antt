@@ -1,4 +1,5 @@
--- The costs of a valid choice of an instance lie between its least one and as much more as its spread.
+-- The costs of a valid choice of an instance lie between its least one and as much more as its
+-- spread.
 use Rattle.std.proofs.Common.{◌≡◌, ℕ, suc, ◌≤◌, true, List, [], ◌∷◌, length, refl, arith, ap, sym, subst, ℤ, pos, ◌+ℤ◌, ◌-ℤ◌, ◌≤ℤ◌, ⊎_elim}
 use Rattle.std.specs.Prelude.{Option, Some, None, is_some, All, Contains, fold, filter_map, slice_get, count_by, option_and_then, int_le, ◌&&◌}
 use Rattle.std.specs.Int.{int_min}

@@ -19,7 +19,8 @@ seconds_of_row n seconds start from end c first last within =
     ∙ sym (get_or_past seconds (start + c) (pos 0) past))
     (cases_lt (start + c) (length seconds))
 
--- the first parts of a row, cut from those of the table, and second parts that agree with the table's
+-- the first parts of a row, cut from those of the table, and second parts that agree with the
+-- table's
 pub AreTableParts-row : (rows n : ℕ) (firsts seconds : List ℤ) (r : ℕ) (row_seconds : List ℤ) → length firsts ≡ rows * n → r < rows → ((c : ℕ) → c < n → get_or row_seconds c (pos 0) ≡ get_or seconds (r * n + c) (pos 0)) → AreTableParts n firsts seconds r (take n (drop (r * n) firsts)) row_seconds
 AreTableParts-row rows n firsts seconds r row_seconds whole there same =
     let start = r * n in

@@ -37,7 +37,8 @@ pub record IsCopyOf (store copy : CellStore) : Type 0 where
   pub cells : (columns : ℕ) → cells_in columns copy ≡ cells_in columns store
   pub whole : (rows columns : ℕ) → IsStoreOf rows columns store → IsStoreOf rows columns copy
 
--- a store of cells of so many rows and columns: a table is whole, and the cells are those of an instance
+-- a store of cells of so many rows and columns: a table is whole, and the cells are those of an
+-- instance
 pub record IsCellStore (rows columns : ℕ) (store : CellStore) : Type 0 where
   pub whole : IsStoreOf rows columns store
   pub cells : AreCellsOf rows columns (cells_in columns store)

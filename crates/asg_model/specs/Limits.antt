@@ -23,3 +23,7 @@ most_side = 2000
 -- the greatest length of a file, in bytes
 abbrev pub longest_file : ℕ
 longest_file = 268435456
+
+-- the greatest number of choices that are ranked
+abbrev pub most_ranked : ℕ
+most_ranked = 4000000

@@ -52,8 +52,8 @@ pub record AreRowCosts (X : Problem) (r : ℕ) (costs : List ℤ) : Type 0 where
   pub slots : (c : ℕ) → c < length X.columns →
       IsSlotOf (cost_at X.cells r c) (slice_index_or costs c absent)
 
--- the first and the second parts of a row at place r of a table: the cost of each of the row's cells
--- is that of its parts
+-- the first and the second parts of a row at place r of a table: the cost of each of the row's
+-- cells is that of its parts
 pub record AreTableParts (columns : ℕ) (firsts seconds : List ℤ) (r : ℕ) (row_firsts row_seconds : List ℤ)
     : Type 0 where
   pub whole : length row_firsts ≡ columns
@@ -68,8 +68,8 @@ pub record AreRowParts (X : Problem) (r : ℕ) (firsts seconds : List ℤ) : Typ
   pub costs : (c : ℕ) → c < length X.columns →
       cost_at X.cells r c ≡ table_cost seconds c (slice_index_or firsts c absent)
 
--- of the first parts of a table with so many columns those stay at whose places the answer is true, and all
--- others are absent
+-- of the first parts of a table with so many columns those stay at whose places the answer is true,
+-- and all others are absent
 pub record RetainsFirsts (answers : ℕ → ℕ → Bool → Type 0) (columns : ℕ) (firsts after : List ℤ) : Type 0 where
   pub count : length after ≡ length firsts
   pub each : (k : ℕ) → k < length firsts →

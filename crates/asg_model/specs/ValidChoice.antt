@@ -12,8 +12,8 @@ Chooses f r c = slice_get f r ≡ Some (Some c)
 abbrev pub takes : ℕ → Option ℕ → Bool
 takes c chosen = option_map_or (λ d. d == c) chosen false
 
--- a valid choice is over all rows; each chosen cell is live, each column is chosen at most as often as
--- its capacity, and exactly as many rows choose as the place rule places
+-- a valid choice is over all rows; each chosen cell is live, each column is chosen at most as often
+-- as its capacity, and exactly as many rows choose as the place rule places
 pub record IsValid (X : Problem) (f : List (Option ℕ)) : Type 0 where
   pub over : length f ≡ length X.rows
   pub alive : (r c : ℕ) → Chooses f r c → IsSome (live_at X r c)

@@ -20,3 +20,6 @@ pub const LONGEST_FILE: usize = 268_435_456;
 
 /// The greatest cap of a capped sum.
 pub const MOST_CAP: u64 = 1_000_000_000_000;
+
+/// The greatest number of choices that are ranked.
+pub const MOST_RANKED: u32 = 4_000_000;

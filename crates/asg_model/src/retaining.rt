@@ -15,9 +15,9 @@ use crate::parts::{ABSENT, Cost};
 use std::collections::BTreeMap;
 
 impl Instance {
-    /// Keeps each cell, live or not, for which `keep` gives true at the place of its row and that of
-    /// its column, and takes out all others. The rows, the columns, the place rule and the costs of
-    /// the cells that are kept stay as they were. It takes no memory.
+    /// Keeps each cell, live or not, for which `keep` gives true at the place of its row and that
+    /// of its column, and takes out all others. The rows, the columns, the place rule and the costs
+    /// of the cells that are kept stay as they were. It takes no memory.
     pub fn retain<F: Fn(u32, u32) -> bool>(&mut self, keep: &F)
         requires { MayAskEach (length self.old.rows) (length self.old.columns) (F.pre keep.now) }
         ensures cells { Retains (F.post keep.now) self.old self.new }

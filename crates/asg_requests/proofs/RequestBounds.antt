@@ -6,7 +6,7 @@ use Rattle.asg_model.specs.declared.objectives.Objective.{Objective}
 use Rattle.asg_model.specs.declared.objectives.Objective.TheVariants.{Sum, SumMax, SumPair, Capped, Bottleneck, BottleneckMax, TimeCost, Balanced, Lex}
 use Rattle.asg_model.specs.declared.parts.Place.{Place}
 use Rattle.asg_model.specs.declared.parts.Place.TheVariants.{All, Exactly}
-use Rattle.asg_model.specs.Limits.{most_capacity, most_rows}
+use Rattle.asg_model.specs.Limits.{most_capacity, most_ranked, most_rows}
 use Rattle.asg_text.specs.declared.formats.Format.{Format}
 use Rattle.asg_requests.specs.declared.named.Command.{Command}
 use Rattle.asg_requests.specs.declared.named.Command.TheVariants.{Solve, Rank, Edit, Check, Make}
@@ -16,7 +16,7 @@ use Rattle.asg_requests.specs.declared.requests.Job.{Job}
 use Rattle.asg_requests.specs.declared.requests.Request.{Request}
 use Rattle.asg_requests.specs.declared.requests.Request.TheVariants.{Work, Make as Made}
 use Rattle.asg_requests.specs.Found.{Found}
-use Rattle.asg_requests.specs.Limits.{most_ranked, most_seed}
+use Rattle.asg_requests.specs.Limits.{most_seed}
 use Rattle.asg_requests.specs.Numbers.{number_of, number_within}
 use Rattle.asg_requests.specs.Named.{capped_named, command_named, objective_named}
 use Rattle.asg_model.specs.Objectives.{is_algebraic, most_cap, uncapped_named}

@@ -4,13 +4,13 @@ use Rattle.asg_model.specs.declared.objectives.Objective.{Objective}
 use Rattle.asg_model.specs.declared.objectives.Objective.TheVariants.{Capped}
 use Rattle.asg_model.specs.declared.parts.Place.{Place}
 use Rattle.asg_model.specs.declared.parts.Place.TheVariants.{All, Exactly}
-use Rattle.asg_model.specs.Limits.{most_capacity, most_rows}
+use Rattle.asg_model.specs.Limits.{most_capacity, most_ranked, most_rows}
 use Rattle.asg_requests.specs.declared.requests.Task.{Task}
 use Rattle.asg_requests.specs.declared.requests.Task.TheVariants.{Rank, Edit, Check}
 use Rattle.asg_requests.specs.declared.requests.Job.{Job}
 use Rattle.asg_requests.specs.declared.requests.Request.{Request}
 use Rattle.asg_requests.specs.declared.requests.Request.TheVariants.{Work, Make}
-use Rattle.asg_requests.specs.Limits.{most_ranked, most_seed}
+use Rattle.asg_requests.specs.Limits.{most_seed}
 use Rattle.asg_model.specs.Objectives.{is_algebraic, most_cap}
 
 -- the number is one from `least` to `most`

@@ -1,9 +1,5 @@
--- The limits of numbers that the words give, beside those of an instance.
+-- The limit of a number that the words give, beside those of instances and rankings.
 use Rattle.std.specs.Prelude.{ℕ}
-
--- the greatest number of choices that are ranked
-abbrev pub most_ranked : ℕ
-most_ranked = 4000000
 
 -- the greatest seed of a generated instance
 abbrev pub most_seed : ℕ

@@ -6,7 +6,7 @@ use Rattle.std.specs.Option.{option_map_or}
 use Rattle.asg_model.specs.declared.objectives.Objective.{Objective}
 use Rattle.asg_model.specs.declared.parts.Place.{Place}
 use Rattle.asg_model.specs.declared.parts.Place.TheVariants.{All, Exactly}
-use Rattle.asg_model.specs.Limits.{most_capacity, most_rows}
+use Rattle.asg_model.specs.Limits.{most_capacity, most_ranked, most_rows}
 use Rattle.asg_text.specs.declared.formats.Format.{Format}
 use Rattle.asg_text.specs.declared.formats.Format.TheVariants.{Square}
 use Rattle.asg_requests.specs.declared.named.Command.{Command}
@@ -19,7 +19,7 @@ use Rattle.asg_requests.specs.declared.requests.Request.TheVariants as request
 use Rattle.asg_requests.specs.declared.requests.WordsRefusal.{WordsRefusal}
 use Rattle.asg_requests.specs.declared.requests.WordsRefusal.TheVariants.{Usage, NoMemory}
 use Rattle.asg_requests.specs.Found.{Found}
-use Rattle.asg_requests.specs.Limits.{most_ranked, most_seed}
+use Rattle.asg_requests.specs.Limits.{most_seed}
 use Rattle.asg_requests.specs.Numbers.{number_within}
 use Rattle.asg_requests.specs.Named.{command_named, objective_named, format_named}
 use Rattle.asg_model.specs.Objectives.{is_algebraic}

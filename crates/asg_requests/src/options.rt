@@ -5,11 +5,10 @@ ghost use Rattle.asg_requests.specs.Requests.{count_of, each_of, format_of, plac
 ghost use Rattle.asg_requests.specs.Requests.{wants_algebraic};
 
 use crate::found_words::FoundWords;
-use crate::limits::MOST_RANKED;
 use crate::named::{Command, format_named};
 use crate::numbers::small_number;
 use asg_model::Place;
-use asg_model::limits::{MOST_CAPACITY, MOST_ROWS};
+use asg_model::limits::{MOST_CAPACITY, MOST_RANKED, MOST_ROWS};
 use asg_text::Format;
 
 // Whether the options that stand go with the command, and those that it can't be without stand.

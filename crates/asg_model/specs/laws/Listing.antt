@@ -1,4 +1,5 @@
--- Laws of lists that upper crates cite: of ranges, of what is given of each element, of different numbers.
+-- Laws of lists that upper crates cite: of ranges, of what is given of each element, of different
+-- numbers.
 use Rattle.std.proofs.Common.{◌≡◌, ◌≢◌, ℕ, zero, suc, ◌+◌, ◌<◌, ◌≤◌, List, [], ◌∷◌, ◌++◌, length, map, refl, sym, ap, subst, ◌∙◌, arith, zero-add}
 use Rattle.std.specs.Prelude.{Option, Some, None, IfSome, All, AllPairs, Contains, filter_map, option_to_list}
 use Rattle.std.specs.List.{range_with_len, cons_option}

@@ -1,4 +1,5 @@
--- A row's marks are those of its costs that stand between the ends of the band, or of its live cells.
+-- A row's marks are those of its costs that stand between the ends of the band, or of its live
+-- cells.
 use Rattle.std.proofs.Common.{false, ◌||◌, ◌&&◌, get_or, w64, ap, sym, ◌∙◌, arith}
 use Rattle.std.specs.Prelude.{int_le}
 use Rattle.std.proofs.lemmas.Int.{to_z-of_z, fits_signed_from_abs}

@@ -1,6 +1,6 @@
--- Every valid choice is the choice of a perfect assignment: a row that chooses takes of its column's copies
--- the one whose number is that of the rows before it that choose this column, and the other rows take the free
--- columns from the last down.
+-- Every valid choice is the choice of a perfect assignment: a row that chooses takes of its
+-- column's copies the one whose number is that of the rows before it that choose this column, and
+-- the other rows take the free columns from the last down.
 use Rattle.std.proofs.Common.{◌≡◌, ℕ, ◌+◌, ◌-◌, ◌<◌, ◌≤◌, true, false, cond, ◌&&◌, not, List, length, get_or, refl, arith, sym, ap, subst, ◌∙◌, ⊎_elim}
 use Rattle.std.specs.Prelude.{Option, Some, None, IsSome, is_some, nat_lt, slice_index}
 use Rattle.std.specs.Option.{option_map, option_and_then}

@@ -26,7 +26,8 @@ abbrev pub has_bit : BitTable → ℕ → ℕ → Bool
 has_bit B r c =
     nat_lt (c / 64) (word_count B.columns) && is_bit_set (slice_index B.words (r * word_count B.columns + c / 64)) (c % 64)
 
--- what rows of bits keep: at most 2,000 rows and columns, and no bit set past the last row or column
+-- what rows of bits keep: at most 2,000 rows and columns, and no bit set past the last row or
+-- column
 pub record IsBitTable (B : BitTable) : Type 0 where
   pub few_rows : B.rows ≤ most_side
   pub few_columns : B.columns ≤ most_side

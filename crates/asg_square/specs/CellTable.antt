@@ -51,6 +51,7 @@ pub record AreAllValuesOf {V : Type 0} (cells : List (Option V)) (values : List 
   pub count : length values ≡ length cells
   pub each : (k : ℕ) → IsSome (slice_index_or cells k None) → slice_get values k ≡ slice_index_or cells k None
 
--- the cell at a place of some cells that stand side by side as values, and as a word whose bits say which are present
+-- the cell at a place of some cells that stand side by side as values, and as a word whose bits say
+-- which are present
 abbrev pub piece_cell : {V : Type 0} → List V → ℕ → ℕ → Option V
 piece_cell values word k = if is_bit_set word k then slice_get values k else None

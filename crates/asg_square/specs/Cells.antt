@@ -21,7 +21,8 @@ abbrev pub corner_cell : {V : Type 0} → Place → V → Option V
 corner_cell All free = Some free
 corner_cell (Exactly k) free = None
 
--- a cell, by the row that its square row stands for and the column that its square column is a copy of
+-- a cell, by the row that its square row stands for and the column that its square column is a copy
+-- of
 abbrev pub labelled_cell : {V : Type 0} → Problem → V → (Cost → V) → Option ℕ → Option ℕ → Option V
 labelled_cell X free enter (Some r) (Some d) = option_map enter (live_at X r d)
 labelled_cell X free enter (Some r) None = extra_column_cell X.place free

@@ -3,15 +3,16 @@ use Rattle.std.specs.Prelude.{◌≡◌, ◌≢◌, ◌⊎◌, ℕ, ◌+◌, ◌
 use Rattle.asg_square.specs.CellTable.{CellTable, entry_at}
 use Rattle.asg_square.specs.Grid.{Grid, cell_at}
 
--- both cells are absent, or both are present and the value of the first is changed to that of the second
+-- both cells are absent, or both are present and the value of the first is changed to that of the
+-- second
 abbrev pub Becomes : {V : Type 0} → (V → V → Type 0) → Option V → Option V → Type 0
 Becomes changes None None = ⊤
 Becomes changes None (Some y) = ⊥
 Becomes changes (Some x) None = ⊥
 Becomes changes (Some x) (Some y) = changes x y
 
--- each cell of the row at place r becomes another by its column, and all other cells and the labels are as
--- before
+-- each cell of the row at place r becomes another by its column, and all other cells and the labels
+-- are as before
 pub record MapsRow {V : Type 0} (Q after : Grid V) (r : ℕ) (changes : ℕ → V → V → Type 0) : Type 0 where
   pub side : after.side ≡ Q.side
   pub rows : after.rows ≡ Q.rows
@@ -30,14 +31,14 @@ pub record MapsTableRow {V : Type 0} (T after : CellTable V) (r : ℕ) (changes 
 abbrev pub MayMapRow : {V : Type 0} → (ℕ → Option V) → (ℕ → V → Type 0) → Type 0
 MayMapRow {V} row may = (k : ℕ) (x : V) → row k ≡ Some x → may k x
 
--- of the values from a start on, those at the places from one up to and without another where the test
--- holds may be changed
+-- of the values from a start on, those at the places from one up to and without another where the
+-- test holds may be changed
 abbrev pub MayChange : {V : Type 0} → List V → ℕ → ℕ → ℕ → (ℕ → Bool) → (ℕ → V → Type 0) → Type 0
 MayChange {V} values start from to has may =
     (k : ℕ) (x : V) → from ≤ k → k < to → IsTrue (has k) → slice_get values (start + k) ≡ Some x → may k x
 
--- of the values from a start on, those at the places from one up to and without another where the test
--- holds were changed, and all values elsewhere are as before
+-- of the values from a start on, those at the places from one up to and without another where the
+-- test holds were changed, and all values elsewhere are as before
 pub record ChangesValues {V : Type 0} (before after : List V) (start from to : ℕ) (has : ℕ → Bool) (changes : ℕ → V → V → Type 0) : Type 0 where
   pub count : length after ≡ length before
   pub changed : (k : ℕ) → from ≤ k → k < to → IsTrue (has k) → Becomes (changes k) (slice_get before (start + k)) (slice_get after (start + k))

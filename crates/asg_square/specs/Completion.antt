@@ -16,7 +16,7 @@ free_columns g n = passing_below (is_free g n) n
 abbrev pub lacks : (ℕ → Option ℕ) → ℕ → Bool
 lacks g r = not (is_some (g r))
 
--- the column of a row: its own, or of the free columns the one whose number is that of the rows without a
--- column before it
+-- the column of a row: its own, or of the free columns the one whose number is that of the rows
+-- without a column before it
 abbrev pub completed : (ℕ → Option ℕ) → ℕ → ℕ → ℕ
 completed g n r = unwrap_or (g r) (get_or (free_columns g n) (count_below (lacks g) r) 0)

@@ -6,14 +6,14 @@ use Rattle.asg_model.specs.Table.{absent, table_cost}
 use Rattle.asg_square.specs.BitTable.{is_bit_set}
 use Rattle.asg_square.specs.CellTable.{piece_cell}
 
--- of the cells, or of what is told of each: the row at place r has this one for each column label, and all
--- other rows are as before
+-- of the cells, or of what is told of each: the row at place r has this one for each column label,
+-- and all other rows are as before
 abbrev pub FillsRow : {A : Type 0} → ℕ → (ℕ → ℕ → A) → (ℕ → ℕ → A) → ℕ → List (Option ℕ) → (Option ℕ → A) → Type 0
 FillsRow side before after r columns cell =
     (s d : ℕ) → d < side → after s d ≡ (if s == r then cell (slice_index_or columns d None) else before s d)
 
--- in place of 64 columns of row r, fewer at its end, those of these column labels stand, and all others are
--- as before
+-- in place of 64 columns of row r, fewer at its end, those of these column labels stand, and all
+-- others are as before
 abbrev pub FillsPiece : {A : Type 0} → ℕ → (ℕ → ℕ → A) → (ℕ → ℕ → A) → ℕ → ℕ → List (Option ℕ) → (Option ℕ → A) → Type 0
 FillsPiece side before after r number columns cell =
     (s d : ℕ) → d < side → after s d ≡ (if (s == r) && (d / 64 == number) then cell (slice_index_or columns d None) else before s d)
@@ -55,7 +55,8 @@ pub record AreBitsOf (count : ℕ) (passes : ℕ → Bool) (word : ℕ) : Type 0
   pub each : (k : ℕ) → k < count → is_bit_set word k ≡ passes k
   pub inside : IsInside count word
 
--- so many items of a list were written from a place on, of which this holds, and all others are as before
+-- so many items of a list were written from a place on, of which this holds, and all others are as
+-- before
 pub record WritesPiece {V : Type 0} (before after : List V) (start count : ℕ) (Holds : List V → Type 0) : Type 0 where
   pub piece : List V
   pub count_is : length piece ≡ count

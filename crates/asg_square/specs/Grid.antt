@@ -14,8 +14,8 @@ use Rattle.asg_square.specs.Cells.{square_cell, IsAssignment}
 use Rattle.asg_square.specs.Presence.{has_cell}
 use Rattle.asg_square.specs.CellTable.{CellTable, IsCellTable, entry_at}
 
--- a square: its side, how many of its rows are rows of the instance, what its rows and columns stand for,
--- and its cells row by row
+-- a square: its side, how many of its rows are rows of the instance, what its rows and columns
+-- stand for, and its cells row by row
 pub record Grid (V : Type 0) : Type 0 where
   pub side : ℕ
   pub rows : ℕ
@@ -75,8 +75,8 @@ Entering {V} X enters Fact = (entered : Cost → V) → EntersAs X enters entere
 abbrev pub IsSquareBy : {V : Type 0} → Problem → V → (Cost → V → Type 0) → Grid V → Type 0
 IsSquareBy X free enters Q = Entering X enters (λ entered. IsSquareOf X free entered Q)
 
--- the square has the labels of the instance's, and cells only where the instance's has some: so also after
--- steps, which change values alone
+-- the square has the labels of the instance's, and cells only where the instance's has some: so
+-- also after steps, which change values alone
 pub record IsWithinSquareOf {V : Type 0} (X : Problem) (Q : Grid V) : Type 0 where
   pub labels : HasLabelsOf X Q
   pub cells : (r c : ℕ) → IsSome (cell_at Q r c) → IsTrue (has_cell X Whole r c)

@@ -21,8 +21,8 @@ is_met X has ids k = list_any (λ id. option_map_or (λ r. has r k) (row_place_o
 abbrev pub met_count : Problem → (ℕ → ℕ → Bool) → List ℕ → ℕ
 met_count X has ids = count_below (is_met X has ids) (square_side X)
 
--- different counted rows, by id, that are more than the columns of the square in which some of them have a
--- cell
+-- different counted rows, by id, that are more than the columns of the square in which some of them
+-- have a cell
 pub record OutnumberColumns (X : Problem) (has : ℕ → ℕ → Bool) (ids : List ℕ) : Type 0 where
   pub different : AllPairs ◌≢◌ ids
   pub counted : All (λ id. IsTrue (is_counted_id X id)) ids

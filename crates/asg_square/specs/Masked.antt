@@ -4,7 +4,8 @@ use Rattle.std.specs.List.{range_with_len}
 use Rattle.asg_square.specs.BitTable.{bit_table, has_bit}
 use Rattle.asg_square.specs.Grid.{Grid}
 
--- rows of bits over a side, in words row by row, keep the cell at a row and a column: the bit is set
+-- rows of bits over a side, in words row by row, keep the cell at a row and a column: the bit is
+-- set
 abbrev pub keeps : ℕ → List ℕ → ℕ → ℕ → Bool
 keeps side words r k = has_bit (bit_table side side words) r k
 

@@ -18,8 +18,8 @@ abbrev pub has_corner : Place → Bool
 has_corner All = true
 has_corner (Exactly k) = false
 
--- a cell is there, where of the live cells those of the band count: by the row that its square row stands
--- for and the column that its square column is a copy of
+-- a cell is there, where of the live cells those of the band count: by the row that its square row
+-- stands for and the column that its square column is a copy of
 abbrev pub is_labelled_within : Problem → Band → Option ℕ → Option ℕ → Bool
 is_labelled_within X band (Some r) (Some d) = is_live_within X band r d
 is_labelled_within X band (Some r) None = leaves_rows X.place

@@ -3,7 +3,6 @@
 ghost use Rattle.std.specs.Prelude.{◌≡◌, ◌<◌, ◌≤◌, ◌*◌, ℕ, length, map, Some, None, slice_index_or};
 ghost use Rattle.std.specs.List.{range_with_len};
 ghost use Rattle.asg_model.specs.Limits.{most_side};
-ghost use Rattle.asg_model.specs.Live.{is_active};
 ghost use Rattle.asg_square.specs.Labels.{row_label, column_label};
 
 use asg_model::{Instance, Place};
@@ -13,20 +12,10 @@ fn row_label(inst: &Instance, r: u32) -> Option<u32>
     ensures { result ≡ row_label inst.now r }
 {
     let is_counted = match inst.place() {
-        Place::All => is_active(inst, r),
+        Place::All => inst.is_active(r),
         Place::Exactly(_) => (r as usize) < inst.rows().len(),
     };
     if is_counted { Some(r) } else { None }
-}
-
-// Whether there is a row at this place, and it is active.
-pub(crate) fn is_active(inst: &Instance, r: u32) -> bool
-    ensures { result ≡ is_active inst.now r }
-{
-    match inst.rows().get(r as usize) {
-        Some(row) => row.active,
-        None => false,
-    }
 }
 
 // The column that a column of the square is a copy of.

@@ -12,7 +12,6 @@ ghost use Rattle.asg_square.specs.Grid.{MayEnterEach, Entering};
 ghost use Rattle.asg_square.specs.Presence.{is_labelled_within};
 
 use crate::cell_tables::CellTable;
-use crate::labels::is_active;
 use crate::pieces::row_piece;
 use asg_model::{Cost, Instance, Place, RowParts, RowRoom};
 
@@ -77,7 +76,7 @@ fn live_row<'a>(inst: &'a Instance, i: u32, room: &'a mut RowRoom) -> Option<Row
     ensures { IfSome result (λ parts.
         IsLiveRow inst.now i parts.firsts.now parts.seconds.now) }
 {
-    if is_active(inst, i) {
+    if inst.is_active(i) {
         inst.row_parts(i, room)
     } else {
         None

@@ -1,4 +1,5 @@
--- The copies of a column are the columns of the square from its first one on, so many as its capacity.
+-- The copies of a column are the columns of the square from its first one on, so many as its
+-- capacity.
 use Rattle.std.proofs.Common.{◌≡◌, ℕ, suc, ◌+◌, ◌-◌, ◌<◌, ◌≤◌, List, [], ◌∷◌, ◌++◌, length, get_or, take, refl, arith, sym, ap, subst, ◌∙◌, ⊎_elim, true}
 use Rattle.std.specs.Prelude.{Option, Some, None, sum_by, slice_get, replicate}
 use Rattle.std.specs.List.{enumerate_from, flat_map}

@@ -1,5 +1,5 @@
--- Where all rows are placed, the capacity that rows reach is the number of columns of the square in which
--- they have cells: so a Hall set is told from the square, either way.
+-- Where all rows are placed, the capacity that rows reach is the number of columns of the square in
+-- which they have cells: so a Hall set is told from the square, either way.
 use Rattle.std.proofs.Common.{◌≡◌, ◌≢◌, ◌↔◌, ℕ, ◌+◌, ◌-◌, ◌<◌, ◌≤◌, Bool, true, false, ◌&&◌, ◌||◌, cond, List, [], ◌∷◌, length, refl, arith, sym, ap, subst, ◌∙◌}
 use Rattle.std.specs.Prelude.{Option, Some, None, IsTrue, nat_lt, All, AllPairs}
 use Rattle.std.specs.List.{list_any, enumerate_from}

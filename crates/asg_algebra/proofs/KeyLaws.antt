@@ -6,8 +6,8 @@ use Rattle.asg_order.specs.laws.Differences.{le_product_of_difference}
 use Rattle.asg_order.specs.laws.Orders.{reflexive, product_le}
 
 module _ {V : Type 0} (M : Monoid V) (laws : IsOrderedMonoid M) (difference : V → V → V) (has : HasDifferences M difference) where
-  -- a row that entered at sum s with cell x, when the steps since have product p: the key s*x gives a step
-  -- that is at most the cell as it is now
+  -- a row that entered at sum s with cell x, when the steps since have product p: the key s*x gives
+  -- a step that is at most the cell as it is now
   pub key_admitted : (s x p key : V) → IsValue M s → IsValue M x → IsValue M p → IsValue M key → IsLe M key (M.product s x) → IsLe M (difference key (M.product s p)) (difference x p)
   key_admitted s x p key vs vx vp vk h =
       let d = difference x p in
@@ -23,7 +23,8 @@ module _ {V : Type 0} (M : Monoid V) (laws : IsOrderedMonoid M) (difference : V 
   greater_cases true s p x e h = h refl
   greater_cases false s p x e h = e
 
-  -- once the key is at most the product of all steps, the cell as it is now is absorbed by that product
+  -- once the key is at most the product of all steps, the cell as it is now is absorbed by that
+  -- product
   pub key_absorbed : (s x p : V) → IsValue M s → IsValue M x → IsValue M p → IsLe M (M.product s x) (M.product s p) → M.product (M.product s p) (difference x p) ≡ M.product s p
   key_absorbed s x p vs vx vp h =
       let d = difference x p in

@@ -197,7 +197,8 @@ module _ {V : Type 0} (M : Monoid V) where
         (λ taken. Picks-taken before after p column there others taken.0 valued former result taken.1 picks)
         approached
 
-  -- the nearest columns of the words, where one of them was found anew and the others are as they were
+  -- the nearest columns of the words, where one of them was found anew and the others are as they
+  -- were
   pub AreNearest-set : (before after : Leads V) (unseen later : List ℕ) (nearest : List (Option ℕ)) (number : ℕ) (found : Option ℕ) → number < length unseen → length later ≡ length unseen → ((k : ℕ) → (k / 64 ≡ number → ⊥) → HasColumn later k ↔ HasColumn unseen k) → ((k : ℕ) → HasColumn unseen k → (k / 64 ≡ number → ⊥) → lead_at M after k ≡ lead_at M before k) → Picks M (lead_at M after) (IsWithin number later) found → AreNearest M before unseen nearest → AreNearest M after later (set nearest number found)
   AreNearest-set before after unseen later nearest number found within count columns same picks are = record {
     count = length-set nearest number found ∙ are.count ∙ sym count;

@@ -1,5 +1,5 @@
--- Leads whose columns are offered keys one by one, where which columns of a word have keys is written at
--- the end.
+-- Leads whose columns are offered keys one by one, where which columns of a word have keys is
+-- written at the end.
 use Rattle.std.proofs.Common.{◌≡◌, ◌↔◌, ◌⊎◌, inl, inr, ℕ, Bool, true, false, ◌+◌, ◌-◌, ◌/◌, ◌%◌, ◌<◌, ◌^◌, List, length, Option, Some, get_or, set, refl, sym, ◌∙◌, ap, subst, arith, ⊎_elim, w64, Fits, eqb, IsTrue}
 use Rattle.std.specs.Prelude.{bit_and, bit_or}
 use Rattle.std.specs.Int.{bit_at}

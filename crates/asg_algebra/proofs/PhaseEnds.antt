@@ -69,7 +69,8 @@ module _ {V : Type 0} (M : Monoid V) (laws : IsOrderedMonoid M) (difference : V 
         admitted = AreAdmitted-same M laws difference has side steps steps enters (cut n enters) leaves (cut n leaves) start n (λ t h. refl) (entered-cut n enters) (staying-cut n leaves) s.admitted;
       }
 
-  -- a phase ends: it is admitted, and the matching with the flipped path is absorbed on the square after it
+  -- a phase ends: it is admitted, and the matching with the flipped path is absorbed on the square
+  -- after it
   pub phase_ends : (never : ℕ) (side : ℕ) (start : ℕ → ℕ → Option V) (index : V) (m : List (Option ℕ)) (rows : List ℕ) (parents : ℕ → Option ℕ) (sums : List V) (leads : ℕ → Option V) (places : ℕ → ℕ) (enters leaves : List ℕ) (steps : List V) (sum : V) (seen : ℕ) → IsUnderway M difference never side start index m rows parents sums leads places enters leaves steps sum seen → (place column : ℕ) (after : List (Option ℕ)) → IsAbsorbed M (M.product index (fold_of M steps)) (square_after M difference (phase_of steps enters leaves) start (length steps)) (get_or rows place 0) column → Flips rows parents place column m after → IsAdmittedPhase M difference side (phase_of steps (cut (length steps) enters) (cut (length steps) leaves)) start × IsRest M side (square_after M difference (phase_of steps (cut (length steps) enters) (cut (length steps) leaves)) start (length steps)) (M.product index (fold_of M steps)) after
   phase_ends never side start index m rows parents sums leads places enters leaves steps sum seen state place column after cell flipped =
       let n = length steps in

@@ -41,7 +41,8 @@ module _ {V : Type 0} (M : Monoid V) (laws : IsOrderedMonoid M) (difference : V 
       (ap (λ p. take k given ++ p ∷ []) same ∙ sym (take_more given k phase below))
       (LeadTo-join M laws difference (take k given) (phase_of steps enters leaves ∷ []) first second third f g h trail middle last is a b)
 
-  -- of phases that are admitted in turn the next one is, of these three lists, from where the first ones lead
+  -- of phases that are admitted in turn the next one is, of these three lists, from where the first
+  -- ones lead
   pub IsAdmitted-next : (given : List (PhaseOf V)) (k : ℕ) (phase : PhaseOf V) (steps : List V) (enters leaves : List ℕ) (first second : Reduced V) (f g : Forest V) (trail middle : Option ℕ) → k < length given → phase ≡ get_or given k phase → steps ≡ phase.steps → enters ≡ phase.enters → leaves ≡ phase.leaves → AreAdmittedPhases M difference first.now.side given (cell_at first.now) → LeadTo M difference (take k given) first second f g trail middle → IsAdmittedPhase M difference second.now.side (phase_of steps enters leaves) (cell_at second.now)
   IsAdmitted-next given k phase steps enters leaves first second f g trail middle below at e e′ e″ all a =
       let same : phase_of steps enters leaves ≡ get_or given k phase = (λ i. phase_of (e i) (e′ i) (e″ i)) ∙ at in

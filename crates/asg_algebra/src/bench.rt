@@ -63,8 +63,8 @@ fn keys_for<V: Copy>(
     Ok((keys, keyed, nearest))
 }
 
-// Room for the phase of so many columns: the steps at which rows enter and columns leave, its steps,
-// and one place more than these.
+// Room for the phase of so many columns: the steps at which rows enter and columns leave, its
+// steps, and one place more than these.
 fn phase_for<V: Copy>(
     alloc: Global,
     columns: usize,

@@ -120,8 +120,8 @@ fn push<V: Copy>(
 }
 
 // Gives a row that has no column one on a square that isn't touched: one tree grows, up to a column
-// that no row has or until the index comes to the limit, and its phase is pushed on the trail, if it
-// has a step. `Left` and `Short` leave the matching; `Short` leaves the region.
+// that no row has or until the index comes to the limit, and its phase is pushed on the trail, if
+// it has a step. `Left` and `Short` leave the matching; `Short` leaves the region.
 fn serve_branch<M: DMonoid, S: RowSquare<M>>(
     m: &M,
     reduced: &S,
@@ -159,17 +159,17 @@ fn serve_branch<M: DMonoid, S: RowSquare<M>>(
     }
 }
 
-/// Gives a row that has no column one on a square of which some cells are left out; the square isn't
-/// touched. `words` has for each row as many words of 64 bits as its columns need: the cells whose
-/// bit is set count.
+/// Gives a row that has no column one on a square of which some cells are left out; the square
+/// isn't touched. `words` has for each row as many words of 64 bits as its columns need: the cells
+/// whose bit is set count.
 ///
 /// Each of these cells and the index are values, and each matched cell is one of them that the
 /// index absorbs. One tree grows, up to a column that no row has (`Reached`) or until the index
 /// times its steps comes to the limit, if there is one (`Left`); its phase, which is admitted from
-/// these cells, is pushed on the trail, if it has a step. After `Reached` the root and each row that
-/// had a column have one, by cells that are absorbed after the phase. `Left` and `Short` leave the
-/// matching, `Short` leaves the region, and then the bench's violator has rows with fewer columns
-/// than they are. It takes no memory. The time grows with the square of the side at most.
+/// these cells, is pushed on the trail, if it has a step. After `Reached` the root and each row
+/// that had a column have one, by cells that are absorbed after the phase. `Left` and `Short` leave
+/// the matching, `Short` leaves the region, and then the bench's violator has rows with fewer
+/// columns than they are. It takes no memory. The time grows with the square of the side at most.
 pub fn branch_from<M: DMonoid>(
     m: &M,
     reduced: &Reduced<M::Value>,

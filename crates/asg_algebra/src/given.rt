@@ -76,8 +76,8 @@ fn solve_in_room<M: DMonoid, S: ReducedSquare<M> + Drop>(
 }
 
 /// Solves a square as it is kept by phases and columns that are given, as
-/// [`SquareSolver::solve_given`](crate::SquareSolver::solve_given) does. Phases that are known to be
-/// admitted in turn aren't tested.
+/// [`SquareSolver::solve_given`](crate::SquareSolver::solve_given) does. Phases that are known to
+/// be admitted in turn aren't tested.
 pub(crate) fn solve_kept_given<M: DMonoid, S: ReducedSquare<M> + Drop>(
     alloc: Global,
     m: &M,

@@ -17,6 +17,7 @@ mod absorbed_cells;
 mod bench;
 mod branching;
 mod dual_squares;
+mod entered_squares;
 mod given;
 mod graded_squares;
 mod growth;
@@ -38,6 +39,7 @@ mod whole_words;
 
 pub use bench::Bench;
 pub use branching::{Branch, branch_from};
+pub use entered_squares::entered_square;
 pub use solving::{Solved, solve};
 pub use square_solvers::{SolvedSquare, SquareSolver};
 

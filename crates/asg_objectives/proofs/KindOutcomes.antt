@@ -22,8 +22,8 @@ use Rattle.asg_proof.specs.Outcomes.{IsOutcome}
 use Rattle.asg_proof.specs.Phases.{PhaseOf}
 use Rattle.asg_objectives.specs.FoldOutcomes.{IsFoldOutcome}
 
--- where phases that prove the fold of a valid choice prove the objective's, an outcome by folds is one of the
--- objective
+-- where phases that prove the fold of a valid choice prove the objective's, an outcome by folds is
+-- one of the objective
 pub IsOutcome-from_fold : {V : Type 0} (M : Monoid V) (difference : V → V → V) (word_of : V → Word) (enter : Cost → V) (objective : Objective) (X : Problem) → ((choice : List (Option ℕ)) (words : List (PhaseOf Word)) → IsValid X choice → ProvesFold M difference word_of enter X choice words → ProvesPhases objective X choice words) → (outcome : Outcome) → IsFoldOutcome M difference word_of enter X outcome → IsOutcome objective X outcome
 IsOutcome-from_fold M difference word_of enter objective X proves (Best choice (Phases words)) is = record { valid = is.valid; proved = proves choice words is.valid is.proved }
 IsOutcome-from_fold M difference word_of enter objective X proves (Best choice _) is = absurd is.proved

@@ -20,7 +20,8 @@ use Rattle.asg_objectives.specs.FoldOutcomes.{IsFoldOutcome}
 abbrev pub AreOfValues : {V : Type 0} → Monoid V → List (PhaseOf V) → Type 0
 AreOfValues M phases = All (λ phase. All (IsValue M) phase.steps) phases
 
--- the choice of the perfect assignment of the square by which each row has its column of the matching
+-- the choice of the perfect assignment of the square by which each row has its column of the
+-- matching
 pub record IsChoiceBy {V : Type 0} (Q : Grid V) (matching choice : List (Option ℕ)) : Type 0 where
   pub columns : List ℕ
   pub over : length columns ≡ length matching

@@ -12,8 +12,9 @@ ghost use Rattle.asg_proof.specs.PromisedProofs.{GivesFewPhases};
 
 use crate::NoMemory;
 use crate::capped_squares::by_uncut_sums;
-use crate::entered_squares::{entered_square, guessed_algebraic};
+use crate::entered_squares::guessed_algebraic;
 use crate::narrow_squares::by_narrow_sums;
+use asg_algebra::entered_square;
 use asg_duals::{Guess, capped_guess, grade_guess, pair_guess, peak_guess};
 use asg_model::{Instance, Objective};
 use asg_monoids::{PeakKind, SumKind, TimeKind};

@@ -4,9 +4,9 @@
 //! an algebraic assignment problem. A perfect assignment by absorbed cells gives the choice, and
 //! the phases that were taken prove it, with each step as its word; rows with fewer present cells
 //! than they are give a Hall set of the whole instance. Contracts see the outcome alone. One call
-//! is generic in the kind of the objective and solves by the engine, another chooses the kind by the
-//! objective, and tries guessed phases first, each of which is tested; the program solves by the
-//! second.
+//! is generic in the kind of the objective and solves by the engine, another chooses the kind by
+//! the objective, and tries guessed phases first, each of which is tested; the program solves by
+//! the second.
 #![tactic(auto)]
 
 mod algebraic_objectives;

@@ -229,8 +229,8 @@ fn outcome_in<M: SquareSolver>(
 }
 
 /// Solves the square of an instance, whose present cells are values and whose free cells are units:
-/// a valid choice with phases that prove its fold, or a Hall set of the whole instance. Whether some
-/// rows have too few present cells is told first. The error is want of memory.
+/// a valid choice with phases that prove its fold, or a Hall set of the whole instance. Whether
+/// some rows have too few present cells is told first. The error is want of memory.
 pub(crate) fn outcome<M: SquareSolver>(
     alloc: Global,
     m: &M,

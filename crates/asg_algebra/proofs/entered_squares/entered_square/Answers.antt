@@ -3,7 +3,7 @@ use Rattle.std.proofs.lemmas.Result.{IfOk-weaker}
 use Rattle.asg_model.specs.declared.parts.Cost.{Cost}
 use Rattle.asg_square.specs.Grid.{IsSquareBy, IsSquareOf}
 use Rattle.asg_proof.specs.laws.LiveCosts.{costs_may_enter}
-use Rattle.asg_objectives.proofs.entered_squares.entered_square.Goals as goal
+use Rattle.asg_algebra.proofs.entered_squares.entered_square.Goals as goal
 
 pub of-requires-clause-enters : goal.of-requires-clause-enters
 of-requires-clause-enters g c r d =

@@ -1,4 +1,5 @@
--- Steps from one mark of a phase to the next: the least cell of their rows and columns decides for all.
+-- Steps from one mark of a phase to the next: the least cell of their rows and columns decides for
+-- all.
 use Rattle.std.proofs.Common.{◌≡◌, ℕ, ◌+◌, ◌<◌, ◌≤◌, min, length, sym, ◌∙◌, ap, subst, arith, ⊎_elim}
 use Rattle.std.specs.Prelude.{Option, Some, None, All, slice_index}
 use Rattle.std.specs.Option.{option_map}

@@ -1,5 +1,5 @@
--- Where columns leave at the steps at which rows enter, but for one that enters at once and one that never leaves,
--- the counts of a phase are right.
+-- Where columns leave at the steps at which rows enter, but for one that enters at once and one
+-- that never leaves, the counts of a phase are right.
 use Rattle.std.proofs.Common.{◌≡◌, ℕ, zero, suc, ◌+◌, ◌<◌, ◌≤◌, Bool, cond, leb, ltb, List, [], ◌∷◌, length, take, refl, sym, ◌∙◌, ap, arith, ⊎_elim}
 use Rattle.std.specs.Prelude.{slice_index}
 use Rattle.std.specs.List.{sum_by}

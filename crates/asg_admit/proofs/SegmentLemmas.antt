@@ -1,4 +1,5 @@
--- Segments of lists of phases of sums: what admitted phases make of cells, and a segment after others.
+-- Segments of lists of phases of sums: what admitted phases make of cells, and a segment after
+-- others.
 use Rattle.std.proofs.Common.{◌≡◌, ℕ, ◌+◌, ◌<◌, ◌≤◌, List, [], ◌∷◌, ◌++◌, length, take, drop, get_or, Option, Some, refl, sym, ◌∙◌, ap, subst, arith, ⊎_elim}
 use Rattle.std.specs.Prelude.{All, slice_index}
 use Rattle.std.specs.List.{sum}
@@ -109,7 +110,8 @@ all_count_right top side (phase ∷ rest) square all =
     All-cons (CountsRight side) phase rest (counts_right top side phase square all.0)
     (all_count_right top side rest (after_phase (bounded_sums top) bounded_difference phase square) all.1)
 
--- a present cell after admitted phases has what rows were raised by more, and what columns were raised by less
+-- a present cell after admitted phases has what rows were raised by more, and what columns were
+-- raised by less
 pub cells_from : (top side : ℕ) (phases : List (PhaseOf ℕ)) (square : ℕ → ℕ → Option ℕ) (r k y : ℕ) → r < side → k < side → StayBelow top side phases square → AreAdmittedPhases (bounded_sums top) bounded_difference side phases square → after_phases (bounded_sums top) bounded_difference phases square r k ≡ Some y
     → (x : ℕ) × (square r k ≡ Some x) × (y + column_raise phases k ≡ x + row_raise phases r)
 cells_from top side [] square r k y hr hk room all is = (y, is, refl)
@@ -141,8 +143,8 @@ module _ (top side : ℕ) (front middle : List (PhaseOf ℕ)) (square : ℕ → 
       let both = sum_of_steps-append front middle in
       omega (arith, below, both)
 
-  -- a segment that counts and raises so is admitted after others where no cell ends below 0 of the rows that it
-  -- lowers
+  -- a segment that counts and raises so is admitted after others where no cell ends below 0 of the
+  -- rows that it lowers
   pub segment_admitted : (totals : Totals) → AreTotals middle totals → length totals.rows ≡ side → sum_of_steps (front ++ middle) ≤ top
       → ((r k x : ℕ) → r < side → k < side → square r k ≡ Some x → slice_index totals.rows r < totals.sum → column_raise (front ++ middle) k ≤ x + row_raise (front ++ middle) r)
       → AreAdmittedPhases (bounded_sums top) bounded_difference side front square → AreAdmittedPhases (bounded_sums top) bounded_difference side (front ++ middle) square

@@ -34,8 +34,8 @@ module _ (top side : ℕ) (phase : PhaseOf ℕ) (square : ℕ → ℕ → Option
   abbrev pub after : ℕ → ℕ → ℕ → ℕ → ℕ
   after t r k x = cell_after (bounded_sums top) bounded_difference (step_of (bounded_sums top) phase.steps) (slice_index phase.enters r) (slice_index phase.leaves k) x t
 
-  -- a phase that counts right, no step of which passes the top, is admitted where no present cell that has room
-  -- for it ends below 0
+  -- a phase that counts right, no step of which passes the top, is admitted where no present cell
+  -- that has room for it ends below 0
   pub admitted_phase : CountsRight side phase → sum phase.steps ≤ top
       → ((r k x : ℕ) → r < side → k < side → square r k ≡ Some x → x + sum phase.steps ≤ top)
       → ((r k x : ℕ) → r < side → k < side → square r k ≡ Some x → sum_to phase.steps (slice_index phase.leaves k) ≤ x + sum_to phase.steps (slice_index phase.enters r))

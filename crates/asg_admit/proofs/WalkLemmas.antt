@@ -9,8 +9,8 @@ use Rattle.asg_proof.specs.laws.PhaseLists.{AreAdmittedPhases-front}
 use Rattle.asg_admit.specs.PhaseTotals.{row_raise, column_raise, sum_of_steps, Totals, AreTotals, AreOrdered, StayBelow, EndsSegment, IsClosed, IsKeptOrClosed}
 use Rattle.asg_admit.proofs.SegmentLemmas.{row_raise-append, column_raise-append, sum_of_steps-append, row_raise-few, sum_of_steps-more, admitted_end, segment_admitted}
 
--- the dual variables are those after the first so many phases and a segment behind them, which has the totals; and
--- where these are admitted, all are
+-- the dual variables are those after the first so many phases and a segment behind them, which has
+-- the totals; and where these are admitted, all are
 pub record Walked (side : ℕ) (phases : List (PhaseOf ℕ)) (square : ℕ → ℕ → Option ℕ) (j : ℕ) (rows columns : List ℕ) (totals : Totals) : Type 0 where
   pub middle : List (PhaseOf ℕ)
   pub tail : List (PhaseOf ℕ)

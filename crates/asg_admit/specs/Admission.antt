@@ -7,14 +7,15 @@ use Rattle.asg_square.specs.BitTable.{is_bit_set}
 use Rattle.asg_square.specs.Grid.{Grid, cell_at}
 use Rattle.asg_admit.specs.Settled.{AllowsSteps}
 
--- at each of so many steps the rows that have entered and the columns that stay are one more than the side
+-- at each of so many steps the rows that have entered and the columns that stay are one more than
+-- the side
 abbrev pub AreCounted : List ℕ → List ℕ → ℕ → Type 0
 AreCounted enters leaves n =
     (t : ℕ) → t < n → count_below (entered_at enters t) (length enters)
     + count_below (staying_at leaves t) (length leaves) ≡ length enters + 1
 
--- the lists of a phase are over the rows and the columns of this side, each step is a value, and at each
--- step the rows that have entered and the columns that stay are one more than the side
+-- the lists of a phase are over the rows and the columns of this side, each step is a value, and at
+-- each step the rows that have entered and the columns that stay are one more than the side
 pub record IsPhaseOver {V : Type 0} (M : Monoid V) (side : ℕ) (phase : PhaseOf V) : Type 0 where
   pub rows : length phase.enters ≡ side
   pub columns : length phase.leaves ≡ side
@@ -31,7 +32,8 @@ AreBalanced enters leaves from n =
     (i : ℕ) → i < n → count_below (has_mark enters (from + i)) (length enters)
     ≡ count_below (has_mark leaves (from + i)) (length leaves)
 
--- the cell at a column of a row that stands as its values and as words whose bits say which are present
+-- the cell at a column of a row that stands as its values and as words whose bits say which are
+-- present
 abbrev pub cell_in_row : {V : Type 0} → List V → List ℕ → ℕ → Option V
 cell_in_row values words k =
     if is_bit_set (slice_index words (k / 64)) (k % 64) then slice_get values k else None

@@ -36,8 +36,9 @@ pub record IsGreatestOf (n : ℕ) (row : ℕ → Option ℕ) (greatest : ℕ) : 
   pub above : (k x : ℕ) → k < n → row k ≡ Some x → x ≤ greatest
   pub reached : (greatest ≡ 0) ⊎ ((k : ℕ) × (row k ≡ Some greatest))
 
--- what dual variables keep: there is one for each row and column, none is greater than the index, that of a
--- column is at most each present cell with that of the row more, and no number passes the bound
+-- what dual variables keep: there is one for each row and column, none is greater than the index,
+-- that of a column is at most each present cell with that of the row more, and no number passes the
+-- bound
 pub record AreDuals (bound : ℕ) (Q : Grid ℕ) (rows columns : List ℕ) (index greatest : ℕ) : Type 0 where
   pub grid : IsGrid Q
   pub row_count : length rows ≡ Q.side
@@ -49,13 +50,14 @@ pub record AreDuals (bound : ℕ) (Q : Grid ℕ) (rows columns : List ℕ) (inde
   pub few_index : index ≤ bound
   pub few_greatest : greatest ≤ bound
 
--- no sum reaches the top while steps are applied that add up to this: neither the index nor a present cell
--- does with the sum more
+-- no sum reaches the top while steps are applied that add up to this: neither the index nor a
+-- present cell does with the sum more
 pub record HasRoom (top : ℕ) (reduced : Reduced ℕ) (sum : ℕ) : Type 0 where
   pub index : reduced.index + sum < top
   pub cells : (r k x : ℕ) → cell_at reduced.now r k ≡ Some x → x + sum < top
 
--- sums come near the top: the index, or some present cell with the index twice, reaches it with the sum more
+-- sums come near the top: the index, or some present cell with the index twice, reaches it with the
+-- sum more
 abbrev pub IsNearTop : ℕ → Reduced ℕ → ℕ → Type 0
 IsNearTop top reduced sum =
     (top ≤ reduced.index + sum)
@@ -85,12 +87,14 @@ abbrev pub dual_values : ℕ → List ℕ → List ℕ → ℕ → List ℕ
 dual_values width values columns row =
     map (λ k. dual_bits width row (slice_index columns k) (slice_index values k)) (range_with_len 0 (length values))
 
--- the cell, if it is present, is a number with these dual variables, and stays below a width on the way
+-- the cell, if it is present, is a number with these dual variables, and stays below a width on the
+-- way
 abbrev pub FitsDuals : ℕ → ℕ → ℕ → Option ℕ → Type 0
 FitsDuals width row column cell =
     (x : ℕ) → cell ≡ Some x → (column ≤ x + row) × (x + row < width)
 
--- the cells of a row have the dual variable of the row more and those of the columns less, and all others stay
+-- the cells of a row have the dual variable of the row more and those of the columns less, and all
+-- others stay
 pub record WritesDuals (row : ℕ) (columns : List ℕ) (before after : Grid ℕ) (r : ℕ) : Type 0 where
   pub labels : KeepsLabels before after
   pub cells : (k : ℕ) → k < before.side
@@ -101,8 +105,9 @@ pub record WritesDuals (row : ℕ) (columns : List ℕ) (before after : Grid ℕ
 abbrev pub FitsAt : List ℕ → List ℕ → ℕ → ℕ → Type 0
 FitsAt values columns raise k = slice_index columns k ≤ slice_index values k + raise
 
--- each present cell of a row that enters at a step is, with the dual variable of the row and the steps before
--- that, at least the dual variable of its column; of a row that never enters nothing is asked
+-- each present cell of a row that enters at a step is, with the dual variable of the row and the
+-- steps before that, at least the dual variable of its column; of a row that never enters nothing
+-- is asked
 abbrev pub FitsRow : Grid ℕ → ℕ → List ℕ → List ℕ → ℕ → ℕ → Type 0
 FitsRow Q row columns steps enter r =
     enter < length steps → (k x : ℕ) → k < Q.side → cell_at Q r k ≡ Some x

@@ -10,8 +10,9 @@ pub record PlacesFrom (marks : List ℕ) (from place : ℕ) (before after : List
   pub others : (i : ℕ) → i < length marks → slice_index marks i < from
       → slice_index after i ≡ slice_index before i
 
--- the steps up to one were joined into so many products: each place stands at a step, the places one after the
--- other, each product is that of the steps from its place to the next, and each mark has its place
+-- the steps up to one were joined into so many products: each place stands at a step, the places
+-- one after the other, each product is that of the steps from its place to the next, and each mark
+-- has its place
 pub record IsJoined {V : Type 0} (M : Monoid V) (steps : List V) (enters leaves : List ℕ) (upto : ℕ)
     (products : List V) (count : ℕ) (rows columns : List ℕ) : Type 0 where
   pub mark : ℕ → ℕ

@@ -1,4 +1,5 @@
--- The least cells of columns, over the rows that have entered, from one mark of a phase to the next.
+-- The least cells of columns, over the rows that have entered, from one mark of a phase to the
+-- next.
 use Rattle.std.specs.Prelude.{◌≡◌, ◌⊎◌, ℕ, ◌<◌, ◌≤◌, if◌then◌else◌, nat_lt, min, Bool, false, List, length, Option, Some, None, slice_index, slice_index_or}
 use Rattle.asg_order.specs.Monoid.{Monoid, IsValue, IsLe}
 use Rattle.asg_proof.specs.Phases.{PhaseOf}
@@ -11,8 +12,8 @@ abbrev pub HasNoneBetween : List ℕ → ℕ → ℕ → Type 0
 HasNoneBetween marks from to =
     (i : ℕ) → i < length marks → (slice_index marks i ≤ from) ⊎ (to ≤ slice_index marks i)
 
--- the place at which the least cell of a column is held: its own, or one that it shares with those that leave at the
--- same step, where there are fewer steps than columns
+-- the place at which the least cell of a column is held: its own, or one that it shares with those
+-- that leave at the same step, where there are fewer steps than columns
 abbrev pub place_at : ℕ → ℕ → ℕ → ℕ → ℕ
 place_at side end leave k = if nat_lt end side then min leave end else k
 
@@ -65,8 +66,8 @@ pub record IsLeastStaying {V : Type 0} (M : Monoid V) (cells : ℕ → Option V)
   pub reached : (y : V) → least ≡ Some y
       → (k : ℕ) × (k < n) × (from < slice_index leaves k) × (cells k ≡ Some y)
 
--- up to a step all cells allow the phase, and for each column that stays is held the least of its cells, as they
--- are by then, in the rows that enter before a step
+-- up to a step all cells allow the phase, and for each column that stays is held the least of its
+-- cells, as they are by then, in the rows that enter before a step
 pub record HoldsLeast {V : Type 0} (M : Monoid V) (difference : V → V → V) (phase : PhaseOf V)
     (Q : Grid V) (place : ℕ → ℕ) (from upto : ℕ) (held : ℕ → Option V) : Type 0 where
   pub values : AreHeldValues M held

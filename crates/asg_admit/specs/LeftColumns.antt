@@ -1,7 +1,8 @@
 -- The columns that leave before the end of a phase.
 use Rattle.std.specs.Prelude.{ℕ, ◌<◌, ◌≤◌, List, length, slice_index}
 
--- a place isn't before the column k, and the columns from k on that are before it stay until the end
+-- a place isn't before the column k, and the columns from k on that are before it stay until the
+-- end
 pub record IsPassed (leaves : List ℕ) (end k next : ℕ) : Type 0 where
   pub onward : k ≤ next
   pub within : next ≤ length leaves

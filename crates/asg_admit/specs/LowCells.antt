@@ -12,7 +12,8 @@ abbrev pub IsLowMarked : {V : Type 0} → Grid (ℕ × V) → ℕ → BitTable �
 IsLowMarked {V} Q grade marks r =
     (k : ℕ) (x : ℕ × V) → cell_at Q r k ≡ Some x → x.0 ≤ grade → IsTrue (has_bit marks r k)
 
--- there is a bit for each place of the square, and each present cell whose grade is at most this has a mark
+-- there is a bit for each place of the square, and each present cell whose grade is at most this
+-- has a mark
 pub record AreLowCells {V : Type 0} (Q : Grid (ℕ × V)) (grade : ℕ) (marks : BitTable) : Type 0 where
   pub rows : marks.rows ≡ Q.side
   pub columns : marks.columns ≡ Q.side

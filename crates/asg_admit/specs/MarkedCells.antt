@@ -9,7 +9,8 @@ use Rattle.asg_admit.specs.Reduced.{KeepsLabels}
 use Rattle.asg_proof.specs.Phases.{PhaseOf}
 use Rattle.asg_admit.specs.Settled.{AllowsSteps, settled, settled_at}
 
--- a value allows the steps and is the same after them, wherever its row enters and its column leaves
+-- a value allows the steps and is the same after them, wherever its row enters and its column
+-- leaves
 pub record PassesBy {V : Type 0} (M : Monoid V) (difference : V → V → V) (steps : List V)
     (x : V) : Type 0 where
   pub stays : (enter leave : ℕ) → settled M difference steps enter leave x ≡ x
@@ -33,16 +34,16 @@ pub record AreMarksOver (side : ℕ) (marks : BitTable) : Type 0 where
 abbrev pub is_marked : List ℕ → ℕ → Bool
 is_marked words k = is_bit_set (slice_index words (k / 64)) (k % 64)
 
--- where not both rows of words have a mark, the present cells of a row that enters at this step are the
--- same after the steps
+-- where not both rows of words have a mark, the present cells of a row that enters at this step are
+-- the same after the steps
 abbrev pub AreAsideInRow : {V : Type 0} → Monoid V → (V → V → V) → List V → ℕ → List ℕ
     → (ℕ → Option V) → List ℕ → List ℕ → Type 0
 AreAsideInRow {V} M difference steps enter leaves row marks columns =
     (k : ℕ) (x : V) → row k ≡ Some x → (IsTrue (is_marked marks k) → IsTrue (is_marked columns k) → ⊥)
     → settled M difference steps enter (slice_index leaves k) x ≡ x
 
--- the cells of a row that enters at this step, behind a place, whose bits a word has are those after the steps,
--- and all others stay
+-- the cells of a row that enters at this step, behind a place, whose bits a word has are those
+-- after the steps, and all others stay
 pub record SettlesBits {V : Type 0} (M : Monoid V) (difference : V → V → V) (steps : List V)
     (enter : ℕ) (leaves : List ℕ) (before after : Grid V) (row first word : ℕ) : Type 0 where
   pub labels : KeepsLabels before after

@@ -3,8 +3,9 @@ use Rattle.std.specs.Prelude.{◌≡◌, ℕ, ◌+◌, ◌^◌, ◌<◌, ◌↔�
 use Rattle.std.specs.Int.{bit_at}
 use Rattle.asg_admit.specs.Duals.{dual_bits}
 
--- the first so many bits of a word say at which of as many columns, from a first one on, a value with a base
--- more and the dual variable of the column less is less than the key; no other bit is set
+-- the first so many bits of a word say at which of as many columns, from a first one on, a value
+-- with a base more and the dual variable of the column less is less than the key; no other bit is
+-- set
 abbrev pub AreLesserBits : ℕ → List ℕ → List ℕ → List ℕ → ℕ → ℕ → ℕ → Type 0
 AreLesserBits base values columns keys first count word =
     (k : ℕ) → (bit_at word k ≡ 1)

@@ -25,15 +25,15 @@ abbrev pub sum_of_steps : List (PhaseOf ℕ) → ℕ
 sum_of_steps [] = 0
 sum_of_steps (phase ∷ rest) = sum phase.steps + sum_of_steps rest
 
--- the lists of a phase are over the rows and the columns of this side, and at each step the rows that have
--- entered and the columns that stay are one more than the side
+-- the lists of a phase are over the rows and the columns of this side, and at each step the rows
+-- that have entered and the columns that stay are one more than the side
 pub record CountsRight (side : ℕ) (phase : PhaseOf ℕ) : Type 0 where
   pub rows : length phase.enters ≡ side
   pub columns : length phase.leaves ≡ side
   pub counted : AreCounted phase.enters phase.leaves (length phase.steps)
 
--- no row's dual variable is raised by more than a column's: what the rows still fall is no less than what
--- the columns still rise
+-- no row's dual variable is raised by more than a column's: what the rows still fall is no less
+-- than what the columns still rise
 abbrev pub RaiseColumnsMore : ℕ → List (PhaseOf ℕ) → Type 0
 RaiseColumnsMore side phases =
     (r k : ℕ) → r < side → k < side → row_raise phases r ≤ column_raise phases k
@@ -78,22 +78,22 @@ AreOrdered totals =
     (r k : ℕ) → r < length totals.rows → k < length totals.rows
     → slice_index totals.rows r ≤ slice_index totals.columns k
 
--- a phase can come before those that come to the totals: it counts right, they raise no row's dual variable by
--- more than a column's, and the sum of all steps is at most the bound
+-- a phase can come before those that come to the totals: it counts right, they raise no row's dual
+-- variable by more than a column's, and the sum of all steps is at most the bound
 pub record CanPrecede (bound : ℕ) (phase : PhaseOf ℕ) (totals : Totals) : Type 0 where
   pub right : CountsRight (length totals.rows) phase
   pub ordered : AreOrdered totals
   pub few : totals.sum + sum phase.steps ≤ bound
 
--- no present cell passes the bound with the sum of all, and none ends below 0: with the number of its row it is
--- at least that of its column
+-- no present cell passes the bound with the sum of all, and none ends below 0: with the number of
+-- its row it is at least that of its column
 pub record EndsWell (bound side : ℕ) (square : ℕ → ℕ → Option ℕ) (totals : Totals) : Type 0 where
   pub room : (r k x : ℕ) → r < side → k < side → square r k ≡ Some x → x + totals.sum ≤ bound
   pub ends : (r k x : ℕ) → r < side → k < side → square r k ≡ Some x
       → slice_index totals.columns k ≤ x + slice_index totals.rows r
 
--- what totals keep: as many columns as rows, no more than the most, none greater than the sum of all, which is
--- at most the bound
+-- what totals keep: as many columns as rows, no more than the most, none greater than the sum of
+-- all, which is at most the bound
 pub record KeepsTotals (most bound : ℕ) (totals : Totals) : Type 0 where
   pub few : length totals.rows ≤ most
   pub count : length totals.columns ≡ length totals.rows
@@ -101,7 +101,8 @@ pub record KeepsTotals (most bound : ℕ) (totals : Totals) : Type 0 where
   pub columns_within : (k : ℕ) → k < length totals.rows → slice_index totals.columns k ≤ totals.sum
   pub sum_within : totals.sum ≤ bound
 
--- the answer tells whether phases are admitted in turn from a square, by sums that stop at any top from the bound on
+-- the answer tells whether phases are admitted in turn from a square, by sums that stop at any top
+-- from the bound on
 abbrev pub TellsList : ℕ → ℕ → (ℕ → ℕ → Option ℕ) → List (PhaseOf ℕ) → Bool → Type 0
 TellsList bound side square phases told =
     (top : ℕ) → bound ≤ top
@@ -113,7 +114,8 @@ IsListNearTop bound square phases =
     (bound < sum_of_steps phases)
     ⊎ ((r : ℕ) × (k : ℕ) × (x : ℕ) × (square r k ≡ Some x) × (bound < x + sum_of_steps phases))
 
--- no cell ends below 0 of the rows that phases with these totals lower, by the dual variables after them
+-- no cell ends below 0 of the rows that phases with these totals lower, by the dual variables after
+-- them
 abbrev pub EndsSegment : ℕ → (ℕ → ℕ → Option ℕ) → List ℕ → List ℕ → Totals → Type 0
 EndsSegment side square rows columns totals =
     (r k x : ℕ) → r < side → k < side → square r k ≡ Some x

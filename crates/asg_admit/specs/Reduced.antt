@@ -19,8 +19,8 @@ pub record KeepsLabels {V : Type 0} (before after : Grid V) : Type 0 where
   pub row_labels : after.row_labels ≡ before.row_labels
   pub column_labels : after.column_labels ≡ before.column_labels
 
--- what a phase makes of a reduced square: each cell is that after the phase, the index is multiplied by
--- all steps, the labels stay, and the cells and the index are values
+-- what a phase makes of a reduced square: each cell is that after the phase, the index is
+-- multiplied by all steps, the labels stay, and the cells and the index are values
 pub record IsPhaseTo {V : Type 0} (M : Monoid V) (difference : V → V → V) (phase : PhaseOf V)
     (before after : Reduced V) : Type 0 where
   pub cells : (r k : ℕ) →
@@ -29,8 +29,8 @@ pub record IsPhaseTo {V : Type 0} (M : Monoid V) (difference : V → V → V) (p
   pub labels : KeepsLabels before.now after.now
   pub reduced : IsReduced M after
 
--- what a phase that is applied in part makes of a reduced square: each cell is as it was or that after
--- the phase, the labels and the index stay, and the cells and the index are values
+-- what a phase that is applied in part makes of a reduced square: each cell is as it was or that
+-- after the phase, the labels and the index stay, and the cells and the index are values
 pub record IsPhaseInPart {V : Type 0} (M : Monoid V) (difference : V → V → V) (phase : PhaseOf V)
     (before after : Reduced V) : Type 0 where
   pub cells : (r k : ℕ) → r < before.now.side → k < before.now.side

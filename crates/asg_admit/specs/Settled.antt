@@ -1,4 +1,5 @@
--- A cell after a phase, by the step at which its row enters and the step at which its column leaves.
+-- A cell after a phase, by the step at which its row enters and the step at which its column
+-- leaves.
 use Rattle.std.specs.Prelude.{◌≡◌, ℕ, zero, suc, ◌≤◌, ◌<◌, leb, ltb, if◌then◌else◌, List, length, Option, slice_index, slice_index_or}
 use Rattle.std.specs.Option.{option_map}
 use Rattle.asg_order.specs.Monoid.{Monoid, IsLe, IsLess}
@@ -35,14 +36,15 @@ settled_at M difference phase square r k =
     (settled M difference phase.steps (slice_index phase.enters r) (slice_index phase.leaves k))
     (square r k)
 
--- the cell is at least each step at which its row has entered and its column stays, as it is by then
+-- the cell is at least each step at which its row has entered and its column stays, as it is by
+-- then
 abbrev pub AllowsSteps : {V : Type 0} → Monoid V → (V → V → V) → List V → ℕ → ℕ → V → Type 0
 AllowsSteps M difference steps enter leave x =
     (t : ℕ) → t < length steps → enter ≤ t → t < leave
     → IsLe M (step_of M steps t) (cell_after M difference (step_of M steps) enter leave x t)
 
--- some step at which the row of the cell has entered and its column stays is greater than the cell as it
--- is by then
+-- some step at which the row of the cell has entered and its column stays is greater than the cell
+-- as it is by then
 abbrev pub RefusesStep : {V : Type 0} → Monoid V → (V → V → V) → List V → ℕ → ℕ → V → Type 0
 RefusesStep M difference steps enter leave x =
     (t : ℕ) × (t < length steps) × (enter ≤ t) × (t < leave)

@@ -26,8 +26,8 @@ pub record SettlesRow {V : Type 0} (M : Monoid V) (difference : V → V → V) (
       ≡ option_map (settled M difference steps enter (slice_index leaves k)) (cell_at before row k)
   pub others : (r k : ℕ) → r ≢ row → cell_at after r k ≡ cell_at before r k
 
--- in a column that leaves at this step, the cells of rows that never enter are those after the steps, and
--- all others stay
+-- in a column that leaves at this step, the cells of rows that never enter are those after the
+-- steps, and all others stay
 pub record SettlesColumn {V : Type 0} (M : Monoid V) (difference : V → V → V) (steps : List V)
     (enters : List ℕ) (leave : ℕ) (before after : Grid V) (column : ℕ) : Type 0 where
   pub labels : KeepsLabels before after

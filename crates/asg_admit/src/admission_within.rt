@@ -19,9 +19,9 @@ use asg_square::Square;
 const MOST_WORDS: usize = 32;
 
 /// Whether a phase is admitted from the square without the cells that rows of bits don't keep: bit
-/// `c % 64` of word `c / 64` of a row says whether the cell in column `c` is kept, and each row has as
-/// many words as its columns need, row by row; where one lacks, no cell of its columns is kept. The
-/// square stays as it is. It takes no memory, and rows that never enter aren't looked at.
+/// `c % 64` of word `c / 64` of a row says whether the cell in column `c` is kept, and each row has
+/// as many words as its columns need, row by row; where one lacks, no cell of its columns is kept.
+/// The square stays as it is. It takes no memory, and rows that never enter aren't looked at.
 pub fn admits_within<M: DMonoid>(
     m: &M,
     square: &Square<M::Value>,

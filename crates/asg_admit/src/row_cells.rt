@@ -11,8 +11,8 @@ ghost use Rattle.asg_square.specs.BitTable.{word_count};
 use crate::replayed_cells::replay_cell;
 use asg_order::DMonoid;
 
-// Whether the cells of a row that enters at this step allow the steps, by their values and the words
-// that say which of them are present.
+// Whether the cells of a row that enters at this step allow the steps, by their values and the
+// words that say which of them are present.
 pub(crate) fn cells_allow<M: DMonoid>(
     m: &M,
     values: &[M::Value],

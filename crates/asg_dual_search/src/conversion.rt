@@ -51,9 +51,9 @@ pub struct Conversion {
 }
 
 impl Conversion {
-    /// The conversion of dual variables that are tight on an assignment, before its first phase: the
-    /// column of each row, by how much each row falls, and by how much each column rises. The error
-    /// is want of memory.
+    /// The conversion of dual variables that are tight on an assignment, before its first phase:
+    /// the column of each row, by how much each row falls, and by how much each column rises. The
+    /// error is want of memory.
     pub fn of(
         alloc: Global,
         columns: &[u32],

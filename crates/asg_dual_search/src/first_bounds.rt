@@ -5,9 +5,9 @@ use crate::cell_numbers::{NO_NUMBER, Numbers};
 use crate::places::put;
 use std::alloc::Global;
 
-/// A limit below which there is no assignment, with the marks that show it. The rows that enter at 0
-/// have, below the limit, columns alone that leave at 0, and are one more than these; each other row
-/// and column has the mark 1.
+/// A limit below which there is no assignment, with the marks that show it. The rows that enter at
+/// 0 have, below the limit, columns alone that leave at 0, and are one more than these; each other
+/// row and column has the mark 1.
 #[derive(Drop)]
 pub struct Bound {
     /// The limit.

@@ -1,10 +1,10 @@
 //! Searches for assignments of least sum with dual variables, and for those of least maximum.
 //!
-//! Nothing here is proved but that it is safe and ends: what is found is tested by the crates above.
-//! A square of sums is solved by the starts and shortest augmenting paths of Jonker and Volgenant, in
-//! numbers of 32 bits where they do, with rows and columns that are alike as one, and over lists of
-//! cells where few are present; its dual variables are turned into at most as many phases as the
-//! side has binary digits.
+//! Nothing here is proved but that it is safe and ends: what is found is tested by the crates
+//! above. A square of sums is solved by the starts and shortest augmenting paths of Jonker and
+//! Volgenant, in numbers of 32 bits where they do, with rows and columns that are alike as one, and
+//! over lists of cells where few are present; its dual variables are turned into at most as many
+//! phases as the side has binary digits.
 #![tactic(auto)]
 
 mod arc_bench;

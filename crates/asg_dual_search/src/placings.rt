@@ -8,8 +8,8 @@ use crate::places::{NONE, amount, at, name, put, put_amount};
 use std::alloc::Global;
 
 // The classes of the counted rows with their cells, which are 0 at rows without a class, with the
-// dual variables of classes and a number that is no less, and by how much columns that are copies of
-// none may rise.
+// dual variables of classes and a number that is no less, and by how much columns that are copies
+// of none may rise.
 #[derive(Clone, Copy)]
 pub(crate) struct Placing<'a, N: Number> {
     pub class_of: &'a [u32],

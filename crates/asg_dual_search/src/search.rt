@@ -41,8 +41,8 @@ impl Way {
     }
 }
 
-/// The search for an assignment of a square of sums, and for dual variables that are tight on it, so
-/// that no other has a lesser sum. What it finds is mostly so, but is to be tested, and where it
+/// The search for an assignment of a square of sums, and for dual variables that are tight on it,
+/// so that no other has a lesser sum. What it finds is mostly so, but is to be tested, and where it
 /// isn't so, the search goes on.
 #[derive(Drop)]
 pub struct Search<'a> {
@@ -177,8 +177,8 @@ impl<'a> Search<'a> {
         }
     }
 
-    /// What is found next; `None` where nothing more is. After at most three it is `None`. The error
-    /// is want of memory.
+    /// What is found next; `None` where nothing more is. After at most three it is `None`. The
+    /// error is want of memory.
     ///
     /// The method is that of Jonker and Volgenant [Jonker and Volgenant 1987]: column reduction,
     /// reduction transfer and augmenting row reduction give most rows a column, shortest augmenting

@@ -42,9 +42,9 @@ fn serve_all(bench: &mut Bench<i32>, table: &mut Table<i32>, bound: &mut Bound) 
 /// where there is none, and where numbers are too great. The error is want of memory.
 ///
 /// This is the bottleneck assignment problem [Fulkerson, Glicksberg and Gross 1953]. It begins at
-/// the greatest of the rows' and the columns' least numbers. Rows get columns by shortest augmenting
-/// paths [Jonker and Volgenant 1987] whose length is their greatest number, and the limit rises
-/// where a path needs more.
+/// the greatest of the rows' and the columns' least numbers. Rows get columns by shortest
+/// augmenting paths [Jonker and Volgenant 1987] whose length is their greatest number, and the
+/// limit rises where a path needs more.
 pub fn threshold_of(alloc: Global, numbers: &Numbers) -> Result<Option<Threshold>, NoMemory> {
     let extents = extents_of(alloc, numbers)?;
     let mut bound = first_bound(alloc, numbers, extents.leasts.as_slice())?;

@@ -16,8 +16,8 @@ IsAbove duals r c x = slice_index duals.falls r ≤ x + slice_index duals.rises 
 abbrev pub Reaches : List ℕ → List ℕ → ℕ → ℕ → Type 0
 Reaches values rises fall c = fall ≤ slice_index values c + slice_index rises c
 
--- the columns are a perfect assignment of the square, each present cell is at least 0 once all rows have
--- fallen and all columns have risen, and each cell of the assignment is 0 then
+-- the columns are a perfect assignment of the square, each present cell is at least 0 once all rows
+-- have fallen and all columns have risen, and each cell of the assignment is 0 then
 pub record AreTight (square : Grid ℕ) (duals : DualLists) : Type 0 where
   pub over_rows : length duals.falls ≡ square.side
   pub over_columns : length duals.rises ≡ square.side
@@ -26,8 +26,8 @@ pub record AreTight (square : Grid ℕ) (duals : DualLists) : Type 0 where
   pub tight : (r x : ℕ) → r < square.side → cell_at square r (slice_index duals.columns r) ≡ Some x
       → slice_index duals.falls r ≡ x + slice_index duals.rises (slice_index duals.columns r)
 
--- a row has the column that the rows of columns say it has, its cell there is 0, and none is below 0, once all
--- rows have fallen and all columns have risen
+-- a row has the column that the rows of columns say it has, its cell there is 0, and none is below
+-- 0, once all rows have fallen and all columns have risen
 pub record IsRowTight (square : Grid ℕ) (duals : DualLists) (row_of : List ℕ) (r : ℕ) : Type 0 where
   pub own : slice_index row_of (slice_index duals.columns r) ≡ r
   pub present : IsSome (cell_at square r (slice_index duals.columns r))

@@ -19,8 +19,8 @@ fn bound_phase<V: Copy>(alloc: Global, step: V, bound: &Bound) -> Result<Phase<V
     Ok(Phase::of(steps, enters, leaves))
 }
 
-// The least grade within which each row has a column of its own, as a bound that shows it. The error
-// is want of memory.
+// The least grade within which each row has a column of its own, as a bound that shows it. The
+// error is want of memory.
 fn grade_bound(alloc: Global, square: &Square<(u64, u128)>) -> Result<Option<Bound>, NoMemory> {
     let grades = numbers_of(alloc, square, &Grades)?;
     let Some(threshold) = threshold_of(alloc, &grades)? else {

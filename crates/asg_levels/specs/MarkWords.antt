@@ -6,8 +6,8 @@ use Rattle.asg_square.specs.BitTable.{is_bit_set}
 abbrev pub words_each : List ℕ → ℕ
 words_each outs = length outs / 64
 
--- the words of one mark after the other: the bit of a column says whether it is out of one step less than the
--- mark says
+-- the words of one mark after the other: the bit of a column says whether it is out of one step
+-- less than the mark says
 abbrev pub AreMarkWords : List ℕ → List ℕ → Type 0
 AreMarkWords outs words =
     (i k : ℕ) → i < length words → k < 64 → is_bit_set (slice_index words i) k

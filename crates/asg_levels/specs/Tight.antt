@@ -2,8 +2,8 @@
 use Rattle.std.specs.Prelude.{◌≡◌, ℕ, ◌+◌, ◌*◌, ◌<◌, ◌≤◌, ◌&&◌, ◌||◌, ◌==◌, Bool, not, List, slice_index}
 use Rattle.asg_square.specs.BitTable.{BitTable, has_bit}
 
--- a cell is 0 after steps: it was 0 and its column is out of as many of them as its row is in, or it was 1 and
--- its column is out of one less
+-- a cell is 0 after steps: it was 0 and its column is out of as many of them as its row is in, or
+-- it was 1 and its column is out of one less
 abbrev pub is_tight : BitTable → BitTable → List ℕ → List ℕ → ℕ → ℕ → Bool
 is_tight zeros ones ins outs r c =
     (has_bit zeros r c && (slice_index outs c == slice_index ins r))
@@ -15,7 +15,8 @@ tight_bit zeros ones outs ins r c =
     (has_bit zeros r c && (slice_index outs c == ins))
     || ((has_bit ones r c && not (has_bit zeros r c)) && (slice_index outs c + 1 == ins))
 
--- the bits of the first so many words of a row are those of the cells that are 0, all other bits are as before
+-- the bits of the first so many words of a row are those of the cells that are 0, all other bits
+-- are as before
 pub record TightensWords (before after zeros ones : BitTable) (outs : List ℕ) (ins row words : ℕ) : Type 0 where
   pub rows : after.rows ≡ before.rows
   pub columns : after.columns ≡ before.columns

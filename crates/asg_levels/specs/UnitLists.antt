@@ -11,7 +11,8 @@ use Rattle.asg_levels.specs.UnitSteps.{AreDuals, bit_square}
 abbrev pub square_after_units : BitTable → BitTable → List (PhaseOf Word) → ℕ → ℕ → Option ℕ
 square_after_units zeros ones words = after_phases level_sums bounded_difference (numbers_of words) (bit_square zeros ones)
 
--- the words are those of phases that are admitted in turn from the square of the bits, with their number as index
+-- the words are those of phases that are admitted in turn from the square of the bits, with their
+-- number as index
 pub record AreUnits (side : ℕ) (zeros ones : BitTable) (words : List (PhaseOf Word)) : Type 0 where
   pub plain : map (worded plain_word) (numbers_of words) ≡ words
   pub admitted : AreAdmittedPhases level_sums bounded_difference side (numbers_of words) (bit_square zeros ones)

@@ -1,4 +1,5 @@
--- Steps by 1 on a square of cells that are 0 or 1, by how many of them each row is in and each column is out of.
+-- Steps by 1 on a square of cells that are 0 or 1, by how many of them each row is in and each
+-- column is out of.
 use Rattle.std.specs.Prelude.{◌≡◌, ℕ, ◌+◌, ◌<◌, ◌≤◌, ◌||◌, ◌==◌, true, if◌then◌else◌, List, [], ◌∷◌, length, Option, Some, None, is_some, slice_index}
 use Rattle.asg_proof.specs.Phases.{PhaseOf, phase_of, entered_at, staying_at}
 use Rattle.asg_proof.specs.Steps.{count_below}
@@ -19,8 +20,9 @@ pub record IsBitSquare (side : ℕ) (bits : BitTable) : Type 0 where
 abbrev pub unit_phase : List ℕ → List ℕ → PhaseOf ℕ
 unit_phase enters leaves = phase_of (1 ∷ []) enters leaves
 
--- a cell of the square is there where one of the bits is; it is 0 or 1 by the bit, and one more for each step
--- that its column is out of, one less for each that its row is in; none is in or out of more than so many
+-- a cell of the square is there where one of the bits is; it is 0 or 1 by the bit, and one more for
+-- each step that its column is out of, one less for each that its row is in; none is in or out of
+-- more than so many
 pub record AreDuals (side count : ℕ) (zeros ones : BitTable) (ins outs : List ℕ) (square : ℕ → ℕ → Option ℕ) : Type 0 where
   pub there : (r c : ℕ) → is_some (square r c) ≡ (has_bit zeros r c || has_bit ones r c)
   pub value : (r c x : ℕ) → square r c ≡ Some x → x + slice_index ins r ≡ (if has_bit zeros r c then 0 else 1) + slice_index outs c
@@ -33,8 +35,8 @@ pub record CountsStep (side : ℕ) (enters leaves ins outs ins_after outs_after 
   pub columns : (c : ℕ) → c < side → slice_index outs_after c ≡ slice_index outs c + (if slice_index leaves c == 0 then 1 else 0)
   pub rest : (c : ℕ) → side ≤ c → slice_index outs_after c ≡ slice_index outs c
 
--- the lists are over the rows and the columns of this side, and at the first step the rows that have entered and
--- the columns that stay are one more than it
+-- the lists are over the rows and the columns of this side, and at the first step the rows that
+-- have entered and the columns that stay are one more than it
 pub record CountsRight (side : ℕ) (enters leaves : List ℕ) : Type 0 where
   pub rows : length enters ≡ side
   pub columns : length leaves ≡ side

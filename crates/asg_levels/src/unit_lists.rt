@@ -123,9 +123,9 @@ fn take_units(
 
 /// Applies phases to the square whose cells of these bits are 0 and 1, where each has one step, by
 /// 1, and is admitted after those before it: then the marks are those of the cells that are 0 after
-/// them. Otherwise, and where there are more than 2,000 phases, nothing is told, and the marks stay.
-/// The time is that of the words of the rows in each phase, and of those of all rows at the end.
-/// The error is want of memory.
+/// them. Otherwise, and where there are more than 2,000 phases, nothing is told, and the marks
+/// stay. The time is that of the words of the rows in each phase, and of those of all rows at the
+/// end. The error is want of memory.
 pub fn apply_units(
     alloc: Global,
     side: u32,

@@ -1,4 +1,5 @@
--- From one cost to the next: what is marked is what is left without the costs that were gone through.
+-- From one cost to the next: what is marked is what is left without the costs that were gone
+-- through.
 use Rattle.std.proofs.Common.{◌≡◌, ◌≢◌, ℕ, zero, suc, ◌+◌, ◌<◌, ◌≤◌, Bool, true, false, cond, not, ◌&&◌, List, length, Option, Some, None, refl, sym, ◌∙◌, ap, subst, arith, ℤ, pos, ◌+ℤ◌, ⊎_elim}
 use Rattle.std.specs.Prelude.{IfSome, nat_lt, ◌==◌, int_lt, int_le, unsigned_abs}
 use Rattle.std.specs.Option.{option_map, option_map_or}

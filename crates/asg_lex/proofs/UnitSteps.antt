@@ -1,4 +1,5 @@
--- A step by 1 over the rows of a stuck tree is admitted; marks of the cells that are 0, and matched cells, after it.
+-- A step by 1 over the rows of a stuck tree is admitted; marks of the cells that are 0, and matched
+-- cells, after it.
 use Rattle.std.proofs.Common.{◌≡◌, ◌≢◌, ◌↔◌, ℕ, zero, suc, ◌+◌, ◌<◌, Bool, true, false, not, List, length, get_or, Option, Some, refl, sym, ◌∙◌, ap, subst, arith, is_some, leb, ltb}
 use Rattle.std.specs.Prelude.{All, AllPairs, Contains, nat_le}
 use Rattle.std.specs.Option.{option_map}

@@ -20,8 +20,8 @@ first_square work = bit_square work.zeros work.ones
 abbrev pub square_now : Work → ℕ → ℕ → Option ℕ
 square_now work = after_phases level_sums bounded_difference (numbers_of work.phases.items) (first_square work)
 
--- phases of one step by 1 so far, admitted in turn from the square of the level, with their number as index;
--- the counts and the marks are those of the square that they leave
+-- phases of one step by 1 so far, admitted in turn from the square of the level, with their number
+-- as index; the counts and the marks are those of the square that they leave
 pub record IsUnderway (side : ℕ) (work : Work) : Type 0 where
   pub few : side ≤ most_side
   pub zeros : IsBitSquare side work.zeros
@@ -61,13 +61,14 @@ pub record AreSized (side : ℕ) (work : Work) : Type 0 where
   pub ins : length work.ins.items ≡ side
   pub outs : length work.outs.items ≡ 64 * word_count side
 
--- the cells of the entries from one place to another are no longer marked, and all others are as before
+-- the cells of the entries from one place to another are no longer marked, and all others are as
+-- before
 abbrev pub LeavesOut : ℕ → BitTable → BitTable → List Entry → ℕ → ℕ → Type 0
 LeavesOut side before after entries from to =
     (r c : ℕ) → IsMarked after side r c ↔ (IsMarked before side r c × (IsNamed entries from to r c → ⊥))
 
--- phases were taken at the cost of the entries from one place to another: their cells were 1, those of all
--- others that were marked 0
+-- phases were taken at the cost of the entries from one place to another: their cells were 1, those
+-- of all others that were marked 0
 pub record TakesLevel (side : ℕ) (before after : Work) (entries : List Entry) (from to : ℕ) : Type 0 where
   pub underway : IsUnderway side after
   pub some : 0 < length after.phases.items

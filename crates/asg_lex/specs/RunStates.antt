@@ -26,7 +26,8 @@ pub record IsRun (X : Problem) (limit : ℕ) (entries : List Entry) (bound to : 
   pub tree_side : run.tree.side ≡ square_side X
   pub perfect : IsPerfect (IsMarked run.work.marks.bits run.work.marks.side) (square_side X) run.matching
 
--- a level of this cost with the phases of the work was added, and nothing else of the work changed but the phases
+-- a level of this cost with the phases of the work was added, and nothing else of the work changed
+-- but the phases
 pub record AddsLevel (before after : Work) (levels longer : List Level) (cost : ℤ) : Type 0 where
   pub level : Level
   pub pushed : longer ≡ levels ++ level ∷ []

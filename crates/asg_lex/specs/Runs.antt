@@ -21,8 +21,8 @@ before_of levels = last_cost None levels
 abbrev pub left_of : Problem → List Level → ℕ → ℕ → Bool
 left_of X levels = left_so_far X None (has_cell X Whole) levels
 
--- the levels so far are proved; what is marked is what is left after them without the costs from the bound
--- on that come after the last one's
+-- the levels so far are proved; what is marked is what is left after them without the costs from
+-- the bound on that come after the last one's
 pub record AreMarksOf (X : Problem) (side bound : ℕ) (levels : List Level) (marks : BitTable) : Type 0 where
   pub proved : AreProvedLevels X levels
   pub present : (r c : ℕ) → left_of X levels r c ≡ true → has_cell X Whole r c ≡ true

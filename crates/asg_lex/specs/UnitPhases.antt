@@ -3,8 +3,8 @@ use Rattle.std.specs.Prelude.{◌≡◌, ◌↔◌, ℕ, ◌<◌, List, length, 
 use Rattle.asg_match.specs.Matching.{Matches}
 use Rattle.asg_match.specs.Deficient.{IsColumnOf}
 
--- the rows that enter at the step are those of the list, the columns that left before it those that these
--- rows are matched with
+-- the rows that enter at the step are those of the list, the columns that left before it those that
+-- these rows are matched with
 pub record SplitsTree (side : ℕ) (matching : List (Option ℕ)) (rows enters leaves : List ℕ) : Type 0 where
   pub row_count : length enters ≡ side
   pub column_count : length leaves ≡ side

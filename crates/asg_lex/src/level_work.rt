@@ -31,7 +31,8 @@ pub(crate) struct Work {
     pub(crate) phases: Vec<WrittenPhase>,
 }
 
-// A step by 1 over the rows of a stuck tree and all columns but theirs. The error is want of memory.
+// A step by 1 over the rows of a stuck tree and all columns but theirs. The error is want of
+// memory.
 fn step(
     alloc: Global,
     work: &mut Work,

@@ -172,16 +172,16 @@ fn outcome(alloc: Global, inst: &Instance) -> Result<Outcome, NoMemory>
 }
 
 /// A best choice for the lexicographic objective, whose dearest cost is as small as possible, then
-/// the next, and so on, with levels that prove it: at most 200 phases in all, each of one step by 1.
-/// Where no choice is valid, a Hall set of the whole instance. The side of the instance's square is
-/// at most 2,000. The errors: the instance has more than 200 rows, or want of memory.
+/// the next, and so on, with levels that prove it: at most 200 phases in all, each of one step by
+/// 1. Where no choice is valid, a Hall set of the whole instance. The side of the instance's square
+/// is at most 2,000. The errors: the instance has more than 200 rows, or want of memory.
 ///
 /// The walk goes from the value of the bottleneck problem down (the lexicographic bottleneck
 /// problem, [Burkard and Rendl 1991]). The cells of a cost leave where a perfect matching is left
 /// without them; else as many of them are needed as there are steps by 1 over stuck alternating
 /// trees until a perfect matching by cells of 0 is found, where those of the cost began at 1. There
-/// are as many such steps as rows choose. Each of them, and each row whose cell leaves, takes a tree
-/// over rows of bits.
+/// are as many such steps as rows choose. Each of them, and each row whose cell leaves, takes a
+/// tree over rows of bits.
 pub fn lexicographic(alloc: Global, inst: &Instance) -> Result<Outcome, LexRefusal>
     requires { square_side inst.now ≤ most_side }
     ensures outcome { IfOk result (IsOutcome Lex inst.now) }

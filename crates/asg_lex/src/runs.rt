@@ -132,7 +132,8 @@ fn write_columns(inst: &Instance, cells: &LiveCells<'_>, run: &Run, perm: &mut [
     run.matching.copy_columns(perm);
 }
 
-/// The columns of a perfect assignment by what is left after all costs. The error is want of memory.
+/// The columns of a perfect assignment by what is left after all costs. The error is want of
+/// memory.
 pub(crate) fn left_columns(
     alloc: Global,
     inst: &Instance,

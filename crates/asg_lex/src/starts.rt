@@ -62,8 +62,8 @@ pub(crate) fn cells_under(
     Ok(Marks { side, bits })
 }
 
-/// A perfect matching by the cells under a limit, under which a valid choice lies. The error is want
-/// of memory.
+/// A perfect matching by the cells under a limit, under which a valid choice lies. The error is
+/// want of memory.
 pub(crate) fn matched(
     alloc: Global,
     inst: &Instance,

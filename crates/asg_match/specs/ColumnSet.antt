@@ -12,7 +12,8 @@ pub record IsColumnSet (side : ℕ) (words : List ℕ) : Type 0 where
   pub count : length words ≡ word_count side
   pub below : (i k : ℕ) → HasBit (slice_index words i) k → 64 * i + k < side
 
--- the bits of a word for the columns from 64 times its number on that are among others and allowed to row r
+-- the bits of a word for the columns from 64 times its number on that are among others and allowed
+-- to row r
 abbrev pub AreAmong : (ℕ → ℕ → Type 0) → ℕ → ℕ → ℕ → ℕ → Type 0
 AreAmong allows r number columns word =
     (k : ℕ) → HasBit word k ↔ (HasBit columns k × allows r (64 * number + k))

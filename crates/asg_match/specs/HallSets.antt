@@ -11,8 +11,8 @@ use Rattle.asg_square.specs.Presence.{has_cell}
 abbrev pub AllowsCells : (ℕ → ℕ → Type 0) → Problem → Band → Type 0
 AllowsCells allows X band = (r c : ℕ) → allows r c ↔ IsTrue (has_cell X band r c)
 
--- the ids are a Hall set, under the band, of each instance with the rows, the columns and the place rule
--- of X whose square, under the band, has exactly the allowed cells
+-- the ids are a Hall set, under the band, of each instance with the rows, the columns and the place
+-- rule of X whose square, under the band, has exactly the allowed cells
 abbrev pub GivesHallSets : Problem → (ℕ → ℕ → Type 0) → List ℕ → Type 0
 GivesHallSets X allows ids =
     (Y : Problem) (band : Band) → Y.rows ≡ X.rows → Y.columns ≡ X.columns → Y.place ≡ X.place → AllowsCells allows Y band → IsHall Y band ids

@@ -36,8 +36,8 @@ counted count part = record {
   Has = λ members. (length members ≡ count) × All part.Has members;
 }
 
--- a part that can be read in one way: some value has a text, no text begins with another's, and no line
--- holds LF
+-- a part that can be read in one way: some value has a text, no text begins with another's, and no
+-- line holds LF
 pub record IsReadable {A : Type 0} (part : Part A) : Type 0 where
   pub some : A
   pub has : part.Has some

@@ -7,8 +7,8 @@ use Rattle.asg_parts.specs.declared.faults.Fault.TheVariants.{Refused}
 use Rattle.asg_parts.specs.declared.faults.Refusal.{Refusal}
 use Rattle.asg_parts.specs.Parts.{Part}
 
--- reading stops before `rest`: the lines read begin a text, hold no whole one, and no text goes on with
--- the next line
+-- reading stops before `rest`: the lines read begin a text, hold no whole one, and no text goes on
+-- with the next line
 pub record Stops {A : Type 0} (part : Part A) (old rest : List (List ℕ)) : Type 0 where
   pub good : List (List ℕ)
   pub split : old ≡ good ++ rest
@@ -45,8 +45,8 @@ ReadsOrFails part old new (Err fault) = Halts part old new fault
 abbrev pub Calls : Type 0 → Type 0 → Type 1
 Calls F A = Once F (Bor (List ℕ) × Unit {0}) (Option A)
 
--- the next line has the front, the function gives this of what follows it, and the lines after it are
--- left
+-- the next line has the front, the function gives this of what follows it, and the lines after it
+-- are left
 pub record TakesLine {F A : Type 0} (calls : Calls F A) (spelled : F)
     (front : List ℕ) (old new : List (List ℕ)) (a : A) : Type 0 where
   pub text : List ℕ

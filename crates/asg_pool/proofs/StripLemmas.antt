@@ -10,7 +10,8 @@ module _ {T : Type 0} where
   pub rows_count : (used : ℕ) (lists : List (Vec T Global)) → used ≤ length lists → length (rows_of used lists) ≡ used
   rows_count used lists there = length-map (take used lists) (λ list. list.items) ∙ length-take-le used lists there
 
-  -- a list that is written is the row at its place, and the list next after the last row comes in use
+  -- a list that is written is the row at its place, and the list next after the last row comes in
+  -- use
   pub rows_put : (lists : List (Vec T Global)) (used k : ℕ) (list : Vec T Global) → k ≤ used → k < length lists
       → rows_of (max used (suc k)) (set lists k list) ≡ with_row (rows_of used lists) k list.items
   rows_put [] used k list near below = absurd (omega arith)

@@ -8,8 +8,8 @@ pub record Branch (V : Type 0) : Type 0 where
   pub parent : Option ℕ
   pub phases : List (PhaseOf V)
 
--- a region: its side, for how many trails there is memory, and for each number the trail that has it, if it
--- is live
+-- a region: its side, for how many trails there is memory, and for each number the trail that has
+-- it, if it is live
 pub record Forest (V : Type 0) : Type 0 where
   pub side : ℕ
   pub spare : ℕ

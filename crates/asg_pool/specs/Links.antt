@@ -2,7 +2,8 @@
 use Rattle.std.specs.Prelude.{◌≡◌, ◌≢◌, ℕ, ◌+◌, ◌-◌, ◌<◌, ◌≤◌, List, length, All, AllPairs, Option, None, slice_index_or}
 use Rattle.asg_pool.specs.declared.links.Link.{Link}
 
--- for how many records there is memory, how many that were freed are free still, and what each record has
+-- for how many records there is memory, how many that were freed are free still, and what each
+-- record has
 pub record Table : Type 0 where
   pub room : ℕ
   pub vacant : ℕ
@@ -16,7 +17,8 @@ link_at slots k = slice_index_or slots k None
 abbrev pub spare_of : Table → ℕ
 spare_of L = L.vacant + (L.room - length L.slots)
 
--- rooms are below this, so that the number of each record and the length of each list fit in 32 bits
+-- rooms are below this, so that the number of each record and the length of each list fit in 32
+-- bits
 abbrev pub most_room : ℕ
 most_room = 4294967294
 

@@ -1,4 +1,5 @@
--- Phases of sums that are cut: the last phase loses its last steps, and the last of those left is lessened.
+-- Phases of sums that are cut: the last phase loses its last steps, and the last of those left is
+-- lessened.
 use Rattle.std.proofs.Common.{◌≡◌, ℕ, zero, suc, ◌+◌, ◌<◌, ◌≤◌, Bool, List, [], ◌∷◌, ◌++◌, length, take, get_or, Option, refl, sym, ◌∙◌, ap, subst, arith, ⊎_elim}
 use Rattle.std.proofs.lemmas.Bool.{cases_lt, leb-true, le-leb}
 use Rattle.std.proofs.lemmas.List.{get_or_append_left, get_or-take, get_or-append-add, length-take}

@@ -1,5 +1,5 @@
--- Phases that are admitted where sums stop at a top, and whose index is at most a lesser one, are admitted
--- where sums stop at that.
+-- Phases that are admitted where sums stop at a top, and whose index is at most a lesser one, are
+-- admitted where sums stop at that.
 use Rattle.std.proofs.Common.{◌≡◌, ℕ, zero, suc, ◌+◌, ◌<◌, ◌≤◌, ◌⊎◌, Bool, true, false, min, List, [], ◌∷◌, length, map, take, get_or, Option, Some, inl, inr, refl, ◌∙◌, ap, subst, arith, ⊎_elim}
 use Rattle.std.specs.Option.{option_map}
 use Rattle.std.specs.List.{sum}

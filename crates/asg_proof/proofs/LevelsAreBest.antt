@@ -1,5 +1,5 @@
--- A valid choice that levels prove leaves no better choice: along the levels the assignment of a better one
--- would have to lie in what is left, down to the first cost that it has less often.
+-- A valid choice that levels prove leaves no better choice: along the levels the assignment of a
+-- better one would have to lie in what is left, down to the first cost that it has less often.
 use Rattle.std.proofs.Common.{◌≡◌, ◌↔◌, ℕ, zero, suc, ◌+◌, ◌<◌, ◌≤◌, ◌^◌, min, Bool, true, false, cond, not, ◌&&◌, List, [], ◌∷◌, length, map, get_or, Option, Some, None, refl, sym, ◌∙◌, ap, subst, arith, is_some, unwrap_or, ℤ, ◌<ℤ◌, ◌≤ℤ◌, ⊎_elim}
 use Rattle.std.specs.Prelude.{IsSome, IfSome, count_by, sum, sum_by, nat_lt, nat_le, int_lt, option_and_then, IsPermutation}
 use Rattle.std.specs.List.{range_with_len}
@@ -195,7 +195,8 @@ module _ (numbers : HasSquareLaw ℕ) (bools : HasSquareLaw Bool)
     passes_if : (passes : ℤ → Bool) (o : Option Cost) (cost : Cost) → o ≡ Some cost → passes cost.a ≡ true → option_map_or (λ c. passes c.a) o false ≡ true
     passes_if passes o cost e h = ap (λ o. option_map_or (λ (c : Cost). passes c.a) o false) e ∙ h
 
-    -- what is left without the costs that pass has none of an assignment's cells where such a cost is counted
+    -- what is left without the costs that pass has none of an assignment's cells where such a cost
+    -- is counted
     none_counted : (passes : ℤ → Bool) (left : ℕ → ℕ → Bool) (p : List ℕ) (z : ℤ) → IsPerm p → IsIn (without X passes left) (square_side X) p → passes z ≡ true → 1 ≤ count_of p z → ⊥
     none_counted passes left p z a inside is some =
         let found = given_where_counted z (chosen_cost X (choice_of X p)) (range_with_len 0 (length (choice_of X p))) some in
@@ -332,14 +333,15 @@ module _ (numbers : HasSquareLaw ℕ) (bools : HasSquareLaw Bool)
     less_than : {n m count : ℕ} → n < m → m ≡ count → count ≤ n → ⊥
     less_than h e k = omega (arith, h, e, k)
 
-    -- the numbers of which an assignment has none, since they have no level and it lies in what is left
+    -- the numbers of which an assignment has none, since they have no level and it lies in what is
+    -- left
     no_level : (before : Option ℤ) (left : ℕ → ℕ → Bool) (level : Level) (rest : List Level) (p : List ℕ) → IsPerm p → IsIn (left_last X (Some level.cost) (left_after X before left level) rest) (square_side X) p → (z : ℤ) → is_between before level.cost z ≡ true → count_of p z ≡ 0
     no_level before left level rest p a inside z between =
         zero_unless (count_of p z)
         (none_counted (is_between before level.cost) left p z a (IsIn-after before left level p (IsIn-last rest (Some level.cost) (left_after X before left level) p inside)) between)
 
-    -- no assignment within what is left has fewer of a cost than the proved one, and equally many of each
-    -- greater one
+    -- no assignment within what is left has fewer of a cost than the proved one, and equally many
+    -- of each greater one
     pub none_fewer : (levels : List Level) (before : Option ℤ) (left : ℕ → ℕ → Bool) (p q : List ℕ) (z : ℤ) → IsPerm p → IsPerm q → AreLevelsFrom X p before left levels → IsIn (left_last X before left levels) (square_side X) p → IsIn left (square_side X) q → is_after before z ≡ true → count_of q z < count_of p z → ((w : ℤ) → z <ℤ w → count_of q w ≡ count_of p w) → ⊥
     none_fewer [] before left p q z ap aq hold last inside falls fewer same =
         none_counted (is_after before) left p z ap last falls (omega (arith, fewer))
@@ -449,7 +451,8 @@ module _ (numbers : IsSquaredFor ℕ) (bools : IsSquaredFor Bool)
     all_pass [] = refl
     all_pass (x ∷ xs) = let more = sum_by-cons (λ (y : ℤ). cond {A = ℕ} (is_after None y) 1 0) x xs in omega (arith, more, all_pass xs)
 
-    -- levels with an assignment that is left in the end count as many cells as the place rule places rows
+    -- levels with an assignment that is left in the end count as many cells as the place rule
+    -- places rows
     pub total_placed : (perm : List ℕ) (levels : List Level) → AreLevels X perm levels → IsLeftAssignment X perm levels → sum_by (λ level. level.count) levels ≡ placed X
     total_placed perm levels hold assignment =
         let left = left_last X None (has_cell X Whole) levels in

@@ -1,5 +1,5 @@
--- Answers of a search tree are a ranking by an objective whose order the monoid keeps, and each is best
--- among the choices that those before it left.
+-- Answers of a search tree are a ranking by an objective whose order the monoid keeps, and each is
+-- best among the choices that those before it left.
 use Rattle.std.proofs.Common.{◌≡◌, ◌↔◌, ℕ, zero, suc, ◌+◌, ◌-◌, ◌<◌, ◌≤◌, ◌⊎◌, Bool, true, false, List, [], length, get_or, Option, sym, ◌∙◌, ap, subst, arith, ⊎_elim}
 use Rattle.std.specs.Prelude.{All, Contains}
 use Rattle.std.proofs.lemmas.Bool.{false≢true, cases_Bool, cases_lt}

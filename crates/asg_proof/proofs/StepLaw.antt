@@ -97,7 +97,8 @@ module _ {V : Type 0} (M : Monoid V) (laws : IsOrderedMonoid M) (difference : V 
       exchanged M laws y (power_of M c n) rest vy (power_is_value M laws c n vc) vr
       ∙ ap (λ m. M.product (power_of M c m) (M.product y rest)) none
 
-  -- where values are c times others at so many rows, and equal to them at the rest, so is the product
+  -- where values are c times others at so many rows, and equal to them at the rest, so is the
+  -- product
   fold-weighed : (c : V) (w : ℕ → Bool) (f y : ℕ → V) → IsValue M c → (rows : List ℕ) → All (λ r. IsWeighed (w r) c (f r) (y r)) rows → fold_of M (map f rows) ≡ M.product (power_of M c (count_by w rows)) (fold_of M (map y rows))
   fold-weighed c w f y vc [] all = sym (laws.unit_neutral M.unit laws.unit_is_value)
   fold-weighed c w f y vc (r ∷ rows) all =

@@ -36,7 +36,8 @@ module _ (low high : ℕ) (le : low ≤ high) (word_of : ℕ → Word) (enter : 
   marked_by_top X answers nodes n Open marked = words_by_top _ _ marked
   marked_by_top X answers nodes n (Empty rows) marked = marked
 
-  -- a search tree by the lesser top is one by the greater, where the last answer's product is the same
+  -- a search tree by the lesser top is one by the greater, where the last answer's product is the
+  -- same
   pub IsSearchTree-by_top : (X : Problem) (count : ℕ) (answers : List (List (Option ℕ))) (nodes : List Node) → choice_fold (bounded_sums high) enter X (last_answer answers) ≡ choice_fold (bounded_sums low) enter X (last_answer answers) → IsSearchTree (bounded_sums low) bounded_difference word_of enter X count answers nodes → IsSearchTree (bounded_sums high) bounded_difference word_of enter X count answers nodes
   unfolding words_by_top
   IsSearchTree-by_top X count answers nodes same tree = record {

@@ -1,4 +1,5 @@
--- A search tree for the costs `1 2 / 4 3`, each entered with 1000000000 added: two answers were asked for.
+-- A search tree for the costs `1 2 / 4 3`, each entered with 1000000000 added: two answers were
+-- asked for.
 use Rattle.std.proofs.Common.{◌≡◌, ℕ, ◌+◌, ◌<◌, ◌≤◌, Bool, true, false, cond, ◌&&◌, zero, suc, List, [], ◌∷◌, Option, Some, None, refl, sym, subst, ap, ◌∙◌, arith}
 use Rattle.std.specs.Prelude.{nat_le, map, slice_index_or, slice_get, count_by, All, AllPairs, IsTrue, IsSome, ◌≢◌}
 use Rattle.std.specs.Option.{option_map_or}

@@ -31,7 +31,7 @@ abbrev pub is_kept : Problem → List (Option ℕ) → ℕ → ℕ × ℕ → Bo
 is_kept X f branch place =
     if is_active X place.0 then is_kept_at branch (row_number X place.0) (is_chosen f place) else true
 
--- the child of an instance by a choice and a branch: of its active rows in order, those before number
--- `branch` keep only the choice's cell, and number `branch` loses it
+-- the child of an instance by a choice and a branch: of its active rows in order, those before
+-- number `branch` keep only the choice's cell, and number `branch` loses it
 abbrev pub child : Problem → List (Option ℕ) → ℕ → Problem
 child X f branch = retained X (is_kept X f branch)

@@ -1,5 +1,5 @@
--- What a search keeps while it ranks: the valid choices that it didn't give stand in open parts that have
--- none in common.
+-- What a search keeps while it ranks: the valid choices that it didn't give stand in open parts
+-- that have none in common.
 use Rattle.std.specs.Prelude.{◌≡◌, ◌≢◌, ◌⊎◌, ℕ, ◌+◌, ◌≤◌, Bool, IsTrue, Option, List, Contains}
 use Rattle.asg_model.specs.Counts.{placed}
 use Rattle.asg_model.specs.Problem.{Problem}
@@ -7,8 +7,8 @@ use Rattle.asg_model.specs.ValidChoice.{IsValid}
 use Rattle.asg_order.specs.Monoid.{Monoid, IsLe}
 use Rattle.asg_proof.specs.Children.{child}
 
--- each valid choice was given or is valid in an open part, and none is in two of them, or in one where it was
--- given; what is valid in a part is valid
+-- each valid choice was given or is valid in an open part, and none is in two of them, or in one
+-- where it was given; what is valid in a part is valid
 pub record IsFrontier (X : Problem) (given : List (List (Option ℕ))) (is_open : ℕ → Bool)
     (part : ℕ → Problem) : Type 0 where
   pub whole : (g : List (Option ℕ)) → IsValid X g
@@ -18,8 +18,8 @@ pub record IsFrontier (X : Problem) (given : List (List (Option ℕ))) (is_open 
       → IsValid (part n) g → IsValid (part m) g → n ≡ m
   pub fresh : (g : List (Option ℕ)) (n : ℕ) → IsTrue (is_open n) → IsValid (part n) g → ¬ Contains given g
 
--- of the parts up to number `last` part n is no longer open, and its children by f stand after them: each is
--- open or empty
+-- of the parts up to number `last` part n is no longer open, and its children by f stand after
+-- them: each is open or empty
 pub record Splits (is_open is_open_now : ℕ → Bool) (part part_now : ℕ → Problem) (last n : ℕ)
     (f : List (Option ℕ)) : Type 0 where
   pub upto : (m : ℕ) → IsTrue (is_open m) → m ≤ last
@@ -31,7 +31,8 @@ pub record Splits (is_open is_open_now : ℕ → Bool) (part part_now : ℕ → 
   pub only : (m : ℕ) → IsTrue (is_open_now m)
       → (IsTrue (is_open m) × (m ≢ n)) ⊎ ((i : ℕ) × (1 ≤ i) × (i ≤ placed (part n)) × (m ≡ last + i))
 
--- each valid choice of an open part is worth at least the part's bound, and that of part n is the least
+-- each valid choice of an open part is worth at least the part's bound, and that of part n is the
+-- least
 pub record IsLeastPart {V : Type 0} (M : Monoid V) (worth : List (Option ℕ) → V) (is_open : ℕ → Bool)
     (part : ℕ → Problem) (bound : ℕ → V) (n : ℕ) : Type 0 where
   pub there : IsTrue (is_open n)

@@ -1,4 +1,5 @@
--- The plain square of the amounts of a graded one at a grade, and phases of amounts as phases of that grade.
+-- The plain square of the amounts of a graded one at a grade, and phases of amounts as phases of
+-- that grade.
 use Rattle.std.specs.Prelude.{◌≡◌, ℕ, ◌+◌, ◌≤◌, true, [], ◌∷◌, length, ◌<◌, nat_lt, if◌then◌else◌, All, List, Option, Some, None}
 use Rattle.asg_proof.specs.Phases.{PhaseOf, worded, phase_of, entered_at, staying_at}
 use Rattle.asg_proof.specs.Steps.{count_below}
@@ -32,8 +33,8 @@ HasPositiveSteps phase = All (λ c. 0 < c) phase.steps
 abbrev pub rise_phase : ℕ → List ℕ → List ℕ → PhaseOf (ℕ × ℕ)
 rise_phase g enters leaves = phase_of ((g, 0) ∷ []) enters leaves
 
--- the rows that enter at once and the columns that don't leave at once are one more than the side, and no
--- cell of both is of a lower grade
+-- the rows that enter at once and the columns that don't leave at once are one more than the side,
+-- and no cell of both is of a lower grade
 pub record IsRisePhase (g side : ℕ) (enters leaves : List ℕ) (square : ℕ → ℕ → Option (ℕ × ℕ)) : Type 0 where
   pub rows : length enters ≡ side
   pub columns : length leaves ≡ side

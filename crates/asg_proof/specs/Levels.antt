@@ -1,4 +1,5 @@
--- Levels: costs from the greatest down, for each how many cells of it are needed, and phases that prove it.
+-- Levels: costs from the greatest down, for each how many cells of it are needed, and phases that
+-- prove it.
 use Rattle.std.specs.Prelude.{◌≡◌, ℕ, ◌≤◌, ◌^◌, ◌==◌, ℤ, ◌<ℤ◌, Bool, true, false, not, ◌&&◌, int_lt, if◌then◌else◌, Option, Some, None, List, [], ◌∷◌, length, map, sum_by}
 use Rattle.std.specs.Ordering.{int_eq}
 use Rattle.std.specs.Option.{option_map_or}
@@ -51,8 +52,8 @@ is_after (Some before) cost = int_lt cost before
 abbrev pub is_between : Option ℤ → ℤ → ℤ → Bool
 is_between before next cost = is_after before cost && int_lt next cost
 
--- what is left for a level: the costs between that of the level before and its own have no level, so their
--- cells have left
+-- what is left for a level: the costs between that of the level before and its own have no level,
+-- so their cells have left
 abbrev pub left_for : Problem → Option ℤ → (ℕ → ℕ → Bool) → Level → ℕ → ℕ → Bool
 left_for X before left level = without X (is_between before level.cost) left
 
@@ -69,8 +70,8 @@ abbrev pub left_after : Problem → Option ℤ → (ℕ → ℕ → Bool) → Le
 left_after X before left level r c =
     is_zero (after_phases level_sums bounded_difference (numbers_of level.phases) (level_square X (left_for X before left level) level.cost) r c)
 
--- a level after another, if there is one: its cost is less, its count at least 1, and its phases are
--- admitted in turn from its square, with its count as their index
+-- a level after another, if there is one: its cost is less, its count at least 1, and its phases
+-- are admitted in turn from its square, with its count as their index
 pub record IsProvedLevel (X : Problem) (before : Option ℤ) (left : ℕ → ℕ → Bool) (level : Level) : Type 0 where
   pub falls : is_after before level.cost ≡ true
   pub some : 1 ≤ level.count
@@ -114,8 +115,9 @@ abbrev pub IsLeftAssignment : Problem → List ℕ → List Level → Type 0
 IsLeftAssignment X perm levels =
     IsAssignment (restricted (left_last X None (has_cell X Whole) levels) (square_cell X false (λ cost. true))) (square_side X) perm
 
--- the levels prove a choice: it is that of a perfect assignment by cells that are left in the end, of which
--- each level has as many of its cost as it says; they count as many cells as the place rule places rows
+-- the levels prove a choice: it is that of a perfect assignment by cells that are left in the end,
+-- of which each level has as many of its cost as it says; they count as many cells as the place
+-- rule places rows
 pub record ProvesLevels (X : Problem) (choice : List (Option ℕ)) (perm : List ℕ) (levels : List Level) : Type 0 where
   pub levels_hold : AreLevels X perm levels
   pub assignment : IsLeftAssignment X perm levels

@@ -8,8 +8,8 @@ use Rattle.asg_proof.specs.Children.{is_kept}
 abbrev pub masked : {V : Type 0} → (ℕ → ℕ → Bool) → (ℕ → ℕ → Option V) → ℕ → ℕ → Option V
 masked keep square r k = if keep r k then square r k else None
 
--- a branch keeps the cell of a row of the square that stands for an active row and a column that is a copy
--- of a column, as it keeps that cell of the instance; all other cells stay
+-- a branch keeps the cell of a row of the square that stands for an active row and a column that is
+-- a copy of a column, as it keeps that cell of the instance; all other cells stay
 abbrev pub keeps_labelled : Problem → List (Option ℕ) → ℕ → Option ℕ → Option ℕ → Bool
 keeps_labelled X f branch (Some r) (Some d) = is_kept X f branch (r, d)
 keeps_labelled X f branch _ _ = true

@@ -12,8 +12,8 @@ IsMarkPart (Answered a) = a < 2 ^ 32
 IsMarkPart Open = ⊤
 IsMarkPart (Empty rows) = AreIds rows
 
--- what a node keeps: a parent and a branch below 2^32, a mark that keeps its part, and phases that keep
--- theirs
+-- what a node keeps: a parent and a branch below 2^32, a mark that keeps its part, and phases that
+-- keep theirs
 pub record IsNodePart (node : Node) : Type 0 where
   pub parent_fits : node.parent < 2 ^ 32
   pub branch_fits : node.branch < 2 ^ 32

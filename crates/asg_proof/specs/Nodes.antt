@@ -38,11 +38,13 @@ instance_within X answers nodes (suc steps) n =
     if nat_le n 1 then X
     else child (instance_within X answers nodes steps (node_at nodes n).parent) (node_answer answers nodes (node_at nodes n).parent) (node_at nodes n).branch
 
--- the instance for which node number n stands; a parent's number is smaller, so n steps lead to the root
+-- the instance for which node number n stands; a parent's number is smaller, so n steps lead to the
+-- root
 abbrev pub node_instance : Problem → List (List (Option ℕ)) → List Node → ℕ → Problem
 node_instance X answers nodes n = instance_within X answers nodes n n
 
--- the trail of node number n, that many parents up at most: the parent's trail, and then its own phases
+-- the trail of node number n, that many parents up at most: the parent's trail, and then its own
+-- phases
 abbrev pub trail_within : List Node → ℕ → ℕ → List (PhaseOf Word)
 trail_within nodes zero n = []
 trail_within nodes (suc steps) n =

@@ -1,4 +1,5 @@
--- What solvers promise of their proofs: threshold proofs, how many windows, how many phases, how many levels.
+-- What solvers promise of their proofs: threshold proofs, how many windows, how many phases, how
+-- many levels.
 use Rattle.std.specs.Prelude.{◌≡◌, ℕ, ◌<◌, ◌≤◌, List, [], ◌∷◌, length, All, sum_by}
 use Rattle.asg_proof.specs.declared.outcomes.Outcome.{Outcome}
 use Rattle.asg_proof.specs.declared.outcomes.Outcome.TheVariants.{Best, Nothing}

@@ -30,8 +30,8 @@ takes objective (Below rows) = is_bottleneck objective
 takes objective (Windows windows) = is_spread_objective objective
 takes objective (Levels perm levels) = is_rank_objective objective
 
--- the proof proves that no valid choice is better than this one: phases prove its fold, `below` is a
--- threshold proof of its value, windows prove its spread, and levels prove it by an assignment
+-- the proof proves that no valid choice is better than this one: phases prove its fold, `below` is
+-- a threshold proof of its value, windows prove its spread, and levels prove it by an assignment
 abbrev pub Proves : Objective → Problem → List (Option ℕ) → Proof → Type 0
 Proves objective X choice (Phases words) = ProvesPhases objective X choice words
 Proves objective X choice (Below rows) =

@@ -12,8 +12,8 @@ use Rattle.asg_proof.specs.SearchTrees.{last_answer}
 abbrev pub IsBetterChoice : Objective → Problem → List (Option ℕ) → List (Option ℕ) → Type 0
 IsBetterChoice objective X f g = IsBetter objective (choice_value objective X f) (choice_value objective X g)
 
--- answers that may be listed: at least one, at most as many as were asked for, different, and none better than the
--- one before it
+-- answers that may be listed: at least one, at most as many as were asked for, different, and none
+-- better than the one before it
 pub record AreListed (objective : Objective) (X : Problem) (count : ℕ) (answers : List (List (Option ℕ)))
     : Type 0 where
   pub some : 1 ≤ length answers
@@ -22,9 +22,9 @@ pub record AreListed (objective : Objective) (X : Problem) (count : ℕ) (answer
   pub in_order : (a : ℕ) → 1 ≤ a → a < length answers
       → ¬ IsBetterChoice objective X (answer_at answers (a + 1)) (answer_at answers a)
 
--- a ranking of the valid choices: answers that may be listed, all valid; where as many are
--- listed as were asked for, no valid choice that isn't listed is better than the last; where fewer are, each valid
--- choice is listed
+-- a ranking of the valid choices: answers that may be listed, all valid; where as many are listed
+-- as were asked for, no valid choice that isn't listed is better than the last; where fewer are,
+-- each valid choice is listed
 pub record IsRanking (objective : Objective) (X : Problem) (count : ℕ) (answers : List (List (Option ℕ)))
     : Type 0 where
   pub listed : AreListed objective X count answers

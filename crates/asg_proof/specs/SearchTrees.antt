@@ -41,8 +41,8 @@ abbrev pub child_count : List Node → ℕ → ℕ → ℕ
 child_count nodes parent branch =
     count_by (λ node. (node.parent == parent) && (node.branch == branch)) nodes
 
--- node number n has answer a: one of the answers, that of no node before it and valid for its instance;
--- and each branch has one node
+-- node number n has answer a: one of the answers, that of no node before it and valid for its
+-- instance; and each branch has one node
 pub record HasAnswer (X : Problem) (answers : List (List (Option ℕ)))
     (nodes : List Node) (n a : ℕ) : Type 0 where
   pub from : 1 ≤ a
@@ -51,8 +51,8 @@ pub record HasAnswer (X : Problem) (answers : List (List (Option ℕ)))
   pub valid : IsValid (node_instance X answers nodes n) (answer_at answers a)
   pub branches : (i : ℕ) → 1 ≤ i → i ≤ placed X → child_count nodes n i ≡ 1
 
--- the words of a trail are those of phases of values that are admitted in turn from the square of an
--- instance
+-- the words of a trail are those of phases of values that are admitted in turn from the square of
+-- an instance
 pub record AreAdmittedWords {V : Type 0} (M : Monoid V) (difference : V → V → V) (word_of : V → Word)
     (enter : Cost → V) (Y : Problem) (words : List (PhaseOf Word)) : Type 0 where
   pub phases : List (PhaseOf V)
@@ -65,8 +65,8 @@ abbrev pub HasTrail : {V : Type 0} → Monoid V → (V → V → V) → (V → W
 HasTrail M difference word_of enter X answers nodes n =
     AreAdmittedWords M difference word_of enter (node_instance X answers nodes n) (node_trail nodes n)
 
--- what its mark asks of node number n: of an answered node the answer and the trail, of an open one the
--- trail, of an empty one a Hall set of its instance and no phases
+-- what its mark asks of node number n: of an answered node the answer and the trail, of an open one
+-- the trail, of an empty one a Hall set of its instance and no phases
 abbrev pub IsMarked : {V : Type 0} → Monoid V → (V → V → V) → (V → Word) → (Cost → V)
     → Problem → List (List (Option ℕ)) → List Node → ℕ → Mark → Type 0
 IsMarked M difference word_of enter X answers nodes n (Answered a) =
@@ -102,8 +102,8 @@ pub record IsGiven (nodes : List Node) (a : ℕ) : Type 0 where
   pub there : IsNumber nodes node
   pub marked : (node_at nodes node).mark ≡ Answered a
 
--- the nodes are a search tree of the answers: there is a root, each node is as it must be, each answer
--- has a node, and no node is open that may not be
+-- the nodes are a search tree of the answers: there is a root, each node is as it must be, each
+-- answer has a node, and no node is open that may not be
 pub record IsSearchTree {V : Type 0} (M : Monoid V) (difference : V → V → V) (word_of : V → Word)
     (enter : Cost → V) (X : Problem) (count : ℕ) (answers : List (List (Option ℕ))) (nodes : List Node)
     : Type 0 where

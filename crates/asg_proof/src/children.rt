@@ -10,10 +10,10 @@ use crate::NoMemory;
 use asg_model::{Choice, Instance};
 use std::alloc::Global;
 
-/// The child of an instance by a choice and a branch, which is 1 up to the number of active rows: of
-/// these rows in order, those before the one of that number keep the choice's cell alone, and that one
-/// loses it. The valid choices of all children are those of the instance other than the choice, each
-/// in one child [Murty 1968]. The error is want of memory.
+/// The child of an instance by a choice and a branch, which is 1 up to the number of active rows:
+/// of these rows in order, those before the one of that number keep the choice's cell alone, and
+/// that one loses it. The valid choices of all children are those of the instance other than the
+/// choice, each in one child [Murty 1968]. The error is want of memory.
 pub fn child(
     alloc: Global,
     inst: &Instance,

@@ -222,8 +222,8 @@ pub fn tops_law()
         → ProvesFold (bounded_sums high) bounded_difference word_of enter X choice words }
 {}
 
-/// The law of lesser lists: where one sorted list is less than another, it has fewer of some number, and
-/// equally many of each greater one.
+/// The law of lesser lists: where one sorted list is less than another, it has fewer of some
+/// number, and equally many of each greater one.
 pub fn lesser_list_law()
     ensures { (xs ys : List ℤ) → IsLessList (descending xs) (descending ys)
         → (z : ℤ) × (count_by (λ x. int_eq x z) xs < count_by (λ x. int_eq x z) ys)

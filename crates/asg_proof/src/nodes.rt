@@ -18,8 +18,8 @@ pub enum Mark {
     Empty(Ids),
 }
 
-/// A node of a search tree: the number of its parent and its branch, both 0 at the root, what became
-/// of it, and the phases that its trail has beyond its parent's.
+/// A node of a search tree: the number of its parent and its branch, both 0 at the root, what
+/// became of it, and the phases that its trail has beyond its parent's.
 #[derive(Debug, Drop)]
 pub struct Node {
     pub parent: u32,
@@ -28,8 +28,8 @@ pub struct Node {
     pub own: Phases,
 }
 
-/// The nodes of a search tree in the order of their numbers, which count from 1: the root first, and
-/// each parent before its children.
+/// The nodes of a search tree in the order of their numbers, which count from 1: the root first,
+/// and each parent before its children.
 #[derive(Debug, Drop)]
 pub struct Nodes {
     items: Vec<Node>,

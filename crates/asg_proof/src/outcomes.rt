@@ -19,8 +19,9 @@ pub enum Proof {
     /// For `balanced`: windows whose rows are Hall sets of their bands, and of which, where the
     /// value d is above 0, for each cost v of a live cell one holds the costs from v to v + d - 1.
     Windows(Windows),
-    /// For `lex`: a perfect assignment of the square, as the column of each row, and levels that say how
-    /// many of its cells have which cost, from the greatest cost down, with what proves each count.
+    /// For `lex`: a perfect assignment of the square, as the column of each row, and levels that
+    /// say how many of its cells have which cost, from the greatest cost down, with what proves
+    /// each count.
     Levels { perm: Columns, levels: Levels },
 }
 

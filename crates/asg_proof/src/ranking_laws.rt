@@ -31,8 +31,8 @@ use asg_model::laws::infeasible_law;
 use asg_order::{DMonoid, Kind, Written};
 use asg_square::laws::square_law;
 
-/// The partition law: where all rows are placed, the valid choices of an instance other than a valid
-/// one are those of its children, each in exactly one child.
+/// The partition law: where all rows are placed, the valid choices of an instance other than a
+/// valid one are those of its children, each in exactly one child.
 pub fn partition_law()
     ensures within { (X : Problem) (f g : List (Option ℕ)) (branch : ℕ)
         → IsValid (child X f branch) g → IsValid X g }
@@ -57,9 +57,9 @@ pub fn child_raised_law<M: DMonoid>(m: &M)
         → IsRaised (M.monoid_of m.now) enter X (child X f branch) }
 {}
 
-/// The law of search trees: where the nodes are a search tree of answers, each answer is valid, and each
-/// valid choice is an answer, or as many answers are listed as were asked for and the product of the
-/// last one is at most its product.
+/// The law of search trees: where the nodes are a search tree of answers, each answer is valid, and
+/// each valid choice is an answer, or as many answers are listed as were asked for and the product
+/// of the last one is at most its product.
 pub fn search_tree_law<M: Written>(m: &M)
     ensures valid { let monoid = M.monoid_of m.now in
         (enter : Cost → M.Value) (X : Problem) (count : ℕ) (answers : List (List (Option ℕ)))
@@ -80,8 +80,8 @@ pub fn search_tree_law<M: Written>(m: &M)
     lower_bound_law(m);
 }
 
-/// The ranking law: listed answers of a search tree are a ranking by the kind's objective, and each is
-/// best among the valid choices that those before it left.
+/// The ranking law: listed answers of a search tree are a ranking by the kind's objective, and each
+/// is best among the valid choices that those before it left.
 pub fn ranking_law<K: Kind>(kind: &K)
     ensures ranking { (X : Problem) (count : ℕ) (answers : List (List (Option ℕ)))
         (nodes : List Node)
@@ -104,8 +104,8 @@ pub fn ranking_law<K: Kind>(kind: &K)
     search_tree_law(kind.monoid());
 }
 
-/// The law of masks: the square of a child after phases is that of its instance after them, without the
-/// cells that the branch takes out. So a child needs no square of its own.
+/// The law of masks: the square of a child after phases is that of its instance after them, without
+/// the cells that the branch takes out. So a child needs no square of its own.
 pub fn mask_law<M: DMonoid>(m: &M)
     ensures { let monoid = M.monoid_of m.now in
         (enter : Cost → M.Value) (X : Problem) (f : List (Option ℕ)) (branch : ℕ)
@@ -116,9 +116,9 @@ pub fn mask_law<M: DMonoid>(m: &M)
         (square_cell X monoid.unit enter)) }
 {}
 
-/// The frontier law: where a part of a frontier gives a choice and its children take its place, open or
-/// empty, there is a frontier again; and a choice of the least part that is worth the part's bound is new
-/// and best of those that weren't given.
+/// The frontier law: where a part of a frontier gives a choice and its children take its place,
+/// open or empty, there is a frontier again; and a choice of the least part that is worth the
+/// part's bound is new and best of those that weren't given.
 pub fn frontier_law<M: DMonoid>(m: &M)
     ensures after { (X : Problem) (given : List (List (Option ℕ))) (is_open is_open_now : ℕ → Bool)
         (part part_now : ℕ → Problem) (last n : ℕ) (f : List (Option ℕ))
@@ -136,8 +136,9 @@ pub fn frontier_law<M: DMonoid>(m: &M)
         → IsValid X g → ¬ Contains given g → IsLe monoid (worth f) (worth g) }
 {}
 
-/// The law of proved rankings: listed answers whose nodes are a search tree in the monoid of an algebraic
-/// objective are a ranking, and each is best among the valid choices that those before it left.
+/// The law of proved rankings: listed answers whose nodes are a search tree in the monoid of an
+/// algebraic objective are a ranking, and each is best among the valid choices that those before it
+/// left.
 pub fn proved_ranking_law()
     ensures ranking { (objective : Objective) (X : Problem) (count : ℕ) (answers : List (List (Option ℕ)))
         (nodes : List Node)
@@ -150,8 +151,9 @@ pub fn proved_ranking_law()
     square_law::<(u64, u128)>();
 }
 
-/// The law of nodes: what is X at the root, and below it the child of what it is at the parent, is the
-/// instance of each node; and the trail of a node below the root is its parent's, and then its own phases.
+/// The law of nodes: what is X at the root, and below it the child of what it is at the parent, is
+/// the instance of each node; and the trail of a node below the root is its parent's, and then its
+/// own phases.
 pub fn node_law()
     ensures instances { (X : Problem) (answers : List (List (Option ℕ))) (nodes : List Node)
         (part : ℕ → Problem)
@@ -166,8 +168,8 @@ pub fn node_law()
         → node_trail nodes n ≡ node_trail nodes (node_at nodes n).parent ++ (node_at nodes n).own }
 {}
 
-/// The tops law of search trees: nodes that are a search tree where sums stop at a top are one where they
-/// stop at a greater top, if the product of the last answer is the same.
+/// The tops law of search trees: nodes that are a search tree where sums stop at a top are one
+/// where they stop at a greater top, if the product of the last answer is the same.
 pub fn tree_tops_law()
     ensures { (low high : ℕ) (word_of : ℕ → Word) (enter : Cost → ℕ) (X : Problem) (count : ℕ)
         (answers : List (List (Option ℕ))) (nodes : List Node)

@@ -6,7 +6,8 @@ use Rattle.asg_proof.specs.Phases.{PhaseOf}
 abbrev pub steps_between : {V : Type 0} → ℕ → ℕ → List V → List V
 steps_between from to steps = drop from (take to steps)
 
--- the marks, where steps are counted from a place on; those before it are at the first of these steps
+-- the marks, where steps are counted from a place on; those before it are at the first of these
+-- steps
 abbrev pub counted_from : ℕ → List ℕ → List ℕ
 counted_from from marks = map (λ mark. mark - from) marks
 

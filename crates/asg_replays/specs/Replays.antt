@@ -29,7 +29,8 @@ pub record IsReplayed {V : Type 0} (M : Monoid V) (difference : V → V → V) (
   pub first : IsAdmittedFrom M difference word_of before.now.side (cell_at before.now) words
   pub leads : IsPhaseTo M difference first.phase before after
 
--- the words are those of phases that are admitted in turn, and lead from one reduced square to another
+-- the words are those of phases that are admitted in turn, and lead from one reduced square to
+-- another
 pub record AreReplayed {V : Type 0} (M : Monoid V) (difference : V → V → V) (word_of : V → Word)
     (words : List (PhaseOf Word)) (before after : Reduced V) : Type 0 where
   pub phases : List (PhaseOf V)
@@ -54,8 +55,8 @@ LeadOn {V} M difference word_of words others before after =
     (start : Reduced V) → IsReduced M start → AreReplayed M difference word_of words start before
     → AreReplayed M difference word_of others start after
 
--- from each square from which the first so many phases lead to the reduced square, the first bad one has
--- this place
+-- from each square from which the first so many phases lead to the reduced square, the first bad
+-- one has this place
 abbrev pub IsBadFrom : {V : Type 0} → Monoid V → (V → V → V) → (V → Word) → List (PhaseOf Word) → ℕ
     → Reduced V → ℕ → Type 0
 IsBadFrom {V} M difference word_of words from before place =

@@ -42,7 +42,8 @@ module _ (p : ℕ → Bool) where
       let cut : drop (position_or_len p text) text ≡ get_or text (position_or_len p text) 0 ∷ drop (suc (position_or_len p text)) text = drop-cons text (position_or_len p text) 0 within in
       ap (λ s. filled (slice_split p s)) cut ∙ filled_behind (get_or text (position_or_len p text) 0) (drop (suc (position_or_len p text)) text) (passes_at_first p text 0 within) ∙ ap (λ i. filled (slice_split p (drop i text))) (sym (add-one (position_or_len p text)))
 
-  -- the pieces of a text are what stands before its first separator, and those of the rest from it on
+  -- the pieces of a text are what stands before its first separator, and those of the rest from it
+  -- on
   filled_first : (text : List ℕ) → filled (slice_split p text) ≡ filled (take (position_or_len p text) text ∷ []) ++ filled (slice_split p (drop (position_or_len p text) text))
   filled_first text =
       ⊎_elim

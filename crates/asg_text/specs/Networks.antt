@@ -1,4 +1,5 @@
--- What is kept of the lines of an asn file: words of the reader, on which `reading_of` doesn't stand.
+-- What is kept of the lines of an asn file: words of the reader, on which `reading_of` doesn't
+-- stand.
 use Rattle.std.specs.Prelude.{◌≡◌, ℕ, ◌≤◌, ◌+◌, Bool, true, false, if◌then◌else◌, ◌==◌, ◌&&◌, nat_eq, ℤ, Option, Some, List, [], ◌∷◌, ◌++◌, length, All, map}
 use Rattle.std.specs.List.{flat_map, list_any, IsDistinct}
 use Rattle.asg_model.specs.ValueRange.{IsPartInRange}
@@ -88,15 +89,15 @@ TakesLine number line old new =
     (before : List Line) → IsNetworkOf before old → number ≡ length before + 1
     → IsNetworkOf (before ++ line ∷ []) new
 
--- a line with a number is refused: behind all lines that are kept its earliest fault is the one that
--- is told
+-- a line with a number is refused: behind all lines that are kept its earliest fault is the one
+-- that is told
 abbrev pub RefusesOwn : ℕ → Line → Network → TextRefusal → Type 0
 RefusesOwn number line old refusal =
     (before : List Line) → IsNetworkOf before old
     → IsEarliest (faults_of_line before number line) refusal
 
--- a line with a number is refused with all lines that are kept: their earliest fault is the one that
--- is told
+-- a line with a number is refused with all lines that are kept: their earliest fault is the one
+-- that is told
 abbrev pub RefusesLine : ℕ → Line → Network → TextRefusal → Type 0
 RefusesLine number line old refusal =
     (before : List Line) → IsNetworkOf before old → number ≡ length before + 1

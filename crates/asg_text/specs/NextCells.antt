@@ -22,8 +22,8 @@ pub record IsShortInteger (text : List ℕ) (value : ℤ) (rest : List ℕ) : Ty
   pub spells : integer_of word ≡ Some value
   pub in_range : unsigned_abs value ≤ most_cost
 
--- a text begins with decimal digits, which spell this amount, which is in range, and this is the text
--- behind them
+-- a text begins with decimal digits, which spell this amount, which is in range, and this is the
+-- text behind them
 pub record IsShortAmount (text : List ℕ) (amount : ℤ) (rest : List ℕ) : Type 0 where
   pub digits : List ℕ
   pub cut : text ≡ digits ++ rest
@@ -38,8 +38,8 @@ pub record IsBehindSpace (text : List ℕ) (rest : List ℕ) : Type 0 where
   pub cut : text ≡ separator ∷ rest
   pub separates : is_space separator ≡ true
 
--- the first token of a text is a cell without a fault at this place, of this cost, or absent, and this
--- is the text behind it
+-- the first token of a text is a cell without a fault at this place, of this cost, or absent, and
+-- this is the text behind it
 pub record IsCell (place : ℕ) (text : List ℕ) (cost : Option Cost) (rest : List ℕ) : Type 0 where
   pub token : List ℕ
   pub first : tokens text ≡ token ∷ tokens rest

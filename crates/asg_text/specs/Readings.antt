@@ -15,8 +15,8 @@ pub data Reading : Type 0 where
   Spells : (X : Problem) → Reading
   Refuses : (fault : Fault) → Reading
 
--- the reading of a text with these faults, the earliest first: it is refused for the first of them, or
--- spells the instance where there is none
+-- the reading of a text with these faults, the earliest first: it is refused for the first of them,
+-- or spells the instance where there is none
 abbrev pub reading_with : List Fault → Problem → Reading
 reading_with [] X = Spells X
 reading_with (fault ∷ more) X = Refuses fault
@@ -34,8 +34,8 @@ row_of id = record { id = id; active = true }
 abbrev pub column_of : ℕ → Column
 column_of id = record { id = id; cap = 1; usable = true }
 
--- the cells of a table of so many columns that has these costs row by row, absent ones left out: place
--- k is that of row k / m and column k % m
+-- the cells of a table of so many columns that has these costs row by row, absent ones left out:
+-- place k is that of row k / m and column k % m
 unfoldable pub cells_of_rows : ℕ → List (Option Cost) → List ((ℕ × ℕ) × Cost)
 cells_of_rows m costs =
     filter_map (λ entry. option_map (λ cost. ((entry.0 / m, entry.0 % m), cost)) entry.1)

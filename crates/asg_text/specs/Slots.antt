@@ -1,4 +1,5 @@
--- Costs as they stand in a table: words of the reader of tables, on which `reading_of` doesn't stand.
+-- Costs as they stand in a table: words of the reader of tables, on which `reading_of` doesn't
+-- stand.
 use Rattle.std.specs.Prelude.{◌≡◌, ◌≢◌, ◌⊎◌, ℕ, ◌<◌, ◌≤◌, ℤ, pos, if◌then◌else◌, List, [], length, drop, take, Option, Some, None, IfSome, All, slice_index_or, slice_get}
 use Rattle.std.specs.Ordering.{int_eq}
 use Rattle.asg_model.specs.declared.parts.Cost.{Cost}
@@ -38,8 +39,8 @@ pub record PutsSecond (place : ℕ) (second : ℤ) (old new : List ℤ) : Type 0
   pub here : slice_index_or new place (pos 0) ≡ second
   pub others : (k : ℕ) → k ≢ place → slice_index_or new k (pos 0) ≡ slice_index_or old k (pos 0)
 
--- the first i of all tokens are cells without a fault, the first of which stands at a place, and the
--- parts of their costs stand in a table; these tokens are left
+-- the first i of all tokens are cells without a fault, the first of which stands at a place, and
+-- the parts of their costs stand in a table; these tokens are left
 pub record AreRead (place : ℕ) (all left : List (List ℕ)) (i : ℕ) (firsts seconds : List ℤ)
     : Type 0 where
   pub within : i ≤ length all

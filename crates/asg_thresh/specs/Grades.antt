@@ -1,5 +1,5 @@
--- Grades: whole numbers in place of costs, less for a better cost, so that one search serves both bottleneck
--- objectives. A square of grades is listed row by row.
+-- Grades: whole numbers in place of costs, less for a better cost, so that one search serves both
+-- bottleneck objectives. A square of grades is listed row by row.
 use Rattle.std.specs.Prelude.{◌≡◌, ℕ, pos, ◌+ℤ◌, ◌-ℤ◌, ◌+◌, ◌*◌, ◌<◌, ◌≤◌, Option, Some, None, List, length, slice_index, slice_index_or, unsigned_abs}
 use Rattle.std.specs.Option.{unwrap_or}
 use Rattle.asg_model.specs.declared.objectives.Objective.{Objective}
@@ -46,8 +46,8 @@ pub record Grades (Q after : Grid ℕ) (first end : ℕ) : Type 0 where
   pub before : (k : ℕ) → k < first → slice_index_or after.cells k None ≡ slice_index_or Q.cells k None
   pub past : (k : ℕ) → end ≤ k → slice_index_or after.cells k None ≡ slice_index_or Q.cells k None
 
--- the square has the grades of the cells of an instance's square, and the grade of no cell where that has none;
--- `cells` are those of the instance's square
+-- the square has the grades of the cells of an instance's square, and the grade of no cell where
+-- that has none; `cells` are those of the instance's square
 pub record IsGradedSquareOf (X : Problem) (objective : Objective) (Q : Grid ℕ) : Type 0 where
   pub cells : List (Option ℕ)
   pub square : IsSquareOf X free_grade (grade_of objective) (record Q { cells = cells })

@@ -9,8 +9,8 @@ pub record IsAssignmentUpTo (grades : List ℕ) (side limit : ℕ) (perm : List 
   pub apart : AllPairs ◌≢◌ perm
   pub cells : (r : ℕ) → r < side → IsUpTo grades side limit r (slice_index perm r)
 
--- the list assigns each row within the upper limit, where that is a grade of cells, and the rows are
--- deficient under the lower one
+-- the list assigns each row within the upper limit, where that is a grade of cells, and the rows
+-- are deficient under the lower one
 pub record IsBracket (grades : List ℕ) (side low high : ℕ) (perm rows : List ℕ) : Type 0 where
   pub assignment : high < no_grade → IsAssignmentUpTo grades side high perm
   pub deficient : IsDeficient (IsUnder grades side low) side rows

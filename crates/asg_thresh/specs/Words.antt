@@ -14,7 +14,8 @@ abbrev pub AreBitsUpTo : List ℕ → ℕ → ℕ → ℕ → Type 0
 AreBitsUpTo grades count limit word =
     (k : ℕ) → HasBit word k ↔ ((k < count) × (slice_index grades k ≤ limit))
 
--- the bits of a word by its place among all words: those of the cells with a grade of at most the limit
+-- the bits of a word by its place among all words: those of the cells with a grade of at most the
+-- limit
 pub record IsWordUpTo (grades : List ℕ) (side limit place word : ℕ) : Type 0 where
   pub bits : (k : ℕ) → HasBit word k ↔ ((k < min 64 (side - 64 * (place % word_count side))) × (grade_at grades side (place / word_count side) (64 * (place % word_count side) + k) ≤ limit))
 

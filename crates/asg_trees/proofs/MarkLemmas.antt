@@ -1,4 +1,5 @@
--- What is judged of a node by its mark, on the kept cells of its parent's square, is what is asked of it.
+-- What is judged of a node by its mark, on the kept cells of its parent's square, is what is asked
+-- of it.
 use Rattle.std.proofs.Common.{◌≡◌, ℕ, ◌-◌, ◌≤◌, List, [], ◌++◌, length, Option, Some, None, refl, sym, ap, subst, ◌∙◌, arith, is_some}
 use Rattle.std.proofs.lemmas.List.Elements.{All-get_or}
 use Rattle.asg_model.specs.declared.bands.Band.TheVariants.{Whole}

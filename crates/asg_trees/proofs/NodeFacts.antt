@@ -1,4 +1,5 @@
--- What the instance of a node has of the whole one: labels, numbers, counted rows, and valid choices.
+-- What the instance of a node has of the whole one: labels, numbers, counted rows, and valid
+-- choices.
 use Rattle.std.proofs.Common.{◌≡◌, ℕ, ◌+◌, ◌<◌, ◌≤◌, Bool, true, false, ◌&&◌, cond, List, length, Option, Some, None, refl, sym, ap, subst, ◌∙◌, arith, is_some, get_or, ⊎_elim}
 use Rattle.std.specs.Prelude.{IsSome, nat_lt}
 use Rattle.std.specs.Option.{option_map_or}

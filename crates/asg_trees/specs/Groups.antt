@@ -24,7 +24,8 @@ pub record IsNextWith (keys : List ℕ) (key after next : ℕ) : Type 0 where
   pub same : next ≢ 0 → key_at keys next ≡ key
   pub between : next ≢ 0 → (j : ℕ) → after < j → j < next → key_at keys j ≢ key
 
--- of the numbers above one, the first of each key up to a count, and behind each number the next of its key
+-- of the numbers above one, the first of each key up to a count, and behind each number the next of
+-- its key
 pub record AreGroupsAbove (keys : List ℕ) (count above : ℕ) (first next : List ℕ) : Type 0 where
   pub first_count : length first ≡ count + 1
   pub next_count : length next ≡ length keys + 1

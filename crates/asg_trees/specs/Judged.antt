@@ -1,5 +1,5 @@
--- What is found of a tree: the least node at fault, an answer without a node, the least node that is open and
--- may not be, or that it is a search tree.
+-- What is found of a tree: the least node at fault, an answer without a node, the least node that
+-- is open and may not be, or that it is a search tree.
 use Rattle.std.specs.Prelude.{ℕ, ◌<◌, ◌≤◌, nat_le, if◌then◌else◌, Option, Some, None, List, length}
 use Rattle.asg_model.specs.declared.objectives.Objective.{Objective}
 use Rattle.asg_model.specs.declared.parts.Cost.{Cost}
@@ -25,9 +25,9 @@ AreSound M difference word_of enter X answers nodes =
 abbrev pub AreGiven : List (List (Option ℕ)) → List Node → Type 0
 AreGiven answers nodes = (a : ℕ) → 1 ≤ a → a ≤ length answers → IsGiven nodes a
 
--- a verdict tells exactly what is the matter with nodes: the least one that is at fault; where none is, whether
--- some answer has no node; where each has one, the least node that is open and may not be; and where none is,
--- that they are a search tree
+-- a verdict tells exactly what is the matter with nodes: the least one that is at fault; where none
+-- is, whether some answer has no node; where each has one, the least node that is open and may not
+-- be; and where none is, that they are a search tree
 abbrev pub TellsTree : {V : Type 0} → Monoid V → (V → V → V) → (V → Word) → (Cost → V) → Problem → ℕ
     → List (List (Option ℕ)) → List Node → TreeVerdict → Type 0
 TellsTree M difference word_of enter X count answers nodes (FaultAt n) =
@@ -54,8 +54,8 @@ pub record IsLacking (answers : List (List (Option ℕ))) (nodes : List Node) (a
   pub upto : a ≤ length answers
   pub none : ¬ IsGiven nodes a
 
--- the verdict on a tree of so many nodes, none of which is at fault, by an answer that has no node, if there is
--- one, and by the least node that is open and may not be
+-- the verdict on a tree of so many nodes, none of which is at fault, by an answer that has no node,
+-- if there is one, and by the least node that is open and may not be
 abbrev pub conclusion_sound : ℕ → ℕ → Option ℕ → TreeVerdict
 conclusion_sound left nodes (Some a) = NodeLacks
 conclusion_sound left nodes None = if nat_le left nodes then OpenAt left else Tree

@@ -11,8 +11,8 @@ use Rattle.asg_admit.specs.Reduced.{KeepsLabels}
 use Rattle.asg_proof.specs.Children.{is_kept_at, row_number}
 use Rattle.asg_proof.specs.Masks.{keeps_cell}
 
--- a branch keeps the cell of an active row, by its number and by what the choice gives it, in a column with
--- this label
+-- a branch keeps the cell of an active row, by its number and by what the choice gives it, in a
+-- column with this label
 abbrev pub keeps_label : ℕ → ℕ → Option ℕ → Option ℕ → Bool
 keeps_label branch number chosen None = true
 keeps_label branch number chosen (Some d) = is_kept_at branch number (takes d chosen)
@@ -32,7 +32,8 @@ pub record KeepsOtherRows (X : Problem) (bits : BitTable) : Type 0 where
   pub size : HasSize (square_side X) bits
   pub each : (r k : ℕ) → r < square_side X → k < square_side X → is_active X r ≢ true → IsTrue (has_bit bits r k)
 
--- the bits of one row are those that a branch keeps, by the labels of the columns; all others are as before
+-- the bits of one row are those that a branch keeps, by the labels of the columns; all others are
+-- as before
 pub record MarksRow (labels : List (Option ℕ)) (side branch number : ℕ) (chosen : Option ℕ) (row : ℕ)
     (before after : BitTable) : Type 0 where
   pub size : HasSize side after
@@ -45,8 +46,8 @@ pub record IsNumbered (X : Problem) (from to r : ℕ) : Type 0 where
   pub least : from ≤ row_number X r
   pub most : row_number X r ≤ to
 
--- the bits of a row, if it is active and has one of these numbers, are those that a branch keeps; all others are as
--- before
+-- the bits of a row, if it is active and has one of these numbers, are those that a branch keeps;
+-- all others are as before
 pub record MarksNumbered (X : Problem) (f labels : List (Option ℕ)) (side branch from to row : ℕ)
     (before after : BitTable) : Type 0 where
   pub size : HasSize side after
@@ -54,8 +55,8 @@ pub record MarksNumbered (X : Problem) (f labels : List (Option ℕ)) (side bran
       → has_bit after row k ≡ keeps_label branch (row_number X row) (slice_index_or f row None) (slice_index_or labels k None)
   pub others : (r k : ℕ) → (r ≢ row) ⊎ (IsNumbered X from to row → ⊥) → has_bit after r k ≡ has_bit before r k
 
--- of the first so many rows the bits of those with these numbers are those that a branch keeps; all others are
--- as before
+-- of the first so many rows the bits of those with these numbers are those that a branch keeps; all
+-- others are as before
 pub record MarksRows (X : Problem) (f labels : List (Option ℕ)) (side branch from to rows : ℕ)
     (before after : BitTable) : Type 0 where
   pub size : HasSize side after
@@ -74,7 +75,8 @@ pub record HasKept {V : Type 0} (Q : Grid V) (bits : List ℕ) (r d : ℕ) : Typ
 abbrev pub ChoosesKept : {V : Type 0} → Grid V → List ℕ → List (Option ℕ) → Type 0
 ChoosesKept Q bits f = (r d : ℕ) → Chooses f r d → HasKept Q bits r d
 
--- of the first so many cells of a row those are taken out whose bits aren't set, and all others stay
+-- of the first so many cells of a row those are taken out whose bits aren't set, and all others
+-- stay
 pub record TakesOutRow {V : Type 0} (bits : BitTable) (row columns : ℕ) (before after : Grid V) : Type 0 where
   pub labels : KeepsLabels before after
   pub taken : (k : ℕ) → k < columns → cell_at after row k ≡ (if has_bit bits row k then cell_at before row k else None)

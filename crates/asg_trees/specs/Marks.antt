@@ -1,4 +1,5 @@
--- What is judged of a node by its mark, on the square of its parent and the cells that its branch keeps.
+-- What is judged of a node by its mark, on the square of its parent and the cells that its branch
+-- keeps.
 use Rattle.std.specs.Prelude.{◌≡◌, ◌≢◌, ℕ, ◌<◌, ◌≤◌, Bool, Option, Some, None, List, [], length, is_some}
 use Rattle.asg_model.specs.Counts.{placed}
 use Rattle.asg_model.specs.Problem.{Problem}
@@ -21,8 +22,8 @@ use Rattle.asg_trees.specs.declared.verdicts.Judgement.TheVariants.{AtFault, Lef
 use Rattle.asg_trees.specs.Kept.{ChoosesKept}
 use Rattle.asg_trees.specs.Trees.{TreeOf}
 
--- node number n has an answer of its own, one of so many, that no node before it has, and each of so many
--- branches has one node
+-- node number n has an answer of its own, one of so many, that no node before it has, and each of
+-- so many branches has one node
 pub record HasOwnAnswer (answers k : ℕ) (nodes : List Node) (n a : ℕ) : Type 0 where
   pub from : 1 ≤ a
   pub upto : a ≤ answers
@@ -87,8 +88,8 @@ JudgesOther Holds AtFault = ¬ Holds
 JudgesOther Holds LeftOpen = ⊥
 JudgesOther Holds Fine = Holds
 
--- a judgement of a node with this mark tells whether what the mark asks holds, and, where it is open, whether
--- it may be
+-- a judgement of a node with this mark tells whether what the mark asks holds, and, where it is
+-- open, whether it may be
 abbrev pub JudgesMark : {V : Type 0} → Monoid V → (V → V → V) → (V → Word) → Problem → List (List (Option ℕ))
     → List Node → Option V → Grid V → BitTable → V → ℕ → Mark → Judgement → Type 0
 JudgesMark M difference word_of X answers nodes last Q kept before n (Answered a) judgement =

@@ -1,4 +1,5 @@
--- What is known of a tree so far: the least node at fault, and the least that is open and may not be.
+-- What is known of a tree so far: the least node at fault, and the least that is open and may not
+-- be.
 use Rattle.std.specs.Prelude.{◌≡◌, ◌⊎◌, ℕ, ◌+◌, ◌<◌, ◌≤◌, ◌==◌, min, if◌then◌else◌, List, length}
 use Rattle.asg_model.specs.Counts.{placed}
 use Rattle.asg_proof.specs.declared.nodes.Node.{Node}
@@ -15,8 +16,8 @@ Judges T count n AtFault = ¬ IsSound T n
 Judges T count n LeftOpen = IsSound T n × IsOpenWrongly T count n
 Judges T count n Fine = IsSound T n × MayBeOpen T count n
 
--- the nodes that were judged: the root, those that name a parent before this one, and of those that name it
--- the ones before a number
+-- the nodes that were judged: the root, those that name a parent before this one, and of those that
+-- name it the ones before a number
 abbrev pub IsJudged : List Node → ℕ → ℕ → ℕ → Type 0
 IsJudged nodes parent before n =
     (n ≡ 1) ⊎ ((node_at nodes n).parent < parent) ⊎ (((node_at nodes n).parent ≡ parent) × (n < before))
@@ -36,8 +37,8 @@ pub record IsTalliedBy {V : Type 0} (T : TreeOf V) (count : ℕ) (Judged : ℕ �
   pub left_open : tally.left ≤ length T.nodes → IsOpenWrongly T count tally.left
   pub stay : (n : ℕ) → 1 ≤ n → n < tally.fault → n < tally.left → Judged n → MayBeOpen T count n
 
--- the same of the root, of the nodes that name a parent before this one, and of those that name it before a
--- number
+-- the same of the root, of the nodes that name a parent before this one, and of those that name it
+-- before a number
 abbrev pub IsTallied : {V : Type 0} → TreeOf V → ℕ → ℕ → ℕ → Tally → Type 0
 IsTallied T count parent before tally = IsTalliedBy T count (IsJudged T.nodes parent before) tally
 
@@ -61,6 +62,7 @@ pub record IsWholeTally {V : Type 0} (T : TreeOf V) (count : ℕ) (tally : Tally
   pub left_open : tally.left ≤ length T.nodes → IsOpenWrongly T count tally.left
   pub stay : (n : ℕ) → 1 ≤ n → n < tally.fault → n < tally.left → MayBeOpen T count n
 
--- where the nodes that name a parent are gone through in order, those before this number were judged
+-- where the nodes that name a parent are gone through in order, those before this number were
+-- judged
 abbrev pub judged_before : ℕ → ℕ → ℕ
 judged_before nodes member = if member == 0 then nodes + 1 else member

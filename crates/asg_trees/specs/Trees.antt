@@ -31,8 +31,8 @@ abbrev pub tree_of : {V : Type 0} → Monoid V → (V → V → V) → (V → Wo
 tree_of M difference word_of enter X answers nodes =
     record { monoid = M; difference = difference; word_of = word_of; enter = enter; problem = X; answers = answers; nodes = nodes }
 
--- what it keeps: an instance that places all rows, on a square that isn't too large, whose live costs enter
--- as values, and valid answers
+-- what it keeps: an instance that places all rows, on a square that isn't too large, whose live
+-- costs enter as values, and valid answers
 pub record IsTree {V : Type 0} (T : TreeOf V) : Type 0 where
   pub instance : IsInstance T.problem
   pub all_placed : T.problem.place ≡ PlaceAll

@@ -50,8 +50,8 @@ fn is_chosen_kept<V: Copy>(
     }
 }
 
-/// Whether each row has a kept cell in a copy of the column that it chooses. The time is that of the
-/// cells.
+/// Whether each row has a kept cell in a copy of the column that it chooses. The time is that of
+/// the cells.
 pub(crate) fn chooses_kept<V: Copy>(square: &Square<V>, kept: &BitRows, choice: &Choice) -> bool
     requires size { HasSize square.now.side kept.now }
     requires rows { length choice.now ≤ square.now.side }

@@ -99,9 +99,9 @@ fn met_columns<V: Copy>(square: &Square<V>, kept: &BitRows, rows: &[u32]) -> usi
     count
 }
 
-/// Whether rows, by id, differ, are active, and are more than the columns of the square in which some
-/// of them has a kept cell. The time is that of the rows times the columns. The error is want of
-/// memory.
+/// Whether rows, by id, differ, are active, and are more than the columns of the square in which
+/// some of them has a kept cell. The time is that of the rows times the columns. The error is want
+/// of memory.
 pub(crate) fn outnumber<V: Copy>(
     alloc: Global,
     inst: &Instance,

@@ -4,12 +4,12 @@
 //! A node stands for a part of the valid choices: the root for all, any other node for the child of
 //! its parent's part by the parent's answer and the node's branch ([Murty 1968]). An answered node
 //! must have an answer of its part and a child for each branch, an open one a trail of admitted
-//! phases, an empty one a Hall set of its part. No part has a square of its own: a child's square is
-//! that of its parent without some cells, which rows of bits tell. So the judge keeps two squares
-//! besides that of the root, whatever the depth of the tree: that of the parent whose children are
-//! judged, and one for children whose trail has more than a short phase beyond the parent's. The
-//! memory is in proportion to the document and to the squares; the time, besides that of the
-//! squares of parents, at most in proportion to the cells for each node.
+//! phases, an empty one a Hall set of its part. No part has a square of its own: a child's square
+//! is that of its parent without some cells, which rows of bits tell. So the judge keeps two
+//! squares besides that of the root, whatever the depth of the tree: that of the parent whose
+//! children are judged, and one for children whose trail has more than a short phase beyond the
+//! parent's. The memory is in proportion to the document and to the squares; the time, besides that
+//! of the squares of parents, at most in proportion to the cells for each node.
 //!
 //! It trusts nothing that nodes say. Contracts see answers as choices and nodes as they are
 //! declared. It stands on no solver.

@@ -18,8 +18,8 @@ use asg_model::{Choice, Instance};
 use asg_square::{BitRows, Square};
 use std::alloc::Global;
 
-// Whether a branch keeps the cell of an active row, by its number and by whether the choice gives it
-// the cell.
+// Whether a branch keeps the cell of an active row, by its number and by whether the choice gives
+// it the cell.
 fn is_kept_at(branch: u32, number: u32, is_chosen: bool) -> bool
     ensures { result ≡ is_kept_at branch number is_chosen }
 {
@@ -110,8 +110,8 @@ fn mark_active<V: Copy>(
     number
 }
 
-// Sets the bits of the active rows whose numbers are those from one on up to another to those that a
-// branch keeps.
+// Sets the bits of the active rows whose numbers are those from one on up to another to those that
+// a branch keeps.
 fn mark_rows<V: Copy>(
     kept: &mut BitRows,
     inst: &Instance,

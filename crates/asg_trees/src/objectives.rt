@@ -86,9 +86,9 @@ fn judge_times(
 /// Judges whether nodes are a search tree of answers in the monoid of an algebraic objective, where
 /// so many answers were asked for: the verdict tells the first node at fault; where none is,
 /// whether some answer has no node; where each has one, the first node that is open and may not be;
-/// and where there is none, that they are a search tree, so that nothing better than the answers was
-/// left out. The answers are valid choices of the instance, which places all rows, on a square whose
-/// side is at most 2,000, and none of whose costs the objective refuses. The error is want of
+/// and where there is none, that they are a search tree, so that nothing better than the answers
+/// was left out. The answers are valid choices of the instance, which places all rows, on a square
+/// whose side is at most 2,000, and none of whose costs the objective refuses. The error is want of
 /// memory.
 pub fn judge(
     alloc: Global,

@@ -102,8 +102,8 @@ pub(crate) fn tallied(tally: Tally, n: usize, judgement: Judgement) -> Tally
     }
 }
 
-/// Judges the nodes that name a parent, on its square after its trail, up to the first at fault, and
-/// tallies them. The error is want of memory.
+/// Judges the nodes that name a parent, on its square after its trail, up to the first at fault,
+/// and tallies them. The error is want of memory.
 pub(crate) fn judge_children<K: Kind>(
     alloc: Global,
     kind: &K,

@@ -273,9 +273,9 @@ fn concluded(tally: Tally, nodes: usize, lacking: Option<usize>) -> TreeVerdict
 }
 
 /// Judges whether nodes are a search tree of answers that are valid, of which so many were asked
-/// for, over the monoid of a kind: the verdict tells the first node at fault; where none is, whether
-/// some answer has no node; where each has one, the first node that is open and may not be; and
-/// where there is none, that they are a search tree. The error is want of memory.
+/// for, over the monoid of a kind: the verdict tells the first node at fault; where none is,
+/// whether some answer has no node; where each has one, the first node that is open and may not be;
+/// and where there is none, that they are a search tree. The error is want of memory.
 pub fn judge_tree<K: Kind>(
     alloc: Global,
     kind: &K,

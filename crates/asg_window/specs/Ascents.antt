@@ -11,8 +11,8 @@ use Rattle.asg_window.specs.Gaps.{ShowLeast}
 use Rattle.asg_window.specs.Grades.{no_bound}
 use Rattle.asg_window.specs.Seekers.{IsSeeker}
 
--- the seeker's assignment has the least spread so far, and the gaps show that no grade below the lower
--- end of the band begins a shorter one
+-- the seeker's assignment has the least spread so far, and the gaps show that no grade below the
+-- lower end of the band begins a shorter one
 pub record IsAscent (Q : Grid ℕ) (entries : List Entry) (state : Seeker) (ascent : Ascent) : Type 0 where
   pub seeker : IsSeeker Q entries state
   pub low : state.band.low ≤ ascent.low
@@ -21,7 +21,8 @@ pub record IsAscent (Q : Grid ℕ) (entries : List Entry) (state : Seeker) (asce
   pub low_fits : ascent.low ≤ no_bound
   pub spread_fits : ascent.spread ≤ no_bound
 
--- the lower end has moved up over one gap more: rows that are deficient from it on and below a grade
+-- the lower end has moved up over one gap more: rows that are deficient from it on and below a
+-- grade
 pub record AddsGap (before after : Ascent) (next : ℕ) (rows : List ℕ) : Type 0 where
   pub spread : after.spread ≡ before.spread
   pub up : before.low < after.low

@@ -10,7 +10,8 @@ pub record IsAssignmentWithin (Q : Grid ℕ) (low high : ℕ) (perm : List ℕ) 
   pub apart : AllPairs ◌≢◌ perm
   pub cells : (r : ℕ) → r < Q.side → IsWithin Q low high r (slice_index perm r)
 
--- the spread of a perfect assignment: it lies within a band of one grade more, and in no shorter one
+-- the spread of a perfect assignment: it lies within a band of one grade more, and in no shorter
+-- one
 pub record IsSpread (Q : Grid ℕ) (perm : List ℕ) (spread : ℕ) : Type 0 where
   pub low : ℕ
   pub within : IsAssignmentWithin Q low (low + spread + 1) perm

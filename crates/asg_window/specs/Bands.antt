@@ -7,7 +7,8 @@ use Rattle.asg_live_cells.specs.declared.live_cells.Entry.{Entry}
 use Rattle.asg_window.specs.Grades.{no_bound}
 use Rattle.asg_live_cells.specs.LiveCells.{AreEntries, IsBefore, IsPlaceOf}
 
--- the square has a cell there: a free one, or a live one with a grade from `low` on and below `high`
+-- the square has a cell there: a free one, or a live one with a grade from `low` on and below
+-- `high`
 pub record IsWithin (Q : Grid ℕ) (low high r c : ℕ) : Type 0 where
   pub row : r < Q.side
   pub column : c < Q.side

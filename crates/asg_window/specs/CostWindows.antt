@@ -10,7 +10,8 @@ use Rattle.asg_window.specs.declared.gaps.Gap.{Gap}
 use Rattle.asg_window.specs.Gaps.{low_at}
 use Rattle.asg_live_cells.specs.Grades.{cost_of}
 
--- the window has the costs of the grades from `low` on and below `high`, and rows that give a Hall set
+-- the window has the costs of the grades from `low` on and below `high`, and rows that give a Hall
+-- set
 pub record IsWindowBy (X : Problem) (Q : Grid ℕ) (low high : ℕ) (window : Window) : Type 0 where
   pub lo : window.lo ≡ cost_of low
   pub hi : window.hi ≡ cost_of high -ℤ pos 1
@@ -23,8 +24,8 @@ pub record IsBandWindow (X : Problem) (Q : Grid ℕ) (window : Window) : Type 0 
   pub high : ℕ
   pub is : IsWindowBy X Q low high window
 
--- one window more, that of the gap at a place, which begins at the grade or below it and is the last one
--- that does
+-- one window more, that of the gap at a place, which begins at the grade or below it and is the
+-- last one that does
 pub record AddsWindow (X : Problem) (Q : Grid ℕ) (gaps : List Gap) (grade : ℕ)
     (before after : List Window) (place : ℕ) : Type 0 where
   pub within : place < length gaps

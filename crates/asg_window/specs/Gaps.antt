@@ -37,7 +37,8 @@ pub record IsLeast (Q : Grid ℕ) (least : Least) : Type 0 where
   pub all : 0 < least.spread → no_bound < low + least.spread
   pub gaps : ShowLeast Q least.gaps.items low least.spread
 
--- what a sweep gives: an assignment of the least spread, or rows that are deficient in the whole square
+-- what a sweep gives: an assignment of the least spread, or rows that are deficient in the whole
+-- square
 abbrev pub IsSwept : Grid ℕ → Swept → Type 0
 IsSwept Q (Found least) = IsLeast Q least
 IsSwept Q (Short rows) = IsDeficient (IsWithin Q 1 no_bound) Q.side rows.items

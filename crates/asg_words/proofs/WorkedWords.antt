@@ -48,8 +48,8 @@ makes : request_of (codes "make" ∷ codes "0" ∷ codes "0000000001000" ∷ [])
 unfolding request_of command_line clap_on_literals
 makes = refl
 
--- no count, an objective that can't be edited, too few words, an unknown option, an option twice, and
--- a number of fourteen digits
+-- no count, an objective that can't be edited, too few words, an unknown option, an option twice,
+-- and a number of fourteen digits
 rank_without_count : request_of (codes "rank" ∷ codes "sum" ∷ codes "M" ∷ []) ≡ None
 unfolding request_of command_line clap_on_literals
 rank_without_count = refl

@@ -81,7 +81,8 @@ module _ {V : Type 0} (M : Monoid V) (laws : IsOrderedMonoid M) (difference : V 
           ∙ ap (M.product (between M step from mid)) (sym (between-more mid to more)))
           (cases_lt to mid)
 
-      -- where the row enters before the column leaves: the difference from the product of the steps between
+      -- where the row enters before the column leaves: the difference from the product of the steps
+      -- between
       pub cell_after-inside : (enter leave : ℕ) (x : V) → IsValue M x → enter ≤ leave → (to : ℕ) → to ≤ n → cell_after M difference step enter leave x to ≡ difference x (between M step enter (min leave to))
       cell_after-inside enter leave x vx h zero k =
           sym (ap (difference x) (between-none enter (min leave zero) (omega arith)) ∙ difference_of_unit x vx)

@@ -1,4 +1,5 @@
--- Steps by 1 on a square of cells that are 0 or 1: which cells are 0 by the counts, and the counts after a step.
+-- Steps by 1 on a square of cells that are 0 or 1: which cells are 0 by the counts, and the counts
+-- after a step.
 use Rattle.std.proofs.Common.{◌≡◌, ℕ, zero, suc, ◌+◌, ◌<◌, ◌≤◌, ◌^◌, Bool, true, false, cond, not, ◌⊎◌, inl, inr, ◌||◌, ◌&&◌, List, get_or, Option, Some, None, refl, sym, ◌∙◌, ap, arith, is_some, leb, ltb, ⊎_elim}
 use Rattle.std.specs.Prelude.{nat_le, ◌==◌}
 use Rattle.std.proofs.lemmas.Bool.{false≢true, cases_lt, cases_Bool, not-true, not_from_false, and_parts, and_from, eqb-true}

@@ -1,4 +1,5 @@
--- Rows and their columns: why short rows have no perfect assignment, and why a closed tree is short.
+-- Rows and their columns: why short rows have no perfect assignment, and why a closed tree is
+-- short.
 use Rattle.std.proofs.Common.{◌≡◌, ◌≢◌, ◌↔◌, ℕ, ◌+◌, ◌-◌, ◌<◌, List, length, Option, None, is_some, map, drop, get_or, unwrap_or, ⊎_elim, sym, ◌∙◌, subst, ap, arith, AllPairs, Contains}
 use Rattle.std.proofs.lemmas.List.{get_or-map, get_or-drop, get_or_default, length-map, length-drop}
 use Rattle.std.proofs.lemmas.List.Elements.{All-contains, Contains-get_or}

@@ -47,8 +47,8 @@ module _ {V : Type 0} (B : Monoid V) (laws : IsOrderedMonoid B) where
     more : ℕ × V → ℕ × V → ℕ × V
     more y x = graded_difference B difference y x
 
-    -- the difference is at most z, so y is at most the product of x and z: by the grades of x and y, and
-    -- where they are equal by their values
+    -- the difference is at most z, so y is at most the product of x and z: by the grades of x and
+    -- y, and where they are equal by their values
     reached_from_lower : (y x z : ℕ × V) → x.0 < y.0 → IsLe (graded B) (more y x) z → IsLe (graded B) y ((graded B).product x z)
     unfolding more
     reached_from_lower y x z lt h = grind (arith, nat_tests)

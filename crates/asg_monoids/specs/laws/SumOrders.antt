@@ -31,7 +31,8 @@ fold_is top enter u lt = omega (arith, bounded_fold top (map enter u), sum-map e
 less_is : (top x y p q : ℕ) → x ≡ p → y ≡ q → IsLess (bounded_sums top) x y ↔ (p < q)
 less_is top x y p q ex ey = (λ h. grind (arith, nat_tests), λ h. grind (arith, nat_tests))
 
--- where both sums stay below the top, better values are less sums exactly where they are less products
+-- where both sums stay below the top, better values are less sums exactly where they are less
+-- products
 by_sums : {Better : Type 0} (enter : Cost → ℕ) (u v : List Cost) → sum_by enter u < 2 ^ 120 → sum_by enter v < 2 ^ 120 → Better ↔ (sum_by enter u < sum_by enter v) → Better ↔ IsLess (bounded_sums (2 ^ 120)) (costs_fold (bounded_sums (2 ^ 120)) enter u) (costs_fold (bounded_sums (2 ^ 120)) enter v)
 by_sums enter u v lu lv better =
     let M = bounded_sums (2 ^ 120) in

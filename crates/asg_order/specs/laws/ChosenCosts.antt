@@ -1,5 +1,5 @@
--- The costs of a valid choice: how many they are and that they may enter, so that a bridge follows from
--- the order of lists of costs.
+-- The costs of a valid choice: how many they are and that they may enter, so that a bridge follows
+-- from the order of lists of costs.
 use Rattle.std.proofs.Common.{◌≡◌, ℕ, suc, ◌+◌, ◌≤◌, false, cond, List, [], ◌∷◌, length, refl, arith, sym, ap, ◌∙◌, add-zero, zero-add}
 use Rattle.std.specs.Prelude.{Option, Some, None, IsSome, is_some, IfSome, slice_get, filter_map, count_by, option_and_then, All}
 use Rattle.std.specs.List.{range_with_len, cons_option}

@@ -1,5 +1,5 @@
--- A child is its instance with cells removed, so that phases keep what they prove; and its valid choices
--- have the same products there.
+-- A child is its instance with cells removed, so that phases keep what they prove; and its valid
+-- choices have the same products there.
 use Rattle.std.proofs.Common.{◌≡◌, ℕ, Bool, true, false, cond, List, length, Option, Some, None, refl, sym, ap, subst}
 use Rattle.std.specs.Prelude.{IfSome, filter_map, option_and_then, slice_get}
 use Rattle.std.specs.List.{range_with_len}

@@ -96,8 +96,8 @@ module _ (X : Problem) (given : List (List (Option ℕ))) (is_open is_open_now :
           (Contains-append_cases given (f ∷ []) g given_now);
     }
 
--- a choice of the least part that is worth the part's bound is new, valid, and worth at most what each
--- valid choice is that wasn't given
+-- a choice of the least part that is worth the part's bound is new, valid, and worth at most what
+-- each valid choice is that wasn't given
 module _ {V : Type 0} (M : Monoid V) (laws : IsOrderedMonoid M) (worth : List (Option ℕ) → V) (X : Problem) (given : List (List (Option ℕ))) (is_open : ℕ → Bool) (part : ℕ → Problem) (bound : ℕ → V) (n : ℕ) (f : List (Option ℕ))
     (frontier : IsFrontier X given is_open part) (least : IsLeastPart M worth is_open part bound n) (valid : IsValid (part n) f) (is : worth f ≡ bound n)
     (bound_is_value : (m : ℕ) → IsTrue (is_open m) → IsValue M (bound m)) (worth_is_value : (g : List (Option ℕ)) → IsValid X g → IsValue M (worth g))

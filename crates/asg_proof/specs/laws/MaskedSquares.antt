@@ -1,5 +1,6 @@
--- Phases act on each cell by itself: cells may be taken out before them or after. So the square of a child,
--- after phases, is that of its instance after them, without the cells that the branch takes out.
+-- Phases act on each cell by itself: cells may be taken out before them or after. So the square of
+-- a child, after phases, is that of its instance after them, without the cells that the branch
+-- takes out.
 use Rattle.std.proofs.Common.{◌≡◌, ℕ, zero, suc, Bool, true, false, cond, ◌&&◌, List, [], ◌∷◌, length, Option, Some, None, refl, ◌∙◌, ap}
 use Rattle.std.specs.Prelude.{nat_lt, slice_index_or}
 use Rattle.std.specs.Option.{option_map}

@@ -83,7 +83,8 @@ module _ (X : Problem) (answers : List (List (Option ℕ))) (nodes : List Node) 
   placed-of_node n = kept-within (λ Y. placed Y ≡ placed X) refl (λ Y f branch e. e) n n
 
 module _ (X : Problem) (answers : List (List (Option ℕ))) (nodes : List Node) (falls : (m : ℕ) → 1 < m → m ≤ length nodes → (node_at nodes m).parent < m) (rises : (m : ℕ) → 1 < m → m ≤ length nodes → 1 ≤ (node_at nodes m).parent) where
-  -- what is X at the root and below it the child of what it is at the parent, is the instance of each node
+  -- what is X at the root and below it the child of what it is at the parent, is the instance of
+  -- each node
   pub instances_are : (part : ℕ → Problem) → part 1 ≡ X → ((m : ℕ) → 1 < m → m ≤ length nodes → part m ≡ child (part (node_at nodes m).parent) (node_answer answers nodes (node_at nodes m).parent) (node_at nodes m).branch) → (steps n : ℕ) → n ≤ steps → 1 ≤ n → n ≤ length nodes → part n ≡ node_instance X answers nodes n
   instances_are part root below zero n few from within = absurd (omega (arith, few, from))
   instances_are part root below (suc steps) n few from within =

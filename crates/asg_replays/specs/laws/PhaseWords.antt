@@ -1,5 +1,5 @@
--- Phases and their words: the words of admitted phases are those of no others, and whether words are
--- those of admitted phases is decided.
+-- Phases and their words: the words of admitted phases are those of no others, and whether words
+-- are those of admitted phases is decided.
 use mathlib.Core.Logic.Dec.{and, of_iff}
 use Rattle.std.proofs.Common.{◌≡◌, ℕ, zero, suc, ◌+◌, ◌<◌, ◌≤◌, Bool, true, List, [], ◌∷◌, length, take, drop, map, Option, Some, None, refl, sym, ap, subst, ◌∙◌, arith}
 use Rattle.std.specs.Prelude.{All, slice_index_or}

@@ -1,4 +1,5 @@
--- Phases replayed by their words: the values that words spell, one phase, and one more phase after others.
+-- Phases replayed by their words: the values that words spell, one phase, and one more phase after
+-- others.
 use Rattle.std.proofs.Common.{◌≡◌, ◌≢◌, ℕ, zero, suc, ◌+◌, ◌<◌, List, [], ◌∷◌, ◌++◌, length, take, map, Option, Some, None, get_or, refl, sym, ap, subst, ◌∙◌, arith}
 use Rattle.std.specs.Prelude.{All}
 use Rattle.std.proofs.Math.Path.{fun_ext}

@@ -7,7 +7,8 @@ use Rattle.asg_admit.specs.Settled.{settled}
 use Rattle.asg_admit.proofs.WordBits.{HasBit}
 use Rattle.asg_admit.proofs.marked_cells.settle_bits.Given as goal
 
--- the bits that are left are the word's, the cells of those that are left no more are settled, and all others stand
+-- the bits that are left are the word's, the cells of those that are left no more are settled, and
+-- all others stand
 abbrev pub invariant-bits : goal.invariant-bits
 invariant-bits g l =
     record {

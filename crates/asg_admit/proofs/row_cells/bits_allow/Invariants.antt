@@ -4,7 +4,8 @@ use Rattle.asg_admit.specs.Admission.{AllowsAt}
 use Rattle.asg_admit.proofs.WordBits.{HasBit}
 use Rattle.asg_admit.proofs.row_cells.bits_allow.Given as goal
 
--- the bits that are left are the word's, and the cells of those that are left no more allow the steps
+-- the bits that are left are the word's, and the cells of those that are left no more allow the
+-- steps
 abbrev pub invariant-bits : goal.invariant-bits
 invariant-bits g l =
     record {

@@ -3,7 +3,8 @@ use Rattle.asg_duals.specs.Tight.{Reaches}
 use Rattle.asg_square.specs.WordBits.{HasBit}
 use Rattle.asg_duals.proofs.tightness.set_are_above.Given as goal
 
--- the bits that are left are the word's, and the columns of those that are left no more are at least the fall
+-- the bits that are left are the word's, and the columns of those that are left no more are at
+-- least the fall
 abbrev pub invariant-bits : goal.invariant-bits
 invariant-bits l =
     record {

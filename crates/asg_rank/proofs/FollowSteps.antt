@@ -1,0 +1,39 @@
+-- What the next answer is.
+use Rattle.std.proofs.Common.{◌≡◌, ℕ, inl, inr, List, length, Option, refl, sym, ◌∙◌, subst, arith, ⊎_elim}
+use Rattle.std.specs.Prelude.{Contains}
+use Rattle.asg_model.specs.Problem.{Problem}
+use Rattle.asg_model.specs.ValidChoice.{IsValid}
+use Rattle.asg_rank.specs.declared.ranker.Next.TheVariants.{Answer, Done}
+use Rattle.asg_rank.specs.declared.searches.Search.{Search}
+use Rattle.asg_rank.specs.Expansions.{IsOneMore, GivesLeast}
+use Rattle.asg_rank.specs.Rooms.{answer_room}
+use Rattle.asg_rank.specs.Rules.{Rules}
+use Rattle.asg_rank.specs.Searches.{given_of, IsReady}
+use Rattle.asg_rank.proofs.EndSteps.{nothing_left}
+use Rattle.asg_rank.proofs.GivenSearches.{count_given}
+
+module _ {V : Type 0} (R : Rules V) (X : Problem) (count : ℕ) where
+  -- as many answers as were counted
+  pub counted_ready : (S : Search V) → IsReady R X count S → length (given_of S) ≡ S.given
+  counted_ready S ready = count_given S (let c = ready.memory.choices_fit in let g = ready.memory.given_fit in omega (arith, c, g))
+
+  -- where no node is kept
+  pub done_least : (S : Search V) → IsReady R X count S → S.given ≡ length S.slots.used → GivesLeast R X (answer_room X count) (given_of S) (given_of S) Done
+  done_least S ready none = (
+    refl,
+    ⊎_elim
+        (λ (full : length (given_of S) ≡ S.slots.room). inl (full ∙ ready.room_is))
+        (λ (all : (g : List (Option ℕ)) → IsValid X g → Contains (given_of S) g). inr all)
+        (nothing_left R X (given_of S) S.slots S.tree ready.search (counted_ready S ready ∙ none)),
+  )
+
+  -- where one answer more was given
+  pub answered_least : (S U W : Search V) → IsOneMore R X (given_of S) (given_of U) → given_of W ≡ given_of U → IsReady R X count W → GivesLeast R X (answer_room X count) (given_of S) (given_of W) (Answer W.given)
+  answered_least S U W more same ready =
+      let counted = counted_ready W ready in
+      let fit = ready.memory.given_fit in
+      let room = ready.room_is in (
+        sym counted,
+        omega (arith, counted, fit, room),
+        subst (IsOneMore R X (given_of S)) (sym same) more,
+      )

@@ -1,0 +1,100 @@
+-- What a ranker tells once no answer is left.
+use Rattle.std.proofs.Common.{◌≡◌, ◌≢◌, ◌↔◌, ℕ, ◌-◌, ◌*◌, ◌^◌, ◌<◌, ◌≤◌, zero, suc, List, length, Option, sym, ap, subst, arith}
+use Rattle.std.specs.Prelude.{All, AllPairs}
+use Rattle.std.proofs.Math.Nat.{mul_comm}
+use Rattle.std.proofs.lemmas.List.{length-take-le}
+use Rattle.asg_model.specs.declared.objectives.Objective.{Objective}
+use Rattle.asg_model.specs.declared.parts.Cost.{Cost}
+use Rattle.asg_model.specs.Counts.{active_count, placed_by, placed}
+use Rattle.asg_model.specs.Instances.{IsInstance}
+use Rattle.asg_model.specs.Limits.{most_cost}
+use Rattle.asg_model.specs.Problem.{Problem}
+use Rattle.asg_model.specs.Refused.{PassesNegative}
+use Rattle.asg_model.specs.Shapes.{square_side}
+use Rattle.asg_model.specs.ValidChoice.{IsValid}
+use Rattle.asg_order.specs.Bridge.{Bridges}
+use Rattle.asg_order.specs.Monoid.{IsOrderedMonoid}
+use Rattle.asg_order.specs.declared.words.Word.{Word}
+use Rattle.asg_pool.specs.Forest.{IsForest}
+use Rattle.asg_proof.specs.declared.nodes.Node.{Node}
+use Rattle.asg_proof.specs.Ranked.{AreListed}
+use Rattle.asg_proof.specs.laws.LiveCosts.{lies_within}
+use Rattle.asg_proof.specs.SearchTrees.{IsSearchTree}
+use Rattle.asg_square.specs.Cells.{IsSquareChoice}
+use Rattle.asg_rank.specs.declared.entries.State.TheVariants.{Open}
+use Rattle.asg_rank.specs.declared.searches.Search.{Search}
+use Rattle.asg_rank.specs.Entries.{entry_at, child_number}
+use Rattle.asg_rank.specs.Rankings.{IsExhausted, HaveFewPhases, LeaveLastOpen}
+use Rattle.asg_rank.specs.Rules.{Rules}
+use Rattle.asg_rank.specs.Searches.{winner_in, given_of, IsReady}
+use Rattle.asg_rank.specs.Trees.{given_at}
+use Rattle.asg_rank.specs.Written.{IsTold, AreWrittenNodes}
+use Rattle.asg_rank.proofs.FewPhases.{few_phases, last_open}
+use Rattle.asg_rank.proofs.RankingSteps.{IsBridged}
+use Rattle.asg_rank.proofs.ToldSteps.{told}
+use Rattle.asg_rank.proofs.TreeEnds.{listed, search_tree}
+
+-- the bridge of a kind, for an instance within its reach
+pub kind_bridge : {V : Type 0} (R : Rules V) (objective : Objective) (reach : ℕ) (X : Problem) → Bridges R.monoid R.enter objective reach → most_cost ≤ reach → IsInstance X → PassesNegative objective X → IsBridged R objective X
+kind_bridge R objective reach X bridges far instance passes f g valid_f valid_g =
+    bridges X f g instance.well_formed.few_rows (lies_within reach X far instance) passes valid_f valid_g
+
+le_times : (p n : ℕ) → 1 ≤ p → n ≤ n * p
+le_times zero n some = absurd (omega (arith, some))
+le_times (suc p) n some = let c = mul_comm n (suc p) in omega (arith, c)
+
+module _ {V : Type 0} (R : Rules V) (X : Problem) (count : ℕ) (S : Search V) (ready : IsReady R X count S) (instance : IsInstance X) where
+  small : S.given < 2 ^ 32
+  small =
+      let all : placed X ≡ active_count X = ap (λ p. placed_by p (active_count X)) ready.rankable.place in
+      let active = instance.well_formed.some_active in
+      let times = le_times (placed X) S.slots.room (omega (arith, all, active)) in
+      let room = ready.memory.small in
+      let fit = ready.memory.given_fit in
+      omega (arith, times, room, fit)
+
+  given_count : length (given_of S) ≡ S.given
+  given_count = let fit = ready.memory.given_fit in let room = ready.memory.choices_fit in length-take-le S.given S.choices.items (omega (arith, fit, room))
+
+  fits : length (given_of S) < 2 ^ 32
+  fits = omega (arith, given_count, small)
+
+  few : length (given_of S) ≤ count
+  few = let fit = ready.memory.given_fit in let room = ready.room_is in omega (arith, given_count, fit, room)
+
+  -- where each node stands
+  pub told_now : (n : ℕ) → 1 ≤ n → n ≤ length S.tree.entries.items → IsTold R.monoid S.tree (entry_at R.monoid.unit S.tree.entries.items n)
+  told_now n low high = told R X (given_of S) (winner_in R.monoid.unit S.slots.used) S.tree ready.search.part ready.search.tree fits n low high
+
+  valid : (a : ℕ) → a < length (given_of S) → IsValid (ready.search.part (winner_in R.monoid.unit S.slots.used a)) (given_at (given_of S) a)
+  valid a h = (ready.search.answers a h).valid
+
+  module _ (word_of : V → Word) (nodes : List Node) (written : AreWrittenNodes R.monoid.unit word_of S.tree nodes) where
+    -- each node but the root has at most one phase of its own
+    pub few_now : IsForest S.tree.region → HaveFewPhases (square_side X) nodes
+    few_now forest =
+        few_phases R word_of X (given_of S) (winner_in R.monoid.unit S.slots.used) S.tree ready.search.part ready.search.tree fits valid nodes written forest (square_side X) ready.memory.region_side
+
+    -- where all answers were given that were asked for, the children of the last one's node are open
+    pub last_now : LeaveLastOpen count (given_of S) nodes
+    last_now =
+        last_open R word_of X (given_of S) (winner_in R.monoid.unit S.slots.used) S.tree ready.search.part ready.search.tree fits valid nodes written count
+        (λ full i from upto.
+        let fit = ready.memory.given_fit in
+        let room = ready.room_is in
+        let last = ready.last (omega (arith, full, given_count, fit, room)) i from upto in
+        subst (λ g. (entry_at R.monoid.unit S.tree.entries.items (child_number (placed X) (g - 1) i)).state ≡ Open) (sym given_count) last)
+
+  module _ (word_of : V → Word) (laws : IsOrderedMonoid R.monoid) (some : 1 ≤ length (given_of S)) (done : IsExhausted X count (given_of S))
+      (choices : (Z : Problem) (free : V) (enter : Cost → V) (f : List (Option ℕ)) → IsInstance Z → IsValid Z f ↔ IsSquareChoice Z free enter f)
+      (counted : (fs : List (List (Option ℕ))) → All (IsValid X) fs → AllPairs ◌≢◌ fs → length fs ≤ length X.columns ^ placed X)
+    where
+      -- the answers may be listed
+      pub listed_now : (objective : Objective) → IsBridged R objective X → AreListed objective X count (given_of S)
+      listed_now objective bridge =
+          listed R laws word_of X instance count (given_of S) S.slots S.tree ready.search some few ready.room_is ready.memory.used_fit done choices counted objective bridge
+
+      -- the nodes are a search tree of the answers
+      pub tree_now : (nodes : List Node) → AreWrittenNodes R.monoid.unit word_of S.tree nodes → IsSearchTree R.monoid R.difference word_of R.enter X count (given_of S) nodes
+      tree_now nodes written =
+          search_tree R laws word_of X instance count (given_of S) S.slots S.tree ready.search some few ready.room_is ready.memory.used_fit done choices counted nodes written

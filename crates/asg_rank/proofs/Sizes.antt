@@ -1,0 +1,61 @@
+-- How much a ranking takes, by its work.
+use Rattle.std.proofs.Common.{◌≡◌, ℕ, ◌+◌, ◌-◌, ◌*◌, ◌<◌, ◌≤◌, length, arith, min}
+use Rattle.std.proofs.Math.Nat.{mul-le-mul_left, mul-le-mul_right}
+use Rattle.std.proofs.lemmas.List.Sums.{count_by-le-length}
+use Rattle.asg_model.specs.declared.parts.Place.{Place}
+use Rattle.asg_model.specs.declared.parts.Place.TheVariants.{All as PlaceAll, Exactly}
+use Rattle.asg_model.specs.declared.parts.Row.{Row}
+use Rattle.asg_model.specs.Counts.{active_count, total_capacity, placed, placed_by}
+use Rattle.asg_model.specs.Instances.{IsInstance, IsPlaceInRange}
+use Rattle.asg_model.specs.Problem.{Problem}
+use Rattle.asg_model.specs.Shapes.{square_side, side_by}
+use Rattle.asg_rank.specs.Rankings.{ranking_work}
+use Rattle.asg_rank.proofs.GivenSearches.{add_one_times}
+
+module _ (X : Problem) (instance : IsInstance X) where
+  -- no more rows are placed than there are
+  pub placed_few : placed X ≤ length X.rows
+  placed_few = by X.place instance.well_formed.place_in_range
+    where
+      by : (place : Place) → IsPlaceInRange X place → placed_by place (active_count X) ≤ length X.rows
+      by PlaceAll range = count_by-le-length (λ (row : Row). row.active) X.rows
+      by (Exactly k) range = range.1
+
+  -- nor are there more than the side
+  pub rows_few : length X.rows ≤ square_side X
+  rows_few = by X.place instance.well_formed.place_in_range
+    where
+      by : (place : Place) → IsPlaceInRange X place → length X.rows ≤ side_by place (length X.rows) (total_capacity X)
+      by PlaceAll range = omega arith
+      by (Exactly k) range = let few = range.1 in let held = range.2 in omega (arith, few, held)
+
+  pub rows_some : 1 ≤ length X.rows
+  rows_some =
+      let some = instance.well_formed.some_active in
+      let few = count_by-le-length (λ (row : Row). row.active) X.rows in
+      omega (arith, some, few)
+
+  module _ (room : ℕ) (fits : ranking_work X room ≤ 4000000) where
+    -- the children of so many answers
+    pub children_fit : room * placed X ≤ 4000000
+    children_fit =
+        let side : 1 ≤ square_side X = (let some = rows_some in let few = rows_few in omega (arith, some, few)) in
+        let by_rows = mul-le-mul_left room placed_few in
+        let by_side = mul-le-mul_left (room * length X.rows) side in
+        omega (arith, by_rows, by_side, fits)
+
+    -- and their Hall sets
+    pub halls_fit : (room * placed X + 1) * length X.rows ≤ 4000000 + length X.rows
+    halls_fit =
+        let by_rows = mul-le-mul_right (length X.rows) (mul-le-mul_left room placed_few) in
+        let by_side = mul-le-mul_left (room * length X.rows) rows_few in
+        let times = add_one_times (room * placed X) (length X.rows) in
+        omega (arith, by_rows, by_side, times, fits)
+
+-- less is asked for by fewer
+pub work_upto : (X : Problem) (room count : ℕ) → room ≤ count → ranking_work X room ≤ ranking_work X count
+work_upto X room count few = mul-le-mul_right (square_side X) (mul-le-mul_right (length X.rows) few)
+
+-- all but one
+pub rest_few : (room k : ℕ) → (room - 1) * k ≤ room * k
+rest_few room k = mul-le-mul_right k (let h : room - 1 ≤ room = omega arith in h)

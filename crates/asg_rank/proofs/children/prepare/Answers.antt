@@ -1,0 +1,94 @@
+use Rattle.std.proofs.Common.{◌+◌, ◌*◌, ◌≤◌, length, take, refl, sym, ◌∙◌, subst, arith}
+use Rattle.std.specs.Vec.{with_items}
+use Rattle.asg_model.specs.Counts.{placed}
+use Rattle.asg_rank.specs.Entries.{entry_at}
+use Rattle.asg_rank.specs.Rules.{rules_of, IsReducedTo}
+use Rattle.asg_rank.specs.Searches.{winner_in, given_of}
+use Rattle.asg_rank.specs.Settled.{IsRebuilt}
+use Rattle.asg_rank.specs.Trees.{IsTree}
+use Rattle.asg_rank.proofs.GrowCases.{node_from, node_there}
+use Rattle.asg_rank.proofs.GrowStarts.{last_used}
+use Rattle.asg_rank.proofs.PrepareSteps.{root_base, rebuilt_here, prepared}
+use Rattle.asg_rank.proofs.children.prepare.Goals as goal
+
+pub overflow_sub-given : goal.overflow_sub-given
+overflow_sub-given g c =
+    let e = c.requires.growing in
+    let growing = e.2 in
+    let some = growing.some in omega (arith, some)
+
+pub node-node-requires : goal.node-node-requires
+node-node-requires g c =
+    let m = c.args.m.now in
+    let M = g.M.Ordered.monoid_of m in
+    let X = c.args.inst.now in
+    let S = c.args.search.now in
+    let e = c.requires.growing in
+    let R = rules_of M (g.M.DMonoid.difference m) e.0 in
+    let growing = e.2 in
+    last_used R X e.1 0 S growing
+
+pub rebuild-requires-clause-place : goal.rebuild-requires-clause-place
+rebuild-requires-clause-place g c =
+    let e = c.requires.growing in
+    let growing = e.2 in
+    growing.rankable.place
+
+pub rebuild-requires-clause-from : goal.rebuild-requires-clause-from
+rebuild-requires-clause-from g c =
+    let m = c.args.m.now in
+    let M = g.M.Ordered.monoid_of m in
+    let X = c.args.inst.now in
+    let S = c.args.search.now in
+    let e = c.requires.growing in
+    let R = rules_of M (g.M.DMonoid.difference m) e.0 in
+    let growing = e.2 in
+    subst (λ n. 1 ≤ n) (sym (c.node-node.ensures M.unit)) (node_from R X e.1 0 S growing)
+
+pub rebuild-requires-clause-upto : goal.rebuild-requires-clause-upto
+rebuild-requires-clause-upto g c =
+    let m = c.args.m.now in
+    let M = g.M.Ordered.monoid_of m in
+    let X = c.args.inst.now in
+    let S = c.args.search.now in
+    let e = c.requires.growing in
+    let R = rules_of M (g.M.DMonoid.difference m) e.0 in
+    let growing = e.2 in
+    subst (λ n. n ≤ length S.tree.entries.items) (sym (c.node-node.ensures M.unit)) (node_there R X e.1 0 S growing)
+
+pub rebuild-requires-clause-tree : goal.rebuild-requires-clause-tree
+rebuild-requires-clause-tree g c =
+    let m = c.args.m.now in
+    let M = g.M.Ordered.monoid_of m in
+    let X = c.args.inst.now in
+    let S = c.args.search.now in
+    let e = c.requires.growing in
+    let R = rules_of M (g.M.DMonoid.difference m) e.0 in
+    let growing = e.2 in
+    subst (λ xs. IsRebuilt M (g.M.DMonoid.difference m) X S.tree (take S.given xs) S.base) (sym c.deref.ensures.value) (rebuilt_here R X e.1 S growing)
+
+pub rebuild-requires-clause-sides : goal.rebuild-requires-clause-sides
+rebuild-requires-clause-sides g c =
+    let e = c.requires.growing in
+    let growing = e.2 in
+    (growing.memory.desk.work ∙ sym growing.memory.base_side, growing.memory.region_side ∙ sym growing.memory.base_side)
+
+pub rebuild-requires-clause-room : goal.rebuild-requires-clause-room
+rebuild-requires-clause-room g c =
+    let e = c.requires.growing in
+    let growing = e.2 in
+    let steps = growing.memory.desk.steps in let side = growing.memory.base_side in omega (arith, steps, side)
+
+pub returns-clause-expanding : goal.returns-clause-expanding
+returns-clause-expanding g c =
+    let m = c.args.m.now in
+    let M = g.M.Ordered.monoid_of m in
+    let X = c.args.inst.now in
+    let S = c.args.search.now in
+    λ enter count growing.
+    let R = rules_of M (g.M.DMonoid.difference m) enter in
+    let n_is = c.node-node.ensures M.unit in
+    let tree = subst (λ xs. IsTree R X (take S.given xs) (winner_in M.unit S.slots.used) (1 + length (given_of S) * placed X) S.tree growing.search.part) (sym c.deref.ensures.value) growing.search.tree in
+    let to = c.rebuild.ensures.reduced enter (winner_in M.unit S.slots.used) (1 + length (given_of S) * placed X) growing.search.part tree (root_base R X count S growing) in
+    prepared R X count S growing c.requires.less (record S.desk { work = c.rebuild.new.work; bits = c.set_all.new.self; room = with_items S.desk.room c.rebuild.new.room }) refl refl c.set_all.ensures.rows c.set_all.ensures.columns c.set_all.ensures.all
+    (subst (λ n. IsReducedTo R S.tree.region (growing.search.part n) (entry_at M.unit S.tree.entries.items n).trail (entry_at M.unit S.tree.entries.items n).index c.rebuild.new.work) n_is to)

@@ -1,0 +1,67 @@
+-- Cells that a branch takes out, row by row.
+use Rattle.std.specs.Prelude.{◌≡◌, ℕ, ◌<◌, ◌==◌, ◌&&◌, nat_lt, nat_le, not, Bool, true, if◌then◌else◌, Option, Some, None, IsSome, List, slice_index_or}
+use Rattle.std.specs.Option.{option_map_or}
+use Rattle.asg_admit.specs.Reduced.{KeepsLabels}
+use Rattle.asg_model.specs.Problem.{Problem}
+use Rattle.asg_model.specs.ValidChoice.{takes}
+use Rattle.asg_proof.specs.Children.{row_number, is_chosen}
+use Rattle.asg_proof.specs.Masks.{masked}
+use Rattle.asg_square.specs.BitTable.{BitTable, has_bit, is_from_to}
+use Rattle.asg_square.specs.Grid.{Grid, cell_at}
+use Rattle.asg_square.specs.Labels.{row_label, column_label}
+
+-- a row keeps the copies of the column that it chooses alone, or loses them; what is no copy of a column stays
+abbrev pub keeps_copies : Option ℕ → Bool → Option ℕ → Bool
+keeps_copies chosen alone label =
+    option_map_or (λ e. if alone then takes e chosen else not (takes e chosen)) label true
+
+-- the column that a column of the square is a copy of
+abbrev pub label_in : {V : Type 0} → Grid V → ℕ → Option ℕ
+label_in Q k = slice_index_or Q.column_labels k None
+
+-- one cell is kept or not, and all others are
+abbrev pub cuts_cell : ℕ → ℕ → Bool → ℕ → ℕ → Bool
+cuts_cell row column is_kept r k = if (r == row) && (k == column) then is_kept else true
+
+-- of one row the columns from one on and before another keep the copies of its column alone, or lose them
+abbrev pub cuts_columns : {V : Type 0} → Grid V → ℕ → ℕ → ℕ → Option ℕ → Bool → ℕ → ℕ → Bool
+cuts_columns Q row from to chosen alone r k =
+    if (r == row) && is_from_to from to k then keeps_copies chosen alone (label_in Q k) else true
+
+-- one row keeps the copies of its column alone, or loses them, and the other rows keep all
+abbrev pub cuts_row : {V : Type 0} → Grid V → ℕ → Option ℕ → Bool → ℕ → ℕ → Bool
+cuts_row Q row chosen alone r k = if r == row then keeps_copies chosen alone (label_in Q k) else true
+
+-- a row with a number keeps what a branch keeps of it, and the other rows keep all
+abbrev pub cuts_numbered : {V : Type 0} → Grid V → ℕ → Option ℕ → ℕ → ℕ → ℕ → ℕ → Bool
+cuts_numbered Q row chosen number branch r k =
+    if nat_le number branch then cuts_row Q row chosen (nat_lt number branch) r k else true
+
+-- of an active row with a number what is kept while the rows before a branch are fixed
+abbrev pub is_fixed_at : ℕ → ℕ → Bool → Bool
+is_fixed_at branch number chosen = if nat_lt number branch then chosen else true
+
+abbrev pub fixes_labelled : Problem → List (Option ℕ) → ℕ → Option ℕ → Option ℕ → Bool
+fixes_labelled X f branch (Some r) (Some d) = is_fixed_at branch (row_number X r) (is_chosen f (r, d))
+fixes_labelled X f branch _ _ = true
+
+-- the cells that are kept while the active rows before number `branch` have their chosen cells alone
+abbrev pub fixes_cell : Problem → List (Option ℕ) → ℕ → ℕ → ℕ → Bool
+fixes_cell X f branch r k = fixes_labelled X f branch (row_label X r) (column_label X k)
+
+-- the bits tell which cells of a square a test keeps
+pub record AreBitsFor (side : ℕ) (keep : ℕ → ℕ → Bool) (B : BitTable) : Type 0 where
+  pub rows : B.rows ≡ side
+  pub columns : B.columns ≡ side
+  pub each : (r k : ℕ) → r < side → k < side → has_bit B r k ≡ keep r k
+
+-- one row keeps these columns, and the other rows are as they were
+pub record PutsRow (before after : BitTable) (r : ℕ) (keep : ℕ → Bool) : Type 0 where
+  pub rows : after.rows ≡ before.rows
+  pub columns : after.columns ≡ before.columns
+  pub bits : (s k : ℕ) → k < before.columns → has_bit after s k ≡ (if s == r then keep k else has_bit before s k)
+
+-- the square lost the cells that a test doesn't keep
+pub record LosesCells {V : Type 0} (keep : ℕ → ℕ → Bool) (before after : Grid V) : Type 0 where
+  pub labels : KeepsLabels before after
+  pub cells : (r k : ℕ) → cell_at after r k ≡ masked keep (cell_at before) r k

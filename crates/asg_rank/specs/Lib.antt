@@ -1,0 +1,16 @@
+pub mod Rankings
+pub mod Rules
+pub mod Entries
+pub mod HallPools
+pub mod Slots
+pub mod Cuts
+pub mod Trees
+pub mod Settled
+pub mod Rooms
+pub mod Chosen
+pub mod Searches
+pub mod Roots
+pub mod Opening
+pub mod Written
+pub mod Expansions
+pub mod RankOutcomes

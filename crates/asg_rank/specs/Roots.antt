@@ -1,0 +1,28 @@
+-- The root of a search: the square of the instance, solved.
+use Rattle.std.specs.Prelude.{◌≡◌, ℕ, ◌+◌, ◌≤◌, List, [], length, Option, None, IfSome}
+use Rattle.asg_admit.specs.declared.reduced.Reduced.{Reduced}
+use Rattle.asg_admit.specs.Reduced.{IsReduced}
+use Rattle.asg_algebra.specs.Ended.{EndsIn, last_of}
+use Rattle.asg_algebra.specs.Solved.{LeadTo}
+use Rattle.asg_order.specs.Monoid.{Monoid}
+use Rattle.asg_pool.specs.Forest.{Forest, IsLive, phases_to}
+use Rattle.asg_proof.specs.Phases.{PhaseOf}
+use Rattle.asg_square.specs.Grid.{Grid}
+use Rattle.asg_rank.specs.declared.roots.Root.{Root}
+
+-- a square was solved from the unit on, in a region without trails that had so many records
+pub record IsSolvedRoot {V : Type 0} (M : Monoid V) (difference : V → V → V) (Q : Grid V) (records : ℕ)
+    (root : Root V) : Type 0 where
+  pub before : Reduced V
+  pub forest : Forest V
+  pub start : before.now ≡ Q
+  pub at_unit : before.index ≡ M.unit
+  pub lead : LeadTo M difference (phases_to root.region (last_of root.ended)) before root.reduced forest
+      root.region None (last_of root.ended)
+  pub live : IfSome (last_of root.ended) (IsLive root.region)
+  pub few : length (phases_to root.region (last_of root.ended)) ≤ Q.side
+  pub spare : records ≤ root.region.spare + Q.side
+  pub region_side : root.region.side ≡ Q.side
+  pub bench_side : root.bench.side ≡ Q.side
+  pub matching_side : length root.matching ≡ Q.side
+  pub ends : EndsIn M root.reduced root.matching root.bench.rows root.ended

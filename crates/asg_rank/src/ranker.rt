@@ -1,0 +1,186 @@
+//! The ranker.
+
+ghost use Rattle.std.specs.Prelude.{◌≡◌, ◌<◌, ◌≤◌, [], length, IfOk, IfErr};
+ghost use Rattle.asg_model.specs.declared.bands.Band.TheVariants.{Whole};
+ghost use Rattle.asg_model.specs.declared.parts.Place.TheVariants.{All as PlaceAll};
+ghost use Rattle.asg_model.specs.HallSet.{IsHall};
+ghost use Rattle.asg_model.specs.Limits.{most_cost, most_side};
+ghost use Rattle.asg_model.specs.Refused.{PassesNegative};
+ghost use Rattle.asg_model.specs.Shapes.{square_side};
+ghost use Rattle.asg_proof.specs.Nodes.{answer_at};
+ghost use Rattle.asg_proof.specs.Ranked.{AreListed};
+ghost use Rattle.asg_proof.specs.SearchTrees.{IsSearchTree};
+ghost use Rattle.asg_rank.specs.Rankings.{ranking_work, IsExhausted, IsRefusal, Gives, HaveFewPhases, LeaveLastOpen};
+ghost use Rattle.asg_rank.specs.Rooms.{most_work};
+
+use crate::NoMemory;
+use crate::opening::open_search;
+use crate::rooms::counting_law;
+use crate::searches::{Search, advance};
+use crate::trees::root_hall;
+use crate::written_nodes::written_nodes;
+use asg_algebra::SquareSolver;
+use asg_model::{Choice, Instance};
+use asg_order::{Kind, Ordered};
+use asg_proof::Nodes;
+use asg_square::laws::square_law;
+use std::alloc::Global;
+use std::marker::Model;
+
+/// The next answer of a ranker.
+#[derive(Clone, Copy, Debug, PartialEq, Eq)]
+pub enum Next {
+    /// One more answer, by its number, counted from 1.
+    Answer(u32),
+    /// As many answers were given as were asked for, or every valid choice was.
+    Done,
+}
+
+/// Why a ranker can't be opened.
+#[derive(Clone, Copy, Debug, PartialEq, Eq)]
+pub enum RankRefusal {
+    /// The count times the rows times the side is above 4,000,000: this number.
+    RankTooLarge(u64),
+    /// There was not enough memory.
+    NoMemory,
+}
+
+impl From<NoMemory> for RankRefusal {
+    ghost use Rattle.std.specs.Prelude.{◌≡◌};
+    ghost use Rattle.asg_rank.specs.declared.ranker.RankRefusal.TheVariants.{NoMemory};
+
+    ghost from_gives = { λ _ refusal. refusal ≡ NoMemory };
+
+    fn from(_: NoMemory) -> RankRefusal {
+        RankRefusal::NoMemory
+    }
+}
+
+/// A ranking of the valid choices of an instance, one answer after another, by Murty's partition of
+/// the choices that are left [Murty 1968]. Each part is a node of a search tree. What an answer
+/// costs is the square of its part, made once, and one tree for each child; children that can't be
+/// among the answers that are left aren't grown to the end.
+#[derive(Drop)]
+pub struct Ranker<K: Kind + Drop> {
+    kind: K,
+    inst: Instance,
+    count: u32,
+    search: Search<<<K as Kind>::M as Ordered>::Value>,
+}
+
+impl<K: Kind + Drop> Model for Ranker<K> {
+    ghost use Rattle.asg_rank.specs.Rankings.{Ranking};
+    ghost use Rattle.asg_rank.specs.Rules.{rules_of};
+    ghost use Rattle.asg_rank.specs.Searches.{IsRanker, given_of};
+
+    ghost Value = { Ranking K };
+
+    ghost view = { λ r. record {
+      kind = r.kind;
+      problem = r.inst;
+      count = r.count;
+      given = given_of r.search;
+    } };
+
+    ghost invariant = { λ r. let m = K.monoid r.kind in
+        IsRanker (rules_of (K.M.monoid_of m) (K.M.difference m) (K.entered r.kind))
+        (K.objective r.kind) (K.reach r.kind) r.inst r.count r.search };
+}
+
+impl<K: Kind + Drop> Ranker<K>
+where
+    K::M: SquareSolver,
+{
+    /// A ranker of the first `count` choices of an instance. All rows are placed, the side of its
+    /// square is at most 2,000, the objective refuses no live cost (`asg_model::negative`), at
+    /// least one choice is asked for, and the kind's reach is at least the cost limit. The errors:
+    /// the count times the rows times the side is above 4,000,000, or want of memory. All memory is
+    /// taken here. The time grows with the cube of the side at most.
+    pub fn open(
+        alloc: Global,
+        kind: K,
+        inst: &Instance,
+        count: u32,
+    ) -> Result<Ranker<K>, RankRefusal>
+        requires place { inst.now.place ≡ PlaceAll }
+        requires side { square_side inst.now ≤ most_side }
+        requires passes { PassesNegative (K.objective kind) inst.now }
+        requires reach { most_cost ≤ K.reach kind }
+        requires some { 1 ≤ count }
+        ensures opened { IfOk result
+            (λ r. r ≡ record { kind = kind; problem = inst.now; count = count; given = [] }) }
+        ensures within { IfOk result (λ r. ranking_work inst.now count ≤ most_work) }
+        ensures refusal { IfErr result (IsRefusal inst.now count) }
+    {
+        let rows = inst.rows().len() as u64;
+        let work = u64::from(count) * rows * u64::from(inst.side());
+        if work > MOST_WORK {
+            return Err(RankRefusal::RankTooLarge(work));
+        }
+        let inst = inst.copy(alloc)?;
+        let search = open_search(alloc, &kind, &inst, count)?;
+        Ok(Ranker {
+            kind,
+            inst,
+            count,
+            search,
+        })
+    }
+
+    /// The next answer: a best choice of those that weren't given yet. It takes no memory. The time
+    /// is that of one tree on the square for each row that is placed, of making the square again for
+    /// each node on the way from the root, and of finding each child its place among those kept.
+    pub fn next(&mut self) -> Next
+        ensures gives { Gives (K.objective self.old.kind) self.old.problem self.old.count
+            self.old.given self.new.given result }
+        ensures kind { self.new.kind ≡ self.old.kind }
+        ensures problem { self.new.problem ≡ self.old.problem }
+        ensures count { self.new.count ≡ self.old.count }
+    {
+        counting_law();
+        let _rows = self.inst.rows();
+        advance(self.kind.monoid(), &self.inst, &mut self.search)
+    }
+
+    /// The answer of a number, counted from 1, that was given.
+    pub fn choice(&self, i: u32) -> &Choice
+        requires from { 1 ≤ i }
+        requires upto { i ≤ length self.now.given }
+        ensures { result.now ≡ answer_at self.now.given i }
+    {
+        &self.search.choices[i as usize - 1]
+    }
+
+    /// A Hall set of the instance, after `Done` without an answer.
+    pub fn hall(&self) -> &[u32]
+        requires none { self.now.given ≡ [] }
+        requires done { IsExhausted self.now.problem self.now.count self.now.given }
+        ensures { IsHall self.now.problem Whole result.now }
+    {
+        square_law::<<K::M as Ordered>::Value>();
+        let _rows = self.inst.rows();
+        root_hall(&self.search.tree)
+    }
+
+    /// The tree that proves the ranking, after `Done` with an answer. The error is want of memory.
+    pub fn nodes(&self, alloc: Global) -> Result<Nodes, NoMemory>
+        requires some { 1 ≤ length self.now.given }
+        requires done { IsExhausted self.now.problem self.now.count self.now.given }
+        ensures listed { AreListed (K.objective self.now.kind) self.now.problem
+            self.now.count self.now.given }
+        ensures tree { let kind = self.now.kind in let m = K.monoid kind in
+            IfOk result (λ nodes. IsSearchTree (K.M.monoid_of m) (K.M.difference m) (K.M.word_of m)
+            (K.entered kind) self.now.problem self.now.count self.now.given nodes) }
+        ensures phases { IfOk result (HaveFewPhases (square_side self.now.problem)) }
+        ensures last { IfOk result (LeaveLastOpen self.now.count self.now.given) }
+    {
+        square_law::<<K::M as Ordered>::Value>();
+        counting_law();
+        let _rows = self.inst.rows();
+        let _spare = self.search.tree.region.spare();
+        written_nodes(alloc, self.kind.monoid(), &self.search.tree)
+    }
+}
+
+/// The greatest work of a ranking: the count times the rows times the side.
+pub const MOST_WORK: u64 = 4_000_000;

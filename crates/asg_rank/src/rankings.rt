@@ -1,0 +1,272 @@
+//! The ranking of an instance by an objective.
+
+ghost use Rattle.std.specs.Prelude.{◌≡◌, ◌≤◌, [], All, IsTrue, IfOk, IfErr, length};
+ghost use Rattle.asg_model.specs.declared.objectives.Objective.TheVariants.{TimeCost};
+ghost use Rattle.asg_model.specs.declared.parts.Place.TheVariants.{All as PlaceAll};
+ghost use Rattle.asg_model.specs.Limits.{most_cost, most_side};
+ghost use Rattle.asg_model.specs.Objectives.{is_algebraic, is_bottleneck};
+ghost use Rattle.asg_model.specs.Refused.{PassesNegative};
+ghost use Rattle.asg_model.specs.Shapes.{square_side};
+ghost use Rattle.asg_model.specs.ValidChoice.{IsValid};
+ghost use Rattle.asg_monoids.specs.Entered.{is_sum_objective};
+ghost use Rattle.asg_rank.specs.Rankings.{IsExhausted, IsRefusal, ranking_work};
+ghost use Rattle.asg_rank.specs.RankOutcomes.{AreCountable, IsOutcomeIn, IsRankOutcome};
+ghost use Rattle.asg_rank.specs.Rooms.{most_work};
+
+use crate::NoMemory;
+use crate::choice_lists::Choices;
+use crate::ranker::{Next, RankRefusal, Ranker};
+use asg_algebra::SquareSolver;
+use asg_model::{Choice, Instance, Objective};
+use asg_monoids::{PeakKind, SumKind, TimeKind};
+use asg_order::Kind;
+use asg_proof::{Ids, Nodes};
+use std::alloc::{AllocError, Global};
+
+/// What a ranking gives.
+#[derive(Debug, Drop)]
+pub enum RankOutcome {
+    /// The best choices in order, and what shows that nothing better was left out.
+    Listed { answers: Choices, nodes: Nodes },
+    /// No choice is valid: the rows are a Hall set.
+    Nothing { rows: Ids },
+}
+
+// Has a ranker give all answers that it has to give. It takes no memory. Gives how many they are.
+fn give_all<K: Kind + Drop>(ranker: &mut Ranker<K>) -> u32
+where
+    K::M: SquareSolver,
+    requires { ranker.old.given ≡ [] }
+    ensures many { result ≡ length ranker.new.given }
+    ensures done { IsExhausted ranker.new.problem ranker.new.count ranker.new.given }
+    ensures valid { All (IsValid ranker.new.problem) ranker.new.given }
+    ensures kind { ranker.new.kind ≡ ranker.old.kind }
+    ensures problem { ranker.new.problem ≡ ranker.old.problem }
+    ensures count { ranker.new.count ≡ ranker.old.count }
+{
+    let mut given = 0;
+    'answers: while let Next::Answer(number) = ranker.next() {
+        given = number;
+    }
+    given
+}
+
+// An equal choice. The error is want of memory.
+fn copied(alloc: Global, choice: &Choice) -> Result<Choice, NoMemory>
+    ensures { IfOk result (λ copy. copy ≡ choice.now) }
+{
+    let mut copy = Choice::make(alloc, choice.len())?;
+    'rows: for row in 0..choice.len() {
+        copy.set(row, choice.get(row));
+    }
+    Ok(copy)
+}
+
+// The answers that a ranker gave, so many. The error is want of memory.
+fn listed<K: Kind + Drop>(
+    alloc: Global,
+    ranker: &Ranker<K>,
+    given: u32,
+) -> Result<Choices, NoMemory>
+where
+    K::M: SquareSolver,
+    requires { given ≡ length ranker.now.given }
+    ensures { IfOk result (λ choices. choices ≡ ranker.now.given) }
+{
+    let mut choices = Vec::with_capacity(alloc, given as usize)?;
+    'answers: for place in 0..given {
+        choices.push(copied(alloc, ranker.choice(place + 1))?)?;
+    }
+    Ok(Choices::from_vec(choices))
+}
+
+// Whether the nodes can be counted in 32 bits, and so can the phases of the root. No memory that
+// there is holds more.
+fn are_countable(nodes: &Nodes) -> bool
+    ensures { IsTrue result → AreCountable nodes.now }
+{
+    match nodes.as_slice().get(0) {
+        Some(root) => nodes.len() <= u32::MAX as usize && root.own.len() <= u32::MAX as usize,
+        None => false,
+    }
+}
+
+// The outcome where a ranker gave so many answers, and nothing is left to give. The error is want
+// of memory.
+fn ranked_outcome<K: Kind + Drop>(
+    alloc: Global,
+    ranker: &Ranker<K>,
+    given: u32,
+) -> Result<RankOutcome, NoMemory>
+where
+    K::M: SquareSolver,
+    requires many { given ≡ length ranker.now.given }
+    requires some { 1 ≤ given }
+    requires done { IsExhausted ranker.now.problem ranker.now.count ranker.now.given }
+    requires valid { All (IsValid ranker.now.problem) ranker.now.given }
+    ensures { let m = K.monoid ranker.now.kind in
+        IfOk result (IsOutcomeIn (K.M.monoid_of m) (K.M.difference m) (K.M.word_of m)
+        (K.entered ranker.now.kind) (K.objective ranker.now.kind) ranker.now.problem
+        ranker.now.count) }
+{
+    let answers = listed(alloc, ranker, given)?;
+    let nodes = ranker.nodes(alloc)?;
+    if are_countable(&nodes) {
+        Ok(RankOutcome::Listed { answers, nodes })
+    } else {
+        Err(AllocError)
+    }
+}
+
+// The outcome where a ranker had no answer to give. The error is want of memory.
+fn none_outcome<K: Kind + Drop>(alloc: Global, ranker: &Ranker<K>) -> Result<RankOutcome, NoMemory>
+where
+    K::M: SquareSolver,
+    requires none { ranker.now.given ≡ [] }
+    requires done { IsExhausted ranker.now.problem ranker.now.count ranker.now.given }
+    ensures { let m = K.monoid ranker.now.kind in
+        IfOk result (IsOutcomeIn (K.M.monoid_of m) (K.M.difference m) (K.M.word_of m)
+        (K.entered ranker.now.kind) (K.objective ranker.now.kind) ranker.now.problem
+        ranker.now.count) }
+{
+    let rows = Vec::from_slice(alloc, ranker.hall())?;
+    Ok(RankOutcome::Nothing {
+        rows: Ids::from_vec(rows),
+    })
+}
+
+// The outcome of a ranker that is open and gave nothing yet. The error is want of memory.
+fn outcome_of<K: Kind + Drop>(
+    alloc: Global,
+    ranker: &mut Ranker<K>,
+) -> Result<RankOutcome, NoMemory>
+where
+    K::M: SquareSolver,
+    requires { ranker.old.given ≡ [] }
+    ensures { let m = K.monoid ranker.old.kind in
+        IfOk result (IsOutcomeIn (K.M.monoid_of m) (K.M.difference m) (K.M.word_of m)
+        (K.entered ranker.old.kind) (K.objective ranker.old.kind) ranker.old.problem
+        ranker.old.count) }
+{
+    let given = give_all(ranker);
+    if given == 0 {
+        none_outcome(alloc, ranker)
+    } else {
+        ranked_outcome(alloc, ranker, given)
+    }
+}
+
+// The ranking by a kind.
+fn ranking_by<K: Kind + Drop>(
+    alloc: Global,
+    kind: K,
+    inst: &Instance,
+    count: u32,
+) -> Result<RankOutcome, RankRefusal>
+where
+    K::M: SquareSolver,
+    requires place { inst.now.place ≡ PlaceAll }
+    requires side { square_side inst.now ≤ most_side }
+    requires passes { PassesNegative (K.objective kind) inst.now }
+    requires reach { most_cost ≤ K.reach kind }
+    requires some { 1 ≤ count }
+    ensures outcome { let m = K.monoid kind in
+        IfOk result (IsOutcomeIn (K.M.monoid_of m) (K.M.difference m) (K.M.word_of m)
+        (K.entered kind) (K.objective kind) inst.now count) }
+    ensures within { IfOk result (λ _. ranking_work inst.now count ≤ most_work) }
+    ensures refusal { IfErr result (IsRefusal inst.now count) }
+{
+    let mut ranker = Ranker::open(alloc, kind, inst, count)?;
+    Ok(outcome_of(alloc, &mut ranker)?)
+}
+
+// The ranking by an objective of sums.
+fn rank_sums(
+    alloc: Global,
+    objective: Objective,
+    inst: &Instance,
+    count: u32,
+) -> Result<RankOutcome, RankRefusal>
+    requires sums { IsTrue (is_sum_objective objective) }
+    requires place { inst.now.place ≡ PlaceAll }
+    requires side { square_side inst.now ≤ most_side }
+    requires passes { PassesNegative objective inst.now }
+    requires some { 1 ≤ count }
+    ensures outcome { IfOk result (IsRankOutcome objective inst.now count) }
+    ensures within { IfOk result (λ _. ranking_work inst.now count ≤ most_work) }
+    ensures refusal { IfErr result (IsRefusal inst.now count) }
+{
+    let kind = SumKind::of(objective);
+    let outcome = ranking_by(alloc, kind, inst, count)?;
+    Ok(outcome)
+}
+
+// The ranking by a bottleneck objective.
+fn rank_peaks(
+    alloc: Global,
+    objective: Objective,
+    inst: &Instance,
+    count: u32,
+) -> Result<RankOutcome, RankRefusal>
+    requires peaks { IsTrue (is_bottleneck objective) }
+    requires place { inst.now.place ≡ PlaceAll }
+    requires side { square_side inst.now ≤ most_side }
+    requires passes { PassesNegative objective inst.now }
+    requires some { 1 ≤ count }
+    ensures outcome { IfOk result (IsRankOutcome objective inst.now count) }
+    ensures within { IfOk result (λ _. ranking_work inst.now count ≤ most_work) }
+    ensures refusal { IfErr result (IsRefusal inst.now count) }
+{
+    let kind = PeakKind::of(objective);
+    let outcome = ranking_by(alloc, kind, inst, count)?;
+    Ok(outcome)
+}
+
+// The ranking by `time-cost`.
+fn rank_times(alloc: Global, inst: &Instance, count: u32) -> Result<RankOutcome, RankRefusal>
+    requires place { inst.now.place ≡ PlaceAll }
+    requires side { square_side inst.now ≤ most_side }
+    requires passes { PassesNegative TimeCost inst.now }
+    requires some { 1 ≤ count }
+    ensures outcome { IfOk result (IsRankOutcome TimeCost inst.now count) }
+    ensures within { IfOk result (λ _. ranking_work inst.now count ≤ most_work) }
+    ensures refusal { IfErr result (IsRefusal inst.now count) }
+{
+    let kind = TimeKind::new();
+    let outcome = ranking_by(alloc, kind, inst, count)?;
+    Ok(outcome)
+}
+
+/// The first `count` choices of an instance for an algebraic objective, from the best on, or all
+/// valid ones where they are fewer, with the tree that proves the ranking: each of its nodes but
+/// the root has at most one phase beyond those of its parent. Where no choice is valid, a Hall set
+/// of the whole instance. The objective is any but `Balanced` and `Lex`, it refuses no live cost of
+/// the instance (`asg_model::negative`), all rows are placed, the side is at most 2,000, and at
+/// least one choice is asked for. The errors: the count times the rows times the side is above
+/// 4,000,000, or want of memory.
+pub fn ranking(
+    alloc: Global,
+    objective: Objective,
+    inst: &Instance,
+    count: u32,
+) -> Result<RankOutcome, RankRefusal>
+    requires algebraic { IsTrue (is_algebraic objective) }
+    requires place { inst.now.place ≡ PlaceAll }
+    requires side { square_side inst.now ≤ most_side }
+    requires passes { PassesNegative objective inst.now }
+    requires some { 1 ≤ count }
+    ensures outcome { IfOk result (IsRankOutcome objective inst.now count) }
+    ensures within { IfOk result (λ _. ranking_work inst.now count ≤ most_work) }
+    ensures refusal { IfErr result (IsRefusal inst.now count) }
+{
+    match objective {
+        Objective::Sum | Objective::SumMax | Objective::SumPair | Objective::Capped(_) => {
+            rank_sums(alloc, objective, inst, count)
+        }
+        Objective::Bottleneck | Objective::BottleneckMax => {
+            rank_peaks(alloc, objective, inst, count)
+        }
+        Objective::TimeCost => rank_times(alloc, inst, count),
+        Objective::Balanced | Objective::Lex => unreachable!(),
+    }
+}

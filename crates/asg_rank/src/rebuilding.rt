@@ -1,0 +1,137 @@
+//! The square of the part of a node, after the phases of its trail.
+
+ghost use Rattle.std.specs.Prelude.{◌≡◌, ℕ, ◌<◌, ◌≤◌, length, Some};
+ghost use Rattle.asg_model.specs.declared.parts.Cost.{Cost};
+ghost use Rattle.asg_model.specs.declared.parts.Place.TheVariants.{All as PlaceAll};
+ghost use Rattle.asg_model.specs.Problem.{Problem};
+ghost use Rattle.asg_admit.specs.Reduced.{IsReduced, IsPhaseTo};
+ghost use Rattle.asg_pool.specs.Forest.{phases_of, last_phase, IsLive};
+ghost use Rattle.asg_proof.specs.Phases.{IsAdmittedPhase};
+ghost use Rattle.asg_square.specs.Grid.{cell_at};
+ghost use Rattle.asg_rank.specs.Entries.{entry_at, IsNext};
+ghost use Rattle.asg_rank.specs.Rules.{rules_of, IsReducedTo};
+ghost use Rattle.asg_rank.specs.Settled.{IsOwn, SettlesOwn, IsRebuilt, answer_in};
+ghost use Rattle.asg_rank.specs.Trees.{IsTree};
+
+use crate::cuts::cut_branch;
+use crate::entries::State;
+use crate::trees::{Tree, entry};
+use asg_admit::{Reduced, settle};
+use asg_model::{Choice, Instance};
+use asg_order::DMonoid;
+use asg_pool::{Region, Trail};
+
+/// The trail, where there is one and it isn't the one before.
+pub(crate) fn own_trail(before: Option<Trail>, trail: Option<Trail>) -> Option<Trail>
+    ensures { IsOwn before trail result }
+{
+    if trail == before { None } else { trail }
+}
+
+// Settles the last phase of a trail on a square.
+fn settle_last<M: DMonoid>(
+    m: &M,
+    region: &Region<M::Value>,
+    trail: Trail,
+    work: &mut Reduced<M::Value>,
+    room: &mut [M::Value],
+)
+    requires live { IsLive region.now trail }
+    requires reduced { IsReduced (M.monoid_of m.now) work.old }
+    requires side { region.now.side ≡ work.old.now.side }
+    requires room { work.old.now.side < length room.old }
+    requires admitted { IsAdmittedPhase (M.monoid_of m.now) (M.difference m.now) work.old.now.side
+        (last_phase (phases_of region.now trail)) (cell_at work.old.now) }
+    ensures phase { IsPhaseTo (M.monoid_of m.now) (M.difference m.now)
+        (last_phase (phases_of region.now trail)) work.old work.new }
+    ensures room { length room.new ≡ length room.old }
+{
+    let steps = region.steps(trail);
+    let enters = region.enters(trail);
+    let leaves = region.leaves(trail);
+    settle(m, work, steps, enters, leaves, room);
+}
+
+// Settles the phase that a trail has beyond the one before it, if it has one.
+fn settle_own<M: DMonoid>(
+    m: &M,
+    region: &Region<M::Value>,
+    before: Option<Trail>,
+    trail: Option<Trail>,
+    work: &mut Reduced<M::Value>,
+    room: &mut [M::Value],
+)
+    requires next { IsNext region.now before trail }
+    requires reduced { IsReduced (M.monoid_of m.now) work.old }
+    requires side { region.now.side ≡ work.old.now.side }
+    requires room { work.old.now.side < length room.old }
+    requires admitted { (t : ℕ) → IsOwn before trail (Some t) → IsAdmittedPhase (M.monoid_of m.now)
+        (M.difference m.now) work.old.now.side (last_phase (phases_of region.now t))
+        (cell_at work.old.now) }
+    ensures settled { SettlesOwn (M.monoid_of m.now) (M.difference m.now) region.now before trail
+        work.old work.new }
+    ensures room { length room.new ≡ length room.old }
+{
+    if let Some(own) = own_trail(before, trail) {
+        settle_last(m, region, own, work, room);
+    }
+}
+
+// The number of the answer that a state names.
+fn answer_of(state: State) -> u32
+    ensures { result ≡ answer_in state }
+{
+    match state {
+        State::Answered(number) => number,
+        State::Open | State::Empty(_) => 0,
+    }
+}
+
+/// Makes a square that of the part of a node after the phases of its trail: that of the instance
+/// after those of the root, from which the branches of the nodes from there on take their cells and
+/// to which their phases are applied. It takes no memory.
+pub(crate) fn rebuild<M: DMonoid>(
+    m: &M,
+    inst: &Instance,
+    tree: &Tree<M::Value>,
+    choices: &[Choice],
+    base: &Reduced<M::Value>,
+    work: &mut Reduced<M::Value>,
+    room: &mut [M::Value],
+    node: u32,
+)
+    requires place { inst.now.place ≡ PlaceAll }
+    requires from { 1 ≤ node }
+    requires upto { node ≤ length tree.now.entries.items }
+    requires tree { IsRebuilt (M.monoid_of m.now) (M.difference m.now) inst.now tree.now
+        choices.now base.now }
+    requires sides { (work.old.now.side ≡ base.now.now.side)
+        × (tree.now.region.side ≡ base.now.now.side) }
+    requires room { base.now.now.side < length room.old }
+    ensures reduced { (enter : Cost → M.Value) (winner : ℕ → ℕ) (upto : ℕ) (part : ℕ → Problem)
+        → let R = rules_of (M.monoid_of m.now) (M.difference m.now) enter in
+        let unit = (M.monoid_of m.now).unit in let e = entry_at unit tree.now.entries.items node in
+        IsTree R inst.now choices.now winner upto tree.now part
+        → IsReducedTo R tree.now.region (part 1) (entry_at unit tree.now.entries.items 1).trail
+        (entry_at unit tree.now.entries.items 1).index base.entry.now
+        → IsReducedTo R tree.now.region (part node) e.trail e.index work.new }
+    ensures room { length room.new ≡ length room.old }
+{
+    let here = entry(&tree.entries, node);
+    if node == 1 {
+        work.now.take(&base.now);
+        work.index = base.index;
+        return;
+    }
+    rebuild(m, inst, tree, choices, base, work, room, here.parent);
+    tree.region.spare();
+    let before = entry(&tree.entries, here.parent);
+    let answer = answer_of(before.state);
+    cut_branch(
+        &mut work.now,
+        inst,
+        &choices[answer as usize - 1],
+        here.branch,
+    );
+    settle_own(m, &tree.region, before.trail, here.trail, work, room);
+}

@@ -1,0 +1,196 @@
+//! The search tree as documents have it.
+
+ghost use Rattle.std.specs.Prelude.{◌≡◌, ◌≤◌, ℕ, All, length, map, IfOk, IfSome};
+ghost use Rattle.asg_order.specs.Monoid.{IsValue};
+ghost use Rattle.asg_pool.specs.Forest.{IsLive, phases_to, phases_of, last_phase};
+ghost use Rattle.asg_proof.specs.NodeLists.{IsMarkPart, IsNodePart};
+ghost use Rattle.asg_proof.specs.Phases.{worded, IsPhase};
+ghost use Rattle.asg_rank.specs.Entries.{entry_at, IsNext};
+ghost use Rattle.asg_rank.specs.Written.{AreOfValues, AreOwn, AreTrailsTo, IsStateOf, IsWrittenMark};
+ghost use Rattle.asg_rank.specs.Written.{IsTold, IsWrittenOwn, IsWrittenNode, AreWrittenNodes};
+
+use crate::NoMemory;
+use crate::entries::{Entry, State};
+use crate::hall_pools::HallPool;
+use crate::rebuilding::own_trail;
+use crate::trees::{Tree, entry};
+use asg_order::Written;
+use asg_pool::{Region, Trail};
+use asg_proof::{Ids, Mark, Node, Nodes, Phases, StepWords, WrittenPhase};
+use std::alloc::Global;
+
+// The steps as words, in order.
+fn step_words<M: Written>(alloc: Global, m: &M, steps: &[M::Value]) -> Result<StepWords, NoMemory>
+    requires { All (IsValue (M.monoid_of m.now)) steps.now }
+    ensures { IfOk result (λ words. words ≡ map (M.word_of m.now) steps.now) }
+{
+    let mut written = StepWords::none(alloc);
+    'steps: for step in steps {
+        written.push(m.to_word(*step))?;
+    }
+    Ok(written)
+}
+
+// The last phase of a trail, with each step as its word.
+fn written_phase<M: Written>(
+    alloc: Global,
+    m: &M,
+    region: &Region<M::Value>,
+    trail: Trail,
+) -> Result<WrittenPhase, NoMemory>
+    requires live { IsLive region.now trail }
+    requires values { All (IsValue (M.monoid_of m.now)) (last_phase (phases_of region.now trail)).steps }
+    ensures words { IfOk result (λ phase. phase
+        ≡ worded (M.word_of m.now) (last_phase (phases_of region.now trail))) }
+    ensures phase { IfOk result IsPhase }
+{
+    let words = step_words(alloc, m, region.steps(trail))?;
+    let enters = Vec::from_slice(alloc, region.enters(trail))?;
+    let leaves = Vec::from_slice(alloc, region.leaves(trail))?;
+    WrittenPhase::of(words, enters, leaves)
+}
+
+// The phase that a trail has beyond the one before it, if it has one, with each step as its word.
+fn own_phases<M: Written>(
+    alloc: Global,
+    m: &M,
+    region: &Region<M::Value>,
+    before: Option<Trail>,
+    trail: Option<Trail>,
+) -> Result<Phases, NoMemory>
+    requires next { IsNext region.now before trail }
+    requires values { AreOfValues (M.monoid_of m.now) (phases_to region.now trail) }
+    ensures { IfOk result (λ own. AreOwn (M.word_of m.now) region.now before trail own) }
+{
+    let _spare = region.spare();
+    let Some(own) = own_trail(before, trail) else {
+        return Ok(Phases::from_vec(Vec::new(alloc)));
+    };
+    let mut phases = Vec::new(alloc);
+    phases.push(written_phase(alloc, m, region, own)?)?;
+    Ok(Phases::from_vec(phases))
+}
+
+// The trails on the way from one back to the first.
+fn trails_to<V: Copy>(
+    alloc: Global,
+    region: &Region<V>,
+    last: Option<Trail>,
+) -> Result<Vec<Trail>, NoMemory>
+    requires { IfSome last (IsLive region.now) }
+    ensures { IfOk result (λ trails. AreTrailsTo region.now last trails.items) }
+{
+    let mut trails = Vec::new(alloc);
+    let mut next = last;
+    'trails: while let Some(trail) = next {
+        trails.push(trail)?;
+        next = region.parent(trail);
+    }
+    Ok(trails)
+}
+
+// All phases of a trail, with each step as its word.
+fn all_phases<M: Written>(
+    alloc: Global,
+    m: &M,
+    region: &Region<M::Value>,
+    last: Option<Trail>,
+) -> Result<Phases, NoMemory>
+    requires live { IfSome last (IsLive region.now) }
+    requires values { AreOfValues (M.monoid_of m.now) (phases_to region.now last) }
+    ensures { IfOk result (λ phases. phases
+        ≡ map (worded (M.word_of m.now)) (phases_to region.now last)) }
+{
+    let _spare = region.spare();
+    let trails = trails_to(alloc, region, last)?;
+    let mut phases = Vec::with_capacity(alloc, trails.len())?;
+    'trails: for k in 0..trails.len() {
+        let trail = trails[trails.len() - 1 - k];
+        phases.push(written_phase(alloc, m, region, trail)?)?;
+    }
+    Ok(Phases::from_vec(phases))
+}
+
+// The mark of a node with a state.
+fn mark_of(alloc: Global, halls: &HallPool, state: State) -> Result<Mark, NoMemory>
+    requires { IsStateOf halls.now state }
+    ensures mark { IfOk result (IsWrittenMark halls.now state) }
+    ensures part { IfOk result IsMarkPart }
+{
+    match state {
+        State::Answered(number) => Ok(Mark::Answered(number)),
+        State::Open => Ok(Mark::Open),
+        State::Empty(place) => {
+            let ids = Vec::from_slice(alloc, halls.get(place))?;
+            Ok(Mark::Empty(Ids::from_vec(ids)))
+        }
+    }
+}
+
+// The phases of a node beyond those of its parent, with each step as its word.
+fn node_phases<M: Written>(
+    alloc: Global,
+    m: &M,
+    tree: &Tree<M::Value>,
+    here: &Entry<M::Value>,
+) -> Result<Phases, NoMemory>
+    requires { IsTold (M.monoid_of m.now) tree.now here.now }
+    ensures { IfOk result (IsWrittenOwn (M.monoid_of m.now).unit (M.word_of m.now) tree.now
+        here.now) }
+{
+    if here.parent == 0 {
+        return all_phases(alloc, m, &tree.region, here.trail);
+    }
+    let before = entry(&tree.entries, here.parent);
+    own_phases(alloc, m, &tree.region, before.trail, here.trail)
+}
+
+// A node of these parts.
+fn node_of(parent: u32, branch: u32, mark: Mark, own: Phases) -> Node
+    requires { IsMarkPart mark }
+    ensures node { result ≡ record { parent = parent; branch = branch; mark = mark; own = own } }
+    ensures part { IsNodePart result }
+{
+    let _count = own.len();
+    Node {
+        parent,
+        branch,
+        mark,
+        own,
+    }
+}
+
+// A node of a tree.
+fn written_node<M: Written>(
+    alloc: Global,
+    m: &M,
+    tree: &Tree<M::Value>,
+    here: &Entry<M::Value>,
+) -> Result<Node, NoMemory>
+    requires { IsTold (M.monoid_of m.now) tree.now here.now }
+    ensures written { IfOk result (IsWrittenNode (M.monoid_of m.now).unit (M.word_of m.now) tree.now
+        here.now) }
+    ensures part { IfOk result IsNodePart }
+{
+    let own = node_phases(alloc, m, tree, here)?;
+    let mark = mark_of(alloc, &tree.halls, here.state)?;
+    Ok(node_of(here.parent, here.branch, mark, own))
+}
+
+/// The nodes of a tree in order. The error is want of memory.
+pub(crate) fn written_nodes<M: Written>(
+    alloc: Global,
+    m: &M,
+    tree: &Tree<M::Value>,
+) -> Result<Nodes, NoMemory>
+    requires { (n : ℕ) → 1 ≤ n → n ≤ length tree.now.entries.items
+        → IsTold (M.monoid_of m.now) tree.now
+        (entry_at (M.monoid_of m.now).unit tree.now.entries.items n) }
+    ensures { IfOk result (AreWrittenNodes (M.monoid_of m.now).unit (M.word_of m.now) tree.now) }
+{
+    let mut nodes = Vec::with_capacity(alloc, tree.entries.len())?;
+    'nodes: for here in &tree.entries {
+        nodes.push(written_node(alloc, m, tree, here)?)?;
+    }
+    Ok(Nodes::from_vec(nodes))
+}

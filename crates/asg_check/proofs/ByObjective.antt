@@ -34,13 +34,13 @@ pub record AreSpelled {V : Type 0} (M : Monoid V) (word_of : V → Word) : Type 
   pub spelled : HasWords M word_of value_of
   pub same : (x y : V) → Dec (x ≡ y)
 
-sums_spelled : (top : ℕ) → AreSpelled (bounded_sums top) plain_word
+pub sums_spelled : (top : ℕ) → AreSpelled (bounded_sums top) plain_word
 sums_spelled top = record { value_of = bounded_value top; spelled = bounded_word_laws top; same = ℕ_discrete }
 
-peaks_spelled : AreSpelled maxima plain_word
+pub peaks_spelled : AreSpelled maxima plain_word
 peaks_spelled = record { value_of = maxima_value; spelled = maxima_word_laws; same = ℕ_discrete }
 
-times_spelled : AreSpelled (graded (bounded_sums (2 ^ 120))) graded_word
+pub times_spelled : AreSpelled (graded (bounded_sums (2 ^ 120))) graded_word
 times_spelled = record { value_of = graded_value (2 ^ 120); spelled = graded_word_laws (2 ^ 120); same = ×_discrete ℕ_discrete ℕ_discrete }
 
 -- ---- over a monoid
@@ -93,7 +93,7 @@ module _ {V : Type 0} (M : Monoid V) (difference : V → V → V) (word_of : V �
 -- ---- by the objective
 
 -- a fact of each monoid with words is decided
-dec_by : (P : Fact) → ((V : Type 0) (M : Monoid V) (difference : V → V → V) (word_of : V → Word) (enter : Cost → V) → AreSpelled M word_of → Dec (P V M difference word_of enter)) → (objective : Objective) → Dec (InMonoidOf objective P)
+pub dec_by : (P : Fact) → ((V : Type 0) (M : Monoid V) (difference : V → V → V) (word_of : V → Word) (enter : Cost → V) → AreSpelled M word_of → Dec (P V M difference word_of enter)) → (objective : Objective) → Dec (InMonoidOf objective P)
 dec_by P each Sum = each _ _ _ _ _ (sums_spelled (top_of Sum))
 dec_by P each SumMax = each _ _ _ _ _ (sums_spelled (top_of SumMax))
 dec_by P each SumPair = each _ _ _ _ _ (sums_spelled (top_of SumPair))
@@ -105,7 +105,7 @@ dec_by P each Balanced = no (λ none. none)
 dec_by P each Lex = no (λ none. none)
 
 -- what follows in each monoid with words
-mapped : (P Q : Fact) → ((V : Type 0) (M : Monoid V) (difference : V → V → V) (word_of : V → Word) (enter : Cost → V) → AreSpelled M word_of → P V M difference word_of enter → Q V M difference word_of enter) → (objective : Objective) → InMonoidOf objective P → InMonoidOf objective Q
+pub mapped : (P Q : Fact) → ((V : Type 0) (M : Monoid V) (difference : V → V → V) (word_of : V → Word) (enter : Cost → V) → AreSpelled M word_of → P V M difference word_of enter → Q V M difference word_of enter) → (objective : Objective) → InMonoidOf objective P → InMonoidOf objective Q
 mapped P Q each Sum p = each _ _ _ _ _ (sums_spelled (top_of Sum)) p
 mapped P Q each SumMax p = each _ _ _ _ _ (sums_spelled (top_of SumMax)) p
 mapped P Q each SumPair p = each _ _ _ _ _ (sums_spelled (top_of SumPair)) p
@@ -117,7 +117,7 @@ mapped P Q each Balanced p = p
 mapped P Q each Lex p = p
 
 -- two facts of one monoid
-both : (P Q : Fact) (objective : Objective) → InMonoidOf objective P → InMonoidOf objective Q → InMonoidOf objective (λ V M difference word_of enter. P V M difference word_of enter × Q V M difference word_of enter)
+pub both : (P Q : Fact) (objective : Objective) → InMonoidOf objective P → InMonoidOf objective Q → InMonoidOf objective (λ V M difference word_of enter. P V M difference word_of enter × Q V M difference word_of enter)
 both P Q Sum p q = (p, q)
 both P Q SumMax p q = (p, q)
 both P Q SumPair p q = (p, q)
@@ -129,7 +129,7 @@ both P Q Balanced p q = p
 both P Q Lex p q = p
 
 -- no fact of any monoid, where none holds
-nothing : (P : Fact) → ((V : Type 0) (M : Monoid V) (difference : V → V → V) (word_of : V → Word) (enter : Cost → V) → AreSpelled M word_of → ¬ P V M difference word_of enter) → (objective : Objective) → ¬ InMonoidOf objective P
+pub nothing : (P : Fact) → ((V : Type 0) (M : Monoid V) (difference : V → V → V) (word_of : V → Word) (enter : Cost → V) → AreSpelled M word_of → ¬ P V M difference word_of enter) → (objective : Objective) → ¬ InMonoidOf objective P
 nothing P each Sum p = each _ _ _ _ _ (sums_spelled (top_of Sum)) p
 nothing P each SumMax p = each _ _ _ _ _ (sums_spelled (top_of SumMax)) p
 nothing P each SumPair p = each _ _ _ _ _ (sums_spelled (top_of SumPair)) p

@@ -1,13 +1,12 @@
 -- A document certifies exactly where no reason stands against it, and each reason is tested.
-use mathlib.Core.HLevel.{dec→stable, ×_discrete}
-use mathlib.Core.List.{List-discrete}
+use mathlib.Core.HLevel.{dec→stable}
 use mathlib.Core.Logic.Dec.{and, not, of_iff}
-use Rattle.std.proofs.Common.{◌≡◌, ◌≢◌, ◌↔◌, ◌&&◌, ℕ, suc, Bool, true, false, List, [], ◌∷◌, length, take, Option, inl, inr, refl, sym, ap, ◌∙◌, subst, arith}
+use Rattle.std.proofs.Common.{◌≡◌, ◌≢◌, ◌↔◌, ◌&&◌, ◌⊎◌, ℕ, suc, ◌<◌, ◌≤◌, Bool, true, false, List, [], ◌∷◌, length, take, Option, inl, inr, refl, sym, ap, ◌∙◌, subst, arith}
 use Rattle.std.proofs.Math.Bool.{Bool-discrete}
-use Rattle.std.proofs.Math.Decide.{ℕ_discrete}
-use Rattle.std.specs.Prelude.{ℤ, pos, IsTrue}
-use Rattle.std.proofs.lemmas.Bool.{false_from_ne_true}
+use Rattle.std.specs.Prelude.{ℤ, pos, ◌==◌, nat_le, IsTrue}
+use Rattle.std.proofs.lemmas.Bool.{false_from_ne_true, leb-true}
 use Rattle.std.proofs.lemmas.List.{take_all}
+use Rattle.std.proofs.lemmas.Option.{slice_get_within}
 use Rattle.asg_order.specs.declared.words.Word.{Word}
 use Rattle.asg_model.specs.declared.bands.Band.{Band}
 use Rattle.asg_model.specs.declared.bands.Band.TheVariants.{Whole, Under, Over, Between}
@@ -23,36 +22,42 @@ use Rattle.asg_model.specs.Values.{choice_value}
 use Rattle.asg_proof.specs.declared.outcomes.Proof.{Proof}
 use Rattle.asg_proof.specs.declared.outcomes.Proof.TheVariants.{Below, Levels, Phases, Windows}
 use Rattle.asg_proof.specs.declared.levels.Level.{Level}
+use Rattle.asg_proof.specs.declared.nodes.Node.{Node}
 use Rattle.asg_proof.specs.declared.windows.Window.{Window}
 use Rattle.asg_proof.specs.Phases.{PhaseOf}
 use Rattle.asg_proof.specs.Proves.{Proves, takes}
 use Rattle.asg_model.specs.Objectives.{is_algebraic}
 use Rattle.asg_proof.specs.Threshold.{ProvesBelow}
 use Rattle.asg_proof.specs.Windows.{IsHallWindow, ProvesWindows}
-use Rattle.asg_doc.specs.ChosenCells.{cells_by_id}
 use Rattle.asg_doc.specs.declared.documents.Answer.{Answer}
 use Rattle.asg_doc.specs.declared.documents.Claim.{Claim}
 use Rattle.asg_doc.specs.declared.documents.Claim.TheVariants.{Best, Nothing, Ranked}
 use Rattle.asg_doc.specs.declared.documents.Document.{Document}
 use Rattle.asg_check.specs.declared.verdicts.Form.{Form}
+use Rattle.asg_check.specs.declared.verdicts.Form.TheVariants as forms
 use Rattle.asg_check.specs.declared.verdicts.Reason.{Reason}
-use Rattle.asg_check.specs.declared.verdicts.Reason.TheVariants.{OtherObjective, WrongForm, NotValid, WrongValue, NotHall, WindowGap, BadPhase, IndexDiffers, BadLevel}
+use Rattle.asg_check.specs.declared.verdicts.Reason.TheVariants.{OtherObjective, WrongForm, NotValid, WrongValue, Repeated, OutOfOrder, NotHall, WindowGap, BadPhase, IndexDiffers, BadLevel, BadNode, BetterLeft}
 use Rattle.asg_check.specs.declared.verdicts.Verdict.{Verdict}
 use Rattle.asg_check.specs.declared.verdicts.Verdict.TheVariants.{No, Yes}
 use Rattle.asg_check.specs.Certifies.{Certifies, CertifiesClaim}
-use Rattle.asg_check.specs.DocumentForm.{has_form, is_command_of, takes_claim}
+use Rattle.asg_check.specs.DocumentForm.{answers_form, has_form, is_answer_count, is_command_of, takes_claim}
 use Rattle.asg_check.specs.PhaseReasons.{AreAdmittedFor, AreBadAt, HaveOtherIndexFor}
-use Rattle.asg_check.specs.Reasons.{HasBadLevel, HasBadPhase, HasHallSet, HasNoChoice, HasOtherIndex, HasOtherValue, IsFirstReason, IsToldOf, LacksHallSet, LeavesGap, Stands, StandsAgainst, Tells, claim_reasons, level_reasons, phase_reasons, proof_reasons, reasons_in_order, window_reasons}
+use Rattle.asg_check.specs.RankingReasons.{AreBadNodesAt, IsNoChoiceAt, IsOutOfOrderAt, IsRepeatedAt, IsWrongValueAt, LeaveBetterAt, NodesStand}
+use Rattle.asg_check.specs.Reasons.{HasBadLevel, HasBadNode, HasBadPhase, HasHallSet, HasOtherIndex, HasOtherValue, IsFirstReason, IsToldOf, LacksChoice, LacksHallSet, LeavesBetter, LeavesGap, LeavesOrder, Repeats, Stands, StandsAgainst, Tells, claim_reasons, level_reasons, node_reasons, phase_reasons, proof_reasons, reasons_in_order, window_reasons}
 use Rattle.asg_check.specs.WindowReasons.{LeaveGapAt, StandsOn}
 use Rattle.asg_check.specs.LevelReasons.{AreBadLevelsAt, LevelsStand}
 use Rattle.asg_check.specs.Replays.{StandsFor}
-use Rattle.asg_check.specs.Spots.{At, ForWhole, Overall, Spot}
-use Rattle.asg_check.specs.Written.{IsWrittenAs, read_cells}
+use Rattle.asg_check.specs.Spots.{At, AtParts, ForWhole, Overall, Spot}
+use Rattle.asg_check.specs.Written.{AreWrittenAs, HasWrongValue, IsWrittenAs}
+use Rattle.asg_check.proofs.AnswersTold.{dec_no_choice_at, dec_none, dec_out_of_order_at, dec_repeated_at, dec_value, dec_written, dec_wrong, dec_wrong_at, is_read, read_choice, unwritten}
 use Rattle.asg_check.proofs.ByObjective.{admitted_for, dec_admitted_for, dec_other_for, none_admitted, one_index_for, proves_for, take_for}
-use Rattle.asg_check.proofs.Decisions.{same_objective, same_value}
-use Rattle.asg_check.proofs.Reading.{written-once, written-read}
+use Rattle.asg_check.proofs.Decisions.{same_objective}
+use Rattle.asg_check.proofs.Parts.{no_part, none_at_part, nowhere_for, tested_for, tested_part, told_for}
+use Rattle.asg_check.proofs.RankingTold.{all_valued, all_written, choices_once, none_out_of_order, none_repeated, read_choices, read_listed, read_values, read_written}
+use Rattle.asg_check.proofs.TreesByObjective.{proof_bad_nowhere, proof_left_nowhere, proved_by_nodes, tested_left, tested_nodes}
+use Rattle.asg_check.proofs.Reading.{written-once}
 use Rattle.asg_check.proofs.LevelTold.{levels_nowhere, levels_prove, ranks_prove, tested_levels}
-use Rattle.asg_check.proofs.ToldReasons.{NoneOf, Nowhere, Tested, none_bad, none_stands, nowhere, one_verdict, overall, some_verdict, tested, tested_bad, told_same, yes_told}
+use Rattle.asg_check.proofs.ToldReasons.{NoneOf, Nowhere, Tested, least_below, none_bad, none_stands, nowhere, one_verdict, overall, some_verdict, tested, tested_bad, told_same, yes_told}
 use Rattle.asg_check.proofs.WindowTold.{halls_from_nowhere, halls_nowhere, proved_halls, proved_nowhere, tested_gap, tested_halls, windows_prove}
 
 module _ (objective : Objective) (X : Problem) (form : Form) (document : Document) (verdict : Verdict) where
@@ -71,30 +76,30 @@ module _ (objective : Objective) (X : Problem) (form : Form) (document : Documen
 
 module _ (objective : Objective) (X : Problem) (i : IsInstance X) where
   -- an answer that has the value of the choice that its cells spell has no other
-  pub one_value : (answer : Answer) (proof : Proof) (f : List (Option ℕ)) → IsWrittenAs X answer.cells f → answer.value ≡ choice_value objective X f → ¬ HasOtherValue objective X (Best answer proof)
-  one_value answer proof f w same other = other.2 (same ∙ ap (choice_value objective X) (written-once X answer.cells f other.0 i w other.1))
+  pub one_value : (answer : Answer) (f : List (Option ℕ)) → IsWrittenAs X answer.cells f → answer.value ≡ choice_value objective X f → ¬ HasWrongValue objective X answer
+  one_value answer f w same other = other.2 (same ∙ ap (choice_value objective X) (written-once X answer.cells f other.0 i w other.1))
 
   -- against such an answer stands what stands against its proof
   pub to_proof : (answer : Answer) (proof : Proof) (f : List (Option ℕ)) (verdict : Verdict) → IsWrittenAs X answer.cells f → answer.value ≡ choice_value objective X f
       → Tells (StandsAgainst objective X (Best answer proof)) proof_reasons verdict → Tells (StandsAgainst objective X (Best answer proof)) claim_reasons verdict
-  to_proof answer proof f verdict w same told = inr (nowhere (λ none. none f w), inr (nowhere (one_value answer proof f w same), told))
+  to_proof answer proof f verdict w same told = inr (nowhere (λ none. none f w), inr (nowhere (one_value answer f w same), inr (λ spot none. none, inr (λ spot none. none, told))))
 
   -- against an answer with phases stands what stands against those for its choice
   pub to_phases : (answer : Answer) (words : List (PhaseOf Word)) (f : List (Option ℕ)) (verdict : Verdict) → IsWrittenAs X answer.cells f
       → Tells (StandsFor objective X f words) phase_reasons verdict → Tells (StandsAgainst objective X (Best answer (Phases words))) proof_reasons verdict
   to_phases answer words f verdict w told = inr (nowhere (λ fails. fails tt), inr (λ spot none. none, by told))
     where
-      by : Tells (StandsFor objective X f words) phase_reasons verdict → Tells (StandsAgainst objective X (Best answer (Phases words))) (BadPhase ∷ (IndexDiffers ∷ level_reasons)) verdict
+      by : Tells (StandsFor objective X f words) phase_reasons verdict → Tells (StandsAgainst objective X (Best answer (Phases words))) (BadPhase ∷ (IndexDiffers ∷ (BadLevel ∷ node_reasons))) verdict
       by (inl bad) = inl bad
       by (inr (none, inl other)) = inr (none, inl (told_same IndexDiffers verdict (λ differs. (f, w, differs)) other))
       by (inr (none, inr (one, is_yes))) =
-          inr (none, inr (nowhere (λ other. one Overall (subst (λ g. HaveOtherIndexFor objective X g words) (written-once X answer.cells other.0 f i other.1 w) other.2)), inr (λ spot bad. bad, is_yes)))
+          inr (none, inr (nowhere (λ other. one Overall (subst (λ g. HaveOtherIndexFor objective X g words) (written-once X answer.cells other.0 f i other.1 w) other.2)), inr (λ spot bad. bad, inr (λ spot bad. bad, inr (λ spot bad. bad, is_yes)))))
 
   -- against an answer with windows stands what stands against those for its value
   pub to_windows : (answer : Answer) (windows : List Window) (verdict : Verdict) → Tells (StandsOn X answer.value windows) window_reasons verdict → Tells (StandsAgainst objective X (Best answer (Windows windows))) proof_reasons verdict
   to_windows answer windows verdict (inl bad) = inl bad
   to_windows answer windows verdict (inr (halls, inl gap)) = inr (halls, inl gap)
-  to_windows answer windows verdict (inr (halls, inr (none, is_yes))) = inr (halls, inr (none, inr (λ spot bad. bad, inr (nowhere (λ other. other), inr (λ spot bad. bad, is_yes)))))
+  to_windows answer windows verdict (inr (halls, inr (none, is_yes))) = inr (halls, inr (none, inr (λ spot bad. bad, inr (nowhere (λ other. other), inr (λ spot bad. bad, inr (λ spot bad. bad, inr (λ spot bad. bad, is_yes)))))))
 
   -- against an answer with levels stands what stands against those for its choice
   pub to_levels : (answer : Answer) (perm : List ℕ) (levels : List Level) (f : List (Option ℕ)) (verdict : Verdict) → IsWrittenAs X answer.cells f
@@ -104,15 +109,46 @@ module _ (objective : Objective) (X : Problem) (i : IsInstance X) where
       for_it : (spot : Spot) → HasBadLevel X (Best answer (Levels perm levels)) spot → AreBadLevelsAt X f perm levels spot
       for_it spot bad = subst (λ g. AreBadLevelsAt X g perm levels spot) (written-once X answer.cells bad.0 f i bad.1 w) bad.2
 
-      by : Tells (LevelsStand X f perm levels) level_reasons verdict → Tells (StandsAgainst objective X (Best answer (Levels perm levels))) level_reasons verdict
+      by : Tells (LevelsStand X f perm levels) level_reasons verdict → Tells (StandsAgainst objective X (Best answer (Levels perm levels))) (BadLevel ∷ node_reasons) verdict
       by (inl bad) = inl (record { spot = bad.spot; stands = (f, w, bad.stands); least = λ other stands. bad.least other (for_it other stands); told = bad.told })
-      by (inr (none, is_yes)) = inr (λ spot bad. none spot (for_it spot bad), is_yes)
+      by (inr (none, is_yes)) = inr (λ spot bad. none spot (for_it spot bad), inr (λ spot bad. bad, inr (λ spot bad. bad, is_yes)))
+
+  -- against a ranking whose choices are listed stands what stands against its nodes for them
+  pub to_nodes : (count : ℕ) (answers : List Answer) (nodes : List Node) (choices : List (List (Option ℕ))) (verdict : Verdict) → AreWrittenAs X answers choices
+      → Tells (NodesStand objective X count choices nodes) node_reasons verdict → Tells (StandsAgainst objective X (Ranked count answers nodes)) proof_reasons verdict
+  to_nodes count answers nodes choices verdict w told = inr (nowhere (λ fails. fails tt), inr (λ spot none. none, inr (λ spot none. none, inr (nowhere (λ none. none), inr (λ spot none. none, by told)))))
+    where
+      bad_for : (spot : Spot) → HasBadNode objective X (Ranked count answers nodes) spot → AreBadNodesAt objective X choices nodes spot
+      bad_for spot bad = subst (λ fs. AreBadNodesAt objective X fs nodes spot) (choices_once X i answers bad.0 choices bad.1 w) bad.2
+
+      left_for : (spot : Spot) → LeavesBetter objective X (Ranked count answers nodes) spot → LeaveBetterAt objective X count choices nodes spot
+      left_for spot left = subst (λ fs. LeaveBetterAt objective X count fs nodes spot) (choices_once X i answers left.0 choices left.1 w) left.2
+
+      last : Tells (NodesStand objective X count choices nodes) (BetterLeft ∷ []) verdict → Tells (StandsAgainst objective X (Ranked count answers nodes)) (BetterLeft ∷ []) verdict
+      last (inl left) = inl (told_for (LeaveBetterAt objective X count choices nodes) (LeavesBetter objective X (Ranked count answers nodes)) (λ spot there. (choices, w, there)) left_for BetterLeft verdict left)
+      last (inr (none, is_yes)) = inr (λ spot left. none spot (left_for spot left), is_yes)
+
+      by : Tells (NodesStand objective X count choices nodes) node_reasons verdict → Tells (StandsAgainst objective X (Ranked count answers nodes)) node_reasons verdict
+      by (inl bad) = inl (told_for (AreBadNodesAt objective X choices nodes) (HasBadNode objective X (Ranked count answers nodes)) (λ spot there. (choices, w, there)) bad_for BadNode verdict bad)
+      by (inr (none, rest)) = inr (λ spot bad. none spot (bad_for spot bad), last rest)
 
   -- nothing stands against a claim that certifies
   stands_nowhere : (claim : Claim) → CertifiesClaim objective X claim → (reason : Reason) → Nowhere (StandsAgainst objective X claim reason)
-  stands_nowhere (Ranked count answers nodes) w reason = absurd w
+  stands_nowhere (Ranked count answers nodes) w NotValid = no_part (IsNoChoiceAt X answers) (all_written objective X i answers w.choices w.written)
+  stands_nowhere (Ranked count answers nodes) w WrongValue = no_part (IsWrongValueAt objective X answers) (all_valued objective X i answers w.choices w.written w.values)
+  stands_nowhere (Ranked count answers nodes) w Repeated = no_part (IsRepeatedAt answers) (none_repeated objective X i answers w.choices w.written w.values count w.listed)
+  stands_nowhere (Ranked count answers nodes) w OutOfOrder = no_part (IsOutOfOrderAt objective answers) (none_out_of_order objective X i answers w.choices w.written w.values count w.listed)
+  stands_nowhere (Ranked count answers nodes) w NotHall = nowhere (λ fails. fails tt)
+  stands_nowhere (Ranked count answers nodes) w WindowGap = λ spot none. none
+  stands_nowhere (Ranked count answers nodes) w BadPhase = λ spot none. none
+  stands_nowhere (Ranked count answers nodes) w IndexDiffers = nowhere (λ none. none)
+  stands_nowhere (Ranked count answers nodes) w BadLevel = λ spot none. none
+  stands_nowhere (Ranked count answers nodes) w BadNode = λ spot bad.
+      proof_bad_nowhere X count w.choices nodes objective w.proved spot (subst (λ fs. AreBadNodesAt objective X fs nodes spot) (choices_once X i answers bad.0 w.choices bad.1 w.written) bad.2)
+  stands_nowhere (Ranked count answers nodes) w BetterLeft = λ spot left.
+      proof_left_nowhere X count w.choices nodes objective w.proved spot (subst (λ fs. LeaveBetterAt objective X count fs nodes spot) (choices_once X i answers left.0 w.choices left.1 w.written) left.2)
   stands_nowhere (Best answer proof) w NotValid = nowhere (λ none. none w.choice w.written)
-  stands_nowhere (Best answer proof) w WrongValue = nowhere (one_value answer proof w.choice w.written w.value)
+  stands_nowhere (Best answer proof) w WrongValue = nowhere (one_value answer w.choice w.written w.value)
   stands_nowhere (Best answer (Phases words)) w NotHall = nowhere (λ fails. fails tt)
   stands_nowhere (Best answer (Phases words)) w BadPhase =
       none_bad (AreAdmittedFor objective X) words (λ n less fails. fails (take_for objective X words (suc n) (admitted_for objective X words w.choice w.proved)))
@@ -143,16 +179,51 @@ module _ (objective : Objective) (X : Problem) (i : IsInstance X) where
   stands_nowhere (Nothing rows) w IndexDiffers = nowhere (λ none. none)
   stands_nowhere (Best answer (Below rows)) w NotHall = nowhere (λ fails. fails (subst (λ value. ProvesBelow objective X value rows) (sym w.value) w.proved))
   stands_nowhere (Nothing rows) hall NotHall = nowhere (λ fails. fails hall)
-  stands_nowhere claim w reason = nowhere (λ none. none)
+  stands_nowhere (Nothing rows) hall NotValid = λ spot none. none
+  stands_nowhere (Nothing rows) hall WrongValue = λ spot none. none
+  stands_nowhere (Best answer proof) w Repeated = λ spot none. none
+  stands_nowhere (Best answer proof) w OutOfOrder = λ spot none. none
+  stands_nowhere (Best answer proof) w BadNode = λ spot none. none
+  stands_nowhere (Best answer proof) w BetterLeft = λ spot none. none
+  stands_nowhere (Nothing rows) w Repeated = λ spot none. none
+  stands_nowhere (Nothing rows) w OutOfOrder = λ spot none. none
+  stands_nowhere (Nothing rows) w BadNode = λ spot none. none
+  stands_nowhere (Nothing rows) w BetterLeft = λ spot none. none
+  stands_nowhere claim w OtherObjective = nowhere (λ none. none)
+  stands_nowhere claim w WrongForm = nowhere (λ none. none)
 
   pub certified_nowhere : (form : Form) (document : Document) → Certifies objective X form document → (reason : Reason) → Nowhere (Stands objective X form document reason)
   certified_nowhere form document w OtherObjective = nowhere (λ other. other w.of_objective)
   certified_nowhere form document w WrongForm = nowhere (λ wrong. let both = sym w.of_form ∙ wrong in absurd (cc))
   certified_nowhere form document w reason = stands_nowhere document.claim w.claim reason
 
-right_of : (a b : Bool) → IsTrue (a && b) → IsTrue b
+pub left_of : (a b : Bool) → IsTrue (a && b) → IsTrue a
+left_of true b both = refl
+left_of false b both = absurd (cc)
+
+pub right_of : (a b : Bool) → IsTrue (a && b) → IsTrue b
 right_of true b both = both
 right_of false b both = absurd (cc)
+
+-- of all reasons in order none stands
+each_none : (Against : Reason → Spot → Type 0) → NoneOf Against reasons_in_order → (reason : Reason) → Nowhere (Against reason)
+each_none Against none OtherObjective = none.0
+each_none Against none WrongForm = none.1.0
+each_none Against none NotValid = none.1.1.0
+each_none Against none WrongValue = none.1.1.1.0
+each_none Against none Repeated = none.1.1.1.1.0
+each_none Against none OutOfOrder = none.1.1.1.1.1.0
+each_none Against none NotHall = none.1.1.1.1.1.1.0
+each_none Against none WindowGap = none.1.1.1.1.1.1.1.0
+each_none Against none BadPhase = none.1.1.1.1.1.1.1.1.0
+each_none Against none IndexDiffers = none.1.1.1.1.1.1.1.1.1.0
+each_none Against none BadLevel = none.1.1.1.1.1.1.1.1.1.1.0
+each_none Against none BadNode = none.1.1.1.1.1.1.1.1.1.1.1.0
+each_none Against none BetterLeft = none.1.1.1.1.1.1.1.1.1.1.1.1.0
+
+-- so many answers, at least one and at most so many
+pub counted : (count answers : ℕ) → IsTrue (is_answer_count count answers) → (1 ≤ answers) × (answers ≤ count)
+counted count answers is = (leb-true 1 answers (left_of (nat_le 1 answers) (nat_le answers count) is), leb-true answers count (right_of (nat_le 1 answers) (nat_le answers count) is))
 
 -- where valid choices and Hall sets are decided
 module _ (decided : record { valid : (X : Problem) (f : List (Option ℕ)) → Dec (IsValid X f); hall : (X : Problem) (band : Band) (ids : List ℕ) → Dec (IsHall X band ids) }) where
@@ -191,35 +262,72 @@ module _ (decided : record { valid : (X : Problem) (f : List (Option ℕ)) → D
     gap (Nothing rows) = inr (λ spot none. none)
     gap (Ranked count answers nodes) = inr (λ spot none. none)
 
-    -- of an answer: its cells spell the choice that is read, or none, and its value is that of it
-    module _ (answer : Answer) (proof : Proof) where
-      abbrev read : List (Option ℕ)
-      read = (read_cells X X.rows answer.cells).0
+    -- of one answer, by the choice that is read
+    written : (answer : Answer) → Dec (IsWrittenAs X answer.cells (read_choice X answer))
+    written answer = dec_written decided.valid objective X i answer
 
-      written : Dec (IsWrittenAs X answer.cells read)
-      written = of_iff (λ both. record { valid = both.0; written = both.1 }, λ w. (w.valid, w.written)) (and (decided.valid X read) (List-discrete (×_discrete ℕ_discrete ℕ_discrete) answer.cells (cells_by_id X read)))
+    read_is : (answer : Answer) (f : List (Option ℕ)) → IsWrittenAs X answer.cells f → f ≡ read_choice X answer
+    read_is answer f w = is_read decided.valid objective X i answer f w
 
-      is_read : (f : List (Option ℕ)) → IsWrittenAs X answer.cells f → f ≡ read
-      is_read f w = sym (ap (λ more. more.0) (written-read X answer.cells f i w))
+    no_choice : (claim : Claim) → Tested (LacksChoice X claim) NotValid
+    no_choice (Best answer proof) = tested NotValid (dec_none decided.valid objective X i answer)
+    no_choice (Nothing rows) = inr (λ spot none. none)
+    no_choice (Ranked count answers nodes) = tested_part (IsNoChoiceAt X answers) NotValid (length answers) (λ n is. slice_get_within answers n is.answer is.there) (dec_no_choice_at decided.valid objective X i answers)
 
-      unwritten : (¬ IsWrittenAs X answer.cells read) ↔ HasNoChoice X (Best answer proof)
-      unwritten = (λ none f w. none (subst (IsWrittenAs X answer.cells) (is_read f w) w), λ none. none read)
+    other_value : (claim : Claim) → Tested (HasOtherValue objective X claim) WrongValue
+    other_value (Best answer proof) = tested WrongValue (dec_wrong decided.valid objective X i answer)
+    other_value (Nothing rows) = inr (λ spot none. none)
+    other_value (Ranked count answers nodes) = tested_part (IsWrongValueAt objective X answers) WrongValue (length answers) (λ n is. slice_get_within answers n is.answer is.there) (dec_wrong_at decided.valid objective X i answers)
 
-      value : Dec (answer.value ≡ choice_value objective X read)
-      value = same_value answer.value (choice_value objective X read)
+    -- answers that are repeated or out of order
+    repeats : (claim : Claim) → Tested (Repeats claim) Repeated
+    repeats (Best answer proof) = inr (λ spot none. none)
+    repeats (Nothing rows) = inr (λ spot none. none)
+    repeats (Ranked count answers nodes) = tested_part (IsRepeatedAt answers) Repeated (length answers) (λ n is. slice_get_within answers n is.answer is.there) (dec_repeated_at decided.valid objective X i answers)
 
-      revalued : Dec (HasOtherValue objective X (Best answer proof))
-      revalued = of_iff (λ both. (read, both.0, both.1), λ other. (subst (IsWrittenAs X answer.cells) (is_read other.0 other.1) other.1, λ same. other.2 (same ∙ ap (choice_value objective X) (sym (is_read other.0 other.1))))) (and written (not value))
+    unordered : (claim : Claim) → Tested (LeavesOrder objective claim) OutOfOrder
+    unordered (Best answer proof) = inr (λ spot none. none)
+    unordered (Nothing rows) = inr (λ spot none. none)
+    unordered (Ranked count answers nodes) = tested_part (IsOutOfOrderAt objective answers) OutOfOrder (length answers) (λ n is. slice_get_within answers n is.answer is.there) (dec_out_of_order_at decided.valid objective X i answers)
 
-    no_choice : (claim : Claim) → Dec (HasNoChoice X claim)
-    no_choice (Best answer proof) = of_iff (unwritten answer proof) (not (written answer proof))
-    no_choice (Nothing rows) = no (λ none. none)
-    no_choice (Ranked count answers nodes) = no (λ none. none)
+    -- nodes that are bad, or left open, for the choices that are read
+    module _ (count : ℕ) (answers : List Answer) (nodes : List Node) where
+      all_read : AreWrittenAs X answers (read_choices X answers) ⊎ ((choices : List (List (Option ℕ))) → ¬ AreWrittenAs X answers choices)
+      all_read = by (least_below (IsNoChoiceAt X answers) (dec_no_choice_at decided.valid objective X i answers) (length answers))
+        where
+          by : ((k : ℕ) × (k < length answers) × IsNoChoiceAt X answers k × ((m : ℕ) → m < k → ¬ IsNoChoiceAt X answers m)) ⊎ ((k : ℕ) → k < length answers → ¬ IsNoChoiceAt X answers k) → AreWrittenAs X answers (read_choices X answers) ⊎ ((choices : List (List (Option ℕ))) → ¬ AreWrittenAs X answers choices)
+          by (inl found) = inr (λ choices w. all_written objective X i answers choices w found.0 found.2)
+          by (inr none) = inl (read_written decided.valid objective X i answers (λ n is. none n (slice_get_within answers n is.answer is.there) is))
 
-    other_value : (claim : Claim) → Dec (HasOtherValue objective X claim)
-    other_value (Best answer proof) = revalued answer proof
-    other_value (Nothing rows) = no (λ none. none)
-    other_value (Ranked count answers nodes) = no (λ none. none)
+      bad_node_of : Tested (HasBadNode objective X (Ranked count answers nodes)) BadNode
+      bad_node_of = by all_read
+        where
+          by : AreWrittenAs X answers (read_choices X answers) ⊎ ((choices : List (List (Option ℕ))) → ¬ AreWrittenAs X answers choices) → Tested (HasBadNode objective X (Ranked count answers nodes)) BadNode
+          by (inr none) = inr (λ spot bad. none bad.0 bad.1)
+          by (inl w) =
+              tested_for (AreBadNodesAt objective X (read_choices X answers) nodes) (HasBadNode objective X (Ranked count answers nodes)) (λ spot there. (read_choices X answers, w, there))
+              (λ spot bad. subst (λ fs. AreBadNodesAt objective X fs nodes spot) (choices_once X i answers bad.0 (read_choices X answers) bad.1 w) bad.2)
+              BadNode (tested_nodes decided X count (read_choices X answers) nodes objective)
+
+      better_left_of : Tested (LeavesBetter objective X (Ranked count answers nodes)) BetterLeft
+      better_left_of = by all_read
+        where
+          by : AreWrittenAs X answers (read_choices X answers) ⊎ ((choices : List (List (Option ℕ))) → ¬ AreWrittenAs X answers choices) → Tested (LeavesBetter objective X (Ranked count answers nodes)) BetterLeft
+          by (inr none) = inr (λ spot left. none left.0 left.1)
+          by (inl w) =
+              tested_for (LeaveBetterAt objective X count (read_choices X answers) nodes) (LeavesBetter objective X (Ranked count answers nodes)) (λ spot there. (read_choices X answers, w, there))
+              (λ spot left. subst (λ fs. LeaveBetterAt objective X count fs nodes spot) (choices_once X i answers left.0 (read_choices X answers) left.1 w) left.2)
+              BetterLeft (tested_left decided X count (read_choices X answers) nodes objective)
+
+    bad_node : (claim : Claim) → Tested (HasBadNode objective X claim) BadNode
+    bad_node (Best answer proof) = inr (λ spot none. none)
+    bad_node (Nothing rows) = inr (λ spot none. none)
+    bad_node (Ranked count answers nodes) = bad_node_of count answers nodes
+
+    better_left : (claim : Claim) → Tested (LeavesBetter objective X claim) BetterLeft
+    better_left (Best answer proof) = inr (λ spot none. none)
+    better_left (Nothing rows) = inr (λ spot none. none)
+    better_left (Ranked count answers nodes) = better_left_of count answers nodes
 
     -- phases that aren't admitted, and an index that differs
     bad_phase : (claim : Claim) → Tested (HasBadPhase objective X claim) BadPhase
@@ -233,13 +341,13 @@ module _ (decided : record { valid : (X : Problem) (f : List (Option ℕ)) → D
     other_index : (claim : Claim) → Dec (HasOtherIndex objective X claim)
     other_index (Best answer (Phases words)) =
         of_iff (
-          λ both. (read answer (Phases words), both.0, both.1),
+          λ both. (read_choice X answer, both.0, both.1),
           λ other. (
-            subst (IsWrittenAs X answer.cells) (is_read answer (Phases words) other.0 other.1) other.1,
-            subst (λ f. HaveOtherIndexFor objective X f words) (is_read answer (Phases words) other.0 other.1) other.2,
+            subst (IsWrittenAs X answer.cells) (read_is answer other.0 other.1) other.1,
+            subst (λ f. HaveOtherIndexFor objective X f words) (read_is answer other.0 other.1) other.2,
           ),
         )
-        (and (written answer (Phases words)) (dec_other_for objective X words (read answer (Phases words))))
+        (and (written answer) (dec_other_for objective X words (read_choice X answer)))
     other_index (Best answer (Below rows)) = no (λ none. none)
     other_index (Best answer (Windows windows)) = no (λ none. none)
     other_index (Best answer (Levels perm levels)) = no (λ none. none)
@@ -253,13 +361,13 @@ module _ (decided : record { valid : (X : Problem) (f : List (Option ℕ)) → D
     bad_level (Best answer (Windows windows)) = inr (λ spot none. none)
     bad_level (Nothing rows) = inr (λ spot none. none)
     bad_level (Ranked count answers nodes) = inr (λ spot none. none)
-    bad_level (Best answer (Levels perm levels)) = by (written answer (Levels perm levels))
+    bad_level (Best answer (Levels perm levels)) = by (written answer)
       where
         f : List (Option ℕ)
-        f = read answer (Levels perm levels)
+        f = read_choice X answer
 
         for_it : (spot : Spot) → HasBadLevel X (Best answer (Levels perm levels)) spot → AreBadLevelsAt X f perm levels spot
-        for_it spot bad = subst (λ g. AreBadLevelsAt X g perm levels spot) (is_read answer (Levels perm levels) bad.0 bad.1) bad.2
+        for_it spot bad = subst (λ g. AreBadLevelsAt X g perm levels spot) (read_is answer bad.0 bad.1) bad.2
 
         told : IsWrittenAs X answer.cells f → Tested (AreBadLevelsAt X f perm levels) BadLevel → Tested (HasBadLevel X (Best answer (Levels perm levels))) BadLevel
         told w (inl one) =
@@ -268,19 +376,23 @@ module _ (decided : record { valid : (X : Problem) (f : List (Option ℕ)) → D
 
         by : Dec (IsWrittenAs X answer.cells f) → Tested (HasBadLevel X (Best answer (Levels perm levels))) BadLevel
         by (yes w) = told w (tested_levels X f perm levels)
-        by (no none) = inr (λ spot bad. none (subst (IsWrittenAs X answer.cells) (is_read answer (Levels perm levels) bad.0 bad.1) bad.1))
+        by (no none) = inr (λ spot bad. none (subst (IsWrittenAs X answer.cells) (read_is answer bad.0 bad.1) bad.1))
 
     -- each reason is tested
     each : (form : Form) (document : Document) (reason : Reason) → Tested (Stands objective X form document reason) reason
     each form document OtherObjective = tested OtherObjective (not (same_objective document.objective objective))
     each form document WrongForm = tested WrongForm (Bool-discrete (has_form objective form document) false)
-    each form document NotValid = tested NotValid (no_choice document.claim)
-    each form document WrongValue = tested WrongValue (other_value document.claim)
+    each form document NotValid = no_choice document.claim
+    each form document WrongValue = other_value document.claim
+    each form document Repeated = repeats document.claim
+    each form document OutOfOrder = unordered document.claim
     each form document NotHall = no_hall_set document.claim
     each form document WindowGap = gap document.claim
     each form document BadPhase = bad_phase document.claim
     each form document IndexDiffers = tested IndexDiffers (other_index document.claim)
     each form document BadLevel = bad_level document.claim
+    each form document BadNode = bad_node document.claim
+    each form document BetterLeft = better_left document.claim
 
     -- phases against which nothing stands are all admitted
     all_admitted : (words : List (PhaseOf Word)) → Nowhere (AreBadAt (AreAdmittedFor objective X) words) → IsTrue (is_algebraic objective) → AreAdmittedFor objective X words
@@ -289,32 +401,62 @@ module _ (decided : record { valid : (X : Problem) (f : List (Option ℕ)) → D
         let last = dec→stable (dec_admitted_for objective X (take (suc (length words)) (w ∷ words))) (λ bad. none (At (pos (suc (length words)))) (length words, omega arith, refl, bad)) in
         subst (AreAdmittedFor objective X) (take_all (suc (length words)) (w ∷ words) (omega arith)) last
 
-    -- a claim of a kind that the objective takes, against which nothing stands, certifies
-    claimed : (claim : Claim) → IsTrue (takes_claim objective claim) → ¬ HasNoChoice X claim → ¬ HasOtherValue objective X claim → HasHallSet objective X claim → Nowhere (LeavesGap X claim) → Nowhere (HasBadPhase objective X claim) → ¬ HasOtherIndex objective X claim → Nowhere (HasBadLevel X claim) → CertifiesClaim objective X claim
-    claimed (Nothing rows) fits chosen valued proved whole bad other level = proved
-    claimed (Ranked count answers nodes) fits chosen valued proved whole bad other level = absurd (cc (fits))
-    claimed (Best answer proof) fits chosen valued proved whole bad other level =
-        let w = dec→stable (written answer proof) (λ none. chosen ((unwritten answer proof).0 none)) in
-        let same = dec→stable (value answer proof) (λ differs. valued (read answer proof, w, differs)) in
-        record { choice = read answer proof; written = w; value = same; proved = by proof fits w same proved whole bad other level }
+    -- an answer with a proof of a kind that the objective takes, against which nothing stands,
+    -- certifies
+    claimed_best : (answer : Answer) (proof : Proof) → IsTrue (takes objective proof) → ((reason : Reason) → Nowhere (StandsAgainst objective X (Best answer proof) reason)) → CertifiesClaim objective X (Best answer proof)
+    claimed_best answer proof fits none =
+        let w = dec→stable (written answer) (λ un. none NotValid Overall ((unwritten decided.valid objective X i answer).0 un)) in
+        let same = dec→stable (dec_value decided.valid objective X i answer) (λ differs. none WrongValue Overall (read_choice X answer, w, differs)) in
+        record { choice = read_choice X answer; written = w; value = same; proved = by proof fits w same none }
       where
-        by : (proof : Proof) → IsTrue (takes objective proof) → IsWrittenAs X answer.cells (read answer proof) → answer.value ≡ choice_value objective X (read answer proof)
-            → HasHallSet objective X (Best answer proof) → Nowhere (LeavesGap X (Best answer proof)) → Nowhere (HasBadPhase objective X (Best answer proof)) → ¬ HasOtherIndex objective X (Best answer proof) → Nowhere (HasBadLevel X (Best answer proof)) → Proves objective X (read answer proof) proof
-        by (Below rows) fits w same proved whole bad other level = subst (λ value. ProvesBelow objective X value rows) same proved
-        by (Windows windows) fits w same proved whole bad other level =
-            windows_prove objective X (read answer (Windows windows)) windows fits proved (subst (λ value. Nowhere (LeaveGapAt X value windows)) same whole)
-        by (Levels perm levels) fits w same proved whole bad other level =
-            levels_prove objective X (read answer (Levels perm levels)) perm levels fits (λ spot stands. level spot (read answer (Levels perm levels), w, stands))
-        by (Phases words) fits w same proved whole bad other level = proves_for objective X (read answer (Phases words)) words (all_admitted words bad fits) (λ differs. other (read answer (Phases words), w, differs))
+        by : (proof : Proof) → IsTrue (takes objective proof) → IsWrittenAs X answer.cells (read_choice X answer) → answer.value ≡ choice_value objective X (read_choice X answer)
+            → ((reason : Reason) → Nowhere (StandsAgainst objective X (Best answer proof) reason)) → Proves objective X (read_choice X answer) proof
+        by (Below rows) fits w same none = subst (λ value. ProvesBelow objective X value rows) same (hall_set (Best answer (Below rows)) (none NotHall))
+        by (Windows windows) fits w same none =
+            windows_prove objective X (read_choice X answer) windows fits (hall_set (Best answer (Windows windows)) (none NotHall)) (subst (λ value. Nowhere (LeaveGapAt X value windows)) same (none WindowGap))
+        by (Levels perm levels) fits w same none =
+            levels_prove objective X (read_choice X answer) perm levels fits (λ spot stands. none BadLevel spot (read_choice X answer, w, stands))
+        by (Phases words) fits w same none = proves_for objective X (read_choice X answer) words (all_admitted words (none BadPhase) fits) (λ differs. none IndexDiffers Overall (read_choice X answer, w, differs))
 
-    certifies : (form : Form) (document : Document) → NoneOf (Stands objective X form document) reasons_in_order → Certifies objective X form document
-    certifies form document (same, (formed, (chosen, (valued, (proved, (whole, (bad, (other, (level, none))))))))) =
-        let of_form = dec→stable (Bool-discrete (has_form objective form document) true) (λ e. formed Overall (false_from_ne_true (has_form objective form document) e)) in
+    -- so does a ranking of as many answers as may be listed
+    claimed_ranking : (count : ℕ) (answers : List Answer) (nodes : List Node) → IsTrue (is_algebraic objective) → (1 ≤ length answers) × (length answers ≤ count) → ((reason : Reason) → Nowhere (StandsAgainst objective X (Ranked count answers nodes) reason)) → CertifiesClaim objective X (Ranked count answers nodes)
+    claimed_ranking count answers nodes fits many none =
+        let chosen = none_at_part (IsNoChoiceAt X answers) (none NotValid) in
+        let valued = none_at_part (IsWrongValueAt objective X answers) (none WrongValue) in
+        let w = read_written decided.valid objective X i answers chosen in
+        let listed = read_listed decided.valid objective X i answers chosen valued (none_at_part (IsRepeatedAt answers) (none Repeated)) (none_at_part (IsOutOfOrderAt objective answers) (none OutOfOrder)) count many.0 many.1 in
         record {
-          of_objective = dec→stable (same_objective document.objective objective) (same Overall);
-          of_form = of_form;
-          claim = claimed document.claim (right_of (is_command_of form document.command) (takes_claim objective document.claim) of_form) (chosen Overall) (valued Overall) (hall_set document.claim proved) whole bad (other Overall) level;
+          choices = read_choices X answers;
+          written = w;
+          values = read_values decided.valid objective X i answers chosen valued;
+          listed = listed;
+          proved = proved_by_nodes decided X count (read_choices X answers) nodes listed.some objective fits (λ spot bad. none BadNode spot (read_choices X answers, w, bad)) (λ spot left. none BetterLeft spot (read_choices X answers, w, left));
         }
+
+    -- and rows that are the Hall set that they must be
+    claimed : (form : Form) (claim : Claim) → IsTrue (answers_form form claim && takes_claim objective claim) → ((reason : Reason) → Nowhere (StandsAgainst objective X claim reason)) → CertifiesClaim objective X claim
+    claimed form (Nothing rows) fits none = hall_set (Nothing rows) (none NotHall)
+    claimed form (Best answer proof) fits none = claimed_best answer proof (right_of (answers_form form (Best answer proof)) (takes objective proof) fits) none
+    claimed forms.Solve (Ranked count answers nodes) fits none = absurd (cc)
+    claimed (forms.Rank asked) (Ranked count answers nodes) fits none =
+        let claim = Ranked count answers nodes in
+        let counts = left_of (answers_form (forms.Rank asked) claim) (is_algebraic objective) fits in
+        claimed_ranking count answers nodes (right_of (answers_form (forms.Rank asked) claim) (is_algebraic objective) fits) (counted count (length answers) (right_of (count == asked) (is_answer_count count (length answers)) counts)) none
+
+    certifies : (form : Form) (document : Document) → ((reason : Reason) → Nowhere (Stands objective X form document reason)) → Certifies objective X form document
+    certifies form document none =
+        let of_form = dec→stable (Bool-discrete (has_form objective form document) true) (λ e. none WrongForm Overall (false_from_ne_true (has_form objective form document) e)) in
+        record {
+          of_objective = dec→stable (same_objective document.objective objective) (none OtherObjective Overall);
+          of_form = of_form;
+          claim = claimed form document.claim (right_of (is_command_of form document.command) (answers_form form document.claim && takes_claim objective document.claim) of_form) (against_claim none);
+        }
+      where
+        -- against a claim stands what stands against its document, but for its objective and its form
+        against_claim : ((reason : Reason) → Nowhere (Stands objective X form document reason)) → (reason : Reason) → Nowhere (StandsAgainst objective X document.claim reason)
+        against_claim none OtherObjective = nowhere (λ none. none)
+        against_claim none WrongForm = nowhere (λ none. none)
+        against_claim none reason = none reason
 
     module _ (form : Form) (document : Document) where
       abbrev Against : Reason → Spot → Type 0
@@ -322,12 +464,12 @@ module _ (decided : record { valid : (X : Problem) (f : List (Option ℕ)) → D
 
       -- a document certifies exactly where no reason stands against it
       pub certifies_exactly : Certifies objective X form document ↔ ((reason : Reason) → Nowhere (Against reason))
-      certifies_exactly = (certified_nowhere objective X i form document, λ none. certifies form document (none_stands Against reasons_in_order (yes_told Against none reasons_in_order)))
+      certifies_exactly = (certified_nowhere objective X i form document, certifies form document)
 
       -- a verdict that tells of the reasons is `Yes` exactly where the document certifies
       pub yes_exactly : (verdict : Verdict) → Tells Against reasons_in_order verdict → (verdict ≡ Yes) ↔ Certifies objective X form document
       yes_exactly verdict told = (
-        λ same. certifies form document (none_stands Against reasons_in_order (subst (Tells Against reasons_in_order) same told)),
+        λ same. certifies form document (each_none Against (none_stands Against reasons_in_order (subst (Tells Against reasons_in_order) same told))),
         λ w. one_verdict Against reasons_in_order verdict Yes told (yes_told Against (certified_nowhere objective X i form document w) reasons_in_order),
       )
 

@@ -1,4 +1,5 @@
--- A list of columns gone through from its front: those so far are below the side, different, and marked as seen.
+-- A list of columns gone through from its front: those so far are below the side, different, and
+-- marked as seen.
 use Rattle.std.proofs.Common.{◌≡◌, ◌≢◌, ◌∙◌, ℕ, ◌+◌, ◌<◌, ◌≤◌, Bool, true, false, cond, List, length, get_or, refl, sym, ap, subst, arith, eqb, ⊎_elim}
 use Rattle.std.specs.Prelude.{IsTrue}
 use Rattle.std.proofs.lemmas.Bool.{cases_Bool, cases_lt, eq-eqb, eqb-true}

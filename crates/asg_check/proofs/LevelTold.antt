@@ -1,4 +1,5 @@
--- What verdicts tell of an assignment with levels: the first that is none, or that they don't hold in all.
+-- What verdicts tell of an assignment with levels: the first that is none, or that they don't hold
+-- in all.
 use mathlib.Core.HLevel.{dec→stable}
 use mathlib.Core.List.{List-discrete}
 use mathlib.Core.Logic.Dec.{and, not, of_iff}

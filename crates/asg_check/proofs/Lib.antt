@@ -1,6 +1,7 @@
 pub mod Reading
 pub mod ToldReasons
 pub mod Decisions
+pub mod Parts
 pub mod Outcomes
 pub mod NarrowSums
 pub mod ByObjective
@@ -17,4 +18,10 @@ pub mod LevelSums
 pub mod LevelTold
 pub mod LevelTaken
 pub mod LevelWhole
+pub mod TreeDecided
+pub mod TreesByObjective
+pub mod AnswersTold
+pub mod RankingTold
+pub mod RankedTold
+pub mod RankingStages
 pub mod Certified

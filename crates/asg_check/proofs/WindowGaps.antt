@@ -191,7 +191,8 @@ none_above_more costs from at last within here before k d low less =
 
 -- ---- one pass over sorted costs and sorted spans
 
--- the costs before the place are those of spans, and the first so many spans end before the cost there
+-- the costs before the place are those of spans, and the first so many spans end before the cost
+-- there
 pub record IsPassed (costs : List ℤ) (spans : List Span) (place count : ℕ) : Type 0 where
   pub within : place ≤ length costs
   pub had : (k : ℕ) (d : ℤ) → k < place → in_spans spans (get_or costs k d) ≡ true

@@ -1,4 +1,5 @@
--- What stands against an assignment with levels: one of them is none, or they don't hold in all for a choice.
+-- What stands against an assignment with levels: one of them is none, or they don't hold in all for
+-- a choice.
 use Rattle.std.specs.Prelude.{◌≡◌, ◌≢◌, ℕ, suc, ◌<◌, ℤ, pos, Bool, Option, Some, None, List, length, take, All, AllPairs, slice_get, sum_by}
 use Rattle.asg_model.specs.declared.bands.Band.TheVariants.{Whole}
 use Rattle.asg_model.specs.Counts.{placed}
@@ -35,16 +36,17 @@ pub record IsNoLevelAt (X : Problem) (perm : List ℕ) (levels : List Level) (n 
   pub there : slice_get levels n ≡ Some level
   pub fails : IsLevel X perm (cost_before levels n) (left_before X levels n) level → ⊥
 
--- the list is an assignment by cells that are left in the end, the choice is its choice, and the levels count
--- as many cells as the place rule places rows
+-- the list is an assignment by cells that are left in the end, the choice is its choice, and the
+-- levels count as many cells as the place rule places rows
 pub record HoldInAll (X : Problem) (choice : List (Option ℕ)) (perm : List ℕ) (levels : List Level)
     : Type 0 where
   pub assignment : IsLeftAssignment X perm levels
   pub chosen : choice_of X perm ≡ choice
   pub total : sum_by (λ level. level.count) levels ≡ placed X
 
--- where an assignment with levels is bad for a choice: at each level that is none, numbered from 1, where the
--- assignment is a list of different columns; and for the whole, where they don't hold in all
+-- where an assignment with levels is bad for a choice: at each level that is none, numbered from 1,
+-- where the assignment is a list of different columns; and for the whole, where they don't hold in
+-- all
 abbrev pub AreBadLevelsAt : Problem → List (Option ℕ) → List ℕ → List Level → Spot → Type 0
 AreBadLevelsAt X choice perm levels (At place) =
     IsColumnList X perm × ((n : ℕ) × (place ≡ pos (suc n)) × IsNoLevelAt X perm levels n)

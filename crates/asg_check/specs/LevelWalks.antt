@@ -1,4 +1,5 @@
--- A walk over levels: what is left of a square's cells, as rows of bits, and the cost of the level before.
+-- A walk over levels: what is left of a square's cells, as rows of bits, and the cost of the level
+-- before.
 use Rattle.std.specs.Prelude.{◌≡◌, ◌⊎◌, ℕ, ◌<◌, ◌≤◌, ◌^◌, ℤ, pos, ◌-ℤ◌, ◌&&◌, not, Bool, false, true, if◌then◌else◌, Option, Some, None, List, length}
 use Rattle.std.specs.Ordering.{int_eq}
 use Rattle.std.specs.Option.{option_map, option_map_or}
@@ -64,14 +65,15 @@ StopsAt X perm levels walk None = HasPassed X perm levels (length levels) walk
 StopsAt X perm levels walk (Some n) =
     IsNoLevelAt X perm levels n × ((m : ℕ) → m < n → IsNoLevelAt X perm levels m → ⊥)
 
--- the cost of a level comes after that of the level before, if there is one, and the level counts as many cells
--- as the choice has at its cost, at least one
+-- the cost of a level comes after that of the level before, if there is one, and the level counts
+-- as many cells as the choice has at its cost, at least one
 abbrev pub IsDue : Problem → List (Option ℕ) → Option ℤ → Level → Type 0
 IsDue X chosen before level =
     (is_after before level.cost ≡ true)
     × ((1 ≤ level.count) × (length (costs_at level.cost (costs_of X chosen)) ≡ level.count))
 
--- the words are those of phases that are admitted in turn from a square, lead to another and have this index
+-- the words are those of phases that are admitted in turn from a square, lead to another and have
+-- this index
 abbrev pub LeadsTo : List (PhaseOf Word) → Reduced ℕ → ℕ → Reduced ℕ → Type 0
 LeadsTo words before index after =
     AreReplayed level_sums bounded_difference plain_word words before after × (after.index ≡ index)

@@ -1,4 +1,5 @@
--- What stands against phases: one of them is bad, or their index is another value than a choice's fold.
+-- What stands against phases: one of them is bad, or their index is another value than a choice's
+-- fold.
 use Rattle.std.specs.Prelude.{◌≡◌, ◌≢◌, ℕ, suc, ◌<◌, pos, List, length, map, take, Option}
 use Rattle.asg_model.specs.declared.objectives.Objective.{Objective}
 use Rattle.asg_model.specs.declared.parts.Cost.{Cost}
@@ -25,8 +26,8 @@ pub record HaveIndexBut {V : Type 0} (M : Monoid V) (difference : V → V → V)
   pub admitted : AreAdmittedFrom M difference word_of side square words
   pub other : index_of M admitted.phases ≢ value
 
--- the phases are admitted from the square of the instance, and their index is another value than the fold
--- of the choice
+-- the phases are admitted from the square of the instance, and their index is another value than
+-- the fold of the choice
 abbrev pub HaveOtherIndex : {V : Type 0} → Monoid V → (V → V → V) → (V → Word) → (Cost → V)
     → Problem → List (Option ℕ) → List (PhaseOf Word) → Type 0
 HaveOtherIndex M difference word_of enter X choice words =
@@ -39,7 +40,8 @@ AreAdmittedFor objective X words =
     InMonoidOf objective
     (λ V M difference word_of enter. AreAdmitted M difference word_of enter X words)
 
--- the phases are admitted for the objective, and their index is another value than the choice's fold
+-- the phases are admitted for the objective, and their index is another value than the choice's
+-- fold
 abbrev pub HaveOtherIndexFor : Objective → Problem → List (Option ℕ) → List (PhaseOf Word) → Type 0
 HaveOtherIndexFor objective X choice words =
     InMonoidOf objective

@@ -4,7 +4,6 @@ use Rattle.asg_model.specs.declared.bands.Band.TheVariants.{Whole}
 use Rattle.asg_model.specs.declared.objectives.Objective.{Objective}
 use Rattle.asg_model.specs.HallSet.{IsHall}
 use Rattle.asg_model.specs.Problem.{Problem}
-use Rattle.asg_model.specs.Values.{choice_value}
 use Rattle.asg_proof.specs.Threshold.{ProvesBelow}
 use Rattle.asg_proof.specs.declared.outcomes.Proof.TheVariants.{Below, Levels, Phases, Windows}
 use Rattle.asg_proof.specs.Windows.{IsHallWindow}
@@ -13,15 +12,16 @@ use Rattle.asg_doc.specs.declared.documents.Claim.TheVariants.{Best, Nothing, Ra
 use Rattle.asg_doc.specs.declared.documents.Document.{Document}
 use Rattle.asg_check.specs.declared.verdicts.Form.{Form}
 use Rattle.asg_check.specs.declared.verdicts.Reason.{Reason}
-use Rattle.asg_check.specs.declared.verdicts.Reason.TheVariants.{OtherObjective, WrongForm, NotValid, WrongValue, NotHall, WindowGap, BadPhase, IndexDiffers, BadLevel}
+use Rattle.asg_check.specs.declared.verdicts.Reason.TheVariants.{OtherObjective, WrongForm, NotValid, WrongValue, Repeated, OutOfOrder, NotHall, WindowGap, BadPhase, IndexDiffers, BadLevel, BadNode, BetterLeft}
 use Rattle.asg_check.specs.declared.verdicts.Verdict.{Verdict}
 use Rattle.asg_check.specs.declared.verdicts.Verdict.TheVariants.{No, Yes}
 use Rattle.asg_check.specs.DocumentForm.{has_form}
 use Rattle.asg_check.specs.PhaseReasons.{AreAdmittedFor, AreBadAt, HaveOtherIndexFor}
+use Rattle.asg_check.specs.RankingReasons.{AreBadNodesAt, IsNoChoiceAt, IsOutOfOrderAt, IsRepeatedAt, IsWrongValueAt, LeaveBetterAt}
 use Rattle.asg_check.specs.WindowReasons.{AreNoHallSetsAt, LeaveGapAt}
 use Rattle.asg_check.specs.LevelReasons.{AreBadLevelsAt}
-use Rattle.asg_check.specs.Spots.{ForWhole, IsNoLater, Spot, place_of}
-use Rattle.asg_check.specs.Written.{IsWrittenAs}
+use Rattle.asg_check.specs.Spots.{AtParts, ForWhole, IsNoLater, Spot, place_of}
+use Rattle.asg_check.specs.Written.{AreWrittenAs, HasWrongValue, IsWrittenAs, SpellNone}
 
 -- the number of a reason
 abbrev pub reason_number : Reason → ℕ
@@ -29,14 +29,18 @@ reason_number OtherObjective = 1
 reason_number WrongForm = 2
 reason_number NotValid = 3
 reason_number WrongValue = 4
+reason_number Repeated = 12
+reason_number OutOfOrder = 13
 reason_number NotHall = 5
 reason_number WindowGap = 8
 reason_number BadPhase = 6
 reason_number IndexDiffers = 7
 reason_number BadLevel = 9
+reason_number BadNode = 10
+reason_number BetterLeft = 11
 
--- the reasons in the order in which they are tested, those against a claim, against its
--- proof, and against phases and levels last; and those against windows
+-- the reasons in the order in which they are tested: against phases, windows, levels and nodes,
+-- against a proof of any kind, against the order of answers, and against a claim
 abbrev pub phase_reasons : List Reason
 phase_reasons = BadPhase ∷ (IndexDiffers ∷ [])
 
@@ -46,31 +50,46 @@ window_reasons = NotHall ∷ (WindowGap ∷ [])
 abbrev pub level_reasons : List Reason
 level_reasons = BadLevel ∷ []
 
+abbrev pub node_reasons : List Reason
+node_reasons = BadNode ∷ (BetterLeft ∷ [])
+
 abbrev pub proof_reasons : List Reason
-proof_reasons = NotHall ∷ (WindowGap ∷ (BadPhase ∷ (IndexDiffers ∷ level_reasons)))
+proof_reasons =
+    NotHall ∷ (WindowGap ∷ (BadPhase ∷ (IndexDiffers ∷ (BadLevel ∷ node_reasons))))
+
+abbrev pub order_reasons : List Reason
+order_reasons = Repeated ∷ (OutOfOrder ∷ proof_reasons)
 
 abbrev pub claim_reasons : List Reason
-claim_reasons = NotValid ∷ (WrongValue ∷ proof_reasons)
+claim_reasons = NotValid ∷ (WrongValue ∷ order_reasons)
 
 abbrev pub reasons_in_order : List Reason
 reasons_in_order = OtherObjective ∷ (WrongForm ∷ claim_reasons)
 
--- no valid choice has the answer's cells, in the order of the rows
-abbrev pub HasNoChoice : Problem → Claim → Type 0
-HasNoChoice X (Best answer proof) = (f : List (Option ℕ)) → IsWrittenAs X answer.cells f → ⊥
-HasNoChoice X (Nothing rows) = ⊥
-HasNoChoice X (Ranked count answers nodes) = ⊥
+-- where no valid choice has an answer's cells, in the order of the rows
+abbrev pub LacksChoice : Problem → Claim → Spot → Type 0
+LacksChoice X (Best answer proof) = ForWhole (SpellNone X answer.cells)
+LacksChoice X (Nothing rows) = λ spot. ⊥
+LacksChoice X (Ranked count answers nodes) = AtParts (IsNoChoiceAt X answers)
 
--- the answer's cells are those of a valid choice, and its value is another than the choice's
-abbrev pub HasOtherValue : Objective → Problem → Claim → Type 0
-HasOtherValue objective X (Best answer proof) =
-    (f : List (Option ℕ)) × IsWrittenAs X answer.cells f
-    × (answer.value ≢ choice_value objective X f)
-HasOtherValue objective X (Nothing rows) = ⊥
-HasOtherValue objective X (Ranked count answers nodes) = ⊥
+-- where an answer's cells are those of a valid choice, and its value is another than the choice's
+abbrev pub HasOtherValue : Objective → Problem → Claim → Spot → Type 0
+HasOtherValue objective X (Best answer proof) = ForWhole (HasWrongValue objective X answer)
+HasOtherValue objective X (Nothing rows) = λ spot. ⊥
+HasOtherValue objective X (Ranked count answers nodes) = AtParts (IsWrongValueAt objective X answers)
 
--- the rows, where the claim names some, are the Hall set that they must be: of the costs strictly better
--- than the answer's value, of the bands of windows, or of the whole instance
+-- where a ranked answer has the cells of an earlier one
+abbrev pub Repeats : Claim → Spot → Type 0
+Repeats (Ranked count answers nodes) = AtParts (IsRepeatedAt answers)
+Repeats claim = λ spot. ⊥
+
+-- where a ranked answer is better than the one before it
+abbrev pub LeavesOrder : Objective → Claim → Spot → Type 0
+LeavesOrder objective (Ranked count answers nodes) = AtParts (IsOutOfOrderAt objective answers)
+LeavesOrder objective claim = λ spot. ⊥
+
+-- the rows, where the claim names some, are the Hall set that they must be: of the costs strictly
+-- better than the answer's value, of the bands of windows, or of the whole instance
 abbrev pub HasHallSet : Objective → Problem → Claim → Type 0
 HasHallSet objective X (Best answer (Phases words)) = Unit {0}
 HasHallSet objective X (Best answer (Below rows)) = ProvesBelow objective X answer.value rows
@@ -94,8 +113,8 @@ abbrev pub HasBadPhase : Objective → Problem → Claim → Spot → Type 0
 HasBadPhase objective X (Best answer (Phases words)) = AreBadAt (AreAdmittedFor objective X) words
 HasBadPhase objective X claim = λ spot. ⊥
 
--- the answer's cells are those of a valid choice, its phases are admitted, and their index is another
--- value than the choice's fold
+-- the answer's cells are those of a valid choice, its phases are admitted, and their index is
+-- another value than the choice's fold
 abbrev pub HasOtherIndex : Objective → Problem → Claim → Type 0
 HasOtherIndex objective X (Best answer (Phases words)) =
     (f : List (Option ℕ)) × IsWrittenAs X answer.cells f × HaveOtherIndexFor objective X f words
@@ -107,15 +126,34 @@ HasBadLevel X (Best answer (Levels perm levels)) = λ spot.
     (f : List (Option ℕ)) × IsWrittenAs X answer.cells f × AreBadLevelsAt X f perm levels spot
 HasBadLevel X claim = λ spot. ⊥
 
+-- where the answers' cells are those of valid choices, for which a node is at fault or some answer
+-- has no node
+abbrev pub HasBadNode : Objective → Problem → Claim → Spot → Type 0
+HasBadNode objective X (Ranked count answers nodes) = λ spot.
+    (choices : List (List (Option ℕ))) × AreWrittenAs X answers choices
+    × AreBadNodesAt objective X choices nodes spot
+HasBadNode objective X claim = λ spot. ⊥
+
+-- where the answers' cells are those of valid choices, for which a node is open and may not be
+abbrev pub LeavesBetter : Objective → Problem → Claim → Spot → Type 0
+LeavesBetter objective X (Ranked count answers nodes) = λ spot.
+    (choices : List (List (Option ℕ))) × AreWrittenAs X answers choices
+    × LeaveBetterAt objective X count choices nodes spot
+LeavesBetter objective X claim = λ spot. ⊥
+
 -- where a reason stands against a claim, each by itself
 abbrev pub StandsAgainst : Objective → Problem → Claim → Reason → Spot → Type 0
-StandsAgainst objective X claim NotValid = ForWhole (HasNoChoice X claim)
-StandsAgainst objective X claim WrongValue = ForWhole (HasOtherValue objective X claim)
+StandsAgainst objective X claim NotValid = LacksChoice X claim
+StandsAgainst objective X claim WrongValue = HasOtherValue objective X claim
+StandsAgainst objective X claim Repeated = Repeats claim
+StandsAgainst objective X claim OutOfOrder = LeavesOrder objective claim
 StandsAgainst objective X claim NotHall = LacksHallSet objective X claim
 StandsAgainst objective X claim WindowGap = LeavesGap X claim
 StandsAgainst objective X claim BadPhase = HasBadPhase objective X claim
 StandsAgainst objective X claim IndexDiffers = ForWhole (HasOtherIndex objective X claim)
 StandsAgainst objective X claim BadLevel = HasBadLevel X claim
+StandsAgainst objective X claim BadNode = HasBadNode objective X claim
+StandsAgainst objective X claim BetterLeft = LeavesBetter objective X claim
 StandsAgainst objective X claim reason = ForWhole ⊥
 
 -- where a reason stands against a document, each by itself: it is of another objective than the

@@ -29,8 +29,8 @@ StandsFrom M difference word_of side square value words IndexDiffers =
     ForWhole (HaveIndexBut M difference word_of side square value words)
 StandsFrom M difference word_of side square value words reason = λ spot. ⊥
 
--- a verdict on phases that are to have this index, of which the first so many lead to the reduced square:
--- it is told of each square from which they lead there
+-- a verdict on phases that are to have this index, of which the first so many lead to the reduced
+-- square: it is told of each square from which they lead there
 abbrev pub TellsFrom : {V : Type 0} → Monoid V → (V → V → V) → (V → Word) → List (PhaseOf Word) → ℕ
     → Reduced V → V → Verdict → Type 0
 TellsFrom {V} M difference word_of words from before value verdict =

@@ -1,5 +1,5 @@
 -- Spots: where a reason stands against a document.
-use Rattle.std.specs.Prelude.{ℤ, pos, ◌≤ℤ◌}
+use Rattle.std.specs.Prelude.{◌≡◌, ℕ, suc, ◌<◌, ℤ, pos, ◌≤ℤ◌, Option, Some, None}
 
 -- where a reason stands: at a place, or for the whole
 pub data Spot : Type 0 where
@@ -21,3 +21,14 @@ IsNoLater Overall (At other) = ⊥
 abbrev pub ForWhole : Type 0 → Spot → Type 0
 ForWhole P Overall = P
 ForWhole P (At place) = ⊥
+
+-- what stands at parts of a list, which are numbered from 1: at each of which it holds, by its place
+-- from 0 on
+abbrev pub AtParts : (ℕ → Type 0) → Spot → Type 0
+AtParts Fails (At place) = (n : ℕ) × (place ≡ pos (suc n)) × Fails n
+AtParts Fails Overall = ⊥
+
+-- the first place at which it holds, below so many, or none, where it holds at no place
+abbrev pub IsFirstPart : (ℕ → Type 0) → ℕ → Option ℕ → Type 0
+IsFirstPart Fails count (Some n) = (n < count) × Fails n × ((m : ℕ) → m < n → ¬ Fails m)
+IsFirstPart Fails count None = (n : ℕ) → ¬ Fails n

@@ -9,8 +9,8 @@ use Rattle.asg_check.specs.declared.sum_replays.Stop.{Stop}
 use Rattle.asg_check.specs.declared.sum_replays.Stop.TheVariants.{End, Bad, Full}
 use Rattle.asg_replays.specs.Replays.{AreReplayed, IsFirstBad}
 
--- the phases lead from one reduced square to another: all of them, or those before the first bad one, or
--- before some other
+-- the phases lead from one reduced square to another: all of them, or those before the first bad
+-- one, or before some other
 abbrev pub StopsAt : {V : Type 0} → Monoid V → (V → V → V) → (V → Word) → List (PhaseOf Word)
     → Reduced V → Reduced V → Stop → Type 0
 StopsAt M difference word_of words before after End =

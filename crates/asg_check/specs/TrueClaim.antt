@@ -20,8 +20,8 @@ pub record IsBestAnswer (objective : Objective) (X : Problem) (answer : Answer) 
   pub written : answer.cells ≡ cells_by_id X choice
   pub value : answer.value ≡ choice_value objective X choice
 
--- the answers are a ranking of so many: their cells are those of its choices, and their values are the values of
--- these
+-- the answers are a ranking of so many: their cells are those of its choices, and their values are
+-- the values of these
 pub record AreRankedAnswers (objective : Objective) (X : Problem) (count : ℕ) (answers : List Answer)
     : Type 0 where
   pub choices : List (List (Option ℕ))

@@ -19,7 +19,8 @@ pub record AreTotalsOf (words : List (PhaseOf Word)) (totals : Totals) : Type 0 
   pub written : map (worded plain_word) phases ≡ words
   pub come : AreTotals phases totals
 
--- where phases come to the first totals, they come to the second with one of these words before them
+-- where phases come to the first totals, they come to the second with one of these words before
+-- them
 abbrev pub TakesIn : PhaseOf Word → Totals → Totals → Type 0
 TakesIn words before after =
     (rest : List (PhaseOf Word)) → AreTotalsOf rest before → AreTotalsOf (words ∷ rest) after

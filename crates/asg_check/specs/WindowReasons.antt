@@ -21,7 +21,8 @@ abbrev pub AreNoHallSetsAt : Problem → List Window → Spot → Type 0
 AreNoHallSetsAt X windows (At place) = (n : ℕ) × (place ≡ pos (suc n)) × IsNoHallAt X windows n
 AreNoHallSetsAt X windows Overall = ⊥
 
--- the spread is above 0, and v is the cost of a live cell such that no window holds the costs from v on
+-- the spread is above 0, and v is the cost of a live cell such that no window holds the costs from
+-- v on
 pub record IsGap (X : Problem) (d : ℤ) (windows : List Window) (v : ℤ) : Type 0 where
   pub above : pos 0 <ℤ d
   pub live : IsLiveCost X v

@@ -1,15 +1,34 @@
--- The choice that written cells spell.
-use Rattle.std.specs.Prelude.{◌≡◌, ◌==◌, if◌then◌else◌, ℕ, List, [], ◌∷◌, Option, Some, None}
+-- The choices that written cells spell.
+use Rattle.std.specs.Prelude.{◌≡◌, ◌≢◌, ◌==◌, if◌then◌else◌, ℕ, List, [], ◌∷◌, map, All, Option, Some, None}
+use Rattle.asg_model.specs.declared.objectives.Objective.{Objective}
 use Rattle.asg_model.specs.declared.parts.Row.{Row}
 use Rattle.asg_model.specs.HallSet.{column_place_of}
 use Rattle.asg_model.specs.Problem.{Problem}
 use Rattle.asg_model.specs.ValidChoice.{IsValid}
+use Rattle.asg_model.specs.Values.{choice_value}
 use Rattle.asg_doc.specs.ChosenCells.{cells_by_id}
+use Rattle.asg_doc.specs.declared.documents.Answer.{Answer}
 
 -- a valid choice whose cells by id, in the order of the rows, are these
 pub record IsWrittenAs (X : Problem) (cells : List (ℕ × ℕ)) (f : List (Option ℕ)) : Type 0 where
   pub valid : IsValid X f
   pub written : cells ≡ cells_by_id X f
+
+-- valid choices whose cells by id, in the order of the rows, are those of the answers
+pub record AreWrittenAs (X : Problem) (answers : List Answer) (choices : List (List (Option ℕ)))
+    : Type 0 where
+  pub valid : All (IsValid X) choices
+  pub written : map (λ answer. answer.cells) answers ≡ map (cells_by_id X) choices
+
+-- no valid choice has these cells, in the order of the rows
+abbrev pub SpellNone : Problem → List (ℕ × ℕ) → Type 0
+SpellNone X cells = (f : List (Option ℕ)) → IsWrittenAs X cells f → ⊥
+
+-- the answer's cells are those of a valid choice, and its value is another than the choice's
+abbrev pub HasWrongValue : Objective → Problem → Answer → Type 0
+HasWrongValue objective X answer =
+    (f : List (Option ℕ)) × IsWrittenAs X answer.cells f
+    × (answer.value ≢ choice_value objective X f)
 
 -- the place of the column that the first of the cells gives the row: none where that names another
 -- row, or no column

@@ -8,14 +8,15 @@ ghost use Rattle.asg_model.specs.Shapes.{square_side};
 ghost use Rattle.asg_model.specs.ValueRange.{IsValueInRange};
 ghost use Rattle.asg_proof.specs.Proves.{takes};
 ghost use Rattle.asg_proof.specs.Threshold.{ProvesBelow};
-ghost use Rattle.asg_check.specs.DocumentForm.{takes_claim};
+ghost use Rattle.asg_check.specs.DocumentForm.{MayBeAsked, answers_form, takes_claim};
 ghost use Rattle.asg_check.specs.Reasons.{StandsAgainst, Tells, claim_reasons, proof_reasons};
 ghost use Rattle.asg_check.specs.Written.{IsWrittenAs};
 
 use crate::NoMemory;
 use crate::level_verdicts::levels_verdict;
 use crate::phase_verdicts::phases_verdict;
-use crate::verdicts::{Reason, Verdict};
+use crate::ranking_verdicts::ranking_verdict;
+use crate::verdicts::{Form, Reason, Verdict};
 use crate::window_verdicts::windows_verdict;
 use crate::written_choices::written_choice;
 use crate::written_values::is_same_value;
@@ -24,13 +25,17 @@ use asg_model::{Band, Choice, Instance, Objective, Value, is_hall, value};
 use asg_proof::Proof;
 use std::alloc::Global;
 
-// The verdict on a claim, by its reasons in order. The error is want of memory.
+// The verdict on a claim that answers what was asked, by its reasons in order. The error is want of
+// memory.
 pub(crate) fn claim_verdict(
     alloc: Global,
     objective: Objective,
     inst: &Instance,
+    form: Form,
     claim: &Claim,
 ) -> Result<Verdict, NoMemory>
+    requires asked { MayBeAsked form objective inst.now }
+    requires answers { IsTrue (answers_form form claim.now) }
     requires takes { IsTrue (takes_claim objective claim.now) }
     requires side { square_side inst.now ≤ most_side }
     requires passes { PassesNegative objective inst.now }
@@ -45,8 +50,18 @@ pub(crate) fn claim_verdict(
                 Ok(Reason::NotHall.verdict())
             }
         }
-        // No ranking is taken yet.
-        Claim::Ranked { .. } => Ok(Reason::WrongForm.verdict()),
+        Claim::Ranked {
+            count,
+            answers,
+            nodes,
+        } => ranking_verdict(
+            alloc,
+            objective,
+            inst,
+            *count,
+            answers.as_slice(),
+            nodes.as_slice(),
+        ),
     }
 }
 

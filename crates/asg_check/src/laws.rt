@@ -9,22 +9,25 @@ ghost use Rattle.asg_doc.specs.declared.documents.Document.{Document};
 ghost use Rattle.asg_check.specs.declared.verdicts.Form.{Form};
 ghost use Rattle.asg_check.specs.declared.verdicts.Reason.{Reason};
 ghost use Rattle.asg_check.specs.Certifies.{Certifies};
+ghost use Rattle.asg_check.specs.DocumentForm.{MayBeAsked};
 ghost use Rattle.asg_check.specs.Reasons.{IsFirstReason, Stands};
 ghost use Rattle.asg_check.specs.Spots.{Spot};
 ghost use Rattle.asg_check.specs.TrueClaim.{ClaimsTruly};
 
 use asg_model::laws::{decision_law, infeasible_law};
 use asg_proof::laws::best_law;
+use asg_proof::ranking_laws::proved_ranking_law;
 
 /// The soundness law: a document that certifies claims what is true of the instance, where the
-/// objective refuses no cost of it.
+/// objective refuses no cost of it and the form may be asked.
 pub fn soundness_law()
     ensures { (objective : Objective) (X : Problem) (form : Form) (document : Document) →
-        IsInstance X → PassesNegative objective X → Certifies objective X form document →
-        ClaimsTruly objective X document }
+        IsInstance X → PassesNegative objective X → MayBeAsked form objective X →
+        Certifies objective X form document → ClaimsTruly objective X document }
 {
     infeasible_law();
     best_law();
+    proved_ranking_law();
 }
 
 /// A document certifies exactly where no reason stands against it.

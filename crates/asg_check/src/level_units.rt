@@ -19,8 +19,8 @@ use std::alloc::Global;
 
 /// Takes the phases of a level, where each has one step, by 1, and they are admitted in turn, with
 /// its count as their index: then the walk stands behind the level. Otherwise nothing is told, and
-/// the walk stays. The time is that of the words of the square's rows, for the level and each of its
-/// phases, and of the cells that are left and not free. The error is want of memory.
+/// the walk stays. The time is that of the words of the square's rows, for the level and each of
+/// its phases, and of the cells that are left and not free. The error is want of memory.
 pub(crate) fn take_units(
     alloc: Global,
     inst: &Instance,

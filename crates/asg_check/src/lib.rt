@@ -25,6 +25,8 @@ mod level_verdicts;
 mod level_walks;
 mod narrow_starts;
 mod phase_verdicts;
+mod ranked_answers;
+mod ranking_verdicts;
 mod square_verdicts;
 mod sum_replays;
 mod sum_squares;

@@ -10,6 +10,8 @@ use std::fmt;
 pub enum Form {
     /// One best choice, or that no choice is valid.
     Solve,
+    /// So many best choices in order, or all where fewer are valid, or that no choice is valid.
+    Rank(u32),
 }
 
 /// Why a document doesn't certify, in the order in which the reasons are tested.
@@ -17,13 +19,18 @@ pub enum Form {
 pub enum Reason {
     /// The document's objective isn't the one that is asked.
     OtherObjective,
-    /// The command isn't that of the asked form, or the proof is of a kind that the objective
-    /// doesn't take.
+    /// The command isn't that of the asked form; the claim isn't one that answers it: a ranking of
+    /// the asked count, with at least one answer and at most so many, or else one best choice; or
+    /// the proof is of a kind that the objective doesn't take.
     WrongForm,
-    /// The cells aren't those of a valid choice, in the order of the rows.
+    /// The cells of an answer aren't those of a valid choice, in the order of the rows.
     NotValid,
-    /// The value isn't that of the cells.
+    /// The value of an answer isn't that of its cells.
     WrongValue,
+    /// A ranked answer has the cells of an earlier one.
+    Repeated,
+    /// A ranked answer is better than the one before it.
+    OutOfOrder,
     /// The rows aren't a Hall set: of the instance, of the costs strictly better than the value, or
     /// of the band of a window.
     NotHall,
@@ -38,6 +45,12 @@ pub enum Reason {
     /// of different columns by cells that are left in the end, its cells aren't the document's, or
     /// the levels don't count as many cells as rows choose.
     BadLevel,
+    /// A node of a ranking's search tree isn't as it must be for its parent and the answers, or
+    /// some answer has no node.
+    BadNode,
+    /// A node is open whose choices may be better than the last answer, or while fewer answers are
+    /// listed than were asked for.
+    BetterLeft,
 }
 
 impl fmt::Display for Reason {
@@ -52,12 +65,14 @@ impl Reason {
         match self {
             Reason::OtherObjective => "the objective isn't the one that is asked",
             Reason::WrongForm => {
-                "the command isn't that of the request, or the objective doesn't take the proof"
+                "the document isn't of the asked form, or the objective doesn't take the proof"
             }
             Reason::NotValid => {
                 "the cells aren't those of a valid choice, in the order of the rows"
             }
             Reason::WrongValue => "the value isn't that of the cells",
+            Reason::Repeated => "an answer has the cells of an earlier one",
+            Reason::OutOfOrder => "an answer is better than the one before it",
             Reason::NotHall => "the rows aren't a Hall set",
             Reason::WindowGap => "the windows leave a gap",
             Reason::BadPhase => {
@@ -67,6 +82,8 @@ impl Reason {
                 "the product of the steps isn't that of the entered costs of the cells"
             }
             Reason::BadLevel => "a level doesn't hold, or the levels don't prove the cells",
+            Reason::BadNode => "a node isn't as it must be, or an answer has no node",
+            Reason::BetterLeft => "a node is open whose choices may be better than the answers",
         }
     }
 
@@ -79,11 +96,15 @@ impl Reason {
             Reason::WrongForm => 2,
             Reason::NotValid => 3,
             Reason::WrongValue => 4,
+            Reason::Repeated => 12,
+            Reason::OutOfOrder => 13,
             Reason::NotHall => 5,
             Reason::WindowGap => 8,
             Reason::BadPhase => 6,
             Reason::IndexDiffers => 7,
             Reason::BadLevel => 9,
+            Reason::BadNode => 10,
+            Reason::BetterLeft => 11,
         }
     }
 
@@ -107,8 +128,8 @@ impl Reason {
         }
     }
 
-    // The verdict that the reason stands at a phase, a window or a level, whose place in its list
-    // this is, from 0 on.
+    // The verdict that the reason stands at an answer, a phase, a window or a level, whose place in
+    // its list this is, from 0 on.
     pub(crate) fn verdict_at_part(self, part: usize) -> Verdict
         requires { part + 1 < 2 ^ 63 }
         ensures { result ≡ Verdict.No (reason_number self) (pos (part + 1)) }
@@ -123,9 +144,9 @@ pub enum Verdict {
     /// The document certifies.
     Yes,
     /// It doesn't: the number of the first reason, and the place where it stands. The place of a
-    /// bad phase is its number from 1, as are those of a bad level and of a window whose rows
-    /// aren't a Hall set; the place of a gap is its cost. That of each other reason is 0: the whole
-    /// document.
+    /// bad phase is its number from 1, as are those of a ranked answer, of a bad level, of a node
+    /// and of a window whose rows aren't a Hall set; the place of a gap is its cost. That of each
+    /// other reason is 0: the whole document.
     No { reason: u8, place: i64 },
 }
 

@@ -16,5 +16,5 @@ returns-clause-reason c = λ number place.
     )
 
 pub returns-clause-sound : goal.returns-clause-sound
-returns-clause-sound c = λ same. c.soundness_law.ensures c.args.objective c.args.inst.now c.args.form c.args.doc.now c.rows.ensures.instance c.requires.passes
+returns-clause-sound c = λ same. c.soundness_law.ensures c.args.objective c.args.inst.now c.args.form c.args.doc.now c.rows.ensures.instance c.requires.passes c.requires.asked
     ((yes_exactly c.decision_law.ensures c.args.objective c.args.inst.now c.rows.ensures.instance c.args.form c.args.doc.now c.in_ok-verdict.verdict c.in_ok-verdict.ensures).0 same)

@@ -1,7 +1,8 @@
-use Rattle.std.proofs.Common.{◌≡◌, ◌≢◌, sym, ◌∙◌, rules, arith}
+use Rattle.std.proofs.Common.{◌≡◌, ◌≢◌, ◌&&◌, sym, ◌∙◌, rules, arith}
 use Rattle.std.proofs.lemmas.Result.{IfOk-weaker}
+use Rattle.asg_check.specs.DocumentForm.{answers_form, is_command_of, takes_claim}
 use Rattle.asg_check.specs.Reasons.{Stands, StandsAgainst, Tells, claim_reasons, reasons_in_order}
-use Rattle.asg_check.proofs.Certified.{of_other, of_wrong_form, to_claim}
+use Rattle.asg_check.proofs.Certified.{left_of, of_other, of_wrong_form, right_of, to_claim}
 use Rattle.asg_check.proofs.checker.document_verdict.Goals as goal
 
 pub returns-then-ne : goal.returns-then-ne
@@ -14,6 +15,20 @@ returns-then-not-has_form c =
     let same : c.args.doc.now.objective ≡ c.args.objective = grind arith in
     of_wrong_form c.args.objective c.args.inst.now c.args.form c.args.doc.now c.verdict-then-not-has_form.result
     same (sym c.has_form.ensures ∙ c.if-not-has_form.true) c.verdict-then-not-has_form.ensures
+
+pub claim_verdict-requires-clause-answers : goal.claim_verdict-requires-clause-answers
+claim_verdict-requires-clause-answers c =
+    let form = c.args.form in
+    let document = c.args.doc.now in
+    left_of (answers_form form document.claim) (takes_claim c.args.objective document.claim)
+    (right_of (is_command_of form document.command) (answers_form form document.claim && takes_claim c.args.objective document.claim) (sym c.has_form.ensures ∙ c.if-not-has_form.false))
+
+pub claim_verdict-requires-clause-takes : goal.claim_verdict-requires-clause-takes
+claim_verdict-requires-clause-takes c =
+    let form = c.args.form in
+    let document = c.args.doc.now in
+    right_of (answers_form form document.claim) (takes_claim c.args.objective document.claim)
+    (right_of (is_command_of form document.command) (answers_form form document.claim && takes_claim c.args.objective document.claim) (sym c.has_form.ensures ∙ c.if-not-has_form.false))
 
 pub returns : goal.returns
 returns c =

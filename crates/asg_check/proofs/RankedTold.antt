@@ -1,0 +1,224 @@
+-- Steps over ranked answers: the first at a place of which something holds, and the cells that were
+-- seen.
+use Rattle.std.proofs.Common.{◌≡◌, ◌↔◌, ℕ, zero, suc, ◌+◌, ◌-◌, ◌<◌, ◌≤◌, Bool, true, false, not, cond, List, [], ◌∷◌, ◌++◌, length, take, map, get_or, Option, Some, None, inl, inr, ◌⊎◌, ⊎_elim, Ordering, Less, Equal, Greater, refl, sym, ap, ◌∙◌, subst, arith}
+use Rattle.std.specs.Borrow.{Bor}
+use Rattle.std.specs.BTreeMap.{is_at}
+use Rattle.std.specs.BTreeSet.{BTreeSet, IsEmpty, Updates, contains}
+use Rattle.std.specs.List.{list_any}
+use Rattle.std.specs.Cmp.Lexicographic.{slice_cmp}
+use Rattle.std.specs.Ordering.{is_eq, nat_cmp, ordering_then}
+use Rattle.std.specs.Prelude.{All, IsTrue, slice_get}
+use Rattle.std.proofs.lemmas.Bool.{false≢true, cases_lt}
+use Rattle.std.specs.Cmp.{nat_cmp_is}
+use Rattle.std.proofs.lemmas.List.{append-nil, get_or_default, length-append, length-map, length-take-le, map-append, take_more}
+use Rattle.std.proofs.lemmas.List.Elements.{All-append}
+use Rattle.std.proofs.lemmas.Map.Lookups.{exact_unsigned}
+use Rattle.std.proofs.lemmas.Option.{get_or_from_slice_get, same_Some, slice_get-get_or, slice_get_within}
+use Rattle.asg_model.specs.declared.objectives.Objective.{Objective}
+use Rattle.asg_model.specs.Better.{IsBetter}
+use Rattle.asg_model.specs.Instances.{IsInstance, by_places}
+use Rattle.asg_model.specs.Problem.{Problem}
+use Rattle.asg_model.specs.ValidChoice.{IsValid}
+use Rattle.asg_model.specs.Values.{choice_value}
+use Rattle.asg_doc.specs.ChosenCells.{cells_by_id}
+use Rattle.asg_doc.specs.declared.documents.Answer.{Answer}
+use Rattle.asg_check.specs.RankingReasons.{IsNoChoiceAt, IsOutOfOrderAt, IsRepeatedAt, IsWrongValueAt}
+use Rattle.asg_check.specs.Written.{AreWrittenAs, IsWrittenAs}
+use Rattle.asg_check.proofs.Reading.{written-once}
+use Rattle.asg_check.proofs.RankingTold.{as_many, written_at}
+
+-- ---- the first place
+
+module _ (Fails : ℕ → Type 0) where
+  pub none_more : (n : ℕ) → ((m : ℕ) → m < n → ¬ Fails m) → ¬ Fails n → (m : ℕ) → m < n + 1 → ¬ Fails m
+  none_more n before here m less =
+      ⊎_elim (λ (early : m < n). before m early) (λ (late : n ≤ m). let same : n ≡ m = omega (arith, less, late) in subst (λ k. ¬ Fails k) same here) (cases_lt m n)
+
+  pub none_at_all : (count : ℕ) → ((n : ℕ) → Fails n → n < count) → ((m : ℕ) → m < count → ¬ Fails m) → (n : ℕ) → ¬ Fails n
+  none_at_all count within before n fails = before n (within n fails) fails
+
+-- ---- values
+
+module _ (objective : Objective) (X : Problem) (answers : List Answer) where
+  pub wrong_within : (n : ℕ) → IsWrongValueAt objective X answers n → n < length answers
+  wrong_within n is = slice_get_within answers n is.answer is.there
+
+  module _ (i : IsInstance X) (choices : List (List (Option ℕ))) (w : AreWrittenAs X answers choices) (n : ℕ) (answer : Answer) (choice : List (Option ℕ)) (at : answer ≡ get_or answers n answer) (within : n < length answers) (chosen : choice ≡ get_or choices n choice) where
+    there : slice_get answers n ≡ Some answer
+    there = slice_get-get_or answers n answer within ∙ ap Some (sym at)
+
+    here : IsWrittenAs X answer.cells choice
+    here =
+        let lengths = as_many X i answers choices w in
+        subst (IsWrittenAs X answer.cells) (get_or_default choices n [] choice (subst (λ l. n < l) lengths within) ∙ sym chosen) (written_at X i answers choices w n answer there)
+
+    pub valid_at : IsValid X choice
+    valid_at = here.valid
+
+    pub wrong_at : ¬ (answer.value ≡ choice_value objective X choice) → IsWrongValueAt objective X answers n
+    wrong_at differ = record { answer = answer; there = there; wrong = (choice, here, differ) }
+
+    pub right_at : answer.value ≡ choice_value objective X choice → ¬ IsWrongValueAt objective X answers n
+    right_at same is =
+        let one = same_Some is.answer answer (sym is.there ∙ there) in
+        let wrong = is.wrong in
+        let spelled = subst (λ a. IsWrittenAs X a.cells wrong.0) one wrong.1 in
+        wrong.2 (ap (λ a. a.value) one ∙ same ∙ ap (choice_value objective X) (written-once X answer.cells choice wrong.0 i here spelled))
+
+-- ---- order
+
+module _ (objective : Objective) (answers : List Answer) where
+  pub out_within : (n : ℕ) → IsOutOfOrderAt objective answers n → n < length answers
+  out_within n is = slice_get_within answers n is.answer is.there
+
+  pub first_in_order : (m : ℕ) → m < 1 → ¬ IsOutOfOrderAt objective answers m
+  first_in_order m less is = let before = is.before in absurd (omega (arith, less, before))
+
+  module _ (n : ℕ) (answer earlier : Answer) (from : 1 ≤ n) (within : n < length answers) (at : answer ≡ get_or answers n answer) (before : earlier ≡ get_or answers (n - 1) earlier) where
+    pub out_at : IsBetter objective answer.value earlier.value → IsOutOfOrderAt objective answers n
+    out_at better = record {
+      answer = answer;
+      there = slice_get-get_or answers n answer within ∙ ap Some (sym at);
+      place = n - 1;
+      before = omega (arith, from);
+      earlier = earlier;
+      earlier_there = slice_get-get_or answers (n - 1) earlier (omega (arith, within)) ∙ ap Some (sym before);
+      better = better;
+    }
+
+    pub in_order_at : ¬ IsBetter objective answer.value earlier.value → ¬ IsOutOfOrderAt objective answers n
+    in_order_at none is =
+        let step = is.before in
+        let place : is.place ≡ n - 1 = omega (arith, step) in
+        let one : is.answer ≡ answer = sym (get_or_from_slice_get answers n is.answer answer is.there) ∙ sym at in
+        let other : is.earlier ≡ earlier = sym (get_or_from_slice_get answers is.place is.earlier earlier is.earlier_there) ∙ ap (λ k. get_or answers k earlier) place ∙ sym before in
+        none (subst (λ a. IsBetter objective a.value earlier.value) one (subst (λ e. IsBetter objective is.answer.value e.value) other is.better))
+
+-- ---- cells that were seen
+
+-- the order of lists of cells
+abbrev pub cells_cmp : Bor (List (ℕ × ℕ)) → Bor (List (ℕ × ℕ)) → Ordering
+cells_cmp x y = slice_cmp by_places x.now y.now
+
+same_then : (a b : Ordering) → is_eq (ordering_then a b) ≡ true → (a ≡ Equal) × (is_eq b ≡ true)
+same_then Equal b is = (refl, is)
+same_then Less b is = absurd (false≢true is)
+same_then Greater b is = absurd (false≢true is)
+
+is_equal : (a : Ordering) → is_eq a ≡ true → a ≡ Equal
+is_equal Equal is = refl
+is_equal Less is = absurd (false≢true is)
+is_equal Greater is = absurd (false≢true is)
+
+same_places : (x y : ℕ × ℕ) → by_places x y ≡ Equal → x ≡ y
+same_places x y is =
+    let two = same_then (nat_cmp x.0 y.0) (nat_cmp x.1 y.1) (ap is_eq is) in
+    let first = exact_unsigned x.0 y.0 two.0 in
+    let second = exact_unsigned x.1 y.1 (is_equal (nat_cmp x.1 y.1) two.1) in
+    ap (λ r. (r, x.1)) first ∙ ap (λ c. (y.0, c)) second
+
+same_lists : (xs ys : List (ℕ × ℕ)) → is_eq (slice_cmp by_places xs ys) ≡ true → xs ≡ ys
+same_lists [] [] is = refl
+same_lists [] (y ∷ ys) is = absurd (false≢true is)
+same_lists (x ∷ xs) [] is = absurd (false≢true is)
+same_lists (x ∷ xs) (y ∷ ys) is =
+    let two = same_then (by_places x y) (slice_cmp by_places xs ys) is in
+    let first = same_places x y two.0 in
+    let rest = same_lists xs ys two.1 in
+    ap (λ z. z ∷ xs) first ∙ ap (λ zs. y ∷ zs) rest
+
+same_number : (n : ℕ) → nat_cmp n n ≡ Equal
+same_number n = sym (nat_cmp_is n n Equal refl)
+
+itself : (xs : List (ℕ × ℕ)) → is_eq (slice_cmp by_places xs xs) ≡ true
+itself [] = refl
+itself (x ∷ xs) = ap (λ o. is_eq (ordering_then o (slice_cmp by_places xs xs))) (ap (λ o. ordering_then o (nat_cmp x.1 x.1)) (same_number x.0) ∙ same_number x.1) ∙ itself xs
+
+-- the answers before a place that have these cells
+abbrev pub HasBefore : List Answer → ℕ → List (ℕ × ℕ) → Type 0
+HasBefore answers n cells = (k : ℕ) × (k < n) × ((earlier : Answer) × (slice_get answers k ≡ Some earlier) × (earlier.cells ≡ cells))
+
+-- the set has the cells of the answers before a place, and no others
+abbrev pub AreSeen : List Answer → ℕ → BTreeSet (Bor (List (ℕ × ℕ))) → Type 0
+AreSeen answers n seen = (q : Bor (List (ℕ × ℕ))) → (contains cells_cmp seen q ≡ true) ↔ HasBefore answers n q.now
+
+-- whether a key was new tells whether such cells were seen
+module _ (answers : List Answer) (n : ℕ) (seen : BTreeSet (Bor (List (ℕ × ℕ)))) (key : Bor (List (ℕ × ℕ))) (answer : Answer) (of : key.now ≡ answer.cells) (are : AreSeen answers n seen) where
+  pub seen_at : not (contains cells_cmp seen key) ≡ false → HasBefore answers n answer.cells
+  seen_at old = subst (HasBefore answers n) of ((are key).0 (by (contains cells_cmp seen key) old))
+    where
+      by : (b : Bool) → not b ≡ false → b ≡ true
+      by true e = refl
+      by false e = absurd (false≢true (sym e))
+
+  pub unseen_at : not (contains cells_cmp seen key) ≡ true → ¬ HasBefore answers n answer.cells
+  unseen_at new has = false≢true (sym (ap not ((are key).1 (subst (HasBefore answers n) (sym of) has))) ∙ new)
+
+module _ (answers : List Answer) where
+  pub repeated_within : (n : ℕ) → IsRepeatedAt answers n → n < length answers
+  repeated_within n is = slice_get_within answers n is.answer is.there
+
+  module _ (n : ℕ) (answer : Answer) (within : n < length answers) (at : answer ≡ get_or answers n answer) where
+    here_there : slice_get answers n ≡ Some answer
+    here_there = slice_get-get_or answers n answer within ∙ ap Some (sym at)
+
+    pub repeated_at : HasBefore answers n answer.cells → IsRepeatedAt answers n
+    repeated_at one = record { answer = answer; there = here_there; place = one.0; before = one.1; earlier = one.2.0; earlier_there = one.2.1; same = one.2.2 }
+
+    pub fresh_at : ¬ HasBefore answers n answer.cells → ¬ IsRepeatedAt answers n
+    fresh_at none is =
+        let one = same_Some is.answer answer (sym is.there ∙ here_there) in
+        none (is.place, is.before, (is.earlier, is.earlier_there, is.same ∙ ap (λ a. a.cells) one))
+
+    -- and with the cells of the answer at the place those up to it
+    pub seen_more : (before after : BTreeSet (Bor (List (ℕ × ℕ)))) (key : Bor (List (ℕ × ℕ))) → key.now ≡ answer.cells → AreSeen answers n before → Updates cells_cmp before after key true → AreSeen answers (n + 1) after
+    seen_more before after key of seen updates q = (to (is_eq (slice_cmp by_places key.now q.now)) refl, from)
+      where
+        earlier : HasBefore answers n q.now → HasBefore answers (n + 1) q.now
+        earlier one = (one.0, omega (arith, one.1), one.2)
+
+        to : (b : Bool) → is_eq (slice_cmp by_places key.now q.now) ≡ b → contains cells_cmp after q ≡ true → HasBefore answers (n + 1) q.now
+        to true is has = (n, omega arith, (answer, here_there, sym of ∙ same_lists key.now q.now is))
+        to false is has =
+            earlier ((seen q).0 (ap (λ b. cond b true (contains cells_cmp before q)) (sym is) ∙ sym (updates.0 q) ∙ has))
+
+        from : HasBefore answers (n + 1) q.now → contains cells_cmp after q ≡ true
+        from one = updates.0 q ∙ by one (is_eq (slice_cmp by_places key.now q.now)) refl
+          where
+            by : HasBefore answers (n + 1) q.now → (b : Bool) → is_eq (slice_cmp by_places key.now q.now) ≡ b → cond b true (contains cells_cmp before q) ≡ true
+            by one true is = refl
+            by one false is =
+                ⊎_elim (λ (early : one.0 < n). (seen q).1 (one.0, early, one.2))
+                (λ (late : n ≤ one.0).
+                let place : one.0 ≡ n = omega (arith, late, one.1) in
+                let same : one.2.0 ≡ answer = same_Some one.2.0 answer (sym one.2.1 ∙ ap (slice_get answers) place ∙ here_there) in
+                let cells : q.now ≡ key.now = sym one.2.2 ∙ ap (λ a. a.cells) same ∙ sym of in
+                absurd (false≢true (sym is ∙ subst (λ cs. is_eq (slice_cmp by_places key.now cs) ≡ true) (sym cells) (itself key.now))))
+                (cases_lt one.0 n)
+
+-- nothing was seen at first
+pub none_seen : (answers : List Answer) (seen : BTreeSet (Bor (List (ℕ × ℕ)))) → IsEmpty seen → AreSeen answers 0 seen
+none_seen answers seen empty q = (λ has. absurd (false≢true (sym (ap (λ keys. list_any (is_at (cells_cmp q)) keys) empty) ∙ has)), λ one. absurd (omega (arith, one.1)))
+
+-- ---- choices that were read
+
+-- an answer that spells none, behind others that spell choices
+pub no_choice_at : (X : Problem) (answers : List Answer) (n : ℕ) (answer : Answer) → n < length answers → answer ≡ get_or answers n answer → ((f : List (Option ℕ)) → ¬ IsWrittenAs X answer.cells f) → IsNoChoiceAt X answers n
+no_choice_at X answers n answer within at none = record { answer = answer; there = slice_get-get_or answers n answer within ∙ ap Some (sym at); none = none }
+
+all_one : {A : Type 0} (P : A → Type 0) (x : A) → P x → All P (x ∷ [])
+all_one P x p zero d less = p
+all_one P x p (suc n) d less = absurd (omega (arith, less))
+
+-- one more that spells a choice
+pub read_more : (X : Problem) (answers : List Answer) (choices : List (List (Option ℕ))) (n : ℕ) (answer : Answer) (choice : List (Option ℕ)) → AreWrittenAs X (take n answers) choices → n < length answers → answer ≡ get_or answers n answer → IsWrittenAs X answer.cells choice
+    → AreWrittenAs X (take (n + 1) answers) (choices ++ choice ∷ [])
+read_more X answers choices n answer choice w within at here = record {
+  valid = All-append (IsValid X) choices (choice ∷ []) w.valid (all_one (IsValid X) choice here.valid);
+  written =
+      ap (map (λ one. one.cells)) (take_more answers n answer within ∙ ap (λ one. take n answers ++ one ∷ []) (sym at))
+      ∙ map-append (λ one. one.cells) (take n answers) (answer ∷ [])
+      ∙ ap (λ cs. cs ++ answer.cells ∷ []) w.written
+      ∙ ap (λ c. map (cells_by_id X) choices ++ c ∷ []) here.written
+      ∙ sym (map-append (cells_by_id X) choices (choice ∷ []));
+}

@@ -1,0 +1,143 @@
+-- The stages of the verdict on a ranking: what is told of its answers at one stage, and then of what
+-- comes after.
+use Rattle.std.proofs.Common.{◌≡◌, ℕ, suc, ◌+◌, ◌<◌, ◌≤◌, List, [], ◌∷◌, length, take, get_or, Option, Some, None, inl, inr, refl, sym, ap, ◌∙◌, subst, arith}
+use Rattle.std.specs.Prelude.{ℤ, pos, ◌==◌, IsTrue, slice_get}
+use Rattle.std.proofs.lemmas.List.{get_or-take, length-take-le, take_all}
+use Rattle.std.proofs.lemmas.Option.{get_or_from_slice_get, slice_get-get_or}
+use Rattle.asg_model.specs.declared.objectives.Objective.{Objective}
+use Rattle.asg_model.specs.Instances.{IsInstance}
+use Rattle.asg_model.specs.declared.parts.Place.TheVariants.{All as PlaceAll}
+use Rattle.asg_model.specs.Problem.{Problem}
+use Rattle.asg_monoids.specs.ObjectiveMonoids.{Fact, InMonoidOf}
+use Rattle.asg_proof.specs.declared.nodes.Node.{Node}
+use Rattle.asg_proof.specs.TreeFaults.{LacksNode}
+use Rattle.asg_doc.specs.declared.documents.Answer.{Answer}
+use Rattle.asg_trees.specs.Judged.{TellsRanking, TellsTree}
+use Rattle.asg_trees.specs.declared.verdicts.TreeVerdict.{TreeVerdict}
+use Rattle.asg_trees.specs.declared.verdicts.TreeVerdict.TheVariants.{Tree, FaultAt, NodeLacks, OpenAt}
+use Rattle.asg_doc.specs.declared.documents.Claim.TheVariants.{Ranked}
+use Rattle.asg_check.specs.declared.verdicts.Form.{Form}
+use Rattle.asg_check.specs.declared.verdicts.Form.TheVariants as forms
+use Rattle.asg_check.specs.declared.verdicts.Reason.{Reason}
+use Rattle.asg_check.specs.declared.verdicts.Reason.TheVariants.{BadNode, BetterLeft}
+use Rattle.asg_check.specs.declared.verdicts.Verdict.{Verdict}
+use Rattle.asg_check.specs.declared.verdicts.Verdict.TheVariants.{No, Yes}
+use Rattle.asg_check.specs.DocumentForm.{MayBeAsked, answers_form, is_answer_count}
+use Rattle.asg_check.specs.RankingReasons.{AreBadNodesAt, IsNoChoiceAt, LeaveBetterAt, NodesStand}
+use Rattle.asg_check.specs.Reasons.{IsToldOf, Tells, node_reasons, reason_number}
+use Rattle.asg_check.specs.Spots.{AtParts, IsFirstPart, Spot}
+use Rattle.asg_check.specs.Written.{AreWrittenAs}
+use Rattle.asg_check.proofs.Parts.{first_part, first_told, no_part, whole_told}
+use Rattle.asg_check.proofs.ByObjective.{both, mapped, nothing}
+use Rattle.asg_check.proofs.Certified.{counted, right_of}
+use Rattle.asg_check.proofs.RankingTold.{all_written}
+use Rattle.asg_check.proofs.TreesByObjective.{FaultFact, LeftFact, constant, fault_within, left_within, none_bad_nodes, proof_bad_nowhere, proof_left_nowhere, proof_of_tree}
+
+-- ---- a stage over the answers
+
+module _ (Against : Reason → Spot → Type 0) (Fails : ℕ → Type 0) (reason : Reason) (of : Against reason ≡ AtParts Fails) (rest : List Reason) (verdict : Verdict) where
+  -- it stops at the first of which the reason holds
+  pub stops : (n : ℕ) → Fails n → ((m : ℕ) → m < n → ¬ Fails m) → verdict ≡ No (reason_number reason) (pos (n + 1)) → Tells Against (reason ∷ rest) verdict
+  stops n fails first is =
+      let place : n + 1 ≡ suc n = omega arith in
+      inl (subst (λ R. IsToldOf R reason verdict) (sym of)
+      (subst (IsToldOf (AtParts Fails) reason) (sym (is ∙ ap (λ k. No (reason_number reason) (pos k)) place)) (first_part Fails reason n fails first)))
+
+  pub stops_at : (count n : ℕ) → IsFirstPart Fails count (Some n) → verdict ≡ No (reason_number reason) (pos (n + 1)) → Tells Against (reason ∷ rest) verdict
+  stops_at count n first is = stops n first.1 first.2 is
+
+  -- or goes on to what is told after it
+  pub goes_on : ((n : ℕ) → ¬ Fails n) → Tells Against rest verdict → Tells Against (reason ∷ rest) verdict
+  goes_on none told = inr (λ spot stands. no_part Fails none spot (subst (λ R. R spot) of stands), told)
+
+-- ---- what is asked
+
+-- a ranking answers only where one is asked, which is of an instance that places all rows, and it
+-- has an answer
+pub all_placed : (form : Form) (objective : Objective) (X : Problem) (count : ℕ) (answers : List Answer) (nodes : List Node) → MayBeAsked form objective X → IsTrue (answers_form form (Ranked count answers nodes)) → X.place ≡ PlaceAll
+all_placed forms.Solve objective X count answers nodes may is = absurd (cc)
+all_placed (forms.Rank asked) objective X count answers nodes may is = may.1
+
+pub some_answer : (form : Form) (count : ℕ) (answers : List Answer) (nodes : List Node) → IsTrue (answers_form form (Ranked count answers nodes)) → 1 ≤ length answers
+some_answer forms.Solve count answers nodes is = absurd (cc)
+some_answer (forms.Rank asked) count answers nodes is = (counted count (length answers) (right_of (count == asked) (is_answer_count count (length answers)) is)).0
+
+-- ---- choices that were read
+
+module _ (objective : Objective) (X : Problem) (i : IsInstance X) (answers : List Answer) (n : ℕ) (choices : List (List (Option ℕ))) (w : AreWrittenAs X (take n answers) choices) where
+  -- those before the first that spells none
+  pub read_before : n ≤ length answers → (m : ℕ) → m < n → ¬ IsNoChoiceAt X answers m
+  read_before within m less is =
+      let long : length (take n answers) ≡ n = length-take-le n answers within in
+      let there : slice_get (take n answers) m ≡ Some is.answer =
+      slice_get-get_or (take n answers) m is.answer (omega (arith, less, long)) ∙ ap Some (get_or-take n answers m is.answer less ∙ get_or_from_slice_get answers m is.answer is.answer is.there) in
+      all_written objective X i (take n answers) choices w m (record { answer = is.answer; there = there; none = is.none })
+
+  pub read_whole : length answers ≤ n → AreWrittenAs X answers choices
+  read_whole all = subst (λ xs. AreWrittenAs X xs choices) (take_all n answers all) w
+
+pub none_unread : (objective : Objective) (X : Problem) (i : IsInstance X) (answers : List Answer) (choices : List (List (Option ℕ))) → AreWrittenAs X answers choices → (n : ℕ) → ¬ IsNoChoiceAt X answers n
+none_unread objective X i answers choices w = all_written objective X i answers choices w
+
+-- ---- nodes
+
+module _ (objective : Objective) (X : Problem) (count : ℕ) (choices : List (List (Option ℕ))) (nodes : List Node) where
+  abbrev Faults : ℕ → Type 0
+  Faults n = InMonoidOf objective (FaultFact X count choices nodes n)
+
+  abbrev Lefts : ℕ → Type 0
+  Lefts n = InMonoidOf objective (LeftFact X count choices nodes n)
+
+  abbrev Told : TreeVerdict → Fact
+  Told found = λ V M difference word_of enter. TellsTree M difference word_of enter X count choices nodes found
+
+  -- nodes that are a search tree
+  pub tree_told : TellsRanking objective X count choices nodes Tree → Tells (NodesStand objective X count choices nodes) node_reasons Yes
+  tree_told tree =
+      let p = proof_of_tree X count choices nodes objective tree in
+      inr (proof_bad_nowhere X count choices nodes objective p, inr (proof_left_nowhere X count choices nodes objective p, refl))
+
+  -- the first at fault
+  pub fault_there : (n : ℕ) → TellsRanking objective X count choices nodes (FaultAt n) → Faults n
+  fault_there n told = mapped (Told (FaultAt n)) (FaultFact X count choices nodes n) (λ V M difference word_of enter s p. p.0) objective told
+
+  pub fault_told : (n : ℕ) → TellsRanking objective X count choices nodes (FaultAt n) → Tells (NodesStand objective X count choices nodes) node_reasons (No 10 (pos n))
+  fault_told n told =
+      inl (first_told (AreBadNodesAt objective X choices nodes) Faults (λ k. k) (λ m k le. le) (λ k fails. (k, refl, fails)) (λ place there. there) BadNode n (fault_there n told)
+      (λ m less fault.
+      nothing (λ V M difference word_of enter. Told (FaultAt n) V M difference word_of enter × FaultFact X count choices nodes m V M difference word_of enter) (λ V M difference word_of enter s two. two.0.1 m less two.1) objective
+      (both (Told (FaultAt n)) (FaultFact X count choices nodes m) objective told fault)))
+
+  -- an answer without a node
+  pub lacks_told : TellsRanking objective X count choices nodes NodeLacks → Tells (NodesStand objective X count choices nodes) node_reasons (No 10 (pos 0))
+  lacks_told told =
+      inl (whole_told (AreBadNodesAt objective X choices nodes) Faults (λ k. k) (λ m k le. le) (λ k fails. (k, refl, fails)) (λ place there. there) BadNode
+      (λ m fault.
+      nothing (λ V M difference word_of enter. Told NodeLacks V M difference word_of enter × FaultFact X count choices nodes m V M difference word_of enter) (λ V M difference word_of enter s two. two.1.fault (two.0.0 m two.1.there)) objective
+      (both (Told NodeLacks) (FaultFact X count choices nodes m) objective told fault))
+      (constant (Told NodeLacks) (LacksNode choices nodes) (λ V M difference word_of enter p. p.1) objective told))
+
+  -- the first that is open and may not be
+  pub left_there : (n : ℕ) → TellsRanking objective X count choices nodes (OpenAt n) → Lefts n
+  left_there n told = mapped (Told (OpenAt n)) (LeftFact X count choices nodes n) (λ V M difference word_of enter s p. p.2) objective told
+
+  pub open_told : (n : ℕ) → TellsRanking objective X count choices nodes (OpenAt n) → Tells (NodesStand objective X count choices nodes) node_reasons (No 11 (pos n))
+  open_told n told =
+      let sound : (m : ℕ) → ¬ Faults m = λ m fault.
+      nothing (λ V M difference word_of enter. Told (OpenAt n) V M difference word_of enter × FaultFact X count choices nodes m V M difference word_of enter) (λ V M difference word_of enter s two. two.1.fault (two.0.0 m two.1.there)) objective
+      (both (Told (OpenAt n)) (FaultFact X count choices nodes m) objective told fault) in
+      let given : ¬ LacksNode choices nodes = λ lacks. constant (Told (OpenAt n)) ⊥ (λ V M difference word_of enter p. lacks.none (p.1 lacks.number lacks.from lacks.upto)) objective told in
+      inr (
+        none_bad_nodes X count choices nodes objective sound given,
+        inl (first_told (LeaveBetterAt objective X count choices nodes) Lefts (λ k. k) (λ m k le. le) (λ k fails. (k, refl, fails)) (λ place there. there) BetterLeft n (left_there n told)
+            (λ m less left.
+            nothing (λ V M difference word_of enter. Told (OpenAt n) V M difference word_of enter × LeftFact X count choices nodes m V M difference word_of enter) (λ V M difference word_of enter s two. two.0.3 m less two.1) objective
+            (both (Told (OpenAt n)) (LeftFact X count choices nodes m) objective told left))),
+      )
+
+  -- the numbers of such nodes are at most as many as there are
+  pub fault_upto : (n : ℕ) → TellsRanking objective X count choices nodes (FaultAt n) → n < suc (length nodes)
+  fault_upto n told = fault_within X count choices nodes objective n (fault_there n told)
+
+  pub left_upto : (n : ℕ) → TellsRanking objective X count choices nodes (OpenAt n) → n < suc (length nodes)
+  left_upto n told = left_within X count choices nodes objective n (left_there n told)

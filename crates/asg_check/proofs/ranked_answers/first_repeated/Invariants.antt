@@ -1,0 +1,7 @@
+use Rattle.std.proofs.Common.{ℕ, ◌<◌}
+use Rattle.asg_check.specs.RankingReasons.{IsRepeatedAt}
+use Rattle.asg_check.proofs.RankedTold.{AreSeen}
+use Rattle.asg_check.proofs.ranked_answers.first_repeated.Given as goal
+
+abbrev pub invariant-loop-place : goal.invariant-loop-place
+invariant-loop-place l = ((m : ℕ) → m < l.place → ¬ IsRepeatedAt l.answers m) × AreSeen l.answers l.place l.seen

@@ -1,0 +1,18 @@
+use Rattle.std.proofs.Common.{◌∷◌, length, refl}
+use Rattle.std.proofs.lemmas.Result.{IfOk-weaker}
+use Rattle.asg_doc.specs.declared.documents.Claim.TheVariants.{Ranked}
+use Rattle.asg_check.specs.declared.verdicts.Reason.TheVariants.{Repeated, OutOfOrder, WrongValue}
+use Rattle.asg_check.specs.RankingReasons.{IsWrongValueAt}
+use Rattle.asg_check.specs.Reasons.{StandsAgainst, Tells, order_reasons}
+use Rattle.asg_check.proofs.RankingStages.{goes_on, stops_at}
+use Rattle.asg_check.proofs.ranking_verdicts.values_verdict.Goals as goal
+
+pub returns-in-Some : goal.returns-in-Some
+returns-in-Some c =
+    let Against = StandsAgainst c.args.objective c.args.inst.now (Ranked c.args.count c.args.answers.now c.args.nodes.now) in
+    stops_at Against (IsWrongValueAt c.args.objective c.args.inst.now c.args.answers.now) WrongValue refl order_reasons c.verdict_at_part.result (length c.args.answers.now) c.in-Some.place (rw c.in-Some.is at c.in_ok-place.ensures) c.verdict_at_part.ensures
+
+pub returns-in-None : goal.returns-in-None
+returns-in-None c =
+    let Against = StandsAgainst c.args.objective c.args.inst.now (Ranked c.args.count c.args.answers.now c.args.nodes.now) in
+    IfOk-weaker c.repeated_verdict.result (Tells Against order_reasons) (Tells Against (WrongValue ∷ order_reasons)) (λ verdict told. goes_on Against (IsWrongValueAt c.args.objective c.args.inst.now c.args.answers.now) WrongValue refl order_reasons verdict (rw c.in-None.is at c.in_ok-place.ensures) told) c.repeated_verdict.ensures

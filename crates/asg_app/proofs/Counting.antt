@@ -26,7 +26,8 @@ length-le-within g xs ys apart within =
     let most = length-le_from_is_member nat_eq_equiv (map g xs) ys (IsDistinct-from_AllPairs Decides-eqb (map g xs) (AllPairs-map g xs apart)) (λ q h. (is_member-Decides Decides-eqb ys q).1 (All-contains (Contains ys) (map g xs) q (All-map (Contains ys) g xs within) ((is_member-Decides Decides-eqb (map g xs) q).0 h))) in
     omega (arith, length-map xs g)
 
--- as many elements pass a test as numbers of a list at most, where different ones stand for those that pass
+-- as many elements pass a test as numbers of a list at most, where different ones stand for those
+-- that pass
 pub count_by-le-within : {X : Type 0} (g : X → ℕ) (p : X → Bool) (xs : List X) (ys : List ℕ) → AllPairs (λ a b. g a ≢ g b) xs → All (λ x. p x ≡ true → Contains ys (g x)) xs → count_by p xs ≤ length ys
 count_by-le-within g p xs ys apart within =
     let passing = filter p xs in

@@ -1,10 +1,11 @@
 -- What makes a document of an outcome.
-use Rattle.std.proofs.Common.{◌≡◌, ℕ, ◌+◌, ◌*◌, ◌<◌, ◌≤◌, true, List, length, get_or, Option, count_by, is_some, sym, refl, subst, arith}
-use Rattle.std.specs.Prelude.{ℤ, pos, ◌≤ℤ◌, FitsSigned, unsigned_abs}
+use Rattle.std.proofs.Common.{◌≡◌, ℕ, ◌*◌, ◌<◌, ◌≤◌, true, List, length, get_or, Option, count_by, is_some, sym, refl, ap, subst, arith}
+use Rattle.std.specs.Prelude.{ℤ, pos, ◌≤ℤ◌, FitsSigned, unsigned_abs, IsTrue, ◌==◌}
+use Rattle.std.proofs.lemmas.Bool.{and_from, eq-eqb, le-leb}
+use Rattle.std.proofs.lemmas.List.{length-map}
 use Rattle.std.specs.Int.{w128}
 use Rattle.std.proofs.lemmas.List.Sums.{count_by-le-length}
 use Rattle.std.proofs.lemmas.Int.{fits_signed_from_abs, ints}
-use Rattle.asg_model.specs.declared.bands.Band.{Band}
 use Rattle.asg_model.specs.declared.bands.Band.TheVariants.{Between, Whole, Under, Over}
 use Rattle.asg_model.specs.declared.objectives.Objective.{Objective}
 use Rattle.asg_model.specs.declared.objectives.Objective.TheVariants.{Sum, SumMax, SumPair, Capped, Bottleneck, BottleneckMax, TimeCost, Balanced, Lex}
@@ -12,8 +13,8 @@ use Rattle.asg_model.specs.declared.objectives.Value.{Value}
 use Rattle.asg_model.specs.declared.objectives.Value.TheVariants.{One, Two, Many}
 use Rattle.asg_model.specs.declared.parts.Place.{Place}
 use Rattle.asg_model.specs.declared.parts.Place.TheVariants.{All as PlaceAll, Exactly}
-use Rattle.asg_model.specs.Counts.{placed_by, active_count, slack}
-use Rattle.asg_model.specs.HallSet.{IsHall, reached_capacity}
+use Rattle.asg_model.specs.Counts.{placed_by, active_count}
+use Rattle.asg_model.specs.HallSet.{IsHall}
 use Rattle.asg_model.specs.Instances.{IsInstance, IsPlaceInRange}
 use Rattle.asg_model.specs.Limits.{most_cost, most_rows, most_side}
 use Rattle.asg_model.specs.Problem.{Problem}
@@ -39,23 +40,30 @@ use Rattle.asg_proof.specs.declared.outcomes.Proof.{Proof}
 use Rattle.asg_proof.specs.declared.outcomes.Proof.TheVariants.{Below, Levels, Phases, Windows}
 use Rattle.asg_doc.specs.declared.documents.Answer.{Answer}
 use Rattle.asg_doc.specs.declared.documents.Claim.{Claim}
-use Rattle.asg_doc.specs.declared.documents.Claim.TheVariants.{Best, Nothing}
+use Rattle.asg_doc.specs.declared.documents.Claim.TheVariants.{Best, Nothing, Ranked}
+use Rattle.asg_doc.specs.declared.documents.Command.{Command}
 use Rattle.asg_doc.specs.declared.documents.Command.TheVariants as commands
 use Rattle.asg_doc.specs.declared.documents.Document.{Document}
 use Rattle.asg_doc.specs.ChosenCells.{cells_by_id}
 use Rattle.asg_doc.specs.HasText.{AreCells, AreRows, HasProofText, HasValueText, HaveLevelText, HaveWindowText}
-use Rattle.asg_doc.specs.Words.{HasWord, has_grades}
+use Rattle.asg_doc.specs.Words.{HasWord, IsAsked, has_grades}
 use Rattle.asg_check.specs.Certifies.{Certifies}
 use Rattle.asg_check.specs.TrueClaim.{ClaimsTruly}
 use Rattle.asg_check.specs.declared.verdicts.Form.{Form}
-use Rattle.asg_check.specs.declared.verdicts.Form.TheVariants.{Solve}
-use Rattle.asg_app.specs.DocumentParts.{KeepsRanges}
+use Rattle.asg_check.specs.declared.verdicts.Form.TheVariants.{Solve, Rank}
+use Rattle.asg_check.specs.DocumentForm.{MayBeAsked, has_form, is_answer_count, is_command_of}
+use Rattle.asg_proof.specs.declared.nodes.Node.{Node}
+use Rattle.asg_proof.specs.NodeLists.{AreNodeParts}
+use Rattle.asg_rank.specs.RankOutcomes.{IsProvedRanking}
+use Rattle.asg_app.specs.DocumentParts.{AreAnswersOf, KeepsRanges}
 use Rattle.asg_model.specs.DifferentCosts.{most_costs}
-use Rattle.asg_app.specs.WrittenDocument.{IsBestDocument, IsNoneDocument, IsPromisedProof}
+use Rattle.asg_app.specs.WrittenDocument.{IsBestDocument, IsNoneDocument, IsPromisedProof, IsRankedDocument}
 use Rattle.asg_app.proofs.CellCounts.{length-cells_by_id-le, length-cells_by_id-some}
 use Rattle.asg_app.proofs.CellIds.{cell_ids}
+use Rattle.asg_app.proofs.HallRows.{AreRows-hall, IsHallShort}
 use Rattle.asg_app.proofs.LevelTexts.{HaveLevelText-promised, costs_written}
 use Rattle.asg_app.proofs.PhaseTexts.{HavePhaseText-few, HaveStepTexts-proved}
+use Rattle.asg_app.proofs.RankingTexts.{HasTreeText-proved}
 
 -- a valid choice of an instance places a row
 places_some : (X : Problem) (f : List (Option ℕ)) → IsInstance X → IsValid X f → 0 < count_by is_some f
@@ -73,17 +81,11 @@ AreCells-by_id X f cells i valid e = subst AreCells (sym e) (record {
   ids = cell_ids X f i;
 })
 
--- the laws of Hall sets and of documents that all this rests on
-abbrev pub IsHallShort : Type 0
-IsHallShort = (X : Problem) (band : Band) (ids : List ℕ) → IsHall X band ids → reached_capacity X band ids + slack X < length ids
-
+-- the law of documents that all this rests on
 abbrev pub IsSound : Type 0
-IsSound = (objective : Objective) (X : Problem) (form : Form) (document : Document) → IsInstance X → PassesNegative objective X → Certifies objective X form document → ClaimsTruly objective X document
+IsSound = (objective : Objective) (X : Problem) (form : Form) (document : Document) → IsInstance X → PassesNegative objective X → MayBeAsked form objective X → Certifies objective X form document → ClaimsTruly objective X document
 
--- rows of a Hall set can be written
-AreRows-hall : IsHallShort → (X : Problem) (band : Band) (rows : List ℕ) → IsHall X band rows → AreIds rows → AreRows rows
-AreRows-hall short X band rows hall ids = record { some = omega (arith, short X band rows hall); ids = ids }
-
+-- rows of a threshold proof can be written
 AreRows-below : IsHallShort → (objective : Objective) (X : Problem) (value : Value) (rows : List ℕ) → ProvesBelow objective X value rows → AreIds rows → AreRows rows
 AreRows-below short Bottleneck X (One value) rows proves ids = AreRows-hall short X (Under value) rows proves ids
 AreRows-below short BottleneckMax X (One value) rows proves ids = AreRows-hall short X (Over value) rows proves ids
@@ -239,23 +241,70 @@ IsBestDocument-made short sound objective X choice answer proof instance passes 
           claim = (record { value = value_text; cells = cells_text }, HasProofText-promised short objective X choice proof instance proved.valid word within proved.proved promised kept);
         };
         certifies = certifies;
-        truly = sound objective X Solve (made objective (Best answer proof)) instance passes certifies;
+        truly = sound objective X Solve (made objective (Best answer proof)) instance passes tt certifies;
         promised = promised;
       };
     }
 
+-- a document that no choice is valid has the form of its command
+none_form : (objective : Objective) (form : Form) (command : Command) (rows : List ℕ) → IsTrue (is_command_of form command)
+    → has_form objective form (record { command = command; objective = objective; claim = Nothing rows }) ≡ true
+none_form objective Solve commands.Solve rows is = refl
+none_form objective (Rank count) commands.Rank rows is = refl
+none_form objective Solve commands.Rank rows is = cc
+none_form objective (Rank count) commands.Solve rows is = cc
+
 -- the document of a Hall set
-pub IsNoneDocument-made : IsHallShort → IsSound → (objective : Objective) (X : Problem) (rows : List ℕ) → IsInstance X → PassesNegative objective X → HasWord objective → IsHall X Whole rows → AreIds rows
-    → IsNoneDocument objective X Solve (record { command = commands.Solve; objective = objective; claim = Nothing rows })
-IsNoneDocument-made short sound objective X rows instance passes word hall ids =
-    let certifies : Certifies objective X Solve (made objective (Nothing rows)) = record { of_objective = refl; of_form = refl; claim = hall } in
+pub IsNoneDocument-made : IsHallShort → IsSound → (objective : Objective) (X : Problem) (form : Form) (command : Command) (rows : List ℕ) → IsInstance X → PassesNegative objective X → MayBeAsked form objective X → IsTrue (is_command_of form command)
+    → HasWord objective → IsHall X Whole rows → AreIds rows
+    → IsNoneDocument objective X form (record { command = command; objective = objective; claim = Nothing rows })
+IsNoneDocument-made short sound objective X form command rows instance passes asked commanded word hall ids =
+    let document : Document = record { command = command; objective = objective; claim = Nothing rows } in
+    let certifies : Certifies objective X form document = record { of_objective = refl; of_form = none_form objective form command rows commanded; claim = hall } in
     record {
       rows = rows;
       claims = refl;
       written = record {
         has_text = record { objective = word; claim = AreRows-hall short X Whole rows hall ids };
         certifies = certifies;
-        truly = sound objective X Solve (made objective (Nothing rows)) instance passes certifies;
+        truly = sound objective X form document instance passes asked certifies;
         promised = tt;
+      };
+    }
+
+-- the document of a proved ranking
+pub IsRankedDocument-made : IsHallShort → IsSound → (objective : Objective) (X : Problem) (count : ℕ) (choices : List (List (Option ℕ))) (answers : List Answer) (nodes : List Node) → IsInstance X → PassesNegative objective X
+    → MayBeAsked (Rank count) objective X → HasWord objective → IsAsked count → IsProvedRanking objective X count choices nodes → AreNodeParts nodes → AreAnswersOf objective X choices answers
+    → IsRankedDocument objective X count (record { command = commands.Rank; objective = objective; claim = Ranked count answers nodes })
+IsRankedDocument-made short sound objective X count choices answers nodes instance passes asked word within ranking parts are =
+    let document : Document = record { command = commands.Rank; objective = objective; claim = Ranked count answers nodes } in
+    let as_many : length answers ≡ length choices = omega (arith, ap length are.cells, length-map answers (λ (answer : Answer). answer.cells), length-map choices (cells_by_id X)) in
+    let some : 1 ≤ length answers = omega (arith, as_many, ranking.listed.some) in
+    let few : length answers ≤ count = omega (arith, as_many, ranking.listed.few) in
+    let counted : is_answer_count count (length answers) ≡ true = and_from _ _ (le-leb 1 (length answers) some) (le-leb (length answers) count few) in
+    let of_form : has_form objective (Rank count) document ≡ true = and_from _ _ (and_from (count == count) _ (eq-eqb count count refl) counted) asked.0 in
+    let certifies : Certifies objective X (Rank count) document = record {
+      of_objective = refl;
+      of_form = of_form;
+      claim = record {
+        choices = choices;
+        written = record { valid = ranking.valid; written = are.cells };
+        values = are.values;
+        listed = ranking.listed;
+        proved = ranking.proved;
+      };
+    } in
+    record {
+      answers = answers;
+      nodes = nodes;
+      claims = refl;
+      written = record {
+        has_text = record {
+          objective = word;
+          claim = (within, (record { some = omega (arith, some); few = omega (arith, few, within.1); each = are.texts }, HasTreeText-proved short objective X count choices nodes word ranking parts));
+        };
+        certifies = certifies;
+        truly = sound objective X (Rank count) document instance passes asked certifies;
+        promised = ranking.phases;
       };
     }

@@ -1,5 +1,5 @@
--- How long the text of a document is that says that no choice is valid, or that has a threshold proof or levels that are
--- promised: far below the longest file that is read.
+-- How long the text of a document is that says that no choice is valid, or that has a threshold
+-- proof or levels that are promised: far below the longest file that is read.
 use Rattle.std.proofs.Common.{◌≡◌, ℕ, ◌+◌, ◌*◌, ◌<◌, ◌≤◌, true, false, List, [], ◌∷◌, ◌++◌, length, map, Option, Some, None, get_or, All, refl, ◌∙◌, ap, subst, arith, length-append}
 use Rattle.std.specs.Prelude.{codes, ◌==◌, ◌≢◌, AllPairs, Contains, IsTrue}
 use Rattle.std.specs.Fmt.{decimal}
@@ -200,6 +200,6 @@ length-solved laws job bytes text short solved =
     let taken = IsTaken-held job bytes solved.problem solved.held in
     omega (arith, ap length solved.written, length-short laws job.objective solved.problem solved.document short solved.instance.well_formed.few_rows taken.within solved.best)
 
-pub length-unsolvable : HallLaws → (job : Job) (bytes text : List ℕ) → IsUnsolvable job bytes text → length text ≤ longest_file
-length-unsolvable laws job bytes text solved =
-    omega (arith, ap length solved.written, length-none laws job.objective solved.problem Solve solved.document solved.instance.well_formed.few_rows solved.none)
+pub length-unsolvable : HallLaws → (job : Job) (form : Form) (bytes text : List ℕ) → IsUnsolvable job form bytes text → length text ≤ longest_file
+length-unsolvable laws job form bytes text solved =
+    omega (arith, ap length solved.written, length-none laws job.objective solved.problem form solved.document solved.instance.well_formed.few_rows solved.none)

@@ -9,6 +9,7 @@ use Rattle.asg_doc.specs.declared.documents.Document.{Document}
 use Rattle.asg_doc.specs.HasText.{HasText}
 use Rattle.asg_doc.specs.RefusedLine.{AllHaveText, IsRefusedLine}
 use Rattle.asg_doc.specs.Text.{text_of, texts_of}
+use Rattle.asg_proof.specs.Nodes.{answer_at}
 use Rattle.asg_check.specs.declared.verdicts.Form.{Form}
 use Rattle.asg_check.specs.declared.verdicts.Form.TheVariants as forms
 use Rattle.asg_check.specs.Reasons.{IsFirstReason}
@@ -19,10 +20,11 @@ use Rattle.asg_app.specs.declared.status.Status.{Status}
 use Rattle.asg_app.specs.declared.status.Status.TheVariants.{Done, Usage, Document as Unread, TooLong}
 use Rattle.asg_app.specs.AnswerStage.{UnlessUnread, NotRead, Miscounted, Read}
 use Rattle.asg_app.specs.Due.{DueForAsked, DueForJob, DueForTask, Long, Refused, Held}
-use Rattle.asg_app.specs.DueToCheck.{DueToCheck, Certified, Denied}
+use Rattle.asg_app.specs.DueToCheck.{DueToCheck, Certified, Denied, form_asked}
+use Rattle.asg_app.specs.DueToRank.{DueToRank, Ranked, TooMuch, Unrankable}
 use Rattle.asg_app.specs.DueToSolve.{DueToSolve, Solved, TooLarge, Unsolvable}
 use Rattle.asg_app.specs.InstanceFile.{InstanceFile, Holds, Refuses}
-use Rattle.asg_app.specs.WrittenDocument.{IsBestDocument, IsNoneDocument}
+use Rattle.asg_app.specs.WrittenDocument.{IsBestDocument, IsNoneDocument, IsRankedDocument}
 use Rattle.asg_check.specs.TrueClaim.{IsTrueClaim}
 use Rattle.asg_model.specs.Limits.{longest_file}
 use Rattle.asg_app.specs.Fetches.{MayHoldAll}
@@ -91,14 +93,35 @@ solve_once job X status other text more (Unsolvable takes document none is told)
 solve_once job X status other text more (TooLarge count refuses is told) (Solved takes document best also told') = taken_apart job.objective X count takes refuses
 solve_once job X status other text more (TooLarge count refuses is told) (Unsolvable takes document none also told') = taken_apart job.objective X count takes refuses
 
+-- nor a ranking and none
+ranked_apart : {P : Type 0} (job : Job) (count : ℕ) (X : Problem) (document other : Document) → IsRankedDocument job.objective X count document → IsNoneDocument job.objective X (forms.Rank count) other → P
+ranked_apart job count X document other ranked none =
+    let truly = subst (IsTrueClaim job.objective X) ranked.claims ranked.written.truly in
+    let none_is = subst (IsTrueClaim job.objective X) none.claims none.written.truly in
+    absurd (none_is (answer_at truly.choices 1) (truly.ranking.valid 0 [] (omega (arith, truly.ranking.listed.some))))
+
+-- a request to rank
+rank_once : (job : Job) (count : ℕ) (X : Problem) (status other : Status) (text more : List ℕ) → DueToRank job count X status text → DueToRank job count X other more → AreOne status text other more
+rank_once job count X status other text more (Ranked few document ranked is told) (Ranked few' document' ranked' also told') =
+    (is ∙ sym also, λ one. absurd (subst HasOneText is one))
+rank_once job count X status other text more (Unrankable few document none is told) (Unrankable few' document' none' also told') =
+    (is ∙ sym also, λ one. absurd (subst HasOneText is one))
+rank_once job count X status other text more (Ranked few document ranked is told) (Unrankable few' document' none also told') = ranked_apart job count X document document' ranked none
+rank_once job count X status other text more (Unrankable few document none is told) (Ranked few' document' ranked also told') = ranked_apart job count X document' document ranked none
+rank_once job count X status other text more (TooMuch over is told) (TooMuch over' also told') = (is ∙ sym also, λ one. told ∙ sym told')
+rank_once job count X status other text more (Ranked few document ranked is told) (TooMuch over also told') = absurd (omega (arith, few, over))
+rank_once job count X status other text more (Unrankable few document none is told) (TooMuch over also told') = absurd (omega (arith, few, over))
+rank_once job count X status other text more (TooMuch over is told) (Ranked few document ranked also told') = absurd (omega (arith, few, over))
+rank_once job count X status other text more (TooMuch over is told) (Unrankable few document none also told') = absurd (omega (arith, few, over))
+
 -- a request to check
-check_once : DeniesOnce → (job : Job) (X : Problem) (document : Document) (status other : Status) (text more : List ℕ)
-    → DueToCheck job X document status text → DueToCheck job X document other more → AreOne status text other more
-check_once once job X document status other text more (Certified certifies is told) (Certified certifies' also told') = fixed Done status other text more _ is also told told'
-check_once once job X document status other text more (Certified certifies is told) (Denied number place fails first also told') = absurd (fails certifies)
-check_once once job X document status other text more (Denied number place fails first is told) (Certified certifies also told') = absurd (fails certifies)
-check_once once job X document status other text more (Denied number place fails first is told) (Denied number' place' fails' first' also told') =
-    let same = once job.objective X forms.Solve document number number' place place' first first' in
+check_once : DeniesOnce → (job : Job) (form : Form) (X : Problem) (document : Document) (status other : Status) (text more : List ℕ)
+    → DueToCheck job form X document status text → DueToCheck job form X document other more → AreOne status text other more
+check_once once job form X document status other text more (Certified certifies is told) (Certified certifies' also told') = fixed Done status other text more _ is also told told'
+check_once once job form X document status other text more (Certified certifies is told) (Denied number place fails first also told') = absurd (fails certifies)
+check_once once job form X document status other text more (Denied number place fails first is told) (Certified certifies also told') = absurd (fails certifies)
+check_once once job form X document status other text more (Denied number place fails first is told) (Denied number' place' fails' first' also told') =
+    let same = once job.objective X form document number number' place place' first first' in
     (is ∙ sym also, λ one. told ∙ (λ k. no_text 1 (same.0 k) (same.1 k)) ∙ sym told')
 
 -- the stage of the answer
@@ -129,13 +152,12 @@ unread_once known bytes Owed status other text more once (Read document has_text
 task_once : Known → (task : Task) (job : Job) (contents : List (List ℕ)) (X : Problem) (status other : Status) (text more : List ℕ)
     → DueForTask task job contents X status text → DueForTask task job contents X other more → AreOne status text other more
 task_once known Solve job contents X status other text more first second = solve_once job X status other text more first second
-task_once known (Check answer None None) job contents X status other text more first second =
-    unread_once known (content_at contents 1) (DueToCheck job X) status other text more
-    (λ document. check_once known.denies job X document status other text more)
+task_once known (Check answer None count) job contents X status other text more first second =
+    unread_once known (content_at contents 1) (DueToCheck job (form_asked count) X) status other text more
+    (λ document. check_once known.denies job (form_asked count) X document status other text more)
     first second
-task_once known (Check answer None (Some count)) job contents X status other text more first second = absurd first
 task_once known (Check answer (Some script) count) job contents X status other text more first second = absurd first
-task_once known (Rank count) job contents X status other text more first second = absurd first
+task_once known (Rank count) job contents X status other text more first second = rank_once job count X status other text more first second
 task_once known (Edit script) job contents X status other text more first second = absurd first
 
 -- no file of those is too long

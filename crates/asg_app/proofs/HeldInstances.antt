@@ -44,8 +44,12 @@ asked (Some (Work work)) job is = by_test (is_built work) is
     by_test true is = cc
     by_test false is = cc
 
--- what the stages behind the options hold is the instance itself; the objective refuses no live cost
--- of it, and its square isn't too large
+-- a job of words is within its bounds
+pub job_within : ((words : List (List ℕ)) (request : Request) → request_of words ≡ Some request → IsRequest request) → (words : List (List ℕ)) (job : Job) → job_of words ≡ Some job → IsJob job
+job_within requests words job is = requests words (Work job) (asked (request_of words) job is)
+
+-- what the stages behind the options hold is the instance itself; the objective refuses no live
+-- cost of it, and its square isn't too large
 record IsHeld (objective : Objective) (X Y : Problem) : Type 0 where
   same : X ≡ Y
   passes : PassesNegative objective X
@@ -65,25 +69,27 @@ passed_is objective X Y is = by_cell (first_refused objective X) refl is
     by_cell None none is = let held = sided_is X Y is in record { same = held.0; passes = passes_none objective X none; within = held.1 }
     by_cell (Some ids) found is = cc
 
--- what is held for a job: the objective refuses no live cost of it, and its square isn't too large
-pub record IsTaken (objective : Objective) (X : Problem) : Type 0 where
+-- what is held for a job: the objective refuses no live cost of it, its square isn't too large, and
+-- its place rule is the job's
+pub record IsTaken (objective : Objective) (place : Place) (X : Problem) : Type 0 where
+  pub placed : X.place ≡ place
   pub passes : PassesNegative objective X
   pub within : square_side X ≤ most_side
 
-IsTaken-fitted : (objective : Objective) (place : Place) (each : ℕ) (X Y : Problem) → fitted objective place each X ≡ Holds Y → IsTaken objective Y
+IsTaken-fitted : (objective : Objective) (place : Place) (each : ℕ) (X Y : Problem) → fitted objective place each X ≡ Holds Y → IsTaken objective place Y
 IsTaken-fitted objective place each X Y is = by_test (is_range_of place (length X.rows) (total_capacity (shaped X place each))) is
   where
-    by_test : (test : Bool) → cond test (passed objective (shaped X place each)) (Refuses (13 ∷ rows_asked place ∷ [])) ≡ Holds Y → IsTaken objective Y
+    by_test : (test : Bool) → cond test (passed objective (shaped X place each)) (Refuses (13 ∷ rows_asked place ∷ [])) ≡ Holds Y → IsTaken objective place Y
     by_test true is =
         let held = passed_is objective (shaped X place each) Y is in
-        subst (IsTaken objective) held.same (record { passes = held.passes; within = held.within })
+        subst (IsTaken objective place) held.same (record { placed = refl; passes = held.passes; within = held.within })
     by_test false is = cc
 
-IsTaken-read : (objective : Objective) (place : Place) (each : ℕ) (reading : Reading) (Y : Problem) → held_by objective place each reading ≡ Holds Y → IsTaken objective Y
+IsTaken-read : (objective : Objective) (place : Place) (each : ℕ) (reading : Reading) (Y : Problem) → held_by objective place each reading ≡ Holds Y → IsTaken objective place Y
 IsTaken-read objective place each (Spells X) Y is = IsTaken-fitted objective place each X Y is
 IsTaken-read objective place each (RefusesText fault) Y is = cc
 
-pub IsTaken-held : (job : Job) (bytes : List ℕ) (X : Problem) → instance_in job bytes ≡ Holds X → IsTaken job.objective X
+pub IsTaken-held : (job : Job) (bytes : List ℕ) (X : Problem) → instance_in job bytes ≡ Holds X → IsTaken job.objective job.place X
 IsTaken-held job bytes X holds = IsTaken-read job.objective job.place job.each (reading_of job.format bytes) X holds
 
 module _ (laws : InstanceLaws) (job : Job) (within : IsJob job) where

@@ -31,7 +31,8 @@ pub due_for_job : (job : Job) (contents : List (List ℕ)) (file : InstanceFile)
 due_for_job job contents (Refuses numbers) short is status text owed = Refused short numbers is owed.0 owed.1
 due_for_job job contents (Holds X) short is status text owed = Held short X is owed
 
--- a text that spells an instance holds it with the job's options, and one that is refused its refusal
+-- a text that spells an instance holds it with the job's options, and one that is refused its
+-- refusal
 pub spelled_file : (job : Job) (bytes : List ℕ) (X : Problem) → reading_of job.format bytes ≡ Spells X → instance_in job bytes ≡ fitted job.objective job.place job.each X
 spelled_file job bytes X spelled = ap (held_by job.objective job.place job.each) spelled
 

@@ -1,4 +1,5 @@
--- How long the text of a document is that has levels that are promised: far below the longest file that is read.
+-- How long the text of a document is that has levels that are promised: far below the longest file
+-- that is read.
 use Rattle.std.proofs.Common.{◌≡◌, ℕ, ◌+◌, ◌*◌, ◌≤◌, Bool, false, List, [], ◌∷◌, ◌++◌, length, map, Option, get_or, All, ap, subst, arith, length-append}
 use Rattle.std.specs.Prelude.{ℤ, codes}
 use Rattle.std.specs.Fmt.{decimal, signed_decimal}

@@ -9,6 +9,7 @@ pub mod DocumentLemmas
 pub mod DocumentLength
 pub mod DueLaws
 pub mod Fetching
+pub mod HallRows
 pub mod HeldInstances
 pub mod InstanceLemmas
 pub mod LevelLengths
@@ -16,6 +17,9 @@ pub mod LevelTexts
 pub mod LineLengths
 pub mod ListedCosts
 pub mod PhaseTexts
+pub mod RankLaws
+pub mod RankedAnswers
+pub mod RankingTexts
 pub mod ReasonPlaces
 pub mod RefusedCosts
 pub mod ReplyLemmas

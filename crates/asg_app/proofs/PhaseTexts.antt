@@ -21,7 +21,7 @@ use Rattle.asg_doc.specs.HasText.{HasStepText, HavePhaseText}
 use Rattle.asg_doc.specs.Words.{HasWord, has_grades}
 
 -- the steps of phases that are admitted in turn are values
-steps_are_values : {V : Type 0} (M : Monoid V) (difference : V → V → V) (side : ℕ) (phases : List (PhaseOf V)) (square : ℕ → ℕ → Option V) → AreAdmittedPhases M difference side phases square
+pub steps_are_values : {V : Type 0} (M : Monoid V) (difference : V → V → V) (side : ℕ) (phases : List (PhaseOf V)) (square : ℕ → ℕ → Option V) → AreAdmittedPhases M difference side phases square
     → All (λ phase. All (IsValue M) phase.steps) phases
 steps_are_values {V = V} M difference side [] square admitted = All-nil {X = PhaseOf V} (λ phase. All (IsValue M) phase.steps)
 steps_are_values {V = V} M difference side (phase ∷ rest) square admitted =
@@ -47,13 +47,13 @@ fold_texts {V = V} M difference word_of enter grades texts X choice words proves
     all = All-map (λ (p : PhaseOf Word). All (HasStepText grades) p.steps) (worded word_of) proves.phases (λ k d within. one (get_or proves.phases k d) (values k d within))
 
 -- numbers up to a top that is no greater than 2^120, and those below 2^64
-sum_text : (top : ℕ) → top ≤ 2 ^ 120 → (x : ℕ) → IsValue (bounded_sums top) x → HasStepText false (plain_word x)
+pub sum_text : (top : ℕ) → top ≤ 2 ^ 120 → (x : ℕ) → IsValue (bounded_sums top) x → HasStepText false (plain_word x)
 sum_text top few x value = (refl, omega (arith, leb-true x top value, few))
 
-peak_text : (x : ℕ) → IsValue maxima x → HasStepText false (plain_word x)
+pub peak_text : (x : ℕ) → IsValue maxima x → HasStepText false (plain_word x)
 peak_text x value = (refl, omega (arith, ltb-true x (2 ^ 64) value))
 
-time_text : (x : ℕ × ℕ) → IsValue (graded (bounded_sums (2 ^ 120))) x → HasStepText true (graded_word x)
+pub time_text : (x : ℕ × ℕ) → IsValue (graded (bounded_sums (2 ^ 120))) x → HasStepText true (graded_word x)
 time_text x value =
     let parts = and_parts (nat_lt x.0 (2 ^ 64)) (nat_le x.1 (2 ^ 120)) value in
     (omega (arith, ltb-true x.0 (2 ^ 64) parts.0), omega (arith, leb-true x.1 (2 ^ 120) parts.1))

@@ -1,6 +1,6 @@
--- The place of a reason against a document that has a text fits its type: it is 0, the number of a phase,
--- a window or a level, or a cost of an instance.
-use Rattle.std.proofs.Common.{◌≡◌, ℕ, suc, ◌<◌, ◌^◌, List, [], ◌∷◌, length, Some, inl, inr, sym, subst, rules, arith}
+-- The place of a reason against a document that has a text fits its type: it is 0, the number of an
+-- answer, a phase, a window, a level or a node, or a cost of an instance.
+use Rattle.std.proofs.Common.{◌≡◌, ℕ, suc, ◌<◌, ◌^◌, List, [], ◌∷◌, length, Option, Some, inl, inr, sym, subst, rules, arith}
 use Rattle.std.specs.Prelude.{FitsSigned, IfSome, ℤ, pos}
 use Rattle.std.specs.Int.{w64}
 use Rattle.std.proofs.lemmas.Int.{fits_signed_from_abs}
@@ -15,16 +15,23 @@ use Rattle.asg_model.specs.Problem.{Problem}
 use Rattle.asg_proof.specs.declared.outcomes.Proof.TheVariants.{Below, Levels, Phases, Windows}
 use Rattle.asg_proof.specs.declared.windows.Window.{Window}
 use Rattle.asg_proof.specs.laws.LiveCosts.{live_in_range}
+use Rattle.asg_monoids.specs.ObjectiveMonoids.{InMonoidOf}
+use Rattle.asg_proof.specs.declared.nodes.Node.{Node}
+use Rattle.asg_proof.specs.Nodes.{IsNumber}
+use Rattle.asg_proof.specs.TreeFaults.{IsAtFault, IsLeftOpen}
+use Rattle.asg_model.specs.declared.objectives.Objective.TheVariants.{Sum, SumMax, SumPair, Capped, Bottleneck, BottleneckMax, TimeCost, Balanced, Lex}
+use Rattle.asg_doc.specs.declared.documents.Answer.{Answer}
 use Rattle.asg_doc.specs.declared.documents.Claim.{Claim}
 use Rattle.asg_doc.specs.declared.documents.Claim.TheVariants.{Best, Nothing, Ranked}
 use Rattle.asg_doc.specs.declared.documents.Document.{Document}
 use Rattle.asg_doc.specs.HasText.{HasClaimText, HasText}
 use Rattle.asg_check.specs.declared.verdicts.Form.{Form}
 use Rattle.asg_check.specs.declared.verdicts.Reason.{Reason}
-use Rattle.asg_check.specs.declared.verdicts.Reason.TheVariants.{OtherObjective, WrongForm, NotValid, WrongValue, NotHall, WindowGap, BadPhase, IndexDiffers, BadLevel}
+use Rattle.asg_check.specs.declared.verdicts.Reason.TheVariants.{OtherObjective, WrongForm, NotValid, WrongValue, Repeated, OutOfOrder, NotHall, WindowGap, BadPhase, IndexDiffers, BadLevel, BadNode, BetterLeft}
 use Rattle.asg_check.specs.declared.verdicts.Verdict.TheVariants.{No}
-use Rattle.asg_check.specs.Reasons.{HasBadLevel, HasBadPhase, IsFirstReason, LacksHallSet, LeavesGap, Stands, Tells, reasons_in_order}
-use Rattle.asg_check.specs.Spots.{At, Overall, Spot, place_of}
+use Rattle.asg_check.specs.Reasons.{HasBadLevel, HasBadNode, HasBadPhase, HasOtherValue, IsFirstReason, LacksChoice, LacksHallSet, LeavesBetter, LeavesGap, LeavesOrder, Repeats, Stands, Tells, reasons_in_order}
+use Rattle.asg_check.specs.RankingReasons.{IsNoChoiceAt, IsOutOfOrderAt, IsRepeatedAt, IsWrongValueAt}
+use Rattle.asg_check.specs.Spots.{At, AtParts, Overall, Spot, place_of}
 use Rattle.asg_check.specs.WindowReasons.{AreNoHallSetsAt, LeaveGapAt}
 
 -- zero, and the number of one of the phases
@@ -89,6 +96,72 @@ level_fits own X (Best answer (Windows windows)) place text bad = absurd bad
 level_fits own X (Nothing rows) place text bad = absurd bad
 level_fits own X (Ranked count answers nodes) place text bad = absurd bad
 
+-- the number of an answer
+answer_fits : (answers : List Answer) (Fails : ℕ → Type 0) (place : ℤ) → length answers < 2 ^ 32 → ((n : ℕ) → Fails n → n < length answers) → AtParts Fails (At place) → FitsSigned w64 place
+answer_fits answers Fails place few within at = subst (FitsSigned w64) (sym at.1) (number_fits at.0 (length answers) (within at.0 at.2) few)
+
+no_choice_fits : (own : Objective) (X : Problem) (claim : Claim) (place : ℤ) → HasClaimText own claim → LacksChoice X claim (At place) → FitsSigned w64 place
+no_choice_fits own X (Best answer proof) place text lacks = absurd lacks
+no_choice_fits own X (Nothing rows) place text lacks = absurd lacks
+no_choice_fits own X (Ranked count answers nodes) place text lacks =
+    answer_fits answers (IsNoChoiceAt X answers) place text.1.0.few (λ n fails. slice_get_within answers n fails.answer fails.there) lacks
+
+wrong_value_fits : (objective own : Objective) (X : Problem) (claim : Claim) (place : ℤ) → HasClaimText own claim → HasOtherValue objective X claim (At place) → FitsSigned w64 place
+wrong_value_fits objective own X (Best answer proof) place text wrong = absurd wrong
+wrong_value_fits objective own X (Nothing rows) place text wrong = absurd wrong
+wrong_value_fits objective own X (Ranked count answers nodes) place text wrong =
+    answer_fits answers (IsWrongValueAt objective X answers) place text.1.0.few (λ n fails. slice_get_within answers n fails.answer fails.there) wrong
+
+repeated_fits : (own : Objective) (claim : Claim) (place : ℤ) → HasClaimText own claim → Repeats claim (At place) → FitsSigned w64 place
+repeated_fits own (Best answer proof) place text repeats = absurd repeats
+repeated_fits own (Nothing rows) place text repeats = absurd repeats
+repeated_fits own (Ranked count answers nodes) place text repeats =
+    answer_fits answers (IsRepeatedAt answers) place text.1.0.few (λ n fails. slice_get_within answers n fails.answer fails.there) repeats
+
+out_of_order_fits : (objective own : Objective) (claim : Claim) (place : ℤ) → HasClaimText own claim → LeavesOrder objective claim (At place) → FitsSigned w64 place
+out_of_order_fits objective own (Best answer proof) place text leaves = absurd leaves
+out_of_order_fits objective own (Nothing rows) place text leaves = absurd leaves
+out_of_order_fits objective own (Ranked count answers nodes) place text leaves =
+    answer_fits answers (IsOutOfOrderAt objective answers) place text.1.0.few (λ n fails. slice_get_within answers n fails.answer fails.there) leaves
+
+-- the number of a node
+node_fits : (nodes : List Node) (n : ℕ) (place : ℤ) → place ≡ pos n → length nodes < 2 ^ 32 → IsNumber nodes n → FitsSigned w64 place
+node_fits nodes n place is few there = subst (FitsSigned w64) (sym is) (fits_signed_from_abs w64 (pos n) (omega (arith, there.1, few)))
+
+fault_there : (objective : Objective) (X : Problem) (choices : List (List (Option ℕ))) (nodes : List Node) (n : ℕ) → InMonoidOf objective (λ V M difference word_of enter. IsAtFault M difference word_of enter X choices nodes n) → IsNumber nodes n
+fault_there Sum X choices nodes n fault = fault.there
+fault_there SumMax X choices nodes n fault = fault.there
+fault_there SumPair X choices nodes n fault = fault.there
+fault_there (Capped cap) X choices nodes n fault = fault.there
+fault_there Bottleneck X choices nodes n fault = fault.there
+fault_there BottleneckMax X choices nodes n fault = fault.there
+fault_there TimeCost X choices nodes n fault = fault.there
+fault_there Balanced X choices nodes n fault = absurd fault
+fault_there Lex X choices nodes n fault = absurd fault
+
+left_there : (objective : Objective) (X : Problem) (count : ℕ) (choices : List (List (Option ℕ))) (nodes : List Node) (n : ℕ) → InMonoidOf objective (λ V M difference word_of enter. IsLeftOpen M difference word_of enter X count choices nodes n) → IsNumber nodes n
+left_there Sum X count choices nodes n left = left.there
+left_there SumMax X count choices nodes n left = left.there
+left_there SumPair X count choices nodes n left = left.there
+left_there (Capped cap) X count choices nodes n left = left.there
+left_there Bottleneck X count choices nodes n left = left.there
+left_there BottleneckMax X count choices nodes n left = left.there
+left_there TimeCost X count choices nodes n left = left.there
+left_there Balanced X count choices nodes n left = absurd left
+left_there Lex X count choices nodes n left = absurd left
+
+bad_node_fits : (objective own : Objective) (X : Problem) (claim : Claim) (place : ℤ) → HasClaimText own claim → HasBadNode objective X claim (At place) → FitsSigned w64 place
+bad_node_fits objective own X (Best answer proof) place text bad = absurd bad
+bad_node_fits objective own X (Nothing rows) place text bad = absurd bad
+bad_node_fits objective own X (Ranked count answers nodes) place text bad =
+    let at = bad.2 in node_fits nodes at.0 place at.1 text.1.1.few (fault_there objective X bad.0 nodes at.0 at.2)
+
+better_left_fits : (objective own : Objective) (X : Problem) (claim : Claim) (place : ℤ) → HasClaimText own claim → LeavesBetter objective X claim (At place) → FitsSigned w64 place
+better_left_fits objective own X (Best answer proof) place text leaves = absurd leaves
+better_left_fits objective own X (Nothing rows) place text leaves = absurd leaves
+better_left_fits objective own X (Ranked count answers nodes) place text leaves =
+    let at = leaves.2 in node_fits nodes at.0 place at.1 text.1.1.few (left_there objective X count leaves.0 nodes at.0 at.2)
+
 pub place_fits : (objective : Objective) (X : Problem) (form : Form) (document : Document) (number : ℕ) (place : ℤ) → IsInstance X → HasText document → IsFirstReason objective X form document number place → FitsSigned w64 place
 place_fits objective X form document number place instance text first = by_reasons reasons_in_order first.told
   where
@@ -96,13 +169,17 @@ place_fits objective X form document number place instance text first = by_reaso
     by_spot reason Overall stands = zero_fits
     by_spot OtherObjective (At p) stands = absurd stands
     by_spot WrongForm (At p) stands = absurd stands
-    by_spot NotValid (At p) stands = absurd stands
-    by_spot WrongValue (At p) stands = absurd stands
+    by_spot NotValid (At p) stands = no_choice_fits document.objective X document.claim p text.claim stands
+    by_spot WrongValue (At p) stands = wrong_value_fits objective document.objective X document.claim p text.claim stands
+    by_spot Repeated (At p) stands = repeated_fits document.objective document.claim p text.claim stands
+    by_spot OutOfOrder (At p) stands = out_of_order_fits objective document.objective document.claim p text.claim stands
     by_spot NotHall (At p) stands = lacks_fits objective document.objective X document.claim p text.claim stands
     by_spot WindowGap (At p) stands = leaves_fits X document.claim p instance stands
     by_spot BadPhase (At p) stands = bad_fits objective document.objective X document.claim p text.claim stands
     by_spot IndexDiffers (At p) stands = absurd stands
     by_spot BadLevel (At p) stands = level_fits document.objective X document.claim p text.claim stands
+    by_spot BadNode (At p) stands = bad_node_fits objective document.objective X document.claim p text.claim stands
+    by_spot BetterLeft (At p) stands = better_left_fits objective document.objective X document.claim p text.claim stands
 
     by_reasons : (reasons : List Reason) → Tells (Stands objective X form document) reasons (No number place) → FitsSigned w64 place
     by_reasons [] told = absurd (cc)

@@ -1,5 +1,5 @@
--- The first refused cell of an instance: it is the one that a search row by row tells, and there is none exactly where the
--- objective refuses no live cost.
+-- The first refused cell of an instance: it is the one that a search row by row tells, and there is
+-- none exactly where the objective refuses no live cost.
 use Rattle.std.proofs.Common.{◌≡◌, ℕ, zero, suc, ◌+◌, ◌<◌, ◌≤◌, ◌&&◌, Bool, true, false, cond, List, [], ◌∷◌, length, Option, Some, None, is_some, refl, sym, ◌∙◌, ap, subst, arith, ⊎_elim}
 use Rattle.std.specs.Prelude.{IfSome, option_and_then, slice_get}
 use Rattle.std.specs.List.{find, range_with_len}

@@ -3,6 +3,7 @@ use Rattle.std.proofs.Common.{◌≡◌, ◌∙◌, ℕ, List, [], ◌∷◌, Op
 use Rattle.std.specs.Prelude.{◌⊎◌}
 use Rattle.asg_model.specs.Problem.{Problem}
 use Rattle.asg_model.specs.ValidChoice.{IsValid}
+use Rattle.asg_check.specs.declared.verdicts.Form.TheVariants as forms
 use Rattle.asg_check.specs.TrueClaim.{IsTrueClaim}
 use Rattle.asg_requests.specs.declared.requests.Job.{Job}
 use Rattle.asg_requests.specs.declared.requests.Task.TheVariants.{Solve}
@@ -95,17 +96,17 @@ solved_only job keeps told contents text is may due = by_case due
 
 -- a document that says none only for one whose instance has none
 pub unsolvable_only : (job : Job) → HoldsInstances job → (told : List ℕ → Option (List ℕ)) (contents : List (List ℕ)) (text : List ℕ) → job.task ≡ Solve → MayHoldAll told (files_of (Some job)) contents
-    → DueForJob job contents Nothing text → MayHold told job.instance (content_at contents 0) × IsUnsolvable job (content_at contents 0) text × AreShort contents
+    → DueForJob job contents Nothing text → MayHold told job.instance (content_at contents 0) × IsUnsolvable job forms.Solve (content_at contents 0) text × AreShort contents
 unsolvable_only job keeps told contents text is may due = by_case due
   where
     by_ending : (X : Problem) → AreShort contents → instance_in job (content_at contents 0) ≡ Holds X → DueToSolve job X Nothing text
-        → MayHold told job.instance (content_at contents 0) × IsUnsolvable job (content_at contents 0) text × AreShort contents
+        → MayHold told job.instance (content_at contents 0) × IsUnsolvable job forms.Solve (content_at contents 0) text × AreShort contents
     by_ending X short holds (Solved takes document best e written) = cc
     by_ending X short holds (TooLarge count refuses e written) = cc
     by_ending X short holds (Unsolvable takes document none e written) =
         (first_held told job contents may, record { problem = X; document = document; held = holds; instance = keeps (content_at contents 0) X holds; none = none; written = written }, short)
 
-    by_case : DueForJob job contents Nothing text → MayHold told job.instance (content_at contents 0) × IsUnsolvable job (content_at contents 0) text × AreShort contents
+    by_case : DueForJob job contents Nothing text → MayHold told job.instance (content_at contents 0) × IsUnsolvable job forms.Solve (content_at contents 0) text × AreShort contents
     by_case (Long place within long e told') = cc
     by_case (Refused short numbers none e told') = cc
     by_case (Held short X holds owed) = by_ending X short holds (own job contents X Nothing text is owed)

@@ -1,5 +1,5 @@
--- A solver either takes an instance or refuses it: its live cells have one number of different costs, and it has one
--- number of rows.
+-- A solver either takes an instance or refuses it: its live cells have one number of different
+-- costs, and it has one number of rows.
 use Rattle.std.proofs.Common.{◌≡◌, ℕ, ◌≤◌, List, length, arith}
 use Rattle.std.specs.Prelude.{ℤ}
 use Rattle.std.proofs.lemmas.Bool.Decides.{Decides-int_eq}

@@ -1,9 +1,10 @@
 -- What each due status says of the words and the files, before the command of a request decides it.
-use Rattle.std.proofs.Common.{◌≡◌, ℕ, zero, suc, ◌<◌, ◌≤◌, List, [], ◌∷◌, length, get_or, Option, Some, None, All, refl, sym, ap, ◌∙◌, subst, inl, inr, arith}
+use Rattle.std.proofs.Common.{◌≡◌, ◌⊎◌, ℕ, zero, suc, ◌<◌, ◌≤◌, List, [], ◌∷◌, length, get_or, Option, Some, None, All, refl, sym, ap, ◌∙◌, subst, inl, inr, arith}
 use Rattle.std.specs.List.{Contains}
 use Rattle.std.proofs.lemmas.List.{get_or_default}
 use Rattle.asg_model.specs.Problem.{Problem}
 use Rattle.asg_doc.specs.declared.documents.Document.{Document}
+use Rattle.asg_check.specs.declared.verdicts.Form.{Form}
 use Rattle.asg_requests.specs.declared.requests.Job.{Job}
 use Rattle.asg_requests.specs.declared.requests.Task.{Task}
 use Rattle.asg_requests.specs.declared.requests.Task.TheVariants.{Solve, Rank, Edit, Check}
@@ -11,14 +12,16 @@ use Rattle.asg_app.specs.declared.status.Status.{Status}
 use Rattle.asg_app.specs.declared.status.Status.TheVariants.{Usage, Instance, TooLong}
 use Rattle.asg_app.specs.declared.status.Status.TheVariants as statuses
 use Rattle.asg_app.specs.AnswerStage.{UnlessUnread, NotRead, Miscounted, Read}
-use Rattle.asg_app.specs.SolverLimits.{SolverRefuses, limit_number}
+use Rattle.asg_app.specs.SolverLimits.{limit_number}
+use Rattle.asg_rank.specs.Rankings.{ranking_work}
 use Rattle.asg_app.specs.Due.{DueForAsked, DueForJob, DueForTask, IsShort, Long, Refused, Held}
-use Rattle.asg_app.specs.DueToCheck.{DueToCheck, Certified, Denied}
+use Rattle.asg_app.specs.DueToCheck.{DueToCheck, Certified, Denied, form_asked}
+use Rattle.asg_app.specs.DueToRank.{DueToRank, Ranked, TooMuch, Unrankable}
 use Rattle.asg_app.specs.DueToSolve.{DueToSolve, Solved, TooLarge, Unsolvable}
 use Rattle.asg_app.specs.InstanceFile.{Holds, Refuses, instance_in}
 use Rattle.asg_model.specs.Limits.{longest_file}
 use Rattle.asg_app.specs.Fetches.{MayHold, MayHoldAll}
-use Rattle.asg_app.specs.Promised.{IsRefusedInstance}
+use Rattle.asg_app.specs.Promised.{IsRefusedInstance, IsTooLargeToSolve, IsTooMuchToRank}
 use Rattle.asg_app.specs.Requests.{files_of}
 use Rattle.asg_app.specs.Sources.{AreShort, content_at}
 use Rattle.asg_app.specs.Statuses.{IsAnswer}
@@ -39,9 +42,9 @@ IsDecided _ = ⊥
 decided : (due status : Status) → status ≡ due → IsDecided due → IsDecided status
 decided due status is one = subst IsDecided (sym is) one
 
-check_decides : (job : Job) (X : Problem) (document : Document) (status : Status) (text : List ℕ) → DueToCheck job X document status text → IsDecided status
-check_decides job X document status text (Certified certifies is told) = decided statuses.Done status is tt
-check_decides job X document status text (Denied number place fails first is told) = decided statuses.No status is tt
+check_decides : (job : Job) (form : Form) (X : Problem) (document : Document) (status : Status) (text : List ℕ) → DueToCheck job form X document status text → IsDecided status
+check_decides job form X document status text (Certified certifies is told) = decided statuses.Done status is tt
+check_decides job form X document status text (Denied number place fails first is told) = decided statuses.No status is tt
 
 unread_decides : (bytes : List ℕ) (Owed : Document → Status → List ℕ → Type 0) (status : Status) (text : List ℕ)
     → ((document : Document) → Owed document status text → IsDecided status) → UnlessUnread bytes Owed status text → IsDecided status
@@ -54,45 +57,62 @@ solve_decides job X status text (Solved takes document best is told) = decided s
 solve_decides job X status text (Unsolvable takes document none is told) = decided statuses.Nothing status is tt
 solve_decides job X status text (TooLarge count refuses is told) = decided statuses.Instance status is tt
 
+rank_decides : (job : Job) (count : ℕ) (X : Problem) (status : Status) (text : List ℕ) → DueToRank job count X status text → IsDecided status
+rank_decides job count X status text (Ranked few document ranked is told) = decided statuses.Done status is tt
+rank_decides job count X status text (Unrankable few document none is told) = decided statuses.Nothing status is tt
+rank_decides job count X status text (TooMuch over is told) = decided statuses.Instance status is tt
+
 -- what a command answers is a status of its own
 pub task_decides : (task : Task) (job : Job) (contents : List (List ℕ)) (X : Problem) (status : Status) (text : List ℕ) → DueForTask task job contents X status text → IsDecided status
 task_decides Solve job contents X status text due = solve_decides job X status text due
-task_decides (Check answer None None) job contents X status text due =
-    unread_decides (content_at contents 1) (DueToCheck job X) status text (λ document. check_decides job X document status text) due
-task_decides (Check answer None (Some count)) job contents X status text due = absurd due
+task_decides (Check answer None count) job contents X status text due =
+    unread_decides (content_at contents 1) (DueToCheck job (form_asked count) X) status text (λ document. check_decides job (form_asked count) X document status text) due
 task_decides (Check answer (Some script) count) job contents X status text due = absurd due
-task_decides (Rank count) job contents X status text due = absurd due
+task_decides (Rank count) job contents X status text due = rank_decides job count X status text due
 task_decides (Edit script) job contents X status text due = absurd due
 
--- a command refuses the instance only where it is to solve, and the objective's solver refuses it
-record IsCountRefused (task : Task) (job : Job) (X : Problem) (text : List ℕ) : Type 0 where
-  solves : task ≡ Solve
-  count : ℕ
-  refused : SolverRefuses job.objective X count
-  told : text ≡ refused_instance_text (limit_number job.objective ∷ count ∷ [])
+-- a command refuses the instance that the bytes hold only where it is to solve, and the objective's
+-- solver refuses it, or where it is to rank, and so many choices are too much
+record IsOverLimit (job : Job) (bytes text : List ℕ) : Type 0 where
+  numbers : List ℕ
+  over : IsTooLargeToSolve job bytes numbers ⊎ IsTooMuchToRank job bytes numbers
+  told : text ≡ refused_instance_text numbers
 
-solve_refuses : (job : Job) (X : Problem) (text : List ℕ) → DueToSolve job X Instance text → IsCountRefused Solve job X text
-solve_refuses job X text (Solved takes document best is told) = cc
-solve_refuses job X text (Unsolvable takes document none is told) = cc
-solve_refuses job X text (TooLarge count refuses is told) = record { solves = refl; count = count; refused = refuses; told = told }
+solve_refuses : (job : Job) (bytes : List ℕ) (X : Problem) (text : List ℕ) → instance_in job bytes ≡ Holds X → job.task ≡ Solve → DueToSolve job X Instance text → IsOverLimit job bytes text
+solve_refuses job bytes X text holds solves (Solved takes document best is told) = cc
+solve_refuses job bytes X text holds solves (Unsolvable takes document none is told) = cc
+solve_refuses job bytes X text holds solves (TooLarge count refuses is told) = record {
+  numbers = limit_number job.objective ∷ count ∷ [];
+  over = inl (record { solves = solves; problem = X; held = holds; count = count; refused = refuses; told = refl });
+  told = told;
+}
 
-check_passes : (job : Job) (X : Problem) (document : Document) (text : List ℕ) → DueToCheck job X document Instance text → ⊥
-check_passes job X document text (Certified certifies is told) = cc
-check_passes job X document text (Denied number place fails first is told) = cc
+rank_refuses : (job : Job) (bytes : List ℕ) (count : ℕ) (X : Problem) (text : List ℕ) → instance_in job bytes ≡ Holds X → job.task ≡ Rank count → DueToRank job count X Instance text → IsOverLimit job bytes text
+rank_refuses job bytes count X text holds ranks (Ranked few document ranked is told) = cc
+rank_refuses job bytes count X text holds ranks (Unrankable few document none is told) = cc
+rank_refuses job bytes count X text holds ranks (TooMuch over is told) = record {
+  numbers = 18 ∷ ranking_work X count ∷ [];
+  over = inr (record { count = count; ranks = ranks; problem = X; held = holds; refused = over; told = refl });
+  told = told;
+}
+
+check_passes : (job : Job) (form : Form) (X : Problem) (document : Document) (text : List ℕ) → DueToCheck job form X document Instance text → ⊥
+check_passes job form X document text (Certified certifies is told) = cc
+check_passes job form X document text (Denied number place fails first is told) = cc
 
 unread_passes : (bytes : List ℕ) (Owed : Document → Status → List ℕ → Type 0) (text : List ℕ) → ((document : Document) → Owed document Instance text → ⊥) → UnlessUnread bytes Owed Instance text → ⊥
 unread_passes bytes Owed text passes (NotRead line none at is told) = cc
 unread_passes bytes Owed text passes (Miscounted documents have_text read count is told) = cc
 unread_passes bytes Owed text passes (Read document has_text read owed) = passes document owed
 
-task_refuses : (task : Task) (job : Job) (contents : List (List ℕ)) (X : Problem) (text : List ℕ) → DueForTask task job contents X Instance text → IsCountRefused task job X text
-task_refuses Solve job contents X text due = solve_refuses job X text due
-task_refuses (Check answer None None) job contents X text due =
-    absurd (unread_passes (content_at contents 1) (DueToCheck job X) text (λ document. check_passes job X document text) due)
-task_refuses (Check answer None (Some count)) job contents X text due = absurd due
-task_refuses (Check answer (Some script) count) job contents X text due = absurd due
-task_refuses (Rank count) job contents X text due = absurd due
-task_refuses (Edit script) job contents X text due = absurd due
+task_refuses : (task : Task) (job : Job) (contents : List (List ℕ)) (bytes : List ℕ) (X : Problem) (text : List ℕ) → instance_in job bytes ≡ Holds X → job.task ≡ task → DueForTask task job contents X Instance text
+    → IsOverLimit job bytes text
+task_refuses Solve job contents bytes X text holds is due = solve_refuses job bytes X text holds is due
+task_refuses (Check answer None count) job contents bytes X text holds is due =
+    absurd (unread_passes (content_at contents 1) (DueToCheck job (form_asked count) X) text (λ document. check_passes job (form_asked count) X document text) due)
+task_refuses (Check answer (Some script) count) job contents bytes X text holds is due = absurd due
+task_refuses (Rank count) job contents bytes X text holds is due = rank_refuses job bytes count X text holds is due
+task_refuses (Edit script) job contents bytes X text holds is due = absurd due
 
 -- so what is due is an answer
 decided_answer : (status : Status) → IsDecided status → IsAnswer status
@@ -144,7 +164,8 @@ pub first_held : (told : List ℕ → Option (List ℕ)) (job : Job) (contents :
 first_held told job [] may = absurd may
 first_held told job (bytes ∷ contents) may = may.0
 
--- the refusal of an instance is due only for a file that holds none, or for one that is too large to solve
+-- the refusal of an instance is due only for a file that holds none, for one that is too large to
+-- solve, or for one of which so many choices are too much to rank
 pub refused_only : (asked : Option Job) (told : List ℕ → Option (List ℕ)) (contents : List (List ℕ)) (text : List ℕ) → MayHoldAll told (files_of asked) contents
     → DueForAsked asked contents Instance text
     → (job : Job) × (bytes numbers : List ℕ) × (asked ≡ Some job) × MayHold told job.instance bytes × IsRefusedInstance job bytes numbers × (text ≡ refused_instance_text numbers)
@@ -152,15 +173,8 @@ refused_only None told contents text may due = let e = due.0 in cc
 refused_only (Some job) told contents text may (Long place within long is told_text) = cc
 refused_only (Some job) told contents text may (Refused short numbers none is told_text) = (job, content_at contents 0, numbers, refl, first_held told job contents may, inl none, told_text)
 refused_only (Some job) told contents text may (Held short X holds due) =
-    let own = task_refuses job.task job contents X text due in (
-      job,
-      content_at contents 0,
-      limit_number job.objective ∷ own.count ∷ [],
-      refl,
-      first_held told job contents may,
-      inr (record { solves = own.solves; problem = X; held = holds; count = own.count; refused = own.refused; told = refl }),
-      own.told,
-    )
+    let own = task_refuses job.task job contents (content_at contents 0) X text holds refl due in
+    (job, content_at contents 0, own.numbers, refl, first_held told job contents may, inr own.over, own.told)
 
 -- each file of a request is told, and isn't too long
 abbrev pub AllShort : (List ℕ → Option (List ℕ)) → Option Job → Type 0
@@ -213,7 +227,8 @@ exact_refused job told contents status text bytes numbers shorts found none may 
         let same = held (told job.instance) (content_at contents 0) bytes found (first_held told job contents may) in
         refused_apart (ap (instance_in job) same ∙ none) holds
 
--- where the files are told, the first one holds an instance, and none is too long, the command decides
+-- where the files are told, the first one holds an instance, and none is too long, the command
+-- decides
 pub reached : (job : Job) (told : List ℕ → Option (List ℕ)) (contents : List (List ℕ)) (status : Status) (text bytes : List ℕ) (X : Problem) → AllShort told (Some job)
     → told job.instance ≡ Some bytes → instance_in job bytes ≡ Holds X → MayHoldAll told (files_of (Some job)) contents → DueForJob job contents status text
     → DueForTask job.task job contents X status text

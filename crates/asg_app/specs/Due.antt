@@ -5,11 +5,12 @@ use Rattle.asg_model.specs.Limits.{longest_file}
 use Rattle.asg_model.specs.Problem.{Problem}
 use Rattle.asg_requests.specs.declared.requests.Job.{Job}
 use Rattle.asg_requests.specs.declared.requests.Task.{Task}
-use Rattle.asg_requests.specs.declared.requests.Task.TheVariants.{Solve, Check}
+use Rattle.asg_requests.specs.declared.requests.Task.TheVariants.{Solve, Rank, Check}
 use Rattle.asg_app.specs.declared.status.Status.{Status}
 use Rattle.asg_app.specs.declared.status.Status.TheVariants.{Usage, Instance, TooLong}
 use Rattle.asg_app.specs.AnswerStage.{UnlessUnread}
-use Rattle.asg_app.specs.DueToCheck.{DueToCheck}
+use Rattle.asg_app.specs.DueToCheck.{DueToCheck, form_asked}
+use Rattle.asg_app.specs.DueToRank.{DueToRank}
 use Rattle.asg_app.specs.DueToSolve.{DueToSolve}
 use Rattle.asg_app.specs.Fetches.{MayHoldAll}
 use Rattle.asg_app.specs.InstanceFile.{Holds, Refuses, instance_in}
@@ -20,8 +21,9 @@ use Rattle.asg_app.specs.Texts.{usage_text, refused_instance_text}
 -- what is due by each command for a job, the contents of its files and its instance
 abbrev pub DueForTask : Task → Job → List (List ℕ) → Problem → Status → List ℕ → Type 0
 DueForTask Solve job contents X = DueToSolve job X
-DueForTask (Check answer None None) job contents X =
-    UnlessUnread (content_at contents 1) (DueToCheck job X)
+DueForTask (Rank count) job contents X = DueToRank job count X
+DueForTask (Check answer None count) job contents X =
+    UnlessUnread (content_at contents 1) (DueToCheck job (form_asked count) X)
 DueForTask _ job contents X = λ status text. ⊥
 
 -- what is due for a job and the contents of its files: one of them is too long, or the first one is

@@ -12,8 +12,8 @@ use Rattle.asg_app.specs.Texts.{refused_instance_text}
 use Rattle.asg_app.specs.WrittenDocument.{IsBestDocument, IsNoneDocument}
 
 -- how a request to solve ends for the instance: where the objective's solver takes it, a document
--- with a best choice is written, or one with a Hall set, as no choice is valid; else its refusal, 16
--- with the number of different costs, or 17 with the number of rows
+-- with a best choice is written, or one with a Hall set, as no choice is valid; else its refusal,
+-- 16 with the number of different costs, or 17 with the number of rows
 pub data DueToSolve (job : Job) (X : Problem) (status : Status) (text : List ℕ) : Type 0 where
   Solved : SolverTakes job.objective X
       → (document : Document) → IsBestDocument job.objective X Solve document

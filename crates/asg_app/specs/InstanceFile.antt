@@ -28,8 +28,8 @@ rows_asked (Exactly count) = count
 abbrev pub sided : Problem → InstanceFile
 sided X = if nat_lt most_side (square_side X) then Refuses (15 ∷ square_side X ∷ []) else Holds X
 
--- an instance of which no cell is refused; else the refusal of this one, 14, with the ids of its row
--- and its column
+-- an instance of which no cell is refused; else the refusal of this one, 14, with the ids of its
+-- row and its column
 abbrev pub passed_by : Option (ℕ × ℕ) → Problem → InstanceFile
 passed_by None X = sided X
 passed_by (Some ids) X = Refuses (14 ∷ ids.0 ∷ ids.1 ∷ [])

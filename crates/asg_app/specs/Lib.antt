@@ -3,6 +3,7 @@ pub mod SolverLimits
 pub mod DocumentParts
 pub mod Due
 pub mod DueToCheck
+pub mod DueToRank
 pub mod DueToSolve
 pub mod Ends
 pub mod Fetches

@@ -1,5 +1,5 @@
 -- What the program's answers promise of the files.
-use Rattle.std.specs.Prelude.{◌≡◌, ◌≢◌, ◌⊎◌, ℕ, ℤ, List, [], ◌∷◌, length}
+use Rattle.std.specs.Prelude.{◌≡◌, ◌≢◌, ◌⊎◌, ◌<◌, ℕ, ℤ, List, [], ◌∷◌, length}
 use Rattle.asg_model.specs.declared.objectives.Objective.{Objective}
 use Rattle.asg_model.specs.declared.objectives.Objective.TheVariants.{Lex}
 use Rattle.asg_model.specs.Instances.{IsInstance}
@@ -8,19 +8,22 @@ use Rattle.asg_doc.specs.declared.documents.Document.{Document}
 use Rattle.asg_doc.specs.HasText.{HasText}
 use Rattle.asg_doc.specs.RefusedLine.{AllHaveText, IsNoText, IsRefusedLine}
 use Rattle.asg_doc.specs.Text.{text_of, texts_of}
+use Rattle.asg_check.specs.declared.verdicts.Form.{Form}
 use Rattle.asg_check.specs.declared.verdicts.Form.TheVariants.{Solve}
 use Rattle.asg_check.specs.Certifies.{Certifies}
 use Rattle.asg_check.specs.Reasons.{IsFirstReason}
 use Rattle.asg_check.specs.TrueClaim.{ClaimsTruly}
 use Rattle.asg_model.specs.Objectives.{IsBottleneck}
 use Rattle.asg_requests.specs.declared.requests.Job.{Job}
-use Rattle.asg_requests.specs.declared.requests.Task.TheVariants.{Solve as Solving}
+use Rattle.asg_rank.specs.Rankings.{ranking_work}
+use Rattle.asg_rank.specs.Rooms.{most_work}
+use Rattle.asg_requests.specs.declared.requests.Task.TheVariants.{Solve as Solving, Rank as Ranking}
 use Rattle.asg_app.specs.declared.status.Status.{Status}
 use Rattle.asg_app.specs.declared.status.Status.TheVariants.{Done, No, Nothing}
 use Rattle.asg_app.specs.SolverLimits.{SolverRefuses, limit_number}
 use Rattle.asg_app.specs.InstanceFile.{Holds, Refuses, instance_in}
 use Rattle.asg_app.specs.Texts.{refused_document_text, no_text}
-use Rattle.asg_app.specs.WrittenDocument.{IsBestDocument, IsNoneDocument}
+use Rattle.asg_app.specs.WrittenDocument.{IsBestDocument, IsNoneDocument, IsRankedDocument}
 
 -- two jobs ask about one instance file alike: of one objective, and with the same options for the
 -- instance
@@ -39,13 +42,23 @@ pub record IsSolved (job : Job) (bytes text : List ℕ) : Type 0 where
   pub best : IsBestDocument job.objective problem Solve document
   pub written : text ≡ text_of document
 
--- the bytes hold an instance, and the text is that of a document with a Hall set of it
-pub record IsUnsolvable (job : Job) (bytes text : List ℕ) : Type 0 where
+-- the bytes hold an instance, and the text is that of a document with a ranking of so many of its
+-- choices
+pub record IsRanked (job : Job) (count : ℕ) (bytes text : List ℕ) : Type 0 where
   pub problem : Problem
   pub document : Document
   pub held : instance_in job bytes ≡ Holds problem
   pub instance : IsInstance problem
-  pub none : IsNoneDocument job.objective problem Solve document
+  pub ranked : IsRankedDocument job.objective problem count document
+  pub written : text ≡ text_of document
+
+-- the bytes hold an instance, and the text is that of a document of a form with a Hall set of it
+pub record IsUnsolvable (job : Job) (form : Form) (bytes text : List ℕ) : Type 0 where
+  pub problem : Problem
+  pub document : Document
+  pub held : instance_in job bytes ≡ Holds problem
+  pub instance : IsInstance problem
+  pub none : IsNoneDocument job.objective problem form document
   pub written : text ≡ text_of document
 
 -- the objectives whose promised proofs are short: the two bottleneck objectives, and `lex`
@@ -68,36 +81,47 @@ pub record IsTooLargeToSolve (job : Job) (bytes numbers : List ℕ) : Type 0 whe
   pub refused : SolverRefuses job.objective problem count
   pub told : numbers ≡ limit_number job.objective ∷ count ∷ []
 
--- the bytes are refused with these numbers: they hold no instance that the job takes, or one that is
--- too large for a job to solve
+-- the job is to rank, and the bytes hold an instance of which so many choices are too much to rank;
+-- the numbers are 18 and the work, which is the count times the rows times the side
+pub record IsTooMuchToRank (job : Job) (bytes numbers : List ℕ) : Type 0 where
+  pub count : ℕ
+  pub ranks : job.task ≡ Ranking count
+  pub problem : Problem
+  pub held : instance_in job bytes ≡ Holds problem
+  pub refused : most_work < ranking_work problem count
+  pub told : numbers ≡ 18 ∷ ranking_work problem count ∷ []
+
+-- the bytes are refused with these numbers: they hold no instance that the job takes, one that is
+-- too large for a job to solve, or one that is too much for a job to rank
 abbrev pub IsRefusedInstance : Job → List ℕ → List ℕ → Type 0
 IsRefusedInstance job bytes numbers =
-    (instance_in job bytes ≡ Refuses numbers) ⊎ IsTooLargeToSolve job bytes numbers
+    (instance_in job bytes ≡ Refuses numbers)
+    ⊎ (IsTooLargeToSolve job bytes numbers ⊎ IsTooMuchToRank job bytes numbers)
 
 -- the bytes hold an instance, and the answer is the text of one document, which certifies for it
--- and claims what is true of it
-pub record IsCertified (job : Job) (bytes answer : List ℕ) : Type 0 where
+-- and a form, and claims what is true of it
+pub record IsCertified (job : Job) (form : Form) (bytes answer : List ℕ) : Type 0 where
   pub problem : Problem
   pub document : Document
   pub held : instance_in job bytes ≡ Holds problem
   pub instance : IsInstance problem
   pub has_text : HasText document
   pub read : answer ≡ text_of document
-  pub certifies : Certifies job.objective problem Solve document
+  pub certifies : Certifies job.objective problem form document
   pub truly : ClaimsTruly job.objective problem document
 
 -- the bytes hold an instance, and the answer is the text of one document, which doesn't certify for
--- it; the text tells the first reason against it
-pub record IsDenied (job : Job) (bytes answer text : List ℕ) : Type 0 where
+-- it and a form; the text tells the first reason against it
+pub record IsDenied (job : Job) (form : Form) (bytes answer text : List ℕ) : Type 0 where
   pub problem : Problem
   pub document : Document
   pub held : instance_in job bytes ≡ Holds problem
   pub has_text : HasText document
   pub read : answer ≡ text_of document
-  pub fails : ¬ Certifies job.objective problem Solve document
+  pub fails : ¬ Certifies job.objective problem form document
   pub number : ℕ
   pub place : ℤ
-  pub reason : IsFirstReason job.objective problem Solve document number place
+  pub reason : IsFirstReason job.objective problem form document number place
   pub told : text ≡ no_text 1 number place
 
 -- the answer is the text of no list of documents, and the text tells the refused line
@@ -124,7 +148,7 @@ abbrev pub IsNotOne : List ℕ → Type 0
 IsNotOne bytes = (document : Document) → HasText document → bytes ≢ text_of document
 
 -- the status tells whether the document certifies
-abbrev pub IsVerdict : Job → Problem → Document → Status → Type 0
-IsVerdict job X document status =
-    ((status ≡ Done) × Certifies job.objective X Solve document)
-    ⊎ ((status ≡ No) × ¬ Certifies job.objective X Solve document)
+abbrev pub IsVerdict : Job → Form → Problem → Document → Status → Type 0
+IsVerdict job form X document status =
+    ((status ≡ Done) × Certifies job.objective X form document)
+    ⊎ ((status ≡ No) × ¬ Certifies job.objective X form document)

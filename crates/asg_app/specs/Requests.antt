@@ -5,14 +5,15 @@ use Rattle.asg_requests.specs.declared.requests.Job.{Job}
 use Rattle.asg_requests.specs.declared.requests.Request.{Request}
 use Rattle.asg_requests.specs.declared.requests.Request.TheVariants.{Work, Make}
 use Rattle.asg_requests.specs.declared.requests.Task.{Task}
-use Rattle.asg_requests.specs.declared.requests.Task.TheVariants.{Solve, Check}
+use Rattle.asg_requests.specs.declared.requests.Task.TheVariants.{Solve, Rank, Check}
 use Rattle.asg_requests.specs.Requests.{files_of as files_of_request}
 use Rattle.asg_words.specs.Requests.{request_of}
 
--- the tasks that are built: solving, and checking one document
+-- the tasks that are built: solving, ranking, and checking one document
 abbrev pub is_built_task : Task → Bool
 is_built_task Solve = true
-is_built_task (Check answer None None) = true
+is_built_task (Rank count) = true
+is_built_task (Check answer None count) = true
 is_built_task _ = false
 
 -- the jobs that are built: a task that is, and whole documents

@@ -6,8 +6,8 @@ use Rattle.asg_model.specs.Problem.{Problem}
 use Rattle.asg_model.specs.DifferentCosts.{HasCosts, HasFewCosts, most_costs}
 use Rattle.asg_proof.specs.LevelRows.{HasFewRows, most_level_rows}
 
--- the solver takes the instance: for `balanced` the live cells have at most 20,000 different costs, for
--- `lex` there are at most 200 rows; the other objectives take any instance
+-- the solver takes the instance: for `balanced` the live cells have at most 20,000 different costs,
+-- for `lex` there are at most 200 rows; the other objectives take any instance
 abbrev pub SolverTakes : Objective → Problem → Type 0
 SolverTakes Balanced X = HasFewCosts X
 SolverTakes Lex X = HasFewRows X

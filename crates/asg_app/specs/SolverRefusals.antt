@@ -1,4 +1,5 @@
--- What a refusal of a solver tells the command that called it. The program's specification doesn't cite this.
+-- What a refusal of a solver tells the command that called it. The program's specification doesn't
+-- cite this.
 use Rattle.asg_model.specs.declared.objectives.Objective.{Objective}
 use Rattle.asg_model.specs.Problem.{Problem}
 use Rattle.asg_app.specs.declared.commands.solvers.SolverRefusal.{SolverRefusal}

@@ -10,12 +10,15 @@ use Rattle.asg_proof.specs.declared.outcomes.Proof.{Proof}
 use Rattle.asg_model.specs.DifferentCosts.{most_costs}
 use Rattle.asg_proof.specs.LevelRows.{most_level_rows}
 use Rattle.asg_proof.specs.PromisedProofs.{AreFewWindows, HasFewLevels, HasFewPhases, IsThresholdProof}
+use Rattle.asg_proof.specs.declared.nodes.Node.{Node}
+use Rattle.asg_rank.specs.Rankings.{HaveFewPhases}
 use Rattle.asg_doc.specs.declared.documents.Answer.{Answer}
 use Rattle.asg_doc.specs.declared.documents.Claim.{Claim}
 use Rattle.asg_doc.specs.declared.documents.Claim.TheVariants.{Best, Nothing, Ranked}
 use Rattle.asg_doc.specs.declared.documents.Document.{Document}
 use Rattle.asg_doc.specs.HasText.{HasText}
 use Rattle.asg_check.specs.declared.verdicts.Form.{Form}
+use Rattle.asg_check.specs.declared.verdicts.Form.TheVariants.{Rank}
 use Rattle.asg_check.specs.Certifies.{Certifies}
 use Rattle.asg_check.specs.TrueClaim.{ClaimsTruly}
 
@@ -35,11 +38,13 @@ abbrev pub IsPromisedOutcome : Objective → Problem → Outcome → Type 0
 IsPromisedOutcome objective X (outcomes.Best choice proof) = IsPromisedProof objective X proof
 IsPromisedOutcome objective X (outcomes.Nothing rows) = Unit {0}
 
--- a claim whose proof is promised; the one that nothing is valid has none, and no ranking is written yet
+-- a claim whose proof is promised; the one that nothing is valid has none, and in the tree of a
+-- ranking every node but the root has at most one phase of its own, each of at most as many steps
+-- as the side
 abbrev pub IsPromisedClaim : Objective → Problem → Claim → Type 0
 IsPromisedClaim objective X (Best answer proof) = IsPromisedProof objective X proof
 IsPromisedClaim objective X (Nothing rows) = Unit {0}
-IsPromisedClaim objective X (Ranked count answers nodes) = ⊥
+IsPromisedClaim objective X (Ranked count answers nodes) = HaveFewPhases (square_side X) nodes
 
 -- a document that a command may write for an objective, an instance and a form: it has a text and
 -- certifies, what it claims is true, and its proof is one that is promised
@@ -64,3 +69,11 @@ pub record IsNoneDocument (objective : Objective) (X : Problem) (form : Form)
   pub rows : List ℕ
   pub claims : document.claim ≡ Nothing rows
   pub written : IsWritten objective X form document
+
+-- a document that may be written, and claims a ranking of so many choices
+pub record IsRankedDocument (objective : Objective) (X : Problem) (count : ℕ)
+    (document : Document) : Type 0 where
+  pub answers : List Answer
+  pub nodes : List Node
+  pub claims : document.claim ≡ Ranked count answers nodes
+  pub written : IsWritten objective X (Rank count) document

@@ -1,25 +1,31 @@
 //! The documents of a job's outcome.
 
-ghost use Rattle.std.specs.Prelude.{◌≡◌, ◌<◌, ◌≤◌, IfOk, length};
-ghost use Rattle.asg_check.specs.declared.verdicts.Form.TheVariants.{Solve};
+ghost use Rattle.std.specs.Prelude.{◌≡◌, ◌<◌, ◌≤◌, All, IfOk, IsTrue, length};
+ghost use Rattle.asg_check.specs.declared.verdicts.Form.TheVariants.{Solve, Rank};
+ghost use Rattle.asg_check.specs.DocumentForm.{MayBeAsked, is_command_of};
 ghost use Rattle.asg_doc.specs.ChosenCells.{cells_by_id, column_id};
 ghost use Rattle.asg_doc.specs.HasText.{AreCells, HasValueText};
-ghost use Rattle.asg_doc.specs.Words.{HasWord};
+ghost use Rattle.asg_doc.specs.Words.{HasWord, IsAsked};
+ghost use Rattle.asg_model.specs.declared.bands.Band.TheVariants.{Whole};
+ghost use Rattle.asg_model.specs.HallSet.{IsHall};
 ghost use Rattle.asg_model.specs.Limits.{most_side};
 ghost use Rattle.asg_model.specs.Refused.{PassesNegative};
 ghost use Rattle.asg_model.specs.Shapes.{square_side};
 ghost use Rattle.asg_model.specs.ValidChoice.{IsValid};
 ghost use Rattle.asg_model.specs.Values.{choice_value};
-ghost use Rattle.asg_proof.specs.Outcomes.{IsOutcome, IsProvedBest};
-ghost use Rattle.asg_proof.specs.declared.outcomes.Outcome.TheVariants.{Nothing};
-ghost use Rattle.asg_app.specs.DocumentParts.{KeepsRanges, cell_at};
+ghost use Rattle.asg_proof.specs.Outcomes.{IsProvedBest};
+ghost use Rattle.asg_rank.specs.RankOutcomes.{IsProvedRanking};
+ghost use Rattle.asg_app.specs.DocumentParts.{AreAnswersOf, KeepsRanges, cell_at};
 ghost use Rattle.asg_app.specs.WrittenDocument.{IsBestDocument, IsNoneDocument, IsPromisedProof};
+ghost use Rattle.asg_app.specs.WrittenDocument.{IsRankedDocument};
 
+use asg_check::Form;
 use asg_check::laws::soundness_law;
-use asg_doc::{Answer, Cells, Claim, Command, Document};
+use asg_doc::{Answer, Answers, Cells, Claim, Command, Document};
 use asg_model::laws::hall_rows_law;
 use asg_model::{Choice, Instance, NoMemory, Objective, value};
-use asg_proof::{Ids, Proof};
+use asg_proof::{Ids, Nodes, Proof};
+use asg_rank::Choices;
 use std::alloc::Global;
 
 // The id of the column at a place, where there is one.
@@ -121,21 +127,89 @@ pub(crate) fn best_document(
     })
 }
 
-// The document that claims that no choice is valid, with these rows as a Hall set. It takes no
-// memory.
-pub(crate) fn none_document(objective: Objective, inst: &Instance, rows: Ids) -> Document
+// The command of documents of a form.
+fn command_of(form: Form) -> Command
+    ensures { IsTrue (is_command_of form result) }
+{
+    match form {
+        Form::Solve => Command::Solve,
+        Form::Rank(_) => Command::Rank,
+    }
+}
+
+// The document of a form that claims that no choice is valid, with these rows as a Hall set. It
+// takes no memory.
+pub(crate) fn none_document(
+    objective: Objective,
+    inst: &Instance,
+    form: Form,
+    rows: Ids,
+) -> Document
     requires word { HasWord objective }
     requires passes { PassesNegative objective inst.now }
-    requires hall { IsOutcome objective inst.now (Nothing rows) }
-    ensures { IsNoneDocument objective inst.now Solve result }
+    requires asked { MayBeAsked form objective inst.now }
+    requires hall { IsHall inst.now Whole rows }
+    ensures { IsNoneDocument objective inst.now form result }
 {
     soundness_law();
     hall_rows_law();
     let _count = rows.len();
     let _rows = inst.rows();
     Document {
-        command: Command::Solve,
+        command: command_of(form),
         objective,
         claim: Claim::Nothing { rows },
     }
+}
+
+// The answers of valid choices, in order. The error is want of memory.
+fn listed_answers(
+    alloc: Global,
+    objective: Objective,
+    inst: &Instance,
+    choices: &[Choice],
+) -> Result<Answers, NoMemory>
+    requires word { HasWord objective }
+    requires valid { All (IsValid inst.now) choices.now }
+    ensures { IfOk result (AreAnswersOf objective inst.now choices.now) }
+{
+    let mut answers = Vec::with_capacity(alloc, choices.len())?;
+    'choices: for place in 0..choices.len() {
+        answers.push(answer(alloc, objective, inst, &choices[place])?)?;
+    }
+    Ok(Answers::from_vec(answers))
+}
+
+// The document that claims a ranking of so many choices, with the nodes that prove it. The error is
+// want of memory.
+pub(crate) fn ranked_document(
+    alloc: Global,
+    objective: Objective,
+    inst: &Instance,
+    count: u32,
+    choices: &Choices,
+    nodes: Nodes,
+) -> Result<Document, NoMemory>
+    requires word { HasWord objective }
+    requires count { IsAsked count }
+    requires side { square_side inst.now ≤ most_side }
+    requires passes { PassesNegative objective inst.now }
+    requires asked { MayBeAsked (Rank count) objective inst.now }
+    requires proved { IsProvedRanking objective inst.now count choices.now nodes }
+    ensures { IfOk result (IsRankedDocument objective inst.now count) }
+{
+    soundness_law();
+    hall_rows_law();
+    let _count = nodes.len();
+    let _rows = inst.rows();
+    let answers = listed_answers(alloc, objective, inst, choices.as_slice())?;
+    Ok(Document {
+        command: Command::Rank,
+        objective,
+        claim: Claim::Ranked {
+            count,
+            answers,
+            nodes,
+        },
+    })
 }

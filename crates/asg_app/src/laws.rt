@@ -27,6 +27,7 @@ use asg_model::laws::shape_law;
 use asg_words::laws::request_law;
 
 pub mod check_laws;
+pub mod rank_laws;
 pub mod solve_laws;
 
 /// Where the files are told, what is due has one status, and one text with it, but where a document
@@ -47,8 +48,8 @@ pub fn due_law()
 }
 
 /// Whatever bytes the instance's file of a request has, what they hold is an instance: it keeps
-/// what each instance keeps, the request's objective refuses none of its live costs, and its square
-/// isn't too large.
+/// what each instance keeps, the request's objective refuses none of its live costs, its square
+/// isn't too large, and its place rule is that of the request.
 pub fn instance_law()
     ensures instance { (words : List (List ℕ)) (bytes : List ℕ) (job : Job) (X : Problem) →
         job_of words ≡ Some job → instance_in job bytes ≡ Holds X → IsInstance X }
@@ -56,6 +57,8 @@ pub fn instance_law()
         instance_in job bytes ≡ Holds X → PassesNegative job.objective X }
     ensures side { (bytes : List ℕ) (job : Job) (X : Problem) →
         instance_in job bytes ≡ Holds X → square_side X ≤ most_side }
+    ensures place { (bytes : List ℕ) (job : Job) (X : Problem) →
+        instance_in job bytes ≡ Holds X → X.place ≡ job.place }
 {
     request_law();
     shape_law();
@@ -89,7 +92,8 @@ pub fn too_long_law()
 /// The refusal of an instance is due only where the words are a request whose instance's file is
 /// refused, by its text, by the request's options or by a cost that its objective doesn't take, or
 /// for a request to solve holds an instance that is too large, with too many different costs for
-/// `balanced` or too many rows for `lex`, with the numbers of the refusal.
+/// `balanced` or too many rows for `lex`, or for a request to rank one of which so many choices are
+/// too much to rank, with the numbers of the refusal.
 pub fn refused_law()
     ensures { (words : List (List ℕ)) (told : List ℕ → Option (List ℕ)) (text : List ℕ) →
         Due words told Instance text →

@@ -19,14 +19,15 @@ use std::alloc::Global;
 /// Runs the program: reads the words after the program's name, fetches the files that they name
 /// from the shelf, and writes what is due to the sink. It answers how the run ended.
 ///
-/// The status is `Done` where a document with a best choice was written, or where the document that
-/// was to be checked certifies, and `No` where it doesn't; `Nothing` where a document says that no
-/// choice is valid; `Usage` where the words ask for nothing that the program does; `TooLong` where
-/// one of the files is longer than 268,435,456 bytes; `Instance` where the instance's file is
-/// refused, by its text, by the options or by a cost that the objective doesn't take, or is too
-/// large to be solved, with too many different costs for `balanced` or too many rows for `lex`;
-/// `Document` where the answer's file isn't the text of one document; `ReadFault` where the shelf
-/// had a fault; `WriteFault` where the sink had one; and `NoMemory` where memory was wanting.
+/// The status is `Done` where a document with a best choice or a ranking was written, or where the
+/// document that was to be checked certifies, and `No` where it doesn't; `Nothing` where a document
+/// says that no choice is valid; `Usage` where the words ask for nothing that the program does;
+/// `TooLong` where one of the files is longer than 268,435,456 bytes; `Instance` where the
+/// instance's file is refused, by its text, by the options or by a cost that the objective doesn't
+/// take, is too large to be solved, with too many different costs for `balanced` or too many rows
+/// for `lex`, or where so many of its choices are too much to rank; `Document` where the answer's
+/// file isn't the text of one document; `ReadFault` where the shelf had a fault; `WriteFault` where
+/// the sink had one; and `NoMemory` where memory was wanting.
 pub fn run<F: Shelf, K: Sink>(alloc: Global, words: &[String], shelf: &mut F, out: &mut K) -> Status
     // With the status of an answer, the text that is due with it was written.
     ensures answered { IsAnswer result → (text : List ℕ)

@@ -1,6 +1,8 @@
 //! What a run answers, and how it is put.
 
 ghost use Rattle.std.specs.Prelude.{◌≡◌, IfOk, OnOk, OnErr, string_bytes};
+ghost use Rattle.asg_doc.specs.HasText.{HasText};
+ghost use Rattle.asg_doc.specs.Text.{text_of};
 ghost use Rattle.asg_io.specs.Shelf.{Rose};
 ghost use Rattle.asg_io.specs.Sink.{Puts, PutsPrefix};
 ghost use Rattle.asg_app.specs.Ends.{Ends};
@@ -9,6 +11,7 @@ ghost use Rattle.asg_app.specs.Statuses.{IsAnswer};
 
 use crate::sheets::Sheet;
 use crate::status::Status;
+use asg_doc::Document;
 use asg_io::{PutFault, Sink};
 use asg_model::NoMemory;
 use std::alloc::Global;
@@ -45,6 +48,22 @@ impl Reply {
             status,
             text: Text::Line(line),
         }
+    }
+
+    // The reply of a document. The error is want of memory.
+    pub(crate) fn sheet(
+        alloc: Global,
+        status: Status,
+        document: Document,
+    ) -> Result<Reply, NoMemory>
+        requires { HasText document }
+        ensures { IfOk result (λ reply. IsReply reply status (text_of document)) }
+    {
+        let sheet = Sheet::of(alloc, document)?;
+        Ok(Reply {
+            status,
+            text: Text::Sheet(sheet),
+        })
     }
 }
 

@@ -9,14 +9,14 @@ use asg_requests::{Job, Request, Task, WordsRefusal};
 use asg_words::parse;
 use std::alloc::{AllocError, Global};
 
-// Whether a task is built: solving, and checking one document.
+// Whether a task is built: solving, ranking, and checking one document.
 fn is_built_task(task: &Task) -> bool
     ensures { result ≡ is_built_task task.now }
 {
     match task {
-        Task::Solve => true,
-        Task::Check { script, count, .. } => script.is_none() && count.is_none(),
-        Task::Rank(_) | Task::Edit(_) => false,
+        Task::Solve | Task::Rank(_) => true,
+        Task::Check { script, .. } => script.is_none(),
+        Task::Edit(_) => false,
     }
 }
 

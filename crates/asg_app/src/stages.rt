@@ -12,7 +12,8 @@ ghost use Rattle.asg_app.specs.Readiness.{IsReady};
 ghost use Rattle.asg_app.specs.Replies.{Answers, IsReply};
 ghost use Rattle.asg_app.specs.Texts.{refused_instance_text};
 
-use crate::commands::{check, solve};
+use crate::commands::check::form_asked;
+use crate::commands::{check, rank, solve};
 use crate::files::Asked;
 use crate::refusals::refusal;
 use crate::replies::Reply;
@@ -69,14 +70,18 @@ fn task_reply(
     sources: &Sources,
 ) -> Result<Reply, NoMemory>
     requires ready { IsReady job.now }
+    requires place { inst.now.place ≡ job.now.place }
     requires side { square_side inst.now ≤ most_side }
     requires passes { PassesNegative job.now.objective inst.now }
     ensures { IfOk result (Answers (DueForTask job.now.task job.now sources.now inst.now)) }
 {
     match job.task {
         Task::Solve => solve::reply(alloc, job, inst),
-        Task::Check { .. } => check::reply(alloc, job, inst, sources.at(1)),
-        Task::Rank(_) | Task::Edit(_) => unreachable!(),
+        Task::Rank(count) => rank::reply(alloc, job, inst, count),
+        Task::Check { count, .. } => {
+            check::reply(alloc, job, inst, form_asked(count), sources.at(1))
+        }
+        Task::Edit(_) => unreachable!(),
     }
 }
 
@@ -89,6 +94,7 @@ fn sided_reply(
     sources: &Sources,
 ) -> Result<Reply, NoMemory>
     requires ready { IsReady job.now }
+    requires place { inst.now.place ≡ job.now.place }
     requires passes { PassesNegative job.now.objective inst.now }
     ensures { IfOk result (Answers (DueForFile (sided inst.now) job.now sources.now)) }
 {
@@ -107,7 +113,8 @@ fn passed_reply(
     inst: &Instance,
     sources: &Sources,
 ) -> Result<Reply, NoMemory>
-    requires { IsReady job.now }
+    requires ready { IsReady job.now }
+    requires place { inst.now.place ≡ job.now.place }
     ensures { IfOk result (Answers
         (DueForFile (passed job.now.objective inst.now) job.now sources.now)) }
 {

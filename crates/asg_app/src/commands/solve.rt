@@ -4,22 +4,19 @@ ghost use Rattle.std.specs.Prelude.{◌≡◌, ◌≤◌, IfOk};
 ghost use Rattle.asg_model.specs.Limits.{most_side};
 ghost use Rattle.asg_model.specs.Refused.{PassesNegative};
 ghost use Rattle.asg_model.specs.Shapes.{square_side};
-ghost use Rattle.asg_doc.specs.HasText.{HasText};
-ghost use Rattle.asg_doc.specs.Text.{text_of};
 ghost use Rattle.asg_proof.specs.Outcomes.{IsOutcome, IsProvedBest};
 ghost use Rattle.asg_app.specs.SolverLimits.{SolverTakes, limit_number};
 ghost use Rattle.asg_app.specs.DueToSolve.{DueToSolve};
 ghost use Rattle.asg_app.specs.Readiness.{IsReady};
-ghost use Rattle.asg_app.specs.Replies.{Answers, IsReply};
+ghost use Rattle.asg_app.specs.Replies.{Answers};
 ghost use Rattle.asg_app.specs.WrittenDocument.{IsPromisedOutcome, IsPromisedProof};
 
 use crate::commands::solvers::{SolverRefusal, outcome};
 use crate::documents::{best_document, none_document};
 use crate::refusals::refusal;
-use crate::replies::{Reply, Text};
-use crate::sheets::Sheet;
+use crate::replies::Reply;
 use crate::status::Status;
-use asg_doc::Document;
+use asg_check::Form;
 use asg_model::{Choice, Instance, NoMemory, Objective};
 use asg_proof::{Ids, Outcome, Proof};
 use asg_requests::Job;
@@ -33,18 +30,6 @@ fn limit_number(objective: Objective) -> u64
         Objective::Lex => 17,
         _ => 16,
     }
-}
-
-// The reply with a document. The error is want of memory.
-fn sheet_reply(alloc: Global, status: Status, document: Document) -> Result<Reply, NoMemory>
-    requires { HasText document }
-    ensures { IfOk result (λ reply. IsReply reply status (text_of document)) }
-{
-    let sheet = Sheet::of(alloc, document)?;
-    Ok(Reply {
-        status,
-        text: Text::Sheet(sheet),
-    })
 }
 
 // The reply with a choice that is proved best. The error is want of memory.
@@ -64,7 +49,7 @@ fn best_reply(
     ensures { IfOk result (Answers (DueToSolve job.now inst.now)) }
 {
     let document = best_document(alloc, job.objective, inst, choice, proof)?;
-    sheet_reply(alloc, Status::Done, document)
+    Reply::sheet(alloc, Status::Done, document)
 }
 
 // The reply with a Hall set. The error is want of memory.
@@ -75,11 +60,8 @@ fn none_reply(alloc: Global, job: &Job, inst: &Instance, rows: Ids) -> Result<Re
     requires takes { SolverTakes job.now.objective inst.now }
     ensures { IfOk result (Answers (DueToSolve job.now inst.now)) }
 {
-    sheet_reply(
-        alloc,
-        Status::Nothing,
-        none_document(job.objective, inst, rows),
-    )
+    let document = none_document(job.objective, inst, Form::Solve, rows);
+    Reply::sheet(alloc, Status::Nothing, document)
 }
 
 // The reply with an outcome. The error is want of memory.

@@ -6,11 +6,13 @@ ghost use Rattle.asg_model.specs.Problem.{Problem};
 ghost use Rattle.asg_doc.specs.declared.documents.Document.{Document as Answered};
 ghost use Rattle.asg_doc.specs.HasText.{HasText};
 ghost use Rattle.asg_doc.specs.Text.{text_of};
+ghost use Rattle.asg_check.specs.declared.verdicts.Form.TheVariants as forms;
 ghost use Rattle.asg_requests.specs.declared.requests.Job.{Job};
 ghost use Rattle.asg_requests.specs.declared.requests.Task.TheVariants.{Solve, Check};
 ghost use Rattle.asg_app.specs.declared.status.Status.{Status as Ended};
 ghost use Rattle.asg_app.specs.declared.status.Status.TheVariants as statuses;
 ghost use Rattle.asg_app.specs.Due.{Due, TellsShort};
+ghost use Rattle.asg_app.specs.DueToCheck.{form_asked};
 ghost use Rattle.asg_app.specs.Fetches.{MayHold};
 ghost use Rattle.asg_app.specs.InstanceFile.{Holds, instance_in};
 ghost use Rattle.asg_app.specs.Promised.{AskAlike, IsSolved, IsUnsolvable, IsCertified};
@@ -23,30 +25,32 @@ use super::instance_law;
 use super::solve_laws::solved_law;
 use asg_check::laws::soundness_law;
 use asg_doc::unique_reading;
+use asg_words::laws::request_law;
 
 /// A request to check ends with the status 0, 3, 5, 6 or 10, unless a fault or want of memory cuts
 /// it short. Where the files are told, none is too long and the first holds an instance, it is 5
 /// where the answer's file isn't the text of one document, else 0 where that certifies, and 6 where
-/// it doesn't.
+/// it doesn't. Where the request has a count, the document is to be a ranking of so many choices.
 pub fn check_law()
     ensures statuses { (words : List (List ℕ)) (told : List ℕ → Option (List ℕ))
-        (status : Ended) (text answer : List ℕ) (job : Job) →
-        job_of words ≡ Some job → job.task ≡ Check answer None None → Due words told status text →
+        (status : Ended) (text answer : List ℕ) (count : Option ℕ) (job : Job) →
+        job_of words ≡ Some job → job.task ≡ Check answer None count → Due words told status text →
         (status ≡ statuses.Done) ⊎ ((status ≡ statuses.Instance) ⊎ ((status ≡ statuses.Document)
         ⊎ ((status ≡ statuses.No) ⊎ (status ≡ statuses.TooLong)))) }
     ensures unread { (words : List (List ℕ)) (told : List ℕ → Option (List ℕ))
-        (status : Ended) (text answer bytes spoken : List ℕ) (job : Job) (X : Problem) →
-        TellsShort words told → job_of words ≡ Some job → job.task ≡ Check answer None None →
+        (status : Ended) (text answer bytes spoken : List ℕ) (count : Option ℕ) (job : Job)
+        (X : Problem) →
+        TellsShort words told → job_of words ≡ Some job → job.task ≡ Check answer None count →
         told job.instance ≡ Some bytes → told answer ≡ Some spoken →
         instance_in job bytes ≡ Holds X → IsNotOne spoken →
         Due words told status text → status ≡ statuses.Document }
     ensures judged { (words : List (List ℕ)) (told : List ℕ → Option (List ℕ))
-        (status : Ended) (text answer bytes : List ℕ) (job : Job) (X : Problem)
+        (status : Ended) (text answer bytes : List ℕ) (count : Option ℕ) (job : Job) (X : Problem)
         (document : Answered) →
-        TellsShort words told → job_of words ≡ Some job → job.task ≡ Check answer None None →
+        TellsShort words told → job_of words ≡ Some job → job.task ≡ Check answer None count →
         told job.instance ≡ Some bytes → told answer ≡ Some (text_of document) →
         instance_in job bytes ≡ Holds X → HasText document →
-        Due words told status text → IsVerdict job X document status }
+        Due words told status text → IsVerdict job (form_asked count) X document status }
 {
     unique_reading();
 }
@@ -55,25 +59,26 @@ pub fn check_law()
 /// the text of one document, which certifies for the file's instance; what it claims is then true.
 pub fn checked_law()
     ensures { (words : List (List ℕ)) (told : List ℕ → Option (List ℕ))
-        (text answer : List ℕ) (job : Job) →
-        job_of words ≡ Some job → job.task ≡ Check answer None None →
+        (text answer : List ℕ) (count : Option ℕ) (job : Job) →
+        job_of words ≡ Some job → job.task ≡ Check answer None count →
         Due words told statuses.Done text →
         (bytes spoken : List ℕ) × MayHold told job.instance bytes × MayHold told answer spoken
-        × IsCertified job bytes spoken × (text ≡ yes_text 1) }
+        × IsCertified job (form_asked count) bytes spoken × (text ≡ yes_text 1) }
 {
     soundness_law();
     instance_law();
+    request_law();
 }
 
 /// For a request to check, status 6 is due only where the answer's file is the text of one document
 /// that doesn't certify, with the first reason against it and the place.
 pub fn denied_law()
     ensures { (words : List (List ℕ)) (told : List ℕ → Option (List ℕ))
-        (text answer : List ℕ) (job : Job) →
-        job_of words ≡ Some job → job.task ≡ Check answer None None →
+        (text answer : List ℕ) (count : Option ℕ) (job : Job) →
+        job_of words ≡ Some job → job.task ≡ Check answer None count →
         Due words told statuses.No text →
         (bytes spoken : List ℕ) × MayHold told job.instance bytes × MayHold told answer spoken
-        × IsDenied job bytes spoken text }
+        × IsDenied job (form_asked count) bytes spoken text }
 {}
 
 /// For a request to check, status 5 is due only where its first file holds an instance and the
@@ -81,8 +86,8 @@ pub fn denied_law()
 /// of none or of several.
 pub fn unread_law()
     ensures { (words : List (List ℕ)) (told : List ℕ → Option (List ℕ))
-        (text answer : List ℕ) (job : Job) →
-        job_of words ≡ Some job → job.task ≡ Check answer None None →
+        (text answer : List ℕ) (count : Option ℕ) (job : Job) →
+        job_of words ≡ Some job → job.task ≡ Check answer None count →
         Due words told statuses.Document text →
         (bytes spoken : List ℕ) × MayHold told job.instance bytes × MayHold told answer spoken
         × (X : Problem) × (instance_in job bytes ≡ Holds X) × IsUnread spoken text }
@@ -95,9 +100,10 @@ pub fn unread_law()
 /// with status 1, or for a bottleneck objective or `lex`, never is.
 pub fn accepted_law()
     ensures solved { (job other : Job) (bytes text : List ℕ) →
-        AskAlike job other → IsSolved job bytes text → IsCertified other bytes text }
+        AskAlike job other → IsSolved job bytes text → IsCertified other forms.Solve bytes text }
     ensures unsolvable { (job other : Job) (bytes text : List ℕ) →
-        AskAlike job other → IsUnsolvable job bytes text → IsCertified other bytes text }
+        AskAlike job other → IsUnsolvable job forms.Solve bytes text →
+        IsCertified other forms.Solve bytes text }
     ensures accepted { (solving checking : List (List ℕ)) (told later : List ℕ → Option (List ℕ))
         (status : Ended) (text answer : List ℕ) (solve check : Job) →
         job_of solving ≡ Some solve → solve.task ≡ Solve →

@@ -4,6 +4,8 @@ ghost use Rattle.std.specs.Prelude.{◌≡◌, ◌≤◌, ◌⊎◌, ℕ, List, 
 ghost use Rattle.asg_model.specs.Limits.{longest_file};
 ghost use Rattle.asg_model.specs.Problem.{Problem};
 ghost use Rattle.asg_model.specs.ValidChoice.{IsValid};
+ghost use Rattle.asg_check.specs.declared.verdicts.Form.{Form};
+ghost use Rattle.asg_check.specs.declared.verdicts.Form.TheVariants as forms;
 ghost use Rattle.asg_requests.specs.declared.requests.Job.{Job};
 ghost use Rattle.asg_requests.specs.declared.requests.Task.TheVariants.{Solve};
 ghost use Rattle.asg_app.specs.declared.status.Status.{Status as Ended};
@@ -54,11 +56,11 @@ pub fn solve_law()
 /// For a request to solve, status 0 is due only with the text of a document that solves the file's
 /// instance: it certifies, it claims a best choice with its value and cells, and its proof is a
 /// Hall set of the cells strictly better for the two bottleneck objectives, windows of costs for
-/// `balanced`, levels of at most 200 phases of one step in all for `lex`, and for the others at most
-/// as many phases as the side of the instance's square, each of at most as many steps. Status 1 is
-/// due only with the text of a document that certifies with a Hall set of the instance, so that no
-/// choice is valid. This text, and that for a bottleneck objective or for `lex`, is no longer than
-/// the longest file that is read.
+/// `balanced`, levels of at most 200 phases of one step in all for `lex`, and for the others at
+/// most as many phases as the side of the instance's square, each of at most as many steps. Status
+/// 1 is due only with the text of a document that certifies with a Hall set of the instance, so
+/// that no choice is valid. This text, whichever the form, and that for a bottleneck objective or
+/// for `lex`, is no longer than the longest file that is read.
 pub fn solved_law()
     ensures solved { (words : List (List ℕ)) (told : List ℕ → Option (List ℕ))
         (text : List ℕ) (job : Job) →
@@ -67,9 +69,11 @@ pub fn solved_law()
     ensures unsolvable { (words : List (List ℕ)) (told : List ℕ → Option (List ℕ))
         (text : List ℕ) (job : Job) →
         job_of words ≡ Some job → job.task ≡ Solve → Due words told statuses.Nothing text →
-        (bytes : List ℕ) × MayHold told job.instance bytes × IsUnsolvable job bytes text }
-    ensures within { (job : Job) (bytes text : List ℕ) →
-        (HasShortProofs job.objective × IsSolved job bytes text) ⊎ IsUnsolvable job bytes text →
+        (bytes : List ℕ) × MayHold told job.instance bytes
+        × IsUnsolvable job forms.Solve bytes text }
+    ensures within { (job : Job) (form : Form) (bytes text : List ℕ) →
+        (HasShortProofs job.objective × IsSolved job bytes text)
+        ⊎ IsUnsolvable job form bytes text →
         length text ≤ longest_file }
 {
     hall_rows_law();

@@ -16,3 +16,6 @@ returns-clause-passes c = λ bytes job X holds. (IsTaken-held job bytes X holds)
 
 pub returns-clause-side : goal.returns-clause-side
 returns-clause-side c = λ bytes job X holds. (IsTaken-held job bytes X holds).within
+
+pub returns-clause-place : goal.returns-clause-place
+returns-clause-place c = λ bytes job X holds. (IsTaken-held job bytes X holds).placed

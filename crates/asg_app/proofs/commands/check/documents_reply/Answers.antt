@@ -12,13 +12,13 @@ verdict-requires-clause-text c = one_has_text c.args.documents.now c.document-it
 
 pub returns-in-len1 : goal.returns-in-len1
 returns-in-len1 c =
-    owed_as (DueToCheck c.args.job.now c.args.inst.now c.document-item.result) (UnlessUnread (texts_of c.args.documents.now) (DueToCheck c.args.job.now c.args.inst.now)) c.verdict.result
-    (one_read c.args.documents.now c.document-item.result (DueToCheck c.args.job.now c.args.inst.now) c.requires.text c.in-len1.len_at_least c.in-len1.len_below c.document-item.is)
+    owed_as (DueToCheck c.args.job.now c.args.form c.args.inst.now c.document-item.result) (UnlessUnread (texts_of c.args.documents.now) (DueToCheck c.args.job.now c.args.form c.args.inst.now)) c.verdict.result
+    (one_read c.args.documents.now c.document-item.result (DueToCheck c.args.job.now c.args.form c.args.inst.now) c.requires.text c.in-len1.len_at_least c.in-len1.len_below c.document-item.is)
     c.verdict.ensures
 
 pub returns-in-empty : goal.returns-in-empty
 returns-in-empty c =
-    replied (UnlessUnread (texts_of c.args.documents.now) (DueToCheck c.args.job.now c.args.inst.now)) Document _ c.refusal.result
+    replied (UnlessUnread (texts_of c.args.documents.now) (DueToCheck c.args.job.now c.args.form c.args.inst.now)) Document _ c.refusal.result
     (Miscounted c.args.documents.now c.requires.text refl
     (λ one. absurd (grind arith))
     refl refl)

@@ -8,4 +8,4 @@ use Rattle.asg_app.proofs.commands.solve.best_reply.Goals as goal
 pub returns : goal.returns
 returns c =
     let document = c.in_ok-document.document in
-    replied (DueToSolve c.args.job.now c.args.inst.now) Done (text_of document) c.sheet_reply.result (Solved c.requires.takes document c.in_ok-document.ensures refl refl) c.sheet_reply.ensures
+    replied (DueToSolve c.args.job.now c.args.inst.now) Done (text_of document) c.sheet.result (Solved c.requires.takes document c.in_ok-document.ensures refl refl) c.sheet.ensures

@@ -7,5 +7,5 @@ use Rattle.asg_app.proofs.commands.solve.none_reply.Goals as goal
 
 pub returns : goal.returns
 returns c =
-    let document = c.none_document.result in
-    replied (DueToSolve c.args.job.now c.args.inst.now) Nothing (text_of document) c.sheet_reply.result (Unsolvable c.requires.takes document c.none_document.ensures refl refl) c.sheet_reply.ensures
+    let document = c.none_document-document.result in
+    replied (DueToSolve c.args.job.now c.args.inst.now) Nothing (text_of document) c.sheet.result (Unsolvable c.requires.takes document c.none_document-document.ensures refl refl) c.sheet.ensures

@@ -1,4 +1,5 @@
 use Rattle.std.proofs.Common.{subst}
+use Rattle.asg_check.specs.declared.verdicts.Form.TheVariants.{Solve}
 use Rattle.asg_app.specs.Due.{DueForAsked}
 use Rattle.asg_app.specs.Fetches.{MayHoldAll}
 use Rattle.asg_app.specs.Requests.{files_of}
@@ -9,7 +10,7 @@ pub returns-clause-solved : goal.returns-clause-solved
 returns-clause-solved c = λ job other bytes text alike solved. certified-from_solved job other bytes text alike solved
 
 pub returns-clause-unsolvable : goal.returns-clause-unsolvable
-returns-clause-unsolvable c = λ job other bytes text alike solved. certified-from_unsolvable job other bytes text alike solved
+returns-clause-unsolvable c = λ job other bytes text alike solved. certified-from_unsolvable job other Solve bytes text alike solved
 
 pub returns-clause-accepted : goal.returns-clause-accepted
 returns-clause-accepted c = λ solving checking told later status text answer solve check is solves ends due is_check checks alike within same written.

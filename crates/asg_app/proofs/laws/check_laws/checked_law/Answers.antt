@@ -5,9 +5,10 @@ use Rattle.asg_app.specs.Fetches.{MayHoldAll}
 use Rattle.asg_app.specs.Requests.{files_of}
 use Rattle.asg_app.specs.Sources.{content_at}
 use Rattle.asg_app.proofs.CheckLaws.{checked_only}
+use Rattle.asg_app.proofs.HeldInstances.{job_within}
 use Rattle.asg_app.proofs.laws.check_laws.checked_law.Goals as goal
 
 pub returns : goal.returns
-returns c = λ words told text answer job is checks due.
-    let found = checked_only c.soundness_law.ensures job (λ bytes X holds. c.instance_law.ensures.instance words bytes job X is holds) told due.0 text answer checks (subst (λ a. MayHoldAll told (files_of a) due.0) is due.1) (subst (λ a. DueForAsked a due.0 Done text) is due.2) in
+returns c = λ words told text answer count job is checks due.
+    let found = checked_only c.soundness_law.ensures job (λ bytes X holds. c.instance_law.ensures.instance words bytes job X is holds) (job_within c.request_law.ensures words job is) told due.0 text answer count checks (subst (λ a. MayHoldAll told (files_of a) due.0) is due.1) (subst (λ a. DueForAsked a due.0 Done text) is due.2) in
     (content_at due.0 0, content_at due.0 1, found.0, found.1, found.2, found.3)

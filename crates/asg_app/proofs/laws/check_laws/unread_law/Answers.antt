@@ -8,6 +8,6 @@ use Rattle.asg_app.proofs.CheckLaws.{unread_only}
 use Rattle.asg_app.proofs.laws.check_laws.unread_law.Goals as goal
 
 pub returns : goal.returns
-returns c = λ words told text answer job is checks due.
-    let found = unread_only job told due.0 text answer checks (subst (λ a. MayHoldAll told (files_of a) due.0) is due.1) (subst (λ a. DueForAsked a due.0 Document text) is due.2) in
+returns c = λ words told text answer count job is checks due.
+    let found = unread_only job told due.0 text answer count checks (subst (λ a. MayHoldAll told (files_of a) due.0) is due.1) (subst (λ a. DueForAsked a due.0 Document text) is due.2) in
     (content_at due.0 0, content_at due.0 1, found.0, found.1, found.2, found.3, found.4)

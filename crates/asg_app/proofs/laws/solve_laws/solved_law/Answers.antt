@@ -19,6 +19,6 @@ returns-clause-unsolvable c = λ words told text job is solves due.
     (content_at due.0 0, found.0, found.1)
 
 pub returns-clause-within : goal.returns-clause-within
-returns-clause-within c = λ job bytes text written.
+returns-clause-within c = λ job form bytes text written.
     let laws : HallLaws = record { differ = c.hall_rows_law.ensures.different; are_counted = c.hall_rows_law.ensures.counted } in
-    ⊎_elim (λ solved. length-solved laws job bytes text solved.0 solved.1) (λ solved. length-unsolvable laws job bytes text solved) written
+    ⊎_elim (λ solved. length-solved laws job bytes text solved.0 solved.1) (λ solved. length-unsolvable laws job form bytes text solved) written

@@ -4,5 +4,6 @@ mod grade_tests;
 mod level_tests;
 mod phase_cases;
 mod phase_tests;
+mod ranking_tests;
 mod tests;
 mod window_tests;

@@ -1,5 +1,6 @@
 //! Tests of `asg_admit`.
 
+mod masked;
 mod tests;
 mod totals;
 mod worked_phases;

@@ -6,6 +6,8 @@ mod of_lex;
 #[cfg(test)]
 mod of_objectives;
 #[cfg(test)]
+mod of_rank;
+#[cfg(test)]
 mod of_thresh;
 #[cfg(test)]
 mod of_window;

@@ -1,4 +1,4 @@
 //! Tests of `asg_objectives`.
 
-mod samples;
+pub(crate) mod samples;
 mod tests;

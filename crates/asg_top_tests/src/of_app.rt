@@ -7,6 +7,7 @@ mod check_tests;
 mod lex_tests;
 mod memory_runs;
 mod phase_tests;
+mod rank_tests;
 mod refused_tests;
 mod solve_tests;
 mod status_tests;

@@ -121,3 +121,14 @@ fn a_row_gets_another_column(rt: HostRuntime) -> Result<(), Fail> {
     assert!(rt; is_set(&matching));
     Ok(())
 }
+
+#[test]
+fn a_matching_takes_over_another(rt: HostRuntime) -> Result<(), Fail> {
+    let mut matching = Matching::make(rt.alloc(), 3)?;
+    matching.set(0, 2);
+    let mut taken = Matching::make(rt.alloc(), 3)?;
+    taken.set(1, 1);
+    taken.take(&matching);
+    assert!(rt; is_set(&taken));
+    Ok(())
+}

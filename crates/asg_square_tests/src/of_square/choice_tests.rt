@@ -28,7 +28,8 @@ fn are_chosen(choice: &Choice, columns: [Option<u32>; 3]) -> bool {
     [choice.get(0), choice.get(1), choice.get(2)] == columns
 }
 
-// Whether a valid choice of these columns gives this perfect assignment, and the assignment the choice.
+// Whether a valid choice of these columns gives this perfect assignment, and the assignment the
+// choice.
 fn is_perfect_of(
     alloc: Global,
     inst: &Instance,

@@ -177,8 +177,8 @@ fn zeros(alloc: Global, side: u32) -> Result<String, AllocError> {
     Ok(file)
 }
 
-// A request for a square of 201 rows, and how it ends: one to solve is refused, one to check for its
-// answer alone.
+// A request for a square of 201 rows, and how it ends: one to solve is refused, one to check for
+// its answer alone.
 type Large = (&'static [&'static str], u8, &'static str);
 
 static LARGE: [Large; 2] = [

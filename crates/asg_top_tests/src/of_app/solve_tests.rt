@@ -81,7 +81,7 @@ fn a_hall_set_of_two_rows(rt: HostRuntime) -> Result<(), Fail> {
 }
 
 // Words that are no request, and requests that aren't built.
-static NO_REQUESTS: [&[&str]; 18] = [
+static NO_REQUESTS: [&[&str]; 19] = [
     &[],
     &["solve", "bottleneck"],
     &["solve", "bottleneck", "f", "g"],
@@ -96,7 +96,8 @@ static NO_REQUESTS: [&[&str]; 18] = [
     &["check", "lex", "f", "g", "--count", "1"],
     &["solve", "capped=0", "f"],
     &["solve", "bottleneck", "f", "--brief"],
-    &["check", "bottleneck", "f", "g", "--count", "1"],
+    &["rank", "balanced", "f", "--count", "1"],
+    &["rank", "sum", "f", "--count", "1", "--brief"],
     &["check", "bottleneck", "f", "g", "--script", "f"],
     &["solve", "bottleneck", "f", "--place", "0"],
     &["make", "1", "1"],

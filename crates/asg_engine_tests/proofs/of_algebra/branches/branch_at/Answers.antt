@@ -1,0 +1,22 @@
+-- No row has a column yet, and a kept cell is a cell of the square.
+use Rattle.std.proofs.Common.{◌≡◌, sym, ◌∙◌, ap, subst, length}
+use Rattle.std.specs.Prelude.{is_some, None}
+use Rattle.std.proofs.lemmas.List.{length-replicate}
+use Rattle.asg_match.specs.Matching.{IsMatching, Matches}
+use Rattle.asg_match.specs.laws.Matchings.{Matches-empty, IsMatching-empty}
+use Rattle.asg_square.specs.laws.Masks.{some_kept, kept_some}
+use Rattle.asg_engine_tests.proofs.of_algebra.branches.branch_at.Goals as goal
+
+pub branch_from-branch-requires-clause-rest : goal.branch_from-branch-requires-clause-rest
+branch_from-branch-requires-clause-rest g c =
+    let Q = c.args.reduced.now.now in
+    let words = c.args.words.now in
+    record {
+      values = λ r k x row column is.
+          let kept = some_kept Q words r k (ap is_some is) in
+          c.requires.reduced.cells r k x row column (sym (kept_some Q words r k kept.0) ∙ is);
+      index_is_value = c.requires.reduced.index;
+      matching_side = ap length c.requires.matching ∙ length-replicate Q.side None;
+      columns = subst IsMatching (sym c.requires.matching) (IsMatching-empty Q.side);
+      absorbed = λ r k has. absurd (Matches-empty Q.side r k (subst (λ m. Matches m r k) c.requires.matching has));
+    }

@@ -1,0 +1,5 @@
+//! Tests of `asg_rank`.
+
+mod rankers;
+mod samples;
+mod tests;

@@ -1,0 +1,2 @@
+-- What follows from the definitions, for the ghost members of the kind.
+pub mod NarrowOrders

@@ -1,22 +1,16 @@
 -- The lists of trails by the table of records. No public clause cites this module.
-use Rattle.std.specs.Prelude.{◌≡◌, ℕ, zero, suc, ◌+◌, ◌≤◌, List, [], ◌∷◌, ◌++◌, length, map, Option, Some, None, IsSome, IfSome, slice_index_or, unwrap_or, option_map, option_and_then}
+use Rattle.std.specs.Prelude.{◌≡◌, ℕ, zero, suc, ◌+◌, ◌≤◌, List, [], ◌∷◌, ◌++◌, length, map, Option, Some, None, IsSome, IfSome, unwrap_or, option_map, option_and_then}
 use Rattle.std.specs.List.{range_with_len}
 use Rattle.asg_proof.specs.Phases.{PhaseOf, phase_of}
 use Rattle.asg_pool.specs.declared.links.Link.{Link}
-use Rattle.asg_pool.specs.declared.records.Records.{Records}
 use Rattle.asg_pool.specs.Forest.{Branch, Forest}
 use Rattle.asg_proof.specs.PromisedProofs.{IsPhaseOver}
 use Rattle.asg_pool.specs.Links.{Table, link_at, spare_of, most_room}
-use Rattle.asg_pool.specs.Strips.{Rows}
-
--- the phase of these lists at a place
-abbrev pub phase_in : {V : Type 0} → List (List V) → List (List ℕ) → List (List ℕ) → ℕ → PhaseOf V
-phase_in steps enters leaves k =
-    phase_of (slice_index_or steps k []) (slice_index_or enters k []) (slice_index_or leaves k [])
+use Rattle.asg_pool.specs.Strips.{Rows, row_at}
 
 -- the phase of the record at a place
 abbrev pub phase_at : {V : Type 0} → Rows V → Rows ℕ → Rows ℕ → ℕ → PhaseOf V
-phase_at steps enters leaves = phase_in steps.rows enters.rows leaves.rows
+phase_at steps enters leaves k = phase_of (row_at steps k) (row_at enters k) (row_at leaves k)
 
 -- the trail on which the record at a place grew
 abbrev pub parent_at : List (Option Link) → ℕ → Option ℕ
@@ -70,12 +64,8 @@ pub record IsRegion {V : Type 0} (side : ℕ) (L : Table) (steps : Rows V) (ente
   pub used : length L.slots ≤ L.room
   pub most : L.room ≤ most_room
 
--- there are three lists for each record
-pub record HasListsFor {V : Type 0} (slots : List (Option Link)) (records : Records V) : Type 0 where
-  pub steps : length slots ≤ length records.steps
-  pub enters : length slots ≤ length records.enters
-  pub leaves : length slots ≤ length records.leaves
-
--- the phase of the lists of records at a place
-abbrev pub phase_of_record : {V : Type 0} → Records V → ℕ → PhaseOf V
-phase_of_record records = phase_in records.steps records.enters records.leaves
+-- there are three rows for each record
+pub record HaveRowsFor {V : Type 0} (slots : List (Option Link)) (steps : Rows V) (enters leaves : Rows ℕ) : Type 0 where
+  pub steps_there : length slots ≤ length steps.rows
+  pub enters_there : length slots ≤ length enters.rows
+  pub leaves_there : length slots ≤ length leaves.rows

@@ -1,6 +1,5 @@
--- Rows of values, each in a list of its own. No public clause cites this module.
-use Rattle.std.specs.Prelude.{◌≡◌, ℕ, suc, ◌≤◌, List, [], ◌∷◌, ◌++◌, length, map, take, drop, All, Vec, vec_capacity, slice_index_or}
-use Rattle.std.specs.declared.alloc.Global.{Global}
+-- Rows of values, one behind another in one list. No public clause cites this module.
+use Rattle.std.specs.Prelude.{◌≡◌, ℕ, suc, ◌*◌, ◌≤◌, List, [], ◌∷◌, ◌++◌, length, take, drop, All, slice_index_or}
 
 -- the rows, each at most so wide, and for how many there is memory
 pub record Rows (T : Type 0) : Type 0 where
@@ -8,22 +7,18 @@ pub record Rows (T : Type 0) : Type 0 where
   pub room : ℕ
   pub rows : List (List T)
 
--- what the lists hold
-abbrev pub items_of : {T : Type 0} → List (Vec T Global) → List (List T)
-items_of lists = map (λ list. list.items) lists
+-- the rows of these lengths in a list that has so many places for each
+abbrev pub rows_of : {T : Type 0} → ℕ → List ℕ → List T → List (List T)
+rows_of width [] values = []
+rows_of width (n ∷ lens) values = take n values ∷ rows_of width lens (drop width values)
 
--- the rows in the first so many lists
-abbrev pub rows_of : {T : Type 0} → ℕ → List (Vec T Global) → List (List T)
-rows_of used lists = items_of (take used lists)
-
--- the list has memory for so many values
-abbrev pub HasRoom : {T : Type 0} → ℕ → Vec T Global → Type 0
-HasRoom width list = width ≤ vec_capacity list
-
--- the lists in use are among those that there are, each with memory for a row
-pub record IsStored {T : Type 0} (width used : ℕ) (lists : List (Vec T Global)) : Type 0 where
-  pub there : used ≤ length lists
-  pub roomy : All (HasRoom width) lists
+-- the list has its places for each row, none of which is wider, within the memory taken for so many rows
+pub record IsStored {T : Type 0} (width room : ℕ) (lens : List ℕ) (values : List T) (lens_room values_room : ℕ) : Type 0 where
+  pub count : length values ≡ length lens * width
+  pub within : All (λ n. n ≤ width) lens
+  pub used : length lens ≤ room
+  pub lens_fit : room ≤ lens_room
+  pub values_fit : room * width ≤ values_room
 
 -- the row at a place, none past the last
 abbrev pub row_at : {T : Type 0} → Rows T → ℕ → List T

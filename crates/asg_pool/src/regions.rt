@@ -21,9 +21,9 @@ use std::marker::Model;
 /// one, and then one more. A phase is stored once, in a record of its own, and serves every trail
 /// that grows on it.
 ///
-/// Only `reserve` takes memory: for each record three lists with room for as many entries as the
-/// side (the size of a step and 8 bytes each), and about 100 bytes more. What no phase is written
-/// into isn't touched. `into_phases` gives the lists of a trail away again.
+/// Only `reserve` takes memory: for each record places for as many entries as the side (the size of
+/// a step and 8 bytes each), and about 32 bytes more. What no phase is written into isn't touched.
+/// `into_phases` copies the phases of a trail.
 #[derive(Drop)]
 pub struct Region<V: Copy> {
     side: u32,
@@ -187,8 +187,8 @@ impl<V: Copy> Region<V> {
     }
 
     /// The phases that lead to a trail, in order; none where there is no trail. The region is given
-    /// away: the lists of these phases are moved out of it, and all else is let go of. The error is
-    /// want of memory for the list of the phases alone.
+    /// away: these phases are copied, and all else is let go of. The error is want of memory for the
+    /// copies.
     pub fn into_phases(self, alloc: Global, last: Option<Trail>) -> Result<Vec<Phase<V>>, NoMemory>
         requires { IfSome last (IsLive self) }
         ensures { IfOk result (λ phases. phases.items ≡ phases_to self last) }
@@ -201,9 +201,9 @@ impl<V: Copy> Region<V> {
             leaves,
         } = self;
         let records = Records {
-            steps: steps.into_lists(),
-            enters: enters.into_lists(),
-            leaves: leaves.into_lists(),
+            steps,
+            enters,
+            leaves,
         };
         records.phases_to(alloc, &links, number_of(last))
     }

@@ -1,37 +1,38 @@
-//! Rows of values, each in a list of its own.
+//! Rows of values, one behind another in one list.
 
-ghost use Rattle.std.specs.Prelude.{◌≡◌, ◌<◌, ◌≤◌, [], All, max, length, slice_set, slice_index_or};
-ghost use Rattle.std.specs.Prelude.{vec_capacity, IfOk, OnOk, OnErr};
-ghost use Rattle.asg_pool.specs.Strips.{Rows, row_at, with_row, HasRoom};
+ghost use Rattle.std.specs.Prelude.{◌≡◌, ◌<◌, ◌≤◌, ◌+◌, ◌-◌, ◌*◌, [], ◌∷◌, ◌++◌, List, max, length};
+ghost use Rattle.std.specs.Prelude.{vec_len, vec_capacity, OnOk, OnErr};
+ghost use Rattle.asg_pool.specs.Strips.{Rows, row_at, with_row};
 
 use crate::NoMemory;
 use std::alloc::Global;
 use std::marker::Model;
-use std::mem;
 
-// Rows of at most so many values: the first `used` of the lists. Memory is taken by `reserve`
-// alone, and what no row was written into isn't touched.
+// Rows of at most so many values. Row k has the places from k times the width on; those behind its
+// last value mean nothing. Memory is taken by `reserve` alone, and what lies behind the last row
+// isn't touched.
 #[derive(Drop)]
 pub(crate) struct Strips<T: Copy> {
-    alloc: Global,
     width: u32,
-    used: usize,
-    lists: Vec<Vec<T>>,
+    room: u32,
+    lens: Vec<u32>,
+    values: Vec<T>,
 }
 
 impl<T: Copy> Model for Strips<T> {
-    ghost use Rattle.std.specs.Prelude.{length};
+    ghost use Rattle.std.specs.Prelude.{vec_capacity};
     ghost use Rattle.asg_pool.specs.Strips.{Rows, rows_of, IsStored};
 
     ghost Value = { Rows T };
 
     ghost view = { λ s. record {
       width = s.width;
-      room = length s.lists.items;
-      rows = rows_of s.used s.lists.items;
+      room = s.room;
+      rows = rows_of s.width s.lens.items s.values.items;
     } };
 
-    ghost invariant = { λ s. IsStored s.width s.used s.lists.items };
+    ghost invariant = { λ s. IsStored s.width s.room s.lens.items s.values.items
+        (vec_capacity s.lens) (vec_capacity s.values) };
 }
 
 impl<T: Copy> Strips<T> {
@@ -40,10 +41,10 @@ impl<T: Copy> Strips<T> {
         ensures { result ≡ record { width = width; room = 0; rows = [] } }
     {
         Strips {
-            alloc,
             width,
-            used: 0,
-            lists: Vec::new(alloc),
+            room: 0,
+            lens: Vec::new(alloc),
+            values: Vec::new(alloc),
         }
     }
 
@@ -52,20 +53,32 @@ impl<T: Copy> Strips<T> {
         ensures ok { OnOk result (self.new ≡ record self.old { room = max self.old.room room }) }
         ensures err { OnErr result (self.new ≡ self.old) }
     {
-        let more = (room as usize).saturating_sub(self.lists.len());
-        let mut lists = empty_lists(self.alloc, more, self.width as usize)?;
-        self.lists.append(&mut lists)
+        if room <= self.room {
+            return Ok(());
+        }
+        let places = room as usize * self.width as usize;
+        self.lens.reserve(room as usize - self.lens.len())?;
+        self.values.reserve(places - self.values.len())?;
+        self.room = room;
+        Ok(())
     }
 
     // Writes a row at a place, or next after the last row.
     pub(crate) fn put(&mut self, k: u32, row: &[T])
         requires place { k ≤ length self.old.rows }
         requires room { k < self.old.room }
+        requires some { 1 ≤ length row.now }
         requires width { length row.now ≤ self.old.width }
         ensures { self.new ≡ record self.old { rows = with_row self.old.rows k row.now } }
     {
-        refill(&mut self.lists[k as usize], row);
-        self.used = self.used.max(k as usize + 1);
+        if (k as usize) < self.lens.len() {
+            let first = k as usize * self.width as usize;
+            self.values[first..first + row.len()].copy_from_slice(row);
+            self.lens[k as usize] = row.len() as u32;
+        } else {
+            append(&mut self.values, row, self.width as usize);
+            self.lens.push_reserved(row.len() as u32);
+        }
     }
 
     // The row at a place.
@@ -73,69 +86,22 @@ impl<T: Copy> Strips<T> {
         requires { k < length self.now.rows }
         ensures { result.now ≡ row_at self.now k }
     {
-        self.lists[k as usize].as_slice()
-    }
-
-    // The rows, to be taken one by one. Lists that no row is in are let go of.
-    pub(crate) fn into_lists(self) -> Lists<T>
-        ensures { result ≡ self.rows }
-    {
-        let Strips {
-            alloc,
-            width: _,
-            used,
-            mut lists,
-        } = self;
-        lists.truncate(used);
-        Lists { alloc, lists }
+        let first = k as usize * self.width as usize;
+        &self.values[first..first + self.lens[k as usize] as usize]
     }
 }
 
-// Rows that are given away.
-#[derive(Drop)]
-pub(crate) struct Lists<T: Copy> {
-    alloc: Global,
-    lists: Vec<Vec<T>>,
-}
-
-impl<T: Copy> Model for Lists<T> {
-    ghost use Rattle.std.specs.Prelude.{List};
-    ghost use Rattle.asg_pool.specs.Strips.{items_of};
-
-    ghost Value = { List (List T) };
-
-    ghost view = { λ s. items_of s.lists.items };
-}
-
-impl<T: Copy> Lists<T> {
-    // Takes a row, and leaves an empty one.
-    pub(crate) fn take(&mut self, k: u32) -> Vec<T>
-        requires { k < length self.old }
-        ensures row { result.items ≡ slice_index_or self.old k [] }
-        ensures rest { self.new ≡ slice_set self.old k [] }
-    {
-        mem::replace(&mut self.lists[k as usize], Vec::new(self.alloc))
-    }
-}
-
-// So many empty lists, each with memory for so many values.
-fn empty_lists<T: Copy>(alloc: Global, count: usize, width: usize) -> Result<Vec<Vec<T>>, NoMemory>
-    ensures count { IfOk result (λ lists. length lists.items ≡ count) }
-    ensures room { IfOk result (λ lists. All (HasRoom width) lists.items) }
+// Puts a row behind the values, and its first value again and again up to the width.
+fn append<T: Copy>(values: &mut Vec<T>, row: &[T], width: usize)
+    requires some { 1 ≤ length row.now }
+    requires width { length row.now ≤ width }
+    requires room { vec_len values.old + width ≤ vec_capacity values.old }
+    ensures items { (more : List T) × (values.new.items ≡ values.old.items ++ (row.now ++ more))
+        × (length row.now + length more ≡ width) }
+    ensures capacity { vec_capacity values.old ≤ vec_capacity values.new }
 {
-    let mut lists = Vec::with_capacity(alloc, count)?;
-    for _ in 0..count {
-        lists.push(Vec::with_capacity(alloc, width)?)?;
+    let _ = values.extend_from_slice(row);
+    for _ in row.len()..width {
+        values.push_reserved(row[0]);
     }
-    Ok(lists)
-}
-
-// Writes a row into a list that has memory for it.
-fn refill<T: Copy>(list: &mut Vec<T>, row: &[T])
-    requires { length row.now ≤ vec_capacity list.old }
-    ensures items { list.new.items ≡ row.now }
-    ensures capacity { vec_capacity list.old ≤ vec_capacity list.new }
-{
-    list.clear();
-    let _ = list.extend_from_slice(row);
 }

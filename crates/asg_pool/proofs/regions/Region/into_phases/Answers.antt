@@ -1,9 +1,18 @@
-use Rattle.std.proofs.Common.{◌≡◌, sym, ap, ◌∙◌}
+use Rattle.std.proofs.Common.{◌≡◌, sym, ap, ◌∙◌, arith}
 use Rattle.std.proofs.lemmas.Result.{IfOk-weaker}
 use Rattle.asg_pool.specs.Forest.{phases_to}
-use Rattle.asg_pool.specs.Paths.{path, depth_at, phase_at, phase_in}
+use Rattle.asg_pool.specs.Paths.{path, depth_at, phase_at}
 use Rattle.asg_pool.proofs.ForestLemmas.{way_there, way_shown}
 use Rattle.asg_pool.proofs.regions.Region.into_phases.Goals as goal
+
+pub phases_to-requires-clause-rows : goal.phases_to-requires-clause-rows
+phases_to-requires-clause-rows g c =
+    let i = c.self.invariant in
+    record {
+      steps_there = let count = i.steps_rows.count in omega (arith, count);
+      enters_there = let count = i.enters_rows.count in omega (arith, count);
+      leaves_there = let count = i.leaves_rows.count in omega (arith, count);
+    }
 
 pub phases_to-requires-clause-there : goal.phases_to-requires-clause-there
 phases_to-requires-clause-there g c =
@@ -16,17 +25,11 @@ returns g c =
     let n = c.number_of.result in
     let slots = s.links.slots in
     let phase = phase_at s.steps s.enters s.leaves in
-    let moved = phase_in c.into_lists.result c.into_lists-2.result c.into_lists-3.result in
-    let same : moved ≡ phase =
-    ap (λ xs. phase_in xs c.into_lists-2.result c.into_lists-3.result) c.into_lists.ensures
-    ∙ ap (λ xs. phase_in s.steps.rows xs c.into_lists-3.result) c.into_lists-2.ensures
-    ∙ ap (phase_in s.steps.rows s.enters.rows) c.into_lists-3.ensures in
     let there = way_there s.side s.links phase c.args.self c.args.last n c.self.view_is c.requires c.number_of.ensures in
-    let list : path slots moved (depth_at slots n) n ≡ phases_to c.args.self c.args.last =
-    ap (λ f. path slots f (depth_at slots n) n) same
-    ∙ sym (way_shown s.side s.links phase n there)
+    let list : path slots phase (depth_at slots n) n ≡ phases_to c.args.self c.args.last =
+    sym (way_shown s.side s.links phase n there)
     ∙ ap (λ F. phases_to F n) c.self.view_is
     ∙ ap (phases_to c.args.self) c.number_of.ensures in
-    IfOk-weaker c.phases_to.result (λ phases. phases.items ≡ path slots moved (depth_at slots n) n) (λ phases. phases.items ≡ phases_to c.args.self c.args.last)
+    IfOk-weaker c.phases_to.result (λ phases. phases.items ≡ path slots phase (depth_at slots n) n) (λ phases. phases.items ≡ phases_to c.args.self c.args.last)
     (λ phases is. is ∙ list)
     c.phases_to.ensures

@@ -1,11 +1,48 @@
-use Rattle.std.proofs.Common.{◌<◌, ◌≤◌, length, ap, arith}
-use Rattle.asg_pool.proofs.StripLemmas.{rows_count, strip_put}
+use Rattle.std.proofs.Common.{◌≡◌, ℕ, ◌+◌, ◌-◌, ◌*◌, ◌<◌, ◌≤◌, ◌++◌, ◌∷◌, [], List, length, set, ap, ◌∙◌, arith}
+use Rattle.std.proofs.lemmas.List.{with_items_is}
+use borrow.Rule.Slice.PartMut.{put_mid, same_len_mid}
+use Rattle.asg_pool.specs.Strips.{Rows, rows_of}
+use Rattle.asg_pool.proofs.StripLemmas.{rows_count, strip_pushed, strip_put}
 use Rattle.asg_pool.proofs.strips.Strips.put.Goals as goal
 
-pub returns : goal.returns
-returns g c =
+pub returns-then-k-len : goal.returns-then-k-len
+returns-then-k-len g c =
     let s = c.self.inside in
-    let near : c.args.k ≤ s.used = omega (arith, rows_count s.used s.lists.items c.self.invariant.there, ap (λ v. length v.rows) c.self.view_is) in
-    let below : c.args.k < length s.lists.items = omega (arith, ap (λ v. v.room) c.self.view_is) in
-    strip_put s.width s.used c.max-self-inside.result c.args.k s.lists.items c.refill.new.list c.args.row.now c.args.self.now c.self.view_is near below
-    c.max-self-inside.ensures c.refill.ensures.items
+    let i = c.self.invariant in
+    let row = c.args.row.now in
+    let at = c.args.k * s.width in
+    let below : c.args.k < length s.lens.items = (let less = c.if-k-len.true in let n = c.len.ensures in let len = s.lens.ok.0 in omega (arith, less, n, len)) in
+    let short : length row ≤ s.width = (let w = c.requires.width in let same = ap (λ v. v.width) c.self.view_is in omega (arith, w, same)) in
+    let wide : at + length row - at ≡ length row = omega arith in
+    let strip : List g.row.T.Denot → Rows g.row.T.Denot = λ values. record { width = s.width; room = s.room; rows = rows_of s.width (set s.lens.items c.args.k (length row)) values } in
+    let now = c.deref_mut.result.now in
+    let part = c.copy_from_slice.new.self in
+    let written = put_mid at (at + length row - at) now part in
+    let whole =
+    with_items_is s.values written
+    (let long = same_len_mid at (at + length row - at) now part c.copy_from_slice.ensures.len in
+    let same = ap length c.deref_mut.ensures.value in
+    let len = s.values.ok.0 in
+    omega (arith, long, same, len)) in
+    ap strip whole
+    ∙ ap (λ m. strip (put_mid at m now part)) wide
+    ∙ ap (λ values. strip (put_mid at (length row) values part)) c.deref_mut.ensures.value
+    ∙ ap (λ ys. strip (put_mid at (length row) s.values.items ys)) c.copy_from_slice.ensures.after
+    ∙ strip_put s.width s.room s.lens.items s.values.items row c.args.self.now c.self.view_is i.count i.within c.args.k below short
+
+pub returns-else-k-len : goal.returns-else-k-len
+returns-else-k-len g c =
+    let s = c.self.inside in
+    let i = c.self.invariant in
+    let row = c.args.row.now in
+    let e = c.append.ensures.items in
+    let last : c.args.k ≡ length s.lens.items =
+    (let from = c.if-k-len.false in let n = c.len.ensures in let len = s.lens.ok.0 in
+    let count = rows_count s.width s.lens.items s.values.items in
+    let rows = ap (λ v. length v.rows) c.self.view_is in
+    let place = c.requires.place in
+    omega (arith, from, n, len, count, rows, place)) in
+    let strip : List ℕ → List g.row.T.Denot → Rows g.row.T.Denot = λ lens values. record { width = s.width; room = s.room; rows = rows_of s.width lens values } in
+    ap (λ lens. strip lens c.append.new.values.items) c.push_reserved.ensures.items
+    ∙ ap (strip (s.lens.items ++ length row ∷ [])) e.1
+    ∙ strip_pushed s.width s.room s.lens.items s.values.items row c.args.self.now c.self.view_is i.count i.within e.0 c.args.k last

@@ -5,7 +5,7 @@ use Rattle.asg_model.specs.Problem.{Problem}
 use Rattle.asg_model.specs.Shapes.{square_side}
 use Rattle.asg_model.specs.ValidChoice.{IsValid}
 use Rattle.asg_order.specs.Bridge.{choice_fold}
-use Rattle.asg_order.specs.Monoid.{IsLe}
+use Rattle.asg_order.specs.Monoid.{Monoid, IsLe}
 use Rattle.asg_rank.specs.declared.ranker.Next.{Next}
 use Rattle.asg_rank.specs.declared.ranker.Next.TheVariants.{Answer, Done}
 use Rattle.asg_rank.specs.declared.searches.Search.{Search}
@@ -14,12 +14,16 @@ use Rattle.asg_rank.specs.Cuts.{AreBitsFor, fixes_cell}
 use Rattle.asg_rank.specs.Entries.{entry_at}
 use Rattle.asg_rank.specs.Rooms.{answer_room}
 use Rattle.asg_rank.specs.Rules.{Rules, IsReducedTo}
-use Rattle.asg_rank.specs.Searches.{winner_in, given_of, IsSearch, IsRankable, IsBase, HasMemory}
+use Rattle.asg_rank.specs.Searches.{winner_in, given_of, IsBehind, IsSearch, IsRankable, IsBase, HasMemory}
 use Rattle.asg_rank.specs.Trees.{given_at, HasRoomFor}
 
 -- the node that gave the last answer
 abbrev pub last_winner : {V : Type 0} → V → Search V → ℕ
 last_winner unit S = winner_in unit S.slots.used (S.given - 1)
+
+-- no child of that node can be kept: all slots are in use, and no index there is greater than the node's
+abbrev pub IsLastBehind : {V : Type 0} → Monoid V → Search V → Type 0
+IsLastBehind M S = IsBehind M S.slots (entry_at M.unit S.tree.entries.items (last_winner M.unit S)).index
 
 -- an answer was given, and so many children of its node were made
 pub record IsGrowing {V : Type 0} (R : Rules V) (X : Problem) (count made : ℕ) (S : Search V) : Type 0 where

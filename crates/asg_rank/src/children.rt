@@ -1,11 +1,12 @@
 //! The children of the node that gave the last answer.
 
-ghost use Rattle.std.specs.Prelude.{◌≡◌, ◌≢◌, ℕ, ◌+◌, ◌<◌, ◌≤◌, true, IsTrue, None, IfSome};
+ghost use Rattle.std.specs.Prelude.{◌≡◌, ◌≢◌, ℕ, ◌+◌, ◌<◌, ◌≤◌, true, false, IsTrue, None, IfSome};
 ghost use Rattle.std.specs.Prelude.{length, slice_set};
 ghost use Rattle.asg_model.specs.declared.parts.Cost.{Cost};
 ghost use Rattle.asg_match.specs.Matching.{Matches};
 ghost use Rattle.asg_model.specs.Limits.{most_side};
 ghost use Rattle.asg_model.specs.Live.{is_active};
+ghost use Rattle.asg_model.specs.Problem.{Problem};
 ghost use Rattle.asg_model.specs.Sums.{count_below};
 ghost use Rattle.asg_order.specs.Monoid.{IsValue};
 ghost use Rattle.asg_algebra.specs.Branches.{Branches};
@@ -13,7 +14,7 @@ ghost use Rattle.asg_algebra.specs.Masked.{masked_reduced};
 ghost use Rattle.asg_algebra.specs.Rest.{IsRestOf};
 ghost use Rattle.asg_pool.specs.Forest.{IsLive};
 ghost use Rattle.asg_square.specs.Masked.{keeps};
-ghost use Rattle.asg_rank.specs.Expansions.{IsGrowing, IsExpanding, fixed_for, kept_for};
+ghost use Rattle.asg_rank.specs.Expansions.{IsGrowing, IsExpanding, IsLastBehind, fixed_for, kept_for};
 ghost use Rattle.asg_rank.specs.Rules.{rules_of};
 ghost use Rattle.asg_rank.specs.Searches.{given_of, IsBehind, IsReady};
 ghost use Rattle.asg_rank.specs.Slots.{Ascends, HaveValues};
@@ -47,6 +48,23 @@ fn is_behind<M: DMonoid>(m: &M, slots: &Slots<M::Value>, index: M::Value) -> boo
         Some(top) => m.le(top, index),
         None => false,
     }
+}
+
+/// Whether no child of the node that gave the last answer can be kept: there is room for no more
+/// answers, or all slots are in use and no index there is greater than the node's.
+pub(crate) fn are_all_behind<M: DMonoid>(m: &M, search: &Search<M::Value>) -> bool
+    requires growing { (enter : Cost → M.Value) × (X : Problem) × (count : ℕ)
+        × IsGrowing (rules_of (M.monoid_of m.now) (M.difference m.now) enter) X count 0 search.now }
+    ensures behind { IsTrue result → IsLastBehind (M.monoid_of m.now) search.now }
+    ensures less { result ≡ false → search.now.given < search.now.slots.room }
+{
+    let given = search.given as usize;
+    if given == search.slots.room() {
+        return true;
+    }
+    let node = search.slots.node(given - 1);
+    let parent = entry(&search.tree.entries, node);
+    is_behind(m, &search.slots, parent.index)
 }
 
 // Grows one tree from a row that loses its column, on the cells of the square that the bits keep.
@@ -242,13 +260,13 @@ pub(crate) fn expand<M: DMonoid>(m: &M, inst: &Instance, search: &mut Search<M::
     }
 }
 
-/// Leaves the children of the node that gave the last answer open, with its trail. It takes no
-/// memory.
+/// Leaves the children of the node that gave the last answer open, with its trail, where none of
+/// them can be kept. It takes no memory.
 pub(crate) fn leave<M: DMonoid>(m: &M, inst: &Instance, search: &mut Search<M::Value>)
     requires growing { (enter : Cost → M.Value) × (count : ℕ)
         × IsGrowing (rules_of (M.monoid_of m.now) (M.difference m.now) enter) inst.now count 0
         search.old }
-    requires less { search.old.given ≡ search.old.slots.room }
+    requires behind { IsLastBehind (M.monoid_of m.now) search.old }
     ensures ready { (enter : Cost → M.Value) (count : ℕ)
         → let R = rules_of (M.monoid_of m.now) (M.difference m.now) enter in
         IsGrowing R inst.now count 0 search.old

@@ -7,7 +7,7 @@ ghost use Rattle.asg_rank.specs.Rooms.{answer_room};
 ghost use Rattle.asg_rank.specs.Rules.{rules_of};
 ghost use Rattle.asg_rank.specs.Searches.{given_of, IsReady};
 
-use crate::children::{expand, leave};
+use crate::children::{are_all_behind, expand, leave};
 use crate::desks::Desk;
 use crate::giving::give;
 use crate::ranker::Next;
@@ -30,8 +30,8 @@ pub(crate) struct Search<V: Copy> {
     pub(crate) desk: Desk<V>,
 }
 
-// Makes the children of the node that gave the last answer; those of the last answer that there is
-// room for are left open.
+// Makes the children of the node that gave the last answer; where none of them can be kept they are
+// left open.
 fn follow<M: DMonoid>(m: &M, inst: &Instance, search: &mut Search<M::Value>)
     requires growing { (enter : Cost → M.Value) × (count : ℕ)
         × IsGrowing (rules_of (M.monoid_of m.now) (M.difference m.now) enter) inst.now count 0
@@ -41,10 +41,10 @@ fn follow<M: DMonoid>(m: &M, inst: &Instance, search: &mut Search<M::Value>)
         IsGrowing R inst.now count 0 search.old → IsReady R inst.now count search.new }
     ensures given { given_of search.new ≡ given_of search.old }
 {
-    if (search.given as usize) < search.slots.room() {
-        expand(m, inst, search);
-    } else {
+    if are_all_behind(m, search) {
         leave(m, inst, search);
+    } else {
+        expand(m, inst, search);
     }
 }
 

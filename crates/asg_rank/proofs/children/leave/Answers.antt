@@ -3,6 +3,7 @@ use Rattle.asg_model.specs.Counts.{placed}
 use Rattle.asg_rank.specs.Entries.{entry_at}
 use Rattle.asg_rank.specs.Expansions.{IsGrowing}
 use Rattle.asg_rank.specs.Rules.{rules_of}
+use Rattle.asg_rank.specs.Searches.{IsBehind}
 use Rattle.asg_rank.specs.Slots.{slot_at}
 use Rattle.asg_rank.proofs.GrowCases.{node_from, node_there}
 use Rattle.asg_rank.proofs.GrowStarts.{last_used, node_fits, few_left}
@@ -103,10 +104,14 @@ branches-preserved g c =
     let test = c.branches-test.true in
     let end : c.branches.branch ≤ placed X = (let p = c.placed-branch-end.ensures in omega (arith, test, p)) in
     let laws = g.met.M.Ordered.laws m in
-    let full : T.given ≡ T.slots.room = i.number ∙ c.requires.less ∙ ap (λ s. s.room) (sym i.slots) in
-    let node_is = c.node-node.ensures M.unit ∙ sym (λ j. (slot_at M.unit (i.slots j).used (i.number j - 1)).node) in
+    let S = c.args.search.now in
+    let n_is = c.node-node.ensures M.unit in
+    let node_is = n_is ∙ sym (λ j. (slot_at M.unit (i.slots j).used (i.number j - 1)).node) in
     let push = c.push_child.ensures in
-    let x_is = i.parent M.unit ∙ sym (c.entry-parent.ensures M.unit ∙ ap (λ xs. entry_at M.unit xs c.node-node.result) c.deref.ensures.value) in
+    let parent_is = c.entry-parent.ensures M.unit ∙ ap (λ xs. entry_at M.unit xs c.node-node.result) c.deref.ensures.value in
+    let x_is = i.parent M.unit ∙ sym parent_is in
+    let behind = subst (λ s. IsBehind M s c.entry-parent.result.index) (sym i.slots)
+    (subst (λ y. IsBehind M S.slots y.index) (sym (parent_is ∙ ap (entry_at M.unit S.tree.entries.items) n_is)) c.requires.behind) in
     let tree = c.push_child.new.tree in
     record {
       from = omega arith;
@@ -114,10 +119,10 @@ branches-preserved g c =
       given = i.given;
       number = i.number;
       slots = i.slots;
-      parent = λ unit. parent_next R laws (c.raised_law.ensures.instances e.0) X e.1 c.branches.branch i.from T here full end c.node-node.result c.entry-parent.result node_is x_is tree push.entries unit ∙ i.parent unit;
+      parent = λ unit. parent_next R laws (c.raised_law.ensures.instances e.0) X e.1 c.branches.branch i.from T here end c.node-node.result c.entry-parent.result node_is x_is behind tree push.entries unit ∙ i.parent unit;
       growing = λ enter count growing.
-          left_next (rules_of M (g.M.DMonoid.difference m) enter) laws (c.raised_law.ensures.instances enter) X count c.branches.branch i.from T (i.growing enter count growing) full end c.node-node.result c.entry-parent.result node_is x_is tree push.entries push.capacity push.region push.halls;
-      all_open = open_next R laws (c.raised_law.ensures.instances e.0) X e.1 c.branches.branch i.from T here full end c.node-node.result c.entry-parent.result node_is x_is tree push.entries i.all_open;
+          left_next (rules_of M (g.M.DMonoid.difference m) enter) laws (c.raised_law.ensures.instances enter) X count c.branches.branch i.from T (i.growing enter count growing) end c.node-node.result c.entry-parent.result node_is x_is behind tree push.entries push.capacity push.region push.halls;
+      all_open = open_next R laws (c.raised_law.ensures.instances e.0) X e.1 c.branches.branch i.from T here end c.node-node.result c.entry-parent.result node_is x_is behind tree push.entries i.all_open;
     }
 
 pub returns-clause-ready : goal.returns-clause-ready

@@ -67,6 +67,7 @@ module _ {V : Type 0} (R : Rules V) (X : Problem) (count made : ℕ) (S : Search
           some = growing.some;
           search = growing.search;
           base = growing.base;
+          standing = growing.standing;
           memory = memory_with X S growing.memory S.tree S.slots (record S.desk { bits = bits }) refl refl growing.memory.used_fit refl refl
               (record {
                 work = is.work;

@@ -10,9 +10,10 @@ use Rattle.asg_rank.specs.declared.trees.Tree.{Tree}
 use Rattle.asg_rank.specs.Searches.{IsDesk, HasMemory}
 use Rattle.asg_rank.specs.Slots.{SlotList}
 
--- the square and the bits of a desk stay, and it is one for the side
+-- the square and the bits of a desk stay, and its node, and it is one for the side
 pub record DeskStays {V : Type 0} (side : ℕ) (before after : Desk V) : Type 0 where
   pub work : after.work ≡ before.work
+  pub node : after.node ≡ before.node
   pub bits : after.bits ≡ before.bits
   pub is : IsDesk side after
 
@@ -26,6 +27,7 @@ module _ {V : Type 0} (side : ℕ) (before after : Desk V) where
       let many = is.ids in
       record {
         work = ap (λ (d : Desk V). d.work) same;
+        node = ap (λ (d : Desk V). d.node) same;
         bits = ap (λ (d : Desk V). d.bits) same;
         is = record {
           work = ap (λ (d : Desk V). d.work.now.side) same ∙ is.work;
@@ -48,6 +50,7 @@ module _ {V : Type 0} (side : ℕ) (before after : Desk V) where
       let many = is.ids in
       record {
         work = ap (λ (d : Desk V). d.work) same ∙ stays.work;
+        node = ap (λ (d : Desk V). d.node) same ∙ stays.node;
         bits = ap (λ (d : Desk V). d.bits) same ∙ stays.bits;
         is = record {
           work = ap (λ (d : Desk V). d.work.now.side) same ∙ is.work;

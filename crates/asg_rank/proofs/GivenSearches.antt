@@ -4,7 +4,7 @@ use Rattle.std.specs.Prelude.{All, vec_len, vec_capacity}
 use Rattle.std.proofs.lemmas.List.{length-take-le, length-append, take_more, take-set, get_or-set_same, length-set}
 use Rattle.asg_model.specs.Counts.{placed}
 use Rattle.asg_model.specs.Problem.{Problem}
-use Rattle.asg_pool.specs.Forest.{Forest}
+use Rattle.asg_pool.specs.Forest.{Forest, trail_at}
 use Rattle.asg_rank.specs.HallPools.{HallSets}
 use Rattle.asg_rank.specs.declared.entries.Entry.{Entry}
 use Rattle.asg_rank.specs.declared.entries.State.TheVariants.{Answered}
@@ -14,9 +14,11 @@ use Rattle.asg_rank.specs.Entries.{entry_at, with_state}
 use Rattle.asg_rank.specs.Expansions.{IsGrowing, IsLeastNew, IsOneMore}
 use Rattle.asg_rank.specs.Rules.{Rules, IsReducedTo}
 use Rattle.asg_rank.specs.Searches.{winner_in, given_of, IsAnswer, IsSearch, IsBase, IsReady, HasMemory}
+use Rattle.asg_rank.specs.Settled.{IsStanding}
 use Rattle.asg_rank.specs.Slots.{SlotList, slot_at}
 use Rattle.asg_rank.specs.Trees.{HasRoomFor}
 use Rattle.asg_rank.proofs.EntryLists.{entry_kept, count_same}
+use Rattle.asg_rank.proofs.KeptSquares.{standing_kept}
 use Rattle.asg_rank.proofs.SearchSteps.{search_answered}
 
 -- as many answers as were counted
@@ -51,7 +53,11 @@ module _ {V : Type 0} (R : Rules V) (X : Problem) (count : ℕ) (S U : Search V)
       pub one_more : IsOneMore R X (given_of S) (given_of U)
       one_more = record { choice = f; appended = given_now; least = least }
 
-      answered : IsSearch R X (length S.tree.entries.items + placed X) (given_of S ++ f ∷ []) S.slots U.tree
+      -- a search in which the nodes keep their parts
+      abbrev KeepsParts : ℕ → List (List (Option ℕ)) → SlotList V → Type 0
+      KeepsParts n given slots = (now : IsSearch R X n given slots U.tree) × ((m : ℕ) → m ≤ length S.tree.entries.items → now.part m ≡ ready.search.part m)
+
+      answered : KeepsParts (length S.tree.entries.items + placed X) (given_of S ++ f ∷ []) S.slots
       answered =
           search_answered R X (given_of S) S.slots S.tree U.tree ready.search ready.rankable.place (omega (arith, counted, less)) f
           (subst (λ a. IsAnswer R X (ready.search.part (winner_in R.monoid.unit S.slots.used a)) (slot_at R.monoid.unit S.slots.used a) f) (sym counted) answer)
@@ -59,17 +65,36 @@ module _ {V : Type 0} (R : Rules V) (X : Problem) (count : ℕ) (S U : Search V)
           (entries_are ∙ ap (λ a. with_state R.monoid.unit S.tree.entries.items (winner_in R.monoid.unit S.slots.used a) (Answered (a + 1))) (sym counted))
           region_is halls_are
 
-      search_now : IsSearch R X (1 + length (given_of U) * placed X) (given_of U) U.slots U.tree
+      search_now : KeepsParts (1 + length (given_of U) * placed X) (given_of U) U.slots
       search_now =
-          subst (λ s. IsSearch R X (1 + length (given_of U) * placed X) (given_of U) s U.tree) (sym slots_are)
-          (subst (λ g. IsSearch R X (1 + length g * placed X) g S.slots U.tree) (sym given_now)
-          (subst (λ n. IsSearch R X n (given_of S ++ f ∷ []) S.slots U.tree) answered.tree.upto_is answered))
+          subst (λ s. KeepsParts (1 + length (given_of U) * placed X) (given_of U) s) (sym slots_are)
+          (subst (λ g. KeepsParts (1 + length g * placed X) g S.slots) (sym given_now)
+          (subst (λ n. KeepsParts n (given_of S ++ f ∷ []) S.slots) answered.0.tree.upto_is answered))
+
+      total : length U.tree.entries.items ≡ length S.tree.entries.items
+      total =
+          let slot = ready.search.kept.each S.given less in
+          ap (λ (xs : List (Entry V)). length xs) entries_are ∙ count_same R.monoid.unit S.tree.entries.items (winner_in R.monoid.unit S.slots.used S.given) slot.from slot.upto (Answered (S.given + 1))
+
+      -- the trails and the indexes stay
+      entry_stays : {A : Type 0} (get : Entry V → A) → ((e : Entry V) → get (record e { state = Answered (S.given + 1) }) ≡ get e) → (n : ℕ) → 1 ≤ n → get (entry_at R.monoid.unit U.tree.entries.items n) ≡ get (entry_at R.monoid.unit S.tree.entries.items n)
+      entry_stays get same n from =
+          let slot = ready.search.kept.each S.given less in
+          ap (λ (xs : List (Entry V)). get (entry_at R.monoid.unit xs n)) entries_are ∙ entry_kept R.monoid.unit S.tree.entries.items (winner_in R.monoid.unit S.slots.used S.given) slot.from slot.upto (Answered (S.given + 1)) get same n from
+
+      standing_now : U.desk.work ≡ S.desk.work → U.desk.node ≡ S.desk.node → IsStanding R U.tree search_now.0.part U.desk.node U.desk.work
+      standing_now work_is stands_is =
+          subst (λ n. IsStanding R U.tree search_now.0.part n U.desk.work) (sym stands_is)
+          (subst (λ w. IsStanding R U.tree search_now.0.part S.desk.node w) (sym work_is)
+          (standing_kept R S.tree U.tree ready.search.part search_now.0.part (λ t live. ap (λ (F : Forest V). trail_at F t) region_is) (omega (arith, total))
+          (λ n from there. (ready.search.tree.nodes n from there).leads.live)
+          (λ n from there. entry_stays (λ e. e.trail) (λ e. refl) n from)
+          (λ n from there. entry_stays (λ e. e.index) (λ e. refl) n from)
+          search_now.1 S.desk.node S.desk.work ready.standing))
 
       -- the children of its node are to come
-      pub growing_now : IsGrowing R X count 0 U
-      growing_now =
-          let slot = ready.search.kept.each S.given less in
-          let total : length U.tree.entries.items ≡ length S.tree.entries.items = ap (λ (xs : List (Entry V)). length xs) entries_are ∙ count_same R.monoid.unit S.tree.entries.items (winner_in R.monoid.unit S.slots.used S.given) slot.from slot.upto (Answered (S.given + 1)) in
+      pub growing_now : U.desk.work ≡ S.desk.work → U.desk.node ≡ S.desk.node → IsGrowing R X count 0 U
+      growing_now work_is stands_is =
           let made = ready.search.tree.upto_is in
           let times : length (given_of S) * placed X ≡ S.given * placed X = ap (λ n. n * placed X) counted in
           let back : (U.given - 1) * placed X ≡ S.given * placed X = ap (λ n. n * placed X) (let e : U.given - 1 ≡ S.given = omega (arith, given_is) in e) in
@@ -88,8 +113,9 @@ module _ {V : Type 0} (R : Rules V) (X : Problem) (count : ℕ) (S U : Search V)
           record {
             rankable = ready.rankable;
             some = omega (arith, given_is);
-            search = search_now;
+            search = search_now.0;
             base = base_now;
+            standing = standing_now work_is stands_is;
             memory = memory;
             room_is = room ∙ ready.room_is;
             made_upto = omega arith;
@@ -103,11 +129,9 @@ module _ {V : Type 0} (R : Rules V) (X : Problem) (count : ℕ) (S U : Search V)
         where
           base_now : IsBase R X U.tree U.base
           base_now =
-              let slot = ready.search.kept.each S.given less in
-              let n = winner_in R.monoid.unit S.slots.used S.given in
               let was = ready.base (omega (arith, less)) in
-              let trail : (entry_at R.monoid.unit U.tree.entries.items 1).trail ≡ (entry_at R.monoid.unit S.tree.entries.items 1).trail = ap (λ (xs : List (Entry V)). (entry_at R.monoid.unit xs 1).trail) entries_are ∙ entry_kept R.monoid.unit S.tree.entries.items n slot.from slot.upto (Answered (S.given + 1)) (λ e. e.trail) (λ e. refl) 1 (omega arith) in
-              let index : (entry_at R.monoid.unit U.tree.entries.items 1).index ≡ (entry_at R.monoid.unit S.tree.entries.items 1).index = ap (λ (xs : List (Entry V)). (entry_at R.monoid.unit xs 1).index) entries_are ∙ entry_kept R.monoid.unit S.tree.entries.items n slot.from slot.upto (Answered (S.given + 1)) (λ e. e.index) (λ e. refl) 1 (omega arith) in
+              let trail : (entry_at R.monoid.unit U.tree.entries.items 1).trail ≡ (entry_at R.monoid.unit S.tree.entries.items 1).trail = entry_stays (λ e. e.trail) (λ e. refl) 1 (omega arith) in
+              let index : (entry_at R.monoid.unit U.tree.entries.items 1).index ≡ (entry_at R.monoid.unit S.tree.entries.items 1).index = entry_stays (λ e. e.index) (λ e. refl) 1 (omega arith) in
               subst (λ b. IsBase R X U.tree b) (sym base_is)
               (subst (λ t. IsReducedTo R U.tree.region X t (entry_at R.monoid.unit U.tree.entries.items 1).index S.base) (sym trail)
               (subst (λ z. IsReducedTo R U.tree.region X (entry_at R.monoid.unit S.tree.entries.items 1).trail z S.base) (sym index)

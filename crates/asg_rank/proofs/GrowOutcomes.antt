@@ -231,8 +231,8 @@ module _ {V : Type 0} (R : Rules V) (laws : IsOrderedMonoid R.monoid) where
             let most : tree.halls.most ≡ S.tree.halls.most = ap (λ (H : HallSets). H.most) halls in
             expanding_more R X count made S growing less tree S.slots desk e entries grew.keeps (halls_same tree.halls halls)
             (next_open R X count made S growing less tree.region tree.halls trail index grew.leads grew.next)
-            kept (λ j h. refl) refl memory capacity (omega (arith, one, phases, spare)) (omega (arith, one, sets, count_is, most))
-            (kept_for X made S) (kept_for X made S) expanding refl stays.work bits_stay refl (node_from R X count made S growing) (node_there R X count made S growing)
+            kept (λ j h. refl) refl memory capacity (omega (arith, one, phases, spare)) (omega (arith, one, sets, count_is, most)) stays.work stays.node
+            (kept_for X made S) (kept_for X made S) expanding refl bits_stay refl (node_from R X count made S growing) (node_there R X count made S growing)
 
         -- the child has its best choice, and was offered a slot
         pub child_kept : (slots : SlotList V) (matching : List (Option ℕ)) (trail : Option ℕ) (index : V) → tree.entries.items ≡ S.tree.entries.items ++ entry_of node (made + 1) Open trail index ∷ []
@@ -262,8 +262,8 @@ module _ {V : Type 0} (R : Rules V) (laws : IsOrderedMonoid R.monoid) where
             let most : tree.halls.most ≡ S.tree.halls.most = ap (λ (H : HallSets). H.most) halls in
             expanding_more R X count made S growing less tree slots desk e entries grew.keeps (halls_same tree.halls halls)
             (next_open R X count made S growing less tree.region tree.halls trail index grew.leads grew.next)
-            both.0 both.1 room memory capacity (omega (arith, one, phases, spare)) (omega (arith, one, sets, count_is, most))
-            (kept_for X made S) (kept_for X made S) expanding refl stays.work bits_stay (ap (λ (x : Slot V). x.node) (both.1 (S.given - 1) below)) (node_from R X count made S growing) (node_there R X count made S growing)
+            both.0 both.1 room memory capacity (omega (arith, one, phases, spare)) (omega (arith, one, sets, count_is, most)) stays.work stays.node
+            (kept_for X made S) (kept_for X made S) expanding refl bits_stay (ap (λ (x : Slot V). x.node) (both.1 (S.given - 1) below)) (node_from R X count made S growing) (node_there R X count made S growing)
 
         -- the child has no choice
         pub child_empty : (set : List ℕ) → tree.entries.items ≡ S.tree.entries.items ++ entry_of node (made + 1) (Empty (length S.tree.halls.sets)) above.trail above.index ∷ []
@@ -289,8 +289,8 @@ module _ {V : Type 0} (R : Rules V) (laws : IsOrderedMonoid R.monoid) where
             let spare = grew.spare in
             expanding_more R X count made S growing less tree S.slots desk e entries grew.keeps keeps
             (next_empty R X count made S growing less tree.region tree.halls h above.index grew.leads (omega (arith, total)) (subst (IsHall part_next Whole) (sym here) hall) none)
-            kept (λ j below. refl) refl memory capacity (omega (arith, one, phases, spare)) (omega (arith, one, sets, total, most))
-            (kept_for X made S) (kept_for X made S) expanding refl stays.work bits_stay refl (node_from R X count made S growing) (node_there R X count made S growing)
+            kept (λ j below. refl) refl memory capacity (omega (arith, one, phases, spare)) (omega (arith, one, sets, total, most)) stays.work stays.node
+            (kept_for X made S) (kept_for X made S) expanding refl bits_stay refl (node_from R X count made S growing) (node_there R X count made S growing)
           where
             empty_open : (h : ℕ) → Empty h ≡ Open → ⊥
             empty_open h e = absurd (false≢true (ap is_open_state e))

@@ -78,7 +78,7 @@ module _ {V : Type 0} (R : Rules V) (laws : IsOrderedMonoid R.monoid) (raises : 
           let most : tree.halls.most ≡ S.tree.halls.most = ap (λ (H : HallSets). H.most) halls in
           growing_more R X count made S growing less tree S.slots S.desk e entries keeps keeps_halls
           (next_open R X count made S growing less tree.region tree.halls above.trail above.index leads (inl refl))
-          kept (λ j h. refl) refl memory capacity (omega (arith, phases, spare)) (omega (arith, sets, count_is, most))
+          kept (λ j h. refl) refl memory capacity (omega (arith, phases, spare)) (omega (arith, sets, count_is, most)) refl refl
 
       -- and is open, as those before it
       pub open_more : ((i : ℕ) → 1 ≤ i → i < made + 1 → (entry_at R.monoid.unit S.tree.entries.items (child_number (placed X) (S.given - 1) i)).state ≡ Open)

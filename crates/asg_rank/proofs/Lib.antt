@@ -21,6 +21,7 @@ mod GrowCases
 mod GiveSteps
 mod GivenSearches
 mod GivenAnswers
+mod KeptSquares
 mod ChildSearches
 mod ReadySearches
 mod EndSteps

@@ -151,7 +151,7 @@ module _ {V : Type 0} (R : Rules V) (laws : IsOrderedMonoid R.monoid) (X : Probl
         (one : length U.entries.items ≡ 1) (capacity : vec_capacity U.entries ≡ vec_capacity S.tree.entries) (region : U.region ≡ S.tree.region)
         (few_halls : length U.halls.sets ≤ 1) (most : U.halls.most ≡ S.tree.halls.most) (width : U.halls.width ≡ S.tree.halls.width)
         (side : slots.side ≡ S.slots.side) (room : slots.room ≡ S.slots.room) (few : length slots.used ≤ slots.room)
-        (is_desk : IsDesk (square_side X) desk)
+        (is_desk : IsDesk (square_side X) desk) (no_square : desk.node ≡ 0)
       where
         abbrev planted : Search V
         planted = record S { tree = U; slots = slots; desk = desk }
@@ -190,6 +190,7 @@ module _ {V : Type 0} (R : Rules V) (laws : IsOrderedMonoid R.monoid) (X : Probl
               rankable = is.rankable;
               search = subst (λ given. IsSearch R X (length U.entries.items) given slots U) (sym given_none) search;
               base = base;
+              standing = record { upto = omega (arith, no_square); reduced = λ number. absurd (omega (arith, number, no_square)) };
               memory = record {
                 given_fit = omega (arith, given_fit, room);
                 used_fit = few;
@@ -244,7 +245,7 @@ module _ {V : Type 0} (R : Rules V) (laws : IsOrderedMonoid R.monoid) (X : Probl
             planted_ready U slots S.desk
             (root_search R X U best best_items root leads_now (inl refl) slots tt best_slots)
             (ap (λ (xs : List (Entry V)). length xs) best_items) capacity region (omega (arith, none)) (ap (λ (h : HallSets). h.most) halls) (ap (λ (h : HallSets). h.width) halls)
-            side room (omega (arith, used, some, room)) is.memory.desk
+            side room (omega (arith, used, some, room)) is.memory.desk is.blank.no_square
             (λ more. subst (λ (e : Entry V). IsReducedTo R U.region X e.trail e.index S.base) (sym first) (subst (λ (f : Forest V). IsReducedTo R f X last S.base.index S.base) (sym region) to))
 
     -- the root has no choice
@@ -297,5 +298,5 @@ module _ {V : Type 0} (R : Rules V) (laws : IsOrderedMonoid R.monoid) (X : Probl
             planted_ready U S.slots desk
             (root_search R X U closed closed_items root leads_now (inr no_choice) S.slots (omega (arith, total, more), subst (IsHall X Whole) (sym there) hall) closed_slots)
             (ap (λ (xs : List (Entry V)). length xs) closed_items) capacity region (omega (arith, total, more, empty)) (ap (λ (h : HallSets). h.most) halls) (ap (λ (h : HallSets). h.width) halls)
-            refl refl (omega (arith, unused)) closed_desk
+            refl refl (omega (arith, unused)) closed_desk (ap (λ (d : Desk V). d.node) same ∙ is.blank.no_square)
             (λ used. absurd (omega (arith, used, unused)))

@@ -11,8 +11,9 @@ use Rattle.asg_rank.specs.Cuts.{AreBitsFor, fixes_cell}
 use Rattle.asg_rank.specs.Entries.{entry_at, child_number}
 use Rattle.asg_rank.specs.Expansions.{IsGrowing, IsExpanding, last_winner, fixed_for}
 use Rattle.asg_rank.specs.Rules.{Rules, IsReducedTo}
-use Rattle.asg_rank.specs.Searches.{given_of, IsSearch, IsReady, HasMemory}
-use Rattle.asg_rank.specs.Trees.{given_at}
+use Rattle.asg_rank.specs.Searches.{winner_in, given_of, IsReady, HasMemory}
+use Rattle.asg_rank.specs.Settled.{IsStanding}
+use Rattle.asg_rank.specs.Trees.{given_at, IsTree}
 use Rattle.asg_rank.proofs.GivenSearches.{add_one_times, count_given}
 
 less_times : (room given k : ℕ) → given < room → (room - given) * k ≡ (room - 1 - given) * k + k
@@ -51,8 +52,17 @@ ready_when_made R X count S growing last =
     let sets = growing.nodes_fit.halls_fit in
     record {
       rankable = growing.rankable;
-      search = subst (λ n. IsSearch R X n (given_of S) S.slots S.tree) (let e : 1 + length (given_of S) * placed X ≡ length S.tree.entries.items = omega (arith, made, times, back) in e) growing.search;
+      search = record {
+        part = growing.search.part;
+        tree =
+            subst (λ n. IsTree R X (given_of S) (winner_in R.monoid.unit S.slots.used) n S.tree growing.search.part)
+            (let e : 1 + length (given_of S) * placed X ≡ length S.tree.entries.items = omega (arith, made, times, back) in e) growing.search.tree;
+        kept = growing.search.kept;
+        answers = growing.search.answers;
+        different = growing.search.different;
+      };
       base = λ used. growing.base;
+      standing = growing.standing;
       memory = growing.memory;
       room_is = growing.room_is;
       nodes_fit = record {
@@ -66,14 +76,16 @@ ready_when_made R X count S growing last =
 -- children may grow when the square was made and all of its cells are kept
 pub expanding_first : {V : Type 0} (R : Rules V) (X : Problem) (count : ℕ) (S : Search V) (desk : Desk V) (growing : IsGrowing R X count 0 S) → S.given < S.slots.room → HasMemory X (record S { desk = desk })
     → IsReducedTo R S.tree.region (growing.search.part (last_winner R.monoid.unit S)) (entry_at R.monoid.unit S.tree.entries.items (last_winner R.monoid.unit S)).trail (entry_at R.monoid.unit S.tree.entries.items (last_winner R.monoid.unit S)).index desk.work
+    → IsStanding R S.tree growing.search.part desk.node desk.work
     → AreBitsFor (square_side X) (fixes_cell X (given_at (given_of S) (S.given - 1)) 1) desk.bits
     → IsExpanding R X count 0 (fixed_for X 0 S) (record S { desk = desk })
-expanding_first R X count S desk growing less memory work bits = record {
+expanding_first R X count S desk growing less memory work standing bits = record {
   growing = record {
     rankable = growing.rankable;
     some = growing.some;
     search = growing.search;
     base = growing.base;
+    standing = standing;
     memory = memory;
     room_is = growing.room_is;
     made_upto = growing.made_upto;

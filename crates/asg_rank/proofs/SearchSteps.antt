@@ -66,12 +66,12 @@ module _ {V : Type 0} (R : Rules V) (X : Problem) (upto : ℕ) (given : List (Li
     different = search.different;
   }
 
--- one more answer was given
+-- one more answer was given; the nodes keep their parts
 pub search_answered : {V : Type 0} (R : Rules V) (X : Problem) (given : List (List (Option ℕ))) (slots : SlotList V) (T U : Tree V) (search : IsSearch R X (length T.entries.items) given slots T) (all : X.place ≡ PlaceAll) (less : length given < length slots.used) (f : List (Option ℕ))
     (answer : IsAnswer R X (search.part (winner_in R.monoid.unit slots.used (length given))) (slot_at R.monoid.unit slots.used (length given)) f) (least : IsLeastNew R X given f)
     (entries_are : U.entries.items ≡ with_state R.monoid.unit T.entries.items (winner_in R.monoid.unit slots.used (length given)) (Answered (length given + 1)))
     (region_is : U.region ≡ T.region) (halls_are : U.halls ≡ T.halls)
-    → IsSearch R X (length T.entries.items + placed X) (given ++ f ∷ []) slots U
+    → (now : IsSearch R X (length T.entries.items + placed X) (given ++ f ∷ []) slots U) × ((m : ℕ) → m ≤ length T.entries.items → now.part m ≡ search.part m)
 search_answered {V} R X given slots T U search all less f answer least entries_are region_is halls_are =
     let n = winner_in R.monoid.unit slots.used (length given) in
     let slot = search.kept.each (length given) less in
@@ -79,22 +79,24 @@ search_answered {V} R X given slots T U search all less f answer least entries_a
     let winner = winner_in R.monoid.unit slots.used in
     let total : length (given ++ f ∷ []) ≡ length given + 1 = more R X given winner (length T.entries.items) T search.part search.tree all refl n slot.from slot.upto is_open f answer.valid refl U entries_are region_is halls_are in
     let now = part_now R X given winner (length T.entries.items) T search.part search.tree all refl n slot.from slot.upto is_open f answer.valid refl U entries_are region_is halls_are in
-    let keep = old_part R X given winner (length T.entries.items) T search.part search.tree all refl n slot.from slot.upto is_open f answer.valid refl U entries_are region_is halls_are in
-    record {
-      part = now;
-      tree = tree_now R X given winner (length T.entries.items) T search.part search.tree all refl n slot.from slot.upto is_open f answer.valid refl U entries_are region_is halls_are;
-      kept = subst (λ g. AreSlots R g U now slots) (sym total) (slots_now R X given winner (length T.entries.items) T search.part search.tree all refl n slot.from slot.upto is_open f answer.valid refl U entries_are region_is halls_are slots search.kept less refl);
-      answers = λ a h.
-          ⊎_elim
-          (λ (old : a < length given).
-          let upto = (search.kept.each a (omega (arith, old, less))).upto in
-          subst (λ g. IsAnswer R X (now (winner a)) (slot_at R.monoid.unit slots.used a) g) (sym (get_or_append_left given (f ∷ []) [] a old))
-          (subst (λ Y. IsAnswer R X Y (slot_at R.monoid.unit slots.used a) (given_at given a)) (sym (keep (winner a) upto)) (search.answers a old)))
-          (λ (late : length given ≤ a).
-          let here : length given ≡ a = omega (arith, late, h, total) in
-          subst (λ b. IsAnswer R X (now (winner b)) (slot_at R.monoid.unit slots.used b) (given_at (given ++ f ∷ []) b)) here
-          (subst (λ g. IsAnswer R X (now n) (slot_at R.monoid.unit slots.used (length given)) g) (sym (get_or-append_seam given f [] []))
-          (subst (λ Y. IsAnswer R X Y (slot_at R.monoid.unit slots.used (length given)) f) (sym (keep n slot.upto)) answer)))
-          (cases_lt a (length given));
-      different = all_pairs_push ◌≢◌ given f search.different (λ k d h same. least.new (subst (Contains given) same (Contains-get_or given k d h)));
-    }
+    let keep = old_part R X given winner (length T.entries.items) T search.part search.tree all refl n slot.from slot.upto is_open f answer.valid refl U entries_are region_is halls_are in (
+      record {
+        part = now;
+        tree = tree_now R X given winner (length T.entries.items) T search.part search.tree all refl n slot.from slot.upto is_open f answer.valid refl U entries_are region_is halls_are;
+        kept = subst (λ g. AreSlots R g U now slots) (sym total) (slots_now R X given winner (length T.entries.items) T search.part search.tree all refl n slot.from slot.upto is_open f answer.valid refl U entries_are region_is halls_are slots search.kept less refl);
+        answers = λ a h.
+            ⊎_elim
+            (λ (old : a < length given).
+            let upto = (search.kept.each a (omega (arith, old, less))).upto in
+            subst (λ g. IsAnswer R X (now (winner a)) (slot_at R.monoid.unit slots.used a) g) (sym (get_or_append_left given (f ∷ []) [] a old))
+            (subst (λ Y. IsAnswer R X Y (slot_at R.monoid.unit slots.used a) (given_at given a)) (sym (keep (winner a) upto)) (search.answers a old)))
+            (λ (late : length given ≤ a).
+            let here : length given ≡ a = omega (arith, late, h, total) in
+            subst (λ b. IsAnswer R X (now (winner b)) (slot_at R.monoid.unit slots.used b) (given_at (given ++ f ∷ []) b)) here
+            (subst (λ g. IsAnswer R X (now n) (slot_at R.monoid.unit slots.used (length given)) g) (sym (get_or-append_seam given f [] []))
+            (subst (λ Y. IsAnswer R X Y (slot_at R.monoid.unit slots.used (length given)) f) (sym (keep n slot.upto)) answer)))
+            (cases_lt a (length given));
+        different = all_pairs_push ◌≢◌ given f search.different (λ k d h same. least.new (subst (Contains given) same (Contains-get_or given k d h)));
+      },
+      keep,
+    )

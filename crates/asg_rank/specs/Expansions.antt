@@ -15,6 +15,7 @@ use Rattle.asg_rank.specs.Entries.{entry_at}
 use Rattle.asg_rank.specs.Rooms.{answer_room}
 use Rattle.asg_rank.specs.Rules.{Rules, IsReducedTo}
 use Rattle.asg_rank.specs.Searches.{winner_in, given_of, IsBehind, IsSearch, IsRankable, IsBase, HasMemory}
+use Rattle.asg_rank.specs.Settled.{IsStanding}
 use Rattle.asg_rank.specs.Trees.{given_at, HasRoomFor}
 
 -- the node that gave the last answer
@@ -31,6 +32,7 @@ pub record IsGrowing {V : Type 0} (R : Rules V) (X : Problem) (count made : ℕ)
   pub some : 1 ≤ S.given
   pub search : IsSearch R X (1 + length (given_of S) * placed X) (given_of S) S.slots S.tree
   pub base : IsBase R X S.tree S.base
+  pub standing : IsStanding R S.tree search.part S.desk.node S.desk.work
   pub memory : HasMemory X S
   pub room_is : S.slots.room ≡ answer_room X count
   pub made_upto : made ≤ placed X

@@ -29,6 +29,7 @@ pub record IsBlank {V : Type 0} (X : Problem) (room : ℕ) (S : Search V) : Type
   pub choices_fit : vec_len S.choices ≡ room
   pub choices_over : All (λ f. length f ≡ length X.rows) S.choices.items
   pub work : S.desk.work.now ≡ S.base.now
+  pub no_square : S.desk.node ≡ 0
   pub bits : AreBitsFor S.base.now.side (λ _ _. true) S.desk.bits
 
 -- what solving the square of the instance came to: a best choice, or rows with too few columns

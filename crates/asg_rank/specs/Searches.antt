@@ -25,6 +25,7 @@ use Rattle.asg_rank.specs.declared.trees.Tree.{Tree}
 use Rattle.asg_rank.specs.Entries.{entry_at, child_number}
 use Rattle.asg_rank.specs.Rooms.{answer_room}
 use Rattle.asg_rank.specs.Rules.{Rules, IsSolved, IsReducedTo}
+use Rattle.asg_rank.specs.Settled.{IsStanding}
 use Rattle.asg_rank.specs.Slots.{SlotList, slot_at, Ascends, HaveValues, AreUpTo}
 use Rattle.asg_rank.specs.Trees.{given_at, IsTree, HasRoomFor}
 
@@ -128,12 +129,14 @@ pub record HasMemory {V : Type 0} (X : Problem) (S : Search V) : Type 0 where
   pub halls_width : length X.rows ≤ S.tree.halls.width
   pub desk : IsDesk (square_side X) S.desk
 
--- between two answers: each node has been made, the base stands where the root has a choice, there is memory for what
--- is to come, and where there is room for no more answers the children of the last one's node are open
+-- between two answers: each node has been made, the base stands where the root has a choice, and the square of the desk
+-- for the node that it names, there is memory for what is to come, and where there is room for no more answers the
+-- children of the last one's node are open
 pub record IsReady {V : Type 0} (R : Rules V) (X : Problem) (count : ℕ) (S : Search V) : Type 0 where
   pub rankable : IsRankable R X
   pub search : IsSearch R X (length S.tree.entries.items) (given_of S) S.slots S.tree
   pub base : 1 ≤ length S.slots.used → IsBase R X S.tree S.base
+  pub standing : IsStanding R S.tree search.part S.desk.node S.desk.work
   pub memory : HasMemory X S
   pub room_is : S.slots.room ≡ answer_room X count
   pub nodes_fit : HasRoomFor S.tree ((S.slots.room - S.given) * placed X)

@@ -1,5 +1,5 @@
 -- What a trail has beyond another one, and what rebuilding starts from.
-use Rattle.std.specs.Prelude.{◌≡◌, ◌≢◌, ◌⊎◌, ℕ, ◌+◌, ◌<◌, List, length, All, Option, Some, None}
+use Rattle.std.specs.Prelude.{◌≡◌, ◌≢◌, ◌⊎◌, ℕ, ◌+◌, ◌<◌, ◌≤◌, List, length, All, Option, Some, None}
 use Rattle.asg_model.specs.declared.parts.Cost.{Cost}
 use Rattle.asg_model.specs.Problem.{Problem}
 use Rattle.asg_order.specs.Monoid.{Monoid}
@@ -10,7 +10,7 @@ use Rattle.asg_rank.specs.declared.entries.State.{State}
 use Rattle.asg_rank.specs.declared.entries.State.TheVariants.{Answered}
 use Rattle.asg_rank.specs.declared.trees.Tree.{Tree}
 use Rattle.asg_rank.specs.Entries.{entry_at}
-use Rattle.asg_rank.specs.Rules.{rules_of, IsReducedTo}
+use Rattle.asg_rank.specs.Rules.{Rules, rules_of, IsReducedTo}
 use Rattle.asg_rank.specs.Trees.{IsTree}
 
 -- the trail, where there is one and it isn't the one before
@@ -34,9 +34,16 @@ abbrev pub answer_in : State → ℕ
 answer_in (Answered number) = number
 answer_in _ = 0
 
--- a tree of answers, and the square of the root after its phases
+-- a square is that of the part of a node after its trail, where the number is that of a node: 0 is that of none
+pub record IsStanding {V : Type 0} (R : Rules V) (T : Tree V) (part : ℕ → Problem) (node : ℕ) (square : Reduced V)
+    : Type 0 where
+  pub upto : node ≤ length T.entries.items
+  pub reduced : 1 ≤ node → let e = entry_at R.monoid.unit T.entries.items node in
+      IsReducedTo R T.region (part node) e.trail e.index square
+
+-- a tree of answers, the square of the root after its phases, and that of another node
 pub record IsRebuilt {V : Type 0} (M : Monoid V) (difference : V → V → V) (X : Problem) (T : Tree V)
-    (given : List (List (Option ℕ))) (base : Reduced V) : Type 0 where
+    (given : List (List (Option ℕ))) (base : Reduced V) (stands : ℕ) (work : Reduced V) : Type 0 where
   pub enter : Cost → V
   pub winner : ℕ → ℕ
   pub upto : ℕ
@@ -45,3 +52,4 @@ pub record IsRebuilt {V : Type 0} (M : Monoid V) (difference : V → V → V) (X
   pub base_is : IsReducedTo (rules_of M difference enter) T.region (part 1)
       (entry_at M.unit T.entries.items 1).trail (entry_at M.unit T.entries.items 1).index base
   pub over : All (λ f. length f ≡ length X.rows) given
+  pub standing : IsStanding (rules_of M difference enter) T part stands work

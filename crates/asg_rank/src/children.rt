@@ -227,6 +227,7 @@ fn prepare<M: DMonoid>(m: &M, inst: &Instance, search: &mut Search<M::Value>)
 {
     let given = search.given as usize;
     let node = search.slots.node(given - 1);
+    let stands = search.desk.node;
     rebuild(
         m,
         inst,
@@ -235,8 +236,10 @@ fn prepare<M: DMonoid>(m: &M, inst: &Instance, search: &mut Search<M::Value>)
         &search.base,
         &mut search.desk.work,
         &mut search.desk.room,
+        stands,
         node,
     );
+    search.desk.node = node;
     search.desk.bits.set_all();
 }
 

@@ -5,12 +5,13 @@ use asg_algebra::Bench;
 use asg_match::Matching;
 use asg_square::BitRows;
 
-/// The square of a node's part after the phases of its trail, the cells of it that a branch keeps,
-/// and the memory of a solver: a matching, a bench, places for the steps of a phase, columns of
-/// rows, and ids.
+/// The square of a node's part after the phases of its trail, the number of the node, which is 0
+/// before there is one, the cells of it that a branch keeps, and the memory of a solver: a matching,
+/// a bench, places for the steps of a phase, columns of rows, and ids.
 #[derive(Drop)]
 pub(crate) struct Desk<V: Copy> {
     pub(crate) work: Reduced<V>,
+    pub(crate) node: u32,
     pub(crate) bits: BitRows,
     pub(crate) bench: Bench<V>,
     pub(crate) trial: Matching,

@@ -69,6 +69,7 @@ fn desk_for<V: Copy>(
     requires bench { bench.side ≡ square.now.side }
     ensures desk { IfOk result (IsDesk square.now.side) }
     ensures work { IfOk result (λ d. d.work.now ≡ square.now) }
+    ensures node { IfOk result (λ d. d.node ≡ 0) }
     ensures bits { IfOk result (λ d. AreBitsFor square.now.side (λ _ _. true) d.bits) }
     ensures bench { IfOk result (λ d. d.bench ≡ bench) }
 {
@@ -84,6 +85,7 @@ fn desk_for<V: Copy>(
     let ids = vec![in alloc; 0; IDS]?;
     Ok(Desk {
         work,
+        node: 0,
         bits,
         bench,
         trial,

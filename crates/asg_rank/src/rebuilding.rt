@@ -10,7 +10,7 @@ ghost use Rattle.asg_proof.specs.Phases.{IsAdmittedPhase};
 ghost use Rattle.asg_square.specs.Grid.{cell_at};
 ghost use Rattle.asg_rank.specs.Entries.{entry_at, IsNext};
 ghost use Rattle.asg_rank.specs.Rules.{rules_of, IsReducedTo};
-ghost use Rattle.asg_rank.specs.Settled.{IsOwn, SettlesOwn, IsRebuilt, answer_in};
+ghost use Rattle.asg_rank.specs.Settled.{IsOwn, SettlesOwn, IsRebuilt, IsStanding, answer_in};
 ghost use Rattle.asg_rank.specs.Trees.{IsTree};
 
 use crate::cuts::cut_branch;
@@ -87,9 +87,10 @@ fn answer_of(state: State) -> u32
     }
 }
 
-/// Makes a square that of the part of a node after the phases of its trail: that of the instance
-/// after those of the root, from which the branches of the nodes from there on take their cells and
-/// to which their phases are applied. It takes no memory.
+/// Makes a square that of the part of a node after the phases of its trail. It starts from the node
+/// above for which the square stands, or from that of the instance after the phases of the root; the
+/// branches of the nodes from there on take their cells, and their phases are applied. It takes no
+/// memory.
 pub(crate) fn rebuild<M: DMonoid>(
     m: &M,
     inst: &Instance,
@@ -98,13 +99,14 @@ pub(crate) fn rebuild<M: DMonoid>(
     base: &Reduced<M::Value>,
     work: &mut Reduced<M::Value>,
     room: &mut [M::Value],
+    stands: u32,
     node: u32,
 )
     requires place { inst.now.place ≡ PlaceAll }
     requires from { 1 ≤ node }
     requires upto { node ≤ length tree.now.entries.items }
     requires tree { IsRebuilt (M.monoid_of m.now) (M.difference m.now) inst.now tree.now
-        choices.now base.now }
+        choices.now base.now stands work.old }
     requires sides { (work.old.now.side ≡ base.now.now.side)
         × (tree.now.region.side ≡ base.now.now.side) }
     requires room { base.now.now.side < length room.old }
@@ -114,16 +116,30 @@ pub(crate) fn rebuild<M: DMonoid>(
         IsTree R inst.now choices.now winner upto tree.now part
         → IsReducedTo R tree.now.region (part 1) (entry_at unit tree.now.entries.items 1).trail
         (entry_at unit tree.now.entries.items 1).index base.entry.now
+        → IsStanding R tree.now part stands work.old
         → IsReducedTo R tree.now.region (part node) e.trail e.index work.new }
     ensures room { length room.new ≡ length room.old }
 {
+    if node == stands {
+        return;
+    }
     let here = entry(&tree.entries, node);
     if node == 1 {
         work.now.take(&base.now);
         work.index = base.index;
         return;
     }
-    rebuild(m, inst, tree, choices, base, work, room, here.parent);
+    rebuild(
+        m,
+        inst,
+        tree,
+        choices,
+        base,
+        work,
+        room,
+        stands,
+        here.parent,
+    );
     tree.region.spare();
     let before = entry(&tree.entries, here.parent);
     let answer = answer_of(before.state);

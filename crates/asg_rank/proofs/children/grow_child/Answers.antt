@@ -432,7 +432,7 @@ returns-then-is_behind-clause-expanding g c =
     let n_is = c.node-node.ensures M.unit in
     let x_is = c.entry-parent.ensures M.unit ∙ ap (λ xs. entry_at M.unit xs c.node-node.result) c.deref.ensures.value ∙ ap (entry_at M.unit S.tree.entries.items) n_is in
     ends_still R laws raises X count made S expanding less c.node-node.result c.entry-parent.result n_is x_is c.push_child.new.tree S.desk c.push_child.ensures.capacity
-    (record { work = refl; bits = refl; is = expanding.growing.memory.desk })
+    (record { work = refl; node = refl; bits = refl; is = expanding.growing.memory.desk })
     c.push_child.ensures.entries c.push_child.ensures.region c.push_child.ensures.halls
     (c.if-is_behind.ensures.behind refl)
 

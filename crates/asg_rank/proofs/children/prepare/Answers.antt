@@ -65,7 +65,7 @@ rebuild-requires-clause-tree g c =
     let e = c.requires.growing in
     let R = rules_of M (g.M.DMonoid.difference m) e.0 in
     let growing = e.2 in
-    subst (λ xs. IsRebuilt M (g.M.DMonoid.difference m) X S.tree (take S.given xs) S.base) (sym c.deref.ensures.value) (rebuilt_here R X e.1 S growing)
+    subst (λ xs. IsRebuilt M (g.M.DMonoid.difference m) X S.tree (take S.given xs) S.base S.desk.node S.desk.work) (sym c.deref.ensures.value) (rebuilt_here R X e.1 S growing)
 
 pub rebuild-requires-clause-sides : goal.rebuild-requires-clause-sides
 rebuild-requires-clause-sides g c =
@@ -89,6 +89,6 @@ returns-clause-expanding g c =
     let R = rules_of M (g.M.DMonoid.difference m) enter in
     let n_is = c.node-node.ensures M.unit in
     let tree = subst (λ xs. IsTree R X (take S.given xs) (winner_in M.unit S.slots.used) (1 + length (given_of S) * placed X) S.tree growing.search.part) (sym c.deref.ensures.value) growing.search.tree in
-    let to = c.rebuild.ensures.reduced enter (winner_in M.unit S.slots.used) (1 + length (given_of S) * placed X) growing.search.part tree (root_base R X count S growing) in
-    prepared R X count S growing c.requires.less (record S.desk { work = c.rebuild.new.work; bits = c.set_all.new.self; room = with_items S.desk.room c.rebuild.new.room }) refl refl c.set_all.ensures.rows c.set_all.ensures.columns c.set_all.ensures.all
+    let to = c.rebuild.ensures.reduced enter (winner_in M.unit S.slots.used) (1 + length (given_of S) * placed X) growing.search.part tree (root_base R X count S growing) growing.standing in
+    prepared R X count S growing c.requires.less (record S.desk { work = c.rebuild.new.work; node = c.node-node.result; bits = c.set_all.new.self; room = with_items S.desk.room c.rebuild.new.room }) refl refl n_is c.set_all.ensures.rows c.set_all.ensures.columns c.set_all.ensures.all
     (subst (λ n. IsReducedTo R S.tree.region (growing.search.part n) (entry_at M.unit S.tree.entries.items n).trail (entry_at M.unit S.tree.entries.items n).index c.rebuild.new.work) n_is to)

@@ -79,7 +79,7 @@ returns-clause-growing g c enter count ready =
     let d = ready.memory.desk in
     let memory = memory_given X S U ready.memory less f (chosen_over R laws X instance count S ready less f chosen) refl refl refl refl refl refl
     (record { work = d.work; bit_rows = d.bit_rows; bit_columns = d.bit_columns; bench = d.bench; trial = d.trial; steps = d.steps; columns = d.columns; ids = d.ids }) in
-    growing_now R X count S U ready less f refl refl refl refl entries_are refl refl refl memory answer least
+    growing_now R X count S U ready less f refl refl refl refl entries_are refl refl refl memory answer least refl refl
 
 pub returns-clause-more : goal.returns-clause-more
 returns-clause-more g c enter count ready =

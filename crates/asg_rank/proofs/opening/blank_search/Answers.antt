@@ -52,6 +52,7 @@ returns-clause-blank g c =
       choices_fit = c.in_ok-choices_for.ensures.count;
       choices_over = subst (λ n. All (λ (f : List (Option ℕ)). length f ≡ n) c.in_ok-choices_for.field-0.items) rows c.in_ok-choices_for.ensures.over;
       work = c.in_ok-desk.ensures.work;
+      no_square = c.in_ok-desk.ensures.node;
       bits = c.in_ok-desk.ensures.bits;
     }
 

@@ -5,6 +5,16 @@ use Rattle.asg_rank.specs.Rules.{rules_of, IsReducedTo}
 use Rattle.asg_rank.proofs.RebuiltCalls.{parent_is, parent_less, parent_from, parent_upto, answer_from, answer_below, next_is, over_is, cut_reduced, own_is_admitted, own_is_settled, labels_are, base_side}
 use Rattle.asg_rank.proofs.rebuilding.+rebuild.Goals as goal
 
+pub returns-then-node-stands-clause-reduced : goal.returns-then-node-stands-clause-reduced
+returns-then-node-stands-clause-reduced g t c enter winner upto part tree base standing =
+    let M = g.M.Ordered.monoid_of c.args.m.now in
+    let R = rules_of M (g.M.DMonoid.difference c.args.m.now) enter in
+    let T = c.args.tree.now in
+    let is = c.if-node-stands.true in
+    let from = c.requires.from in
+    subst (λ n. IsReducedTo R T.region (part n) (entry_at M.unit T.entries.items n).trail (entry_at M.unit T.entries.items n).index c.args.work.now) (sym is)
+    (standing.reduced (omega (arith, is, from)))
+
 pub rebuild-requires : goal.rebuild-requires
 rebuild-requires g t c κs within =
     let M = g.M.Ordered.monoid_of c.args.m.now in
@@ -82,7 +92,7 @@ cut_branch-requires-clause-labels g t c =
     let e = c.entry-here.result in
     let here : e ≡ entry_at M.unit T.entries.items n = c.entry-here.ensures M.unit ∙ ap (λ es. entry_at M.unit es n) c.deref.ensures.value in
     labels_are M (g.M.DMonoid.difference c.args.m.now) b.enter c.args.inst.now c.args.choices.now b.winner b.upto T b.part b.tree n from c.requires.upto e here
-    c.rebuild.new.work (c.rebuild.ensures.reduced b.enter b.winner b.upto b.part b.tree b.base_is)
+    c.rebuild.new.work (c.rebuild.ensures.reduced b.enter b.winner b.upto b.part b.tree b.base_is b.standing)
 
 pub cut_branch-requires-clause-over : goal.cut_branch-requires-clause-over
 cut_branch-requires-clause-over g t c =
@@ -126,7 +136,7 @@ settle_own-requires-clause-reduced g t c =
     let f = c.index-choices-answer.result in
     (cut_reduced M (g.M.DMonoid.difference c.args.m.now) b.enter c.args.inst.now c.args.choices.now b.winner b.upto T b.part b.tree n from c.requires.upto e here a before f
     (c.index-choices-answer.is ∙ ap (λ k. slice_index_or c.args.choices.now (k - 1) f) c.answer_of-answer.ensures)
-    c.rebuild.new.work (record { now = c.cut_branch.new.square; index = c.rebuild.new.work.index }) (c.rebuild.ensures.reduced b.enter b.winner b.upto b.part b.tree b.base_is) refl c.cut_branch.ensures).values
+    c.rebuild.new.work (record { now = c.cut_branch.new.square; index = c.rebuild.new.work.index }) (c.rebuild.ensures.reduced b.enter b.winner b.upto b.part b.tree b.base_is b.standing) refl c.cut_branch.ensures).values
 
 pub settle_own-requires-clause-side : goal.settle_own-requires-clause-side
 settle_own-requires-clause-side g t c =
@@ -138,7 +148,7 @@ settle_own-requires-clause-side g t c =
     let e = c.entry-here.result in
     let here : e ≡ entry_at M.unit T.entries.items n = c.entry-here.ensures M.unit ∙ ap (λ es. entry_at M.unit es n) c.deref.ensures.value in
     let labels = labels_are M (g.M.DMonoid.difference c.args.m.now) b.enter c.args.inst.now c.args.choices.now b.winner b.upto T b.part b.tree n from c.requires.upto e here
-    c.rebuild.new.work (c.rebuild.ensures.reduced b.enter b.winner b.upto b.part b.tree b.base_is) in
+    c.rebuild.new.work (c.rebuild.ensures.reduced b.enter b.winner b.upto b.part b.tree b.base_is b.standing) in
     let base = base_side M (g.M.DMonoid.difference c.args.m.now) b.enter c.args.inst.now c.args.choices.now b.winner b.upto T b.part b.tree n from c.requires.upto e here c.args.base.now b.base_is in
     c.requires.sides.1 ∙ base ∙ sym labels.side ∙ sym c.cut_branch.ensures.labels.side
 
@@ -152,7 +162,7 @@ settle_own-requires-clause-room g t c =
     let e = c.entry-here.result in
     let here : e ≡ entry_at M.unit T.entries.items n = c.entry-here.ensures M.unit ∙ ap (λ es. entry_at M.unit es n) c.deref.ensures.value in
     let labels = labels_are M (g.M.DMonoid.difference c.args.m.now) b.enter c.args.inst.now c.args.choices.now b.winner b.upto T b.part b.tree n from c.requires.upto e here
-    c.rebuild.new.work (c.rebuild.ensures.reduced b.enter b.winner b.upto b.part b.tree b.base_is) in
+    c.rebuild.new.work (c.rebuild.ensures.reduced b.enter b.winner b.upto b.part b.tree b.base_is b.standing) in
     let base = base_side M (g.M.DMonoid.difference c.args.m.now) b.enter c.args.inst.now c.args.choices.now b.winner b.upto T b.part b.tree n from c.requires.upto e here c.args.base.now b.base_is in
     let side : c.cut_branch.new.square.side ≡ c.args.base.now.now.side = c.cut_branch.ensures.labels.side ∙ labels.side ∙ sym base in
     subst (λ k. c.cut_branch.new.square.side < k) (sym c.rebuild.ensures.room) (subst (λ k. k < length c.args.room.now) (sym side) c.requires.room)
@@ -171,11 +181,11 @@ settle_own-requires-clause-admitted g t c =
     let f = c.index-choices-answer.result in
     own_is_admitted M (g.M.DMonoid.difference c.args.m.now) b.enter c.args.inst.now c.args.choices.now b.winner b.upto T b.part b.tree n from c.requires.upto e here a before f
     (c.index-choices-answer.is ∙ ap (λ k. slice_index_or c.args.choices.now (k - 1) f) c.answer_of-answer.ensures)
-    c.rebuild.new.work (record { now = c.cut_branch.new.square; index = c.rebuild.new.work.index }) (c.rebuild.ensures.reduced b.enter b.winner b.upto b.part b.tree b.base_is) refl c.cut_branch.ensures
+    c.rebuild.new.work (record { now = c.cut_branch.new.square; index = c.rebuild.new.work.index }) (c.rebuild.ensures.reduced b.enter b.winner b.upto b.part b.tree b.base_is b.standing) refl c.cut_branch.ensures
     (g.met.M.Ordered.laws c.args.m.now) c.spare.ensures.forest
 
 pub returns-clause-reduced : goal.returns-clause-reduced
-returns-clause-reduced g t c enter winner upto part tree base =
+returns-clause-reduced g t c enter winner upto part tree base standing =
     let M = g.M.Ordered.monoid_of c.args.m.now in
     let T = c.args.tree.now in
     let n = c.args.node in
@@ -187,5 +197,5 @@ returns-clause-reduced g t c enter winner upto part tree base =
     let f = c.index-choices-answer.result in
     own_is_settled M (g.M.DMonoid.difference c.args.m.now) enter c.args.inst.now c.args.choices.now winner upto T part tree n from c.requires.upto e here a before f
     (c.index-choices-answer.is ∙ ap (λ k. slice_index_or c.args.choices.now (k - 1) f) c.answer_of-answer.ensures)
-    c.rebuild.new.work (record { now = c.cut_branch.new.square; index = c.rebuild.new.work.index }) (c.rebuild.ensures.reduced enter winner upto part tree base) refl c.cut_branch.ensures
+    c.rebuild.new.work (record { now = c.cut_branch.new.square; index = c.rebuild.new.work.index }) (c.rebuild.ensures.reduced enter winner upto part tree base standing) refl c.cut_branch.ensures
     (g.met.M.Ordered.laws c.args.m.now) c.spare.ensures.forest c.settle_own.new.work c.settle_own.ensures.settled

@@ -109,8 +109,8 @@ module _ (X : Problem) (all : X.place ≡ PlaceAll) (f : List (Option ℕ)) wher
         by (Some d) = ap (λ b. cond b (is_chosen f (row, d)) true) (lt-ltb branch (branch + 1) (omega arith))
         by None = refl
 
-    module _ {V : Type 0} (Q : Grid V) (labels : HasLabelsOf X Q) (before after : BitTable) (chosen : Option ℕ) (is : slice_index_or f row None ≡ chosen) where
-      put_is : (keep other : ℕ → ℕ → Bool) (alone : Bool) → AreBitsFor (square_side X) keep before → PutsRow before after row (λ k. keeps_copies chosen alone (label_in Q k)) → ((r k : ℕ) → r ≢ row → keep r k ≡ other r k) → ((k : ℕ) → other row k ≡ keeps_copies (slice_index_or f row None) alone (column_label X k)) → AreBitsFor (square_side X) other after
+    module _ (before after : BitTable) (chosen : Option ℕ) (is : slice_index_or f row None ≡ chosen) where
+      put_is : (keep other : ℕ → ℕ → Bool) (alone : Bool) → AreBitsFor (square_side X) keep before → PutsRow before after row (λ k. keeps_copies chosen alone (column_label X k)) → ((r k : ℕ) → r ≢ row → keep r k ≡ other r k) → ((k : ℕ) → other row k ≡ keeps_copies (slice_index_or f row None) alone (column_label X k)) → AreBitsFor (square_side X) other after
       put_is keep other alone bits puts rest here = record {
         rows = puts.rows ∙ bits.rows;
         columns = puts.columns ∙ bits.columns;
@@ -118,21 +118,20 @@ module _ (X : Problem) (all : X.place ≡ PlaceAll) (f : List (Option ℕ)) wher
             puts.bits r k (subst (λ n. k < n) (sym bits.columns) hk)
             ∙ ⊎_elim
             (λ (same : r ≡ row).
-            cond-true (eqb r row) (keeps_copies chosen alone (label_in Q k)) (has_bit before r k) (eq-eqb r row same)
-            ∙ ap (λ o. keeps_copies o alone (label_in Q k)) (sym is)
-            ∙ ap (keeps_copies (slice_index_or f row None) alone) (label_is X Q labels k hk)
+            cond-true (eqb r row) (keeps_copies chosen alone (column_label X k)) (has_bit before r k) (eq-eqb r row same)
+            ∙ ap (λ o. keeps_copies o alone (column_label X k)) (sym is)
             ∙ sym (here k)
             ∙ ap (λ q. other q k) (sym same))
             (λ (apart : r ≡ row → ⊥).
-            cond-false (eqb r row) (keeps_copies chosen alone (label_in Q k)) (has_bit before r k) (ne_eqb r row apart)
+            cond-false (eqb r row) (keeps_copies chosen alone (column_label X k)) (has_bit before r k) (ne_eqb r row apart)
             ∙ bits.each r k hr hk ∙ rest r k apart)
             (cases_eq r row);
       }
 
       -- the row loses its column
-      pub bits_lost : AreBitsFor (square_side X) (fixes_cell X f branch) before → PutsRow before after row (λ k. keeps_copies chosen false (label_in Q k)) → AreBitsFor (square_side X) (keeps_cell X f branch) after
+      pub bits_lost : AreBitsFor (square_side X) (fixes_cell X f branch) before → PutsRow before after row (λ k. keeps_copies chosen false (column_label X k)) → AreBitsFor (square_side X) (keeps_cell X f branch) after
       bits_lost bits puts = put_is (fixes_cell X f branch) (keeps_cell X f branch) false bits puts kept_rest kept_here
 
       -- and then it keeps that alone
-      pub bits_fixed : AreBitsFor (square_side X) (keeps_cell X f branch) before → PutsRow before after row (λ k. keeps_copies chosen true (label_in Q k)) → AreBitsFor (square_side X) (fixes_cell X f (branch + 1)) after
+      pub bits_fixed : AreBitsFor (square_side X) (keeps_cell X f branch) before → PutsRow before after row (λ k. keeps_copies chosen true (column_label X k)) → AreBitsFor (square_side X) (fixes_cell X f (branch + 1)) after
       bits_fixed bits puts = put_is (keeps_cell X f branch) (fixes_cell X f (branch + 1)) true bits puts fixed_rest fixed_here

@@ -12,15 +12,16 @@ use Rattle.asg_model.specs.laws.Rows.{row-from_active}
 use Rattle.asg_proof.specs.Masks.{keeps_cell}
 use Rattle.asg_square.specs.BitTable.{BitTable, has_bit}
 use Rattle.asg_square.specs.Grid.{HasLabelsOf}
+use Rattle.asg_square.specs.Labels.{column_label}
 use Rattle.asg_rank.specs.declared.searches.Search.{Search}
-use Rattle.asg_rank.specs.Cuts.{keeps_copies, label_in, fixes_cell, AreBitsFor, PutsRow}
+use Rattle.asg_rank.specs.Cuts.{keeps_copies, fixes_cell, AreBitsFor, PutsRow}
 use Rattle.asg_rank.specs.Expansions.{IsExpanding, last_winner, fixed_for, kept_for}
 use Rattle.asg_rank.specs.Rules.{Rules}
 use Rattle.asg_rank.specs.Searches.{given_of}
 use Rattle.asg_rank.specs.Trees.{given_at}
 use Rattle.asg_rank.proofs.BitSteps.{fixes_first, bits_lost, bits_fixed}
 use Rattle.asg_rank.proofs.DeskSteps.{memory_with}
-use Rattle.asg_rank.proofs.GrowCases.{node_rows, node_columns, node_place, node_side}
+use Rattle.asg_rank.proofs.GrowCases.{node_rows, node_columns, node_place}
 use Rattle.asg_rank.proofs.GrowStarts.{row_within}
 use Rattle.asg_rank.proofs.Shapes.{labels_from_part}
 
@@ -43,13 +44,6 @@ last_same S U given count i = given_at (given i) (count i - 1)
 module _ {V : Type 0} (R : Rules V) (X : Problem) (count made : ℕ) (S : Search V) (before : ℕ → ℕ → Bool) (expanding : IsExpanding R X count made before S) where
   abbrev chosen_here : List (Option ℕ)
   chosen_here = given_at (given_of S) (S.given - 1)
-
-  pub square_here : S.desk.work.now.side ≡ square_side X
-  square_here = expanding.work.labels.side ∙ node_side R X count made S expanding.growing
-
-  -- rows of bits and columns are those of the square
-  pub bit_columns_here : S.desk.bits.columns ≡ S.desk.work.now.side
-  bit_columns_here = expanding.bits.columns ∙ sym square_here
 
   pub labels_here : HasLabelsOf X S.desk.work.now
   labels_here =
@@ -95,19 +89,19 @@ module _ {V : Type 0} (R : Rules V) (X : Problem) (count made : ℕ) (S : Search
 
     module _ (after : BitTable) (chosen : Option ℕ) (is : slice_index_or (given_at (given_of S) (S.given - 1)) row None ≡ chosen) where
       -- the row loses its column
-      pub lost_here : AreBitsFor (square_side X) (fixes_cell X (given_at (given_of S) (S.given - 1)) (number + 1)) S.desk.bits → PutsRow S.desk.bits after row (λ k. keeps_copies chosen false (label_in S.desk.work.now k))
+      pub lost_here : AreBitsFor (square_side X) (fixes_cell X (given_at (given_of S) (S.given - 1)) (number + 1)) S.desk.bits → PutsRow S.desk.bits after row (λ k. keeps_copies chosen false (column_label X k))
           → AreBitsFor (square_side X) (keeps_cell X (given_at (given_of S) (S.given - 1)) (number + 1)) after
       lost_here bits puts =
           subst (λ n. AreBitsFor (square_side X) (keeps_cell X chosen_here (n + 1)) after) numbered
-          (bits_lost X expanding.growing.rankable.place chosen_here row active S.desk.work.now labels_here S.desk.bits after chosen is
+          (bits_lost X expanding.growing.rankable.place chosen_here row active S.desk.bits after chosen is
           (subst (λ n. AreBitsFor (square_side X) (fixes_cell X chosen_here (n + 1)) S.desk.bits) (sym numbered) bits) puts)
 
       -- and keeps it alone
-      pub fixed_here : AreBitsFor (square_side X) (keeps_cell X (given_at (given_of S) (S.given - 1)) (number + 1)) S.desk.bits → PutsRow S.desk.bits after row (λ k. keeps_copies chosen true (label_in S.desk.work.now k))
+      pub fixed_here : AreBitsFor (square_side X) (keeps_cell X (given_at (given_of S) (S.given - 1)) (number + 1)) S.desk.bits → PutsRow S.desk.bits after row (λ k. keeps_copies chosen true (column_label X k))
           → AreBitsFor (square_side X) (fixes_cell X (given_at (given_of S) (S.given - 1)) (number + 1 + 1)) after
       fixed_here bits puts =
           subst (λ n. AreBitsFor (square_side X) (fixes_cell X chosen_here (n + 1 + 1)) after) numbered
-          (bits_fixed X expanding.growing.rankable.place chosen_here row active S.desk.work.now labels_here S.desk.bits after chosen is
+          (bits_fixed X expanding.growing.rankable.place chosen_here row active S.desk.bits after chosen is
           (subst (λ n. AreBitsFor (square_side X) (keeps_cell X chosen_here (n + 1)) S.desk.bits) (sym numbered) bits) puts)
 
 -- what the last answer chooses for a row
@@ -119,14 +113,14 @@ chosen_is S some below choice read row chosen got =
 
 module _ {V : Type 0} (R : Rules V) (X : Problem) (count made row : ℕ) (active : is_active X row ≡ true) (number : count_below (is_active X) row ≡ made) (chosen : Option ℕ) where
   -- a child may grow once its row lost its column
-  pub lost_expanding : (S : Search V) → IsExpanding R X count made (fixed_for X made S) S → slice_index_or (given_at (given_of S) (S.given - 1)) row None ≡ chosen → (bits : BitTable) → PutsRow S.desk.bits bits row (λ k. keeps_copies chosen false (label_in S.desk.work.now k))
+  pub lost_expanding : (S : Search V) → IsExpanding R X count made (fixed_for X made S) S → slice_index_or (given_at (given_of S) (S.given - 1)) row None ≡ chosen → (bits : BitTable) → PutsRow S.desk.bits bits row (λ k. keeps_copies chosen false (column_label X k))
       → IsExpanding R X count made (kept_for X made S) (record S { desk = record S.desk { bits = bits } })
   lost_expanding S expanding is bits puts =
       with_bits R X count made S (fixed_for X made S) expanding (kept_for X made S) bits
       (lost_here R X count made S (fixed_for X made S) expanding row made active number bits chosen is expanding.bits puts)
 
   -- and the next one once the row keeps it alone
-  pub fixed_expanding : (U : Search V) → IsExpanding R X count (made + 1) (kept_for X made U) U → slice_index_or (given_at (given_of U) (U.given - 1)) row None ≡ chosen → (bits : BitTable) → PutsRow U.desk.bits bits row (λ k. keeps_copies chosen true (label_in U.desk.work.now k))
+  pub fixed_expanding : (U : Search V) → IsExpanding R X count (made + 1) (kept_for X made U) U → slice_index_or (given_at (given_of U) (U.given - 1)) row None ≡ chosen → (bits : BitTable) → PutsRow U.desk.bits bits row (λ k. keeps_copies chosen true (column_label X k))
       → IsExpanding R X count (made + 1) (fixed_for X (made + 1) U) (record U { desk = record U.desk { bits = bits } })
   fixed_expanding U expanding is bits puts =
       with_bits R X count (made + 1) U (kept_for X made U) expanding (fixed_for X (made + 1) U) bits

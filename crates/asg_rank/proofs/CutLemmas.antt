@@ -190,19 +190,3 @@ module _ {V : Type 0} (Q : Grid V) (row : ℕ) (chosen : Option ℕ) (alone : Bo
       none : (o : Option V) → is_some o ≡ false → o ≡ None
       none None e = refl
       none (Some x) e = absurd (false≢true (sym e))
-
--- one more column was put
-pub put_next : (keep : ℕ → Bool) (old b : Bool) (column k : ℕ) → cond (b && eqb k column) (keep column) (cond (b && nat_lt k column) (keep k) old) ≡ cond (b && nat_lt k (column + 1)) (keep k) old
-put_next keep old b column k =
-    ⊎_elim
-    (λ (before : k < column). by b (nat_lt k column) (eqb k column) (nat_lt k (column + 1)) true false true (lt-ltb k column before) (ne_eqb k column (λ e. omega (arith, before, e))) (lt-ltb k (column + 1) (omega (arith, before))) refl)
-    (λ (from : column ≤ k).
-    ⊎_elim
-    (λ (here : k ≡ column). by b (nat_lt k column) (eqb k column) (nat_lt k (column + 1)) false true true (le-ltb k column (omega (arith, here))) (eq-eqb k column here) (lt-ltb k (column + 1) (omega (arith, here))) (ap keep (sym here)))
-    (λ (other : k ≡ column → ⊥). by b (nat_lt k column) (eqb k column) (nat_lt k (column + 1)) false false false (le-ltb k column from) (ne_eqb k column other) (le-ltb k (column + 1) (omega (arith, from, other))) refl)
-    (cases_eq k column))
-    (cases_lt k column)
-  where
-    by : (b x y z x_is y_is z_is : Bool) → x ≡ x_is → y ≡ y_is → z ≡ z_is → cond y_is (keep column) (cond x_is (keep k) old) ≡ cond z_is (keep k) old → cond (b && y) (keep column) (cond (b && x) (keep k) old) ≡ cond (b && z) (keep k) old
-    by true x y z x_is y_is z_is ex ey ez e = (λ i. cond (ey i) (keep column) (cond (ex i) (keep k) old)) ∙ e ∙ (λ i. cond (sym ez i) (keep k) old)
-    by false x y z x_is y_is z_is ex ey ez e = refl

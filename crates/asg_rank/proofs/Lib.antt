@@ -29,6 +29,7 @@ mod TreeEnds
 mod ToldSteps
 mod GrowSteps
 mod CutLemmas
+mod CopyLemmas
 mod CutBranches
 mod RebuildSteps
 mod RebuiltNodes

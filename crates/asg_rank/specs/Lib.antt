@@ -4,6 +4,7 @@ pub mod Entries
 pub mod HallPools
 pub mod Slots
 pub mod Cuts
+pub mod Copies
 pub mod Trees
 pub mod Settled
 pub mod Rooms

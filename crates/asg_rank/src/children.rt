@@ -180,10 +180,10 @@ fn add_child<M: DMonoid>(m: &M, inst: &Instance, search: &mut Search<M::Value>, 
 {
     let chosen = search.choices[search.given as usize - 1].get(row);
     let desk = &mut search.desk;
-    put_row(&mut desk.bits, &desk.work.now, row, chosen, false);
+    put_row(&mut desk.bits, inst, &desk.work.now, row, chosen, false);
     grow_child(m, inst, search, row, made);
     let desk = &mut search.desk;
-    put_row(&mut desk.bits, &desk.work.now, row, chosen, true);
+    put_row(&mut desk.bits, inst, &desk.work.now, row, chosen, true);
 }
 
 // Makes the next child if the row is active, and gives how many there are then.

@@ -1,13 +1,16 @@
 //! Cells that a branch takes out, row by row.
 
-ghost use Rattle.std.specs.Prelude.{◌≡◌, ◌<◌, ◌≤◌, ◌+◌, ◌*◌, length};
+ghost use Rattle.std.specs.Prelude.{◌≡◌, ◌<◌, ◌≤◌, ◌+◌, ◌*◌, ◌||◌, nat_le, not, length};
 ghost use Rattle.asg_model.specs.declared.parts.Place.TheVariants.{All as PlaceAll};
+ghost use Rattle.asg_model.specs.Shapes.{square_side};
 ghost use Rattle.asg_model.specs.ValidChoice.{takes};
 ghost use Rattle.asg_proof.specs.Masks.{keeps_cell};
-ghost use Rattle.asg_square.specs.BitTable.{word_count};
+ghost use Rattle.asg_square.specs.BitTable.{is_from_to, word_count};
 ghost use Rattle.asg_square.specs.Grid.{HasLabelsOf};
-ghost use Rattle.asg_rank.specs.Cuts.{keeps_copies, label_in, cuts_cell, cuts_columns, cuts_row, cuts_numbered, PutsRow, LosesCells};
+ghost use Rattle.asg_square.specs.Labels.{column_label};
+ghost use Rattle.asg_rank.specs.Cuts.{keeps_copies, cuts_cell, cuts_columns, cuts_row, cuts_numbered, PutsRow, LosesCells};
 
+use crate::copies::{Run, copies_of, end_of_copies};
 use asg_model::{Choice, Instance};
 use asg_square::{BitRows, Square};
 
@@ -138,24 +141,50 @@ fn cut_numbered<V: Copy>(
     }
 }
 
-/// Lets a row of bits keep the copies of its column alone, or all columns but them. It takes no
-/// memory.
+// Lets a row of bits keep these copies alone, and the columns from an end on.
+fn put_alone(bits: &mut BitRows, row: u32, run: Run, end: u32)
+    requires row { row < bits.old.rows }
+    requires within { run.to ≤ bits.old.columns }
+    ensures { PutsRow bits.old bits.new row
+        (λ k. is_from_to run.from run.to k || nat_le end k) }
+{
+    let columns = bits.columns();
+    bits.put_only(row, run.from, run.to);
+    bits.put_columns(row, end, columns, true);
+}
+
+// Lets a row of bits keep all columns but these copies.
+fn put_others(bits: &mut BitRows, row: u32, run: Run)
+    requires row { row < bits.old.rows }
+    requires within { run.to ≤ bits.old.columns }
+    ensures { PutsRow bits.old bits.new row (λ k. not (is_from_to run.from run.to k)) }
+{
+    let columns = bits.columns();
+    bits.put_columns(row, 0, columns, true);
+    bits.put_columns(row, run.from, run.to, false);
+}
+
+/// Lets a row of bits keep the copies of its column alone, or all columns but them, by words. It
+/// takes no memory.
 pub(crate) fn put_row<V: Copy>(
     bits: &mut BitRows,
+    inst: &Instance,
     square: &Square<V>,
     row: u32,
     chosen: Option<u32>,
     alone: bool,
 )
+    requires labels { HasLabelsOf inst.now square.now }
     requires row { row < bits.old.rows }
-    requires columns { bits.old.columns ≡ square.now.side }
-    ensures { PutsRow bits.old bits.new row (λ k. keeps_copies chosen alone (label_in square.now k)) }
+    requires columns { bits.old.columns ≡ square_side inst.now }
+    ensures { PutsRow bits.old bits.new row
+        (λ k. keeps_copies chosen alone (column_label inst.now k)) }
 {
-    'columns: for column in 0..square.side() {
-        bits.put(
-            row,
-            column,
-            keeps(square.column_label(column), chosen, alone),
-        );
+    let run = copies_of(inst, square, chosen);
+    if alone {
+        let end = end_of_copies(inst, square);
+        put_alone(bits, row, run, end);
+    } else {
+        put_others(bits, row, run);
     }
 }

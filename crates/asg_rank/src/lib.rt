@@ -13,6 +13,7 @@
 mod child_nodes;
 mod children;
 mod choice_lists;
+mod copies;
 mod cuts;
 mod desks;
 mod entries;

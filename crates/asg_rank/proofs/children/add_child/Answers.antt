@@ -2,7 +2,7 @@ use Rattle.std.proofs.Common.{◌+◌, ◌-◌, length, sym, ◌∙◌, ap, arit
 use Rattle.std.specs.Prelude.{None, slice_index_or}
 use Rattle.asg_rank.specs.Expansions.{fixed_for, kept_for}
 use Rattle.asg_rank.specs.Rules.{rules_of}
-use Rattle.asg_rank.proofs.ChildBits.{chosen_is, last_same, lost_expanding, fixed_expanding, bit_columns_here, bit_row_here}
+use Rattle.asg_rank.proofs.ChildBits.{chosen_is, last_same, lost_expanding, fixed_expanding, bit_row_here, labels_here}
 use Rattle.asg_rank.proofs.GrowCases.{given_count}
 use Rattle.asg_rank.proofs.GrowStarts.{last_choice}
 use Rattle.asg_model.specs.laws.Rows.{row-from_active}
@@ -39,6 +39,18 @@ get-chosen-requires g c =
     let there = row-from_active X row c.requires.row in
     omega (arith, over, count, there)
 
+pub put_row-requires-clause-labels : goal.put_row-requires-clause-labels
+put_row-requires-clause-labels g c =
+    let m = c.args.m.now in
+    let M = g.M.Ordered.monoid_of m in
+    let X = c.args.inst.now in
+    let S = c.args.search.now in
+    let made = c.args.made in
+    let e = c.requires.expanding in
+    let R = rules_of M (g.M.DMonoid.difference m) e.0 in
+    let E = e.2 in
+    labels_here R X e.1 made S (fixed_for X made S) E
+
 pub put_row-requires-clause-row : goal.put_row-requires-clause-row
 put_row-requires-clause-row g c =
     let m = c.args.m.now in
@@ -62,7 +74,7 @@ put_row-requires-clause-columns g c =
     let e = c.requires.expanding in
     let R = rules_of M (g.M.DMonoid.difference m) e.0 in
     let E = e.2 in
-    bit_columns_here R X e.1 made S (fixed_for X made S) E
+    E.bits.columns
 
 pub grow_child-requires-clause-expanding : goal.grow_child-requires-clause-expanding
 grow_child-requires-clause-expanding g c =
@@ -78,6 +90,22 @@ grow_child-requires-clause-expanding g c =
     let is = chosen_is S E.growing.some (last_choice R X e.1 made S E.growing) c.index.result.now c.index.ensures row c.get-chosen.result c.get-chosen.ensures in
     let first = lost_expanding R X e.1 made row c.requires.row c.requires.number c.get-chosen.result S E is c.put_row.new.bits c.put_row.ensures in
     (e.0, e.1, first)
+
+pub put_row-requires-2-clause-labels : goal.put_row-requires-2-clause-labels
+put_row-requires-2-clause-labels g c =
+    let m = c.args.m.now in
+    let M = g.M.Ordered.monoid_of m in
+    let X = c.args.inst.now in
+    let S = c.args.search.now in
+    let row = c.args.row in
+    let made = c.args.made in
+    let e = c.requires.expanding in
+    let R = rules_of M (g.M.DMonoid.difference m) e.0 in
+    let E = e.2 in
+    let is = chosen_is S E.growing.some (last_choice R X e.1 made S E.growing) c.index.result.now c.index.ensures row c.get-chosen.result c.get-chosen.ensures in
+    let first = lost_expanding R X e.1 made row c.requires.row c.requires.number c.get-chosen.result S E is c.put_row.new.bits c.put_row.ensures in
+    let U = c.grow_child.new.search in
+    labels_here R X e.1 (made + 1) U (kept_for X made U) (c.grow_child.ensures.expanding e.0 e.1 first)
 
 pub put_row-requires-2-clause-row : goal.put_row-requires-2-clause-row
 put_row-requires-2-clause-row g c =
@@ -109,7 +137,7 @@ put_row-requires-2-clause-columns g c =
     let is = chosen_is S E.growing.some (last_choice R X e.1 made S E.growing) c.index.result.now c.index.ensures row c.get-chosen.result c.get-chosen.ensures in
     let first = lost_expanding R X e.1 made row c.requires.row c.requires.number c.get-chosen.result S E is c.put_row.new.bits c.put_row.ensures in
     let U = c.grow_child.new.search in
-    bit_columns_here R X e.1 (made + 1) U (kept_for X made U) (c.grow_child.ensures.expanding e.0 e.1 first)
+    (c.grow_child.ensures.expanding e.0 e.1 first).bits.columns
 
 pub returns-clause-expanding : goal.returns-clause-expanding
 returns-clause-expanding g c =

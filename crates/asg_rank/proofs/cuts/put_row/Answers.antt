@@ -1,24 +1,39 @@
-use Rattle.std.proofs.Common.{ℕ, ◌+◌, ◌<◌, ◌≡◌, ◌&&◌, cond, eqb, ◌∙◌, subst, arith, refl, sym, ap}
-use Rattle.std.specs.Prelude.{slice_index_or, None, nat_lt}
-use Rattle.std.proofs.lemmas.Option.{get_or_from_slice_get}
-use Rattle.asg_square.specs.BitTable.{has_bit}
-use Rattle.asg_rank.specs.Cuts.{keeps_copies, label_in}
-use Rattle.asg_rank.proofs.CutLemmas.{put_next}
+use Rattle.std.proofs.Common.{ℕ, true, false, ◌||◌, not, sym, ◌∙◌, ap, subst, arith}
+use Rattle.std.specs.Prelude.{nat_le}
+use Rattle.asg_square.specs.BitTable.{is_from_to}
+use Rattle.asg_square.specs.Labels.{column_label}
+use Rattle.asg_square.specs.laws.Rows.{copies_within}
+use Rattle.asg_rank.specs.Cuts.{keeps_copies, PutsRow}
+use Rattle.asg_rank.proofs.CopyLemmas.{alone_keeps, others_keep, puts_same}
 use Rattle.asg_rank.proofs.cuts.put_row.Goals as goal
 
-pub columns-preserved : goal.columns-preserved
-columns-preserved g c =
-    let Q = c.args.square.now in
-    let column = c.columns.column in
-    let i = c.columns.invariant in
-    let puts = c.put.ensures in
-    let label : c.column_label.result ≡ label_in Q column = sym (get_or_from_slice_get Q.column_labels column c.column_label.result None c.column_label.ensures) in
-    let kept : c.keeps.result ≡ keeps_copies c.args.chosen c.args.alone (label_in Q column) = c.keeps.ensures ∙ ap (keeps_copies c.args.chosen c.args.alone) label in
-    record {
-      rows = puts.rows ∙ i.rows;
-      columns = puts.columns ∙ i.columns;
-      each = λ s k.
-          puts.bits s k
-          ∙ (λ j. cond (eqb s c.args.row && eqb k column) (kept j) (i.each s k j))
-          ∙ put_next (λ n. keeps_copies c.args.chosen c.args.alone (label_in Q n)) (has_bit c.args.bits.now s k) (eqb s c.args.row) column k;
-    }
+pub put_alone-requires-clause-within : goal.put_alone-requires-clause-within
+put_alone-requires-clause-within g c =
+    let within = c.copies_of-run.ensures.run.within in
+    omega (arith, within, copies_within c.args.inst.now, c.requires.columns)
+
+pub put_others-requires-clause-within : goal.put_others-requires-clause-within
+put_others-requires-clause-within g c =
+    let within = c.copies_of-run.ensures.run.within in
+    omega (arith, within, copies_within c.args.inst.now, c.requires.columns)
+
+pub returns-then-alone : goal.returns-then-alone
+returns-then-alone g c =
+    let X = c.args.inst.now in
+    let run = c.copies_of-run.result in
+    let after = c.put_alone.new.bits in
+    let keep = λ (k : ℕ). is_from_to run.from run.to k || nat_le c.end_of_copies-end.result k in
+    subst (λ b. PutsRow c.args.bits.now after c.args.row (λ k. keeps_copies c.args.chosen b (column_label X k))) (sym c.if-alone.true)
+    (puts_same c.args.bits.now after c.args.row keep (λ k. keeps_copies c.args.chosen true (column_label X k))
+    (λ k. ap (λ n. is_from_to run.from run.to k || nat_le n k) c.end_of_copies-end.ensures.end ∙ alone_keeps X c.args.chosen run c.copies_of-run.ensures.run k)
+    c.put_alone.ensures)
+
+pub returns-else-alone : goal.returns-else-alone
+returns-else-alone g c =
+    let X = c.args.inst.now in
+    let run = c.copies_of-run.result in
+    let after = c.put_others.new.bits in
+    subst (λ b. PutsRow c.args.bits.now after c.args.row (λ k. keeps_copies c.args.chosen b (column_label X k))) (sym c.if-alone.false)
+    (puts_same c.args.bits.now after c.args.row (λ k. not (is_from_to run.from run.to k)) (λ k. keeps_copies c.args.chosen false (column_label X k))
+    (others_keep X c.args.chosen run c.copies_of-run.ensures.run)
+    c.put_others.ensures)

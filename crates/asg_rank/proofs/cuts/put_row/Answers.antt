@@ -1,21 +1,10 @@
-use Rattle.std.proofs.Common.{ℕ, true, false, ◌||◌, not, sym, ◌∙◌, ap, subst, arith}
+use Rattle.std.proofs.Common.{ℕ, true, false, ◌||◌, not, sym, ◌∙◌, ap, subst}
 use Rattle.std.specs.Prelude.{nat_le}
 use Rattle.asg_square.specs.BitTable.{is_from_to}
 use Rattle.asg_square.specs.Labels.{column_label}
-use Rattle.asg_square.specs.laws.Rows.{copies_within}
 use Rattle.asg_rank.specs.Cuts.{keeps_copies, PutsRow}
 use Rattle.asg_rank.proofs.CopyLemmas.{alone_keeps, others_keep, puts_same}
 use Rattle.asg_rank.proofs.cuts.put_row.Goals as goal
-
-pub put_alone-requires-clause-within : goal.put_alone-requires-clause-within
-put_alone-requires-clause-within g c =
-    let within = c.copies_of-run.ensures.run.within in
-    omega (arith, within, copies_within c.args.inst.now, c.requires.columns)
-
-pub put_others-requires-clause-within : goal.put_others-requires-clause-within
-put_others-requires-clause-within g c =
-    let within = c.copies_of-run.ensures.run.within in
-    omega (arith, within, copies_within c.args.inst.now, c.requires.columns)
 
 pub returns-then-alone : goal.returns-then-alone
 returns-then-alone g c =

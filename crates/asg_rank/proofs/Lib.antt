@@ -30,6 +30,7 @@ mod ToldSteps
 mod GrowSteps
 mod CutLemmas
 mod CopyLemmas
+mod CutWords
 mod CutBranches
 mod RebuildSteps
 mod RebuiltNodes

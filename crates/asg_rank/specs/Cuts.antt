@@ -1,5 +1,5 @@
 -- Cells that a branch takes out, row by row.
-use Rattle.std.specs.Prelude.{◌≡◌, ℕ, ◌<◌, ◌==◌, ◌&&◌, nat_lt, nat_le, not, Bool, true, if◌then◌else◌, Option, Some, None, IsSome, List, slice_index_or}
+use Rattle.std.specs.Prelude.{◌≡◌, ℕ, ◌/◌, ◌<◌, ◌==◌, ◌&&◌, nat_lt, nat_le, not, Bool, true, if◌then◌else◌, Option, Some, None, List, slice_index_or}
 use Rattle.std.specs.Option.{option_map_or}
 use Rattle.asg_admit.specs.Reduced.{KeepsLabels}
 use Rattle.asg_model.specs.Problem.{Problem}
@@ -19,14 +19,17 @@ keeps_copies chosen alone label =
 abbrev pub label_in : {V : Type 0} → Grid V → ℕ → Option ℕ
 label_in Q k = slice_index_or Q.column_labels k None
 
--- one cell is kept or not, and all others are
-abbrev pub cuts_cell : ℕ → ℕ → Bool → ℕ → ℕ → Bool
-cuts_cell row column is_kept r k = if (r == row) && (k == column) then is_kept else true
+-- all cells but one are kept
+abbrev pub cuts_cell : ℕ → ℕ → ℕ → ℕ → Bool
+cuts_cell row column r k = not ((r == row) && (k == column))
 
--- of one row the columns from one on and before another keep the copies of its column alone, or lose them
-abbrev pub cuts_columns : {V : Type 0} → Grid V → ℕ → ℕ → ℕ → Option ℕ → Bool → ℕ → ℕ → Bool
-cuts_columns Q row from to chosen alone r k =
-    if (r == row) && is_from_to from to k then keeps_copies chosen alone (label_in Q k) else true
+-- all but those of one row at the columns from one on and before another, of the 64 columns of a word
+abbrev pub cuts_word : ℕ → ℕ → ℕ → ℕ → ℕ → ℕ → Bool
+cuts_word row number from to r k = not ((r == row) && ((k / 64 == number) && is_from_to from to k))
+
+-- all but those of one row at the columns from one on and before another
+abbrev pub cuts_between : ℕ → ℕ → ℕ → ℕ → ℕ → Bool
+cuts_between row from to r k = not ((r == row) && is_from_to from to k)
 
 -- one row keeps the copies of its column alone, or loses them, and the other rows keep all
 abbrev pub cuts_row : {V : Type 0} → Grid V → ℕ → Option ℕ → Bool → ℕ → ℕ → Bool

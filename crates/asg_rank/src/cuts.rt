@@ -1,103 +1,90 @@
 //! Cells that a branch takes out, row by row.
 
-ghost use Rattle.std.specs.Prelude.{◌≡◌, ◌<◌, ◌≤◌, ◌+◌, ◌*◌, ◌||◌, nat_le, not, length};
+ghost use Rattle.std.specs.Prelude.{◌≡◌, ◌<◌, ◌≤◌, ◌*◌, ◌&&◌, ◌||◌, ℕ, nat_le, not, length};
 ghost use Rattle.asg_model.specs.declared.parts.Place.TheVariants.{All as PlaceAll};
 ghost use Rattle.asg_model.specs.Shapes.{square_side};
-ghost use Rattle.asg_model.specs.ValidChoice.{takes};
 ghost use Rattle.asg_proof.specs.Masks.{keeps_cell};
-ghost use Rattle.asg_square.specs.BitTable.{is_from_to, word_count};
+ghost use Rattle.asg_square.specs.BitTable.{is_bit_set, is_from_to};
 ghost use Rattle.asg_square.specs.Grid.{HasLabelsOf};
 ghost use Rattle.asg_square.specs.Labels.{column_label};
-ghost use Rattle.asg_rank.specs.Cuts.{keeps_copies, cuts_cell, cuts_columns, cuts_row, cuts_numbered, PutsRow, LosesCells};
+ghost use Rattle.asg_rank.specs.Cuts.{keeps_copies, cuts_cell, cuts_word, cuts_between, cuts_row, cuts_numbered, PutsRow, LosesCells};
 
 use crate::copies::{Run, copies_of, end_of_copies};
 use asg_model::{Choice, Instance};
-use asg_square::{BitRows, Square};
+use asg_square::{BitRows, Square, first_bits};
 
-// Whether two columns are there and the same.
-fn are_same(label: u32, chosen: Option<u32>) -> bool
-    ensures { result ≡ takes label chosen }
+// The bits of a word from one on and before another.
+fn bits_between(word: u64, from: u32, to: u32) -> u64
+    ensures { (k : ℕ) → k < 64
+        → is_bit_set result k ≡ (is_bit_set word k && is_from_to from to k) }
 {
-    match chosen {
-        Some(column) => column == label,
-        None => false,
-    }
+    let upto = first_bits(to as usize);
+    let before = first_bits(from as usize);
+    word & upto & !before
 }
 
-// Whether a row that keeps the copies of its column alone, or loses them, keeps a column with this
-// label.
-fn keeps(label: Option<u32>, chosen: Option<u32>, alone: bool) -> bool
-    ensures { result ≡ keeps_copies chosen alone label }
-{
-    match label {
-        Some(label) => are_same(label, chosen) == alone,
-        None => true,
-    }
-}
-
-// Takes a cell out, unless it is kept.
-fn cut_cell<V: Copy>(square: &mut Square<V>, row: u32, column: u32, is_kept: bool)
+// Takes a cell out.
+fn cut_cell<V: Copy>(square: &mut Square<V>, row: u32, column: u32)
     requires row { row < square.old.side }
     requires column { column < square.old.side }
-    ensures { LosesCells (cuts_cell row column is_kept) square.old square.new }
+    ensures { LosesCells (cuts_cell row column) square.old square.new }
 {
     square.side();
-    if !is_kept {
-        square.set(row, column, None);
-    }
+    square.set(row, column, None);
 }
 
-// Takes out the cells of one row, at the columns from one on and before another, that it doesn't
-// keep, where it keeps the copies of its column alone or loses them.
-fn cut_columns<V: Copy>(
-    square: &mut Square<V>,
-    row: u32,
-    from: u32,
-    to: u32,
-    chosen: Option<u32>,
-    alone: bool,
-)
+// Takes out the present cells of one row, of the 64 columns of a word, at those from one on and
+// before another.
+fn cut_word<V: Copy>(square: &mut Square<V>, row: u32, number: u32, from: u32, to: u32)
     requires row { row < square.old.side }
-    requires order { from ≤ to }
     requires within { to ≤ square.old.side }
-    ensures { LosesCells (cuts_columns square.old row from to chosen alone) square.old square.new }
+    requires number { 64 * number < to }
+    ensures { LosesCells (cuts_word row number from to) square.old square.new }
 {
     square.side();
-    'columns: for column in from..to {
-        let is_kept = keeps(square.column_label(column), chosen, alone);
-        cut_cell(square, row, column, is_kept);
+    let first = 64 * number;
+    let word = square.row_words(row)[number as usize];
+    let mut rest = bits_between(word, from.saturating_sub(first), to - first);
+    'bits: while rest != 0 {
+        let k = rest.trailing_zeros();
+        cut_cell(square, row, first + k);
+        rest &= !(1 << k);
     }
 }
 
-// The same for the 64 columns of a word; where none of their cells is present nothing is done.
-fn cut_word<V: Copy>(
-    square: &mut Square<V>,
-    row: u32,
-    number: u32,
-    chosen: Option<u32>,
-    alone: bool,
-)
+// Takes out the present cells of one row at the columns from one on and before another.
+fn cut_between<V: Copy>(square: &mut Square<V>, row: u32, from: u32, to: u32)
     requires row { row < square.old.side }
-    requires number { number < word_count square.old.side }
-    ensures { LosesCells (cuts_columns square.old row (64 * number) (64 * number + 64) chosen alone)
-        square.old square.new }
+    requires within { to ≤ square.old.side }
+    ensures { LosesCells (cuts_between row from to) square.old square.new }
 {
-    let side = square.side();
-    if square.row_words(row)[number as usize] != 0 {
-        let first = 64 * number;
-        cut_columns(square, row, first, (first + 64).min(side), chosen, alone);
+    square.side();
+    'words: for number in from / 64..to.div_ceil(64) {
+        cut_word(square, row, number, from, to);
     }
 }
 
 // Takes out the cells of one row that it doesn't keep, where it keeps the copies of its column
 // alone or loses them.
-fn cut_row<V: Copy>(square: &mut Square<V>, row: u32, chosen: Option<u32>, alone: bool)
-    requires { row < square.old.side }
+fn cut_row<V: Copy>(
+    square: &mut Square<V>,
+    inst: &Instance,
+    row: u32,
+    chosen: Option<u32>,
+    alone: bool,
+)
+    requires labels { HasLabelsOf inst.now square.old }
+    requires row { row < square.old.side }
     ensures { LosesCells (cuts_row square.old row chosen alone) square.old square.new }
 {
-    let side = square.side();
-    'words: for number in 0..side.div_ceil(64) {
-        cut_word(square, row, number, chosen, alone);
+    square.side();
+    let run = copies_of(inst, square, chosen);
+    if alone {
+        let end = end_of_copies(inst, square);
+        cut_between(square, row, 0, run.from);
+        cut_between(square, row, run.to, end);
+    } else {
+        cut_between(square, row, run.from, run.to);
     }
 }
 
@@ -120,7 +107,7 @@ pub(crate) fn cut_branch<V: Copy>(
     'rows: for row in 0..choice.len() {
         if inst.is_active(row) {
             number += 1;
-            cut_numbered(square, row, choice.get(row), number, branch);
+            cut_numbered(square, inst, row, choice.get(row), number, branch);
         }
     }
 }
@@ -128,16 +115,18 @@ pub(crate) fn cut_branch<V: Copy>(
 // Takes out the cells that a branch doesn't keep of an active row with a number.
 fn cut_numbered<V: Copy>(
     square: &mut Square<V>,
+    inst: &Instance,
     row: u32,
     chosen: Option<u32>,
     number: u32,
     branch: u32,
 )
-    requires { row < square.old.side }
+    requires labels { HasLabelsOf inst.now square.old }
+    requires row { row < square.old.side }
     ensures { LosesCells (cuts_numbered square.old row chosen number branch) square.old square.new }
 {
     if number <= branch {
-        cut_row(square, row, chosen, number < branch);
+        cut_row(square, inst, row, chosen, number < branch);
     }
 }
 

@@ -1,13 +1,17 @@
-use Rattle.std.proofs.Common.{◌≡◌, ℕ, ◌+◌, ◌<◌, ◌≤◌, ◌&&◌, true, cond, None, sym, ◌∙◌, ap, subst, arith}
+use Rattle.std.proofs.Common.{◌≡◌, ◌+◌, ◌<◌, ◌&&◌, true, cond, None, sym, ◌∙◌, ap, subst, arith}
 use Rattle.std.proofs.lemmas.Option.{get_or_from_slice_get}
 use Rattle.asg_model.specs.Live.{is_active}
 use Rattle.asg_model.specs.Sums.{count_below}
 use Rattle.asg_proof.specs.Masks.{keeps_cell}
 use Rattle.asg_rank.specs.Cuts.{cuts_numbered, LosesCells}
-use Rattle.asg_rank.proofs.CutBranches.{cut_rows, cut_no_rows, idle_next, active_next, cut_end, count_more}
+use Rattle.asg_rank.proofs.CutBranches.{cut_rows, idle_next, active_next, cut_end, count_more}
 use Rattle.asg_rank.proofs.CutLemmas.{labels_kept, loses_both, loses_same}
 use Rattle.asg_rank.proofs.cuts.cut_branch.Goals as goal
 use Rattle.asg_rank.proofs.cuts.cut_branch.Goals.{then-is_active, else-is_active}
+
+pub cut_numbered-requires-clause-labels : goal.cut_numbered-requires-clause-labels
+cut_numbered-requires-clause-labels g c =
+    labels_kept c.args.inst.now c.args.square.now c.rows.square c.requires.labels c.rows.invariant.cut.labels
 
 pub rows-preserved : goal.rows-preserved
 rows-preserved g c =

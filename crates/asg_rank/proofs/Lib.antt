@@ -4,8 +4,7 @@ mod Branched
 mod EntryLists
 mod ChildSteps
 mod SlotLists
-mod SinkLemmas
-mod SwapLemmas
+mod PlaceLemmas
 mod OfferLemmas
 mod SlotSteps
 mod AnswerSteps

@@ -1,8 +1,8 @@
 //! Nodes that have their best choice, in the order of their indexes.
 
-ghost use Rattle.std.specs.Prelude.{◌≡◌, ◌-◌, ◌<◌, ◌≤◌, ◌++◌, ◌∷◌, [], IsTrue, false, length, take, swap, IfOk};
+ghost use Rattle.std.specs.Prelude.{◌≡◌, ◌-◌, ◌<◌, ◌≤◌, [], IsTrue, false, length, take, drop, insert, All, IfOk};
 ghost use Rattle.asg_order.specs.Monoid.{IsValue, IsLe, IsLess};
-ghost use Rattle.asg_rank.specs.Slots.{slot_of, slot_at, Ascends, HaveValues, IsLimit, Offers, Inserts};
+ghost use Rattle.asg_rank.specs.Slots.{slot_of, slot_at, Ascends, HaveValues, AreUpTo, IsLimit, Offers, Inserts};
 
 use crate::NoMemory;
 use asg_match::Matching;
@@ -18,28 +18,42 @@ pub(crate) struct Slot<V: Copy> {
     pub(crate) matching: Matching,
 }
 
-/// So many slots; the first `end` are in use.
+// A slot behind its address, so that it changes places as one word does.
+#[derive(Drop)]
+struct Held<V: Copy> {
+    slot: Box<Slot<V>>,
+}
+
+impl<V: Copy> Model for Held<V> {
+    ghost use Rattle.std.specs.Prelude.{box_value};
+    ghost use Rattle.asg_rank.specs.declared.slots.Slot.{Slot as S};
+
+    ghost Value = { S V };
+
+    ghost view = { λ held. box_value held.slot };
+}
+
+/// So many slots: those in use in the order of their indexes, and the free ones.
 #[derive(Drop)]
 pub(crate) struct Slots<V: Copy> {
     side: u32,
-    end: usize,
-    slots: Vec<Slot<V>>,
+    room: usize,
+    used: Vec<Held<V>>,
+    free: Vec<Held<V>>,
 }
 
 impl<V: Copy> Model for Slots<V> {
-    ghost use Rattle.std.specs.Prelude.{◌≡◌, ◌≤◌, ◌<◌, ◌^◌, All, length, take};
+    ghost use Rattle.std.specs.Prelude.{◌≡◌, ◌≤◌, ◌+◌, All, length, vec_capacity};
     ghost use Rattle.asg_rank.specs.Slots.{SlotList};
 
     ghost Value = { SlotList V };
 
-    ghost view = { λ s. record {
-      side = s.side;
-      room = length s.slots.items;
-      used = take s.end s.slots.items;
-    } };
+    ghost view = { λ s. record { side = s.side; room = s.room; used = s.used.items } };
 
-    ghost invariant = { λ s. (s.end ≤ length s.slots.items) × (length s.slots.items < 2 ^ 32)
-        × All (λ slot. length slot.matching ≡ s.side) s.slots.items };
+    ghost invariant = { λ s. (length s.used.items + length s.free.items ≡ s.room)
+        × (s.room ≤ vec_capacity s.used) × (s.room ≤ vec_capacity s.free)
+        × All (λ slot. length slot.matching ≡ s.side) s.used.items
+        × All (λ slot. length slot.matching ≡ s.side) s.free.items };
 }
 
 // Whether the first value isn't at most the second.
@@ -52,99 +66,28 @@ fn is_above<M: Ordered>(m: &M, x: M::Value, y: M::Value) -> bool
     !m.le(x, y)
 }
 
-impl<V: Copy> Slots<V> {
-    /// So many slots over a side, none of them in use. The error is want of memory.
-    pub(crate) fn make(alloc: Global, side: u32, room: u32, index: V) -> Result<Slots<V>, NoMemory>
-        ensures { IfOk result (λ s. s ≡ record { side = side; room = room; used = [] }) }
+impl<V: Copy> Held<V> {
+    // Gives a slot memory of its own. The error is want of memory.
+    fn make(alloc: Global, slot: Slot<V>) -> Result<Held<V>, NoMemory>
+        ensures { IfOk result (λ held. held ≡ slot) }
     {
-        let mut slots = Vec::with_capacity(alloc, room as usize)?;
-        'slots: for _ in 0..room {
-            let matching = Matching::make(alloc, side)?;
-            slots.push(Slot {
-                node: 0,
-                index,
-                matching,
-            })?;
-        }
-        Ok(Slots {
-            side,
-            end: 0,
-            slots,
-        })
+        let boxed = Box::new(alloc, slot)?;
+        Ok(Held { slot: boxed })
     }
 
-    /// How many are in use.
-    pub(crate) fn len(&self) -> usize
-        ensures count { result ≡ length self.now.used }
-        ensures most { result ≤ self.now.room }
+    // The slot.
+    fn get(&self) -> &Slot<V>
+        ensures { result.now ≡ self.now }
     {
-        self.end
+        self.slot.as_ref()
     }
 
-    /// How many there are.
-    pub(crate) fn room(&self) -> usize
-        ensures room { result ≡ self.now.room }
-        ensures most { length self.now.used ≤ result }
+    // Writes the slot.
+    fn write(&mut self, node: u32, index: V, matching: &Matching)
+        requires { length self.old.matching ≡ length matching.now }
+        ensures { self.new ≡ slot_of node index matching.now }
     {
-        self.slots.len()
-    }
-
-    /// The node in a slot.
-    pub(crate) fn node(&self, place: usize) -> u32
-        requires { place < length self.now.used }
-        ensures { (unit : V) → result ≡ (slot_at unit self.now.used place).node }
-    {
-        self.slots[place].node
-    }
-
-    /// The matching in a slot.
-    pub(crate) fn matching(&self, place: usize) -> &Matching
-        requires { place < length self.now.used }
-        ensures matching { (unit : V) → result.now ≡ (slot_at unit self.now.used place).matching }
-        ensures side { length result.now ≡ self.now.side }
-    {
-        &self.slots[place].matching
-    }
-
-    // Puts a slot behind those in use.
-    fn push(&mut self, node: u32, index: V, matching: &Matching)
-        requires room { length self.old.used < self.old.room }
-        requires side { length matching.now ≡ self.old.side }
-        ensures { self.new ≡ record self.old {
-          used = self.old.used ++ slot_of node index matching.now ∷ [];
-        } }
-    {
-        write(&mut self.slots[self.end], node, index, matching);
-        self.end += 1;
-    }
-
-    // Writes the last slot in use.
-    fn replace_last(&mut self, node: u32, index: V, matching: &Matching)
-        requires some { 1 ≤ length self.old.used }
-        requires side { length matching.now ≡ self.old.side }
-        ensures { self.new ≡ record self.old {
-          used = take (length self.old.used - 1) self.old.used
-              ++ slot_of node index matching.now ∷ [];
-        } }
-    {
-        write(&mut self.slots[self.end - 1], node, index, matching);
-    }
-
-    // Lets a slot and the one before it change places.
-    fn swap_back(&mut self, place: usize)
-        requires from { 1 ≤ place }
-        requires upto { place < length self.old.used }
-        ensures { self.new ≡ record self.old { used = swap self.old.used (place - 1) place } }
-    {
-        self.slots.swap(place - 1, place);
-    }
-
-    // The index in a slot.
-    fn index(&self, place: usize) -> V
-        requires { place < length self.now.used }
-        ensures { (unit : V) → result ≡ (slot_at unit self.now.used place).index }
-    {
-        self.slots[place].index
+        write(self.slot.as_mut(), node, index, matching);
     }
 }
 
@@ -156,6 +99,106 @@ fn write<V: Copy>(slot: &mut Slot<V>, node: u32, index: V, matching: &Matching)
     slot.node = node;
     slot.index = index;
     slot.matching.take(matching);
+}
+
+impl<V: Copy> Slots<V> {
+    /// So many slots over a side, none of them in use. The error is want of memory.
+    pub(crate) fn make(alloc: Global, side: u32, room: u32, index: V) -> Result<Slots<V>, NoMemory>
+        ensures { IfOk result (λ s. s ≡ record { side = side; room = room; used = [] }) }
+    {
+        let used = Vec::with_capacity(alloc, room as usize)?;
+        let mut free = Vec::with_capacity(alloc, room as usize)?;
+        'slots: for _ in 0..room {
+            let matching = Matching::make(alloc, side)?;
+            let slot = Slot {
+                node: 0,
+                index,
+                matching,
+            };
+            free.push(Held::make(alloc, slot)?)?;
+        }
+        Ok(Slots {
+            side,
+            room: room as usize,
+            used,
+            free,
+        })
+    }
+
+    /// How many are in use.
+    pub(crate) fn len(&self) -> usize
+        ensures count { result ≡ length self.now.used }
+        ensures most { result ≤ self.now.room }
+    {
+        self.used.len()
+    }
+
+    /// How many there are.
+    pub(crate) fn room(&self) -> usize
+        ensures room { result ≡ self.now.room }
+        ensures most { length self.now.used ≤ result }
+    {
+        self.room
+    }
+
+    // The slot in a place.
+    fn at(&self, place: usize) -> &Slot<V>
+        requires { place < length self.now.used }
+        ensures slot { (unit : V) → result.now ≡ slot_at unit self.now.used place }
+        ensures side { length result.now.matching ≡ self.now.side }
+    {
+        self.used[place].get()
+    }
+
+    /// The node in a slot.
+    pub(crate) fn node(&self, place: usize) -> u32
+        requires { place < length self.now.used }
+        ensures { (unit : V) → result ≡ (slot_at unit self.now.used place).node }
+    {
+        self.at(place).node
+    }
+
+    /// The matching in a slot.
+    pub(crate) fn matching(&self, place: usize) -> &Matching
+        requires { place < length self.now.used }
+        ensures matching { (unit : V) → result.now ≡ (slot_at unit self.now.used place).matching }
+        ensures side { length result.now ≡ self.now.side }
+    {
+        &self.at(place).matching
+    }
+
+    // The index in a slot.
+    fn index(&self, place: usize) -> V
+        requires { place < length self.now.used }
+        ensures { (unit : V) → result ≡ (slot_at unit self.now.used place).index }
+    {
+        self.at(place).index
+    }
+
+    // Writes a free slot, and puts it before those in use from a place on.
+    fn put(&mut self, place: usize, node: u32, index: V, matching: &Matching)
+        requires place { place ≤ length self.old.used }
+        requires room { length self.old.used < self.old.room }
+        requires side { length matching.now ≡ self.old.side }
+        ensures { self.new ≡ record self.old {
+          used = insert self.old.used place (slot_of node index matching.now);
+        } }
+    {
+        let mut held = self.free.pop().unwrap();
+        held.write(node, index, matching);
+        let _ = self.used.insert(place, held);
+    }
+
+    // Frees the last slot in use.
+    fn free_last(&mut self)
+        requires { 1 ≤ length self.old.used }
+        ensures { self.new ≡ record self.old {
+          used = take (length self.old.used - 1) self.old.used;
+        } }
+    {
+        let held = self.used.pop().unwrap();
+        self.free.push_reserved(held);
+    }
 }
 
 /// The greatest index, where all slots are in use: from there on nothing is kept.
@@ -172,23 +215,49 @@ pub(crate) fn limit<M: Ordered>(m: &M, slots: &Slots<M::Value>) -> Option<M::Val
     Some(slots.index(count - 1))
 }
 
-// Lets the last slot in use change places with those before it whose index is greater.
-fn sink<M: Ordered>(m: &M, slots: &mut Slots<M::Value>)
-    requires some { 1 ≤ length slots.old.used }
+// The place of an index among those of the slots in use: behind all that are at most it.
+fn place_for<M: Ordered>(m: &M, slots: &Slots<M::Value>, index: M::Value) -> usize
+    requires index { IsValue (M.monoid_of m.now) index }
+    requires values { HaveValues (M.monoid_of m.now) slots.now.used }
+    requires ascends { Ascends (M.monoid_of m.now) slots.now.used }
+    ensures within { result ≤ length slots.now.used }
+    ensures upto { AreUpTo (M.monoid_of m.now) index (take result slots.now.used) }
+    ensures above { All (λ slot. IsLess (M.monoid_of m.now) index slot.index)
+        (drop result slots.now.used) }
+{
+    let mut low = 0;
+    let mut high = slots.len();
+    'places: while low < high {
+        let middle = low + (high - low) / 2;
+        if is_above(m, slots.index(middle), index) {
+            high = middle;
+        } else {
+            low = middle + 1;
+        }
+    }
+    low
+}
+
+// Puts a node into a free slot, before those whose index is greater.
+fn enter<M: Ordered>(
+    m: &M,
+    slots: &mut Slots<M::Value>,
+    node: u32,
+    index: M::Value,
+    matching: &Matching,
+)
+    requires room { length slots.old.used < slots.old.room }
+    requires side { length matching.now ≡ slots.old.side }
+    requires index { IsValue (M.monoid_of m.now) index }
     requires values { HaveValues (M.monoid_of m.now) slots.old.used }
-    requires ascends { Ascends (M.monoid_of m.now)
-        (take (length slots.old.used - 1) slots.old.used) }
+    requires ascends { Ascends (M.monoid_of m.now) slots.old.used }
     ensures side { slots.new.side ≡ slots.old.side }
     ensures room { slots.new.room ≡ slots.old.room }
-    ensures inserts { let unit = (M.monoid_of m.now).unit in let last = length slots.old.used - 1 in
-        Inserts (M.monoid_of m.now) (take last slots.old.used) (slot_at unit slots.old.used last)
-        slots.new.used }
+    ensures inserts { Inserts (M.monoid_of m.now) slots.old.used
+        (slot_of node index matching.now) slots.new.used }
 {
-    let mut place = slots.len() - 1;
-    while place > 0 && is_above(m, slots.index(place - 1), slots.index(place)) {
-        slots.swap_back(place);
-        place -= 1;
-    }
+    let place = place_for(m, slots, index);
+    slots.put(place, node, index, matching);
 }
 
 /// Offers a node that has its best choice. Where a slot is free it takes one, and otherwise that of
@@ -212,10 +281,9 @@ pub(crate) fn offer<M: Ordered>(
 {
     let count = slots.len();
     if count < slots.room() {
-        slots.push(node, index, matching);
-        sink(m, slots);
+        enter(m, slots, node, index, matching);
     } else if is_above(m, slots.index(count - 1), index) {
-        slots.replace_last(node, index, matching);
-        sink(m, slots);
+        slots.free_last();
+        enter(m, slots, node, index, matching);
     }
 }

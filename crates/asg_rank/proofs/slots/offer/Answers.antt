@@ -1,8 +1,10 @@
 use Rattle.std.proofs.Common.{◌≡◌, ℕ, ◌+◌, ◌-◌, ◌<◌, ◌≤◌, inl, inr, length, take, refl, sym, ◌∙◌, ap, subst, arith}
 use Rattle.std.specs.Prelude.{[], ◌∷◌, ◌++◌}
+use Rattle.std.proofs.lemmas.List.{length-take-le}
+use Rattle.std.proofs.lemmas.List.Elements.{All-take}
 use Rattle.asg_order.specs.Monoid.{IsValue, IsLe, IsLess}
-use Rattle.asg_rank.specs.Slots.{SlotList, slot_of, slot_at}
-use Rattle.asg_rank.proofs.OfferLemmas.{values_replaced, ascends_replaced, replaced, refused}
+use Rattle.asg_rank.specs.Slots.{SlotList, slot_of, slot_at, HaveValues, Ascends}
+use Rattle.asg_rank.proofs.OfferLemmas.{ascends_before_last, replaced, refused}
 use Rattle.asg_rank.proofs.slots.offer.Goals as goal
 
 pub is_above-requires-clause-left : goal.is_above-requires-clause-left
@@ -14,23 +16,33 @@ is_above-requires-clause-left g c =
     let some = c.requires.room in
     subst (IsValue M) (sym (c.index.ensures M.unit)) (c.requires.values (c.len-count.result - 1) (slot_of 0 M.unit []) (omega (arith, count, room, full, some)))
 
-pub sink-requires-then-is_above-clause-values : goal.sink-requires-then-is_above-clause-values
-sink-requires-then-is_above-clause-values g c =
-    let M = g.M.Ordered.monoid_of c.args.m.now in
+pub enter-requires-then-is_above-clause-room : goal.enter-requires-then-is_above-clause-room
+enter-requires-then-is_above-clause-room g c =
+    let used = c.args.slots.now.used in
     let count = c.len-count.ensures.count in
+    let most = c.len-count.ensures.most in
     let room = c.room.ensures.room in
     let full = c.if-count-room.false in
     let some = c.requires.room in
-    values_replaced M c.args.slots.now.used (omega (arith, count, room, full, some)) (slot_of c.args.node c.args.index c.args.matching.now) c.replace_last.new.self.used (ap (λ (s : SlotList _). s.used) c.replace_last.ensures) c.requires.values c.requires.index
+    let now : length c.free_last.new.self.used ≡ length used - 1 =
+    ap (λ (s : SlotList _). length s.used) c.free_last.ensures ∙ length-take-le (length used - 1) used (omega arith) in
+    let same : c.free_last.new.self.room ≡ c.args.slots.now.room = ap (λ (s : SlotList _). s.room) c.free_last.ensures in
+    omega (arith, now, same, count, most, room, full, some)
 
-pub sink-requires-then-is_above-clause-ascends : goal.sink-requires-then-is_above-clause-ascends
-sink-requires-then-is_above-clause-ascends g c =
+pub enter-requires-then-is_above-clause-values : goal.enter-requires-then-is_above-clause-values
+enter-requires-then-is_above-clause-values g c =
+    let M = g.M.Ordered.monoid_of c.args.m.now in
+    let used = c.args.slots.now.used in
+    subst (HaveValues M) (sym (ap (λ (s : SlotList _). s.used) c.free_last.ensures)) (All-take (λ s. IsValue M s.index) (length used - 1) used c.requires.values)
+
+pub enter-requires-then-is_above-clause-ascends : goal.enter-requires-then-is_above-clause-ascends
+enter-requires-then-is_above-clause-ascends g c =
     let M = g.M.Ordered.monoid_of c.args.m.now in
     let count = c.len-count.ensures.count in
     let room = c.room.ensures.room in
     let full = c.if-count-room.false in
     let some = c.requires.room in
-    ascends_replaced M c.args.slots.now.used (omega (arith, count, room, full, some)) (slot_of c.args.node c.args.index c.args.matching.now) c.replace_last.new.self.used (ap (λ (s : SlotList _). s.used) c.replace_last.ensures) c.requires.ascends
+    subst (Ascends M) (sym (ap (λ (s : SlotList _). s.used) c.free_last.ensures)) (ascends_before_last M c.args.slots.now.used (omega (arith, count, room, full, some)) c.requires.ascends)
 
 pub returns-then-is_above-clause-offers : goal.returns-then-is_above-clause-offers
 returns-then-is_above-clause-offers g c =
@@ -45,7 +57,7 @@ returns-then-is_above-clause-offers g c =
     let here : c.index.result ≡ (slot_at M.unit used (length used - 1)).index = c.index.ensures M.unit ∙ ap (λ n. (slot_at M.unit used (n - 1)).index) count in
     inr (
       omega (arith, count, most, room, full),
-      inl (replaced M used (omega (arith, count, room, full, some)) (slot_of c.args.node c.args.index c.args.matching.now) c.replace_last.new.self.used (ap (λ (s : SlotList _). s.used) c.replace_last.ensures) c.sink-then-is_above.new.slots.used (subst (λ z. IsLess M c.args.index z) here above) c.sink-then-is_above.ensures.inserts),
+      inl (replaced M used (omega (arith, count, room, full, some)) (slot_of c.args.node c.args.index c.args.matching.now) c.free_last.new.self.used c.enter-then-is_above.new.slots.used (ap (λ (s : SlotList _). s.used) c.free_last.ensures) (subst (λ z. IsLess M c.args.index z) here above) c.enter-then-is_above.ensures.inserts),
     )
 
 pub returns-else-is_above-clause-offers : goal.returns-else-is_above-clause-offers

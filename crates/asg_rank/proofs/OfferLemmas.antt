@@ -1,10 +1,9 @@
 -- A slot that takes the place of the last one, or that isn't taken.
-use Rattle.std.proofs.Common.{◌≡◌, ℕ, ◌+◌, ◌-◌, ◌<◌, ◌≤◌, List, [], ◌∷◌, ◌++◌, length, get_or, take, Option, refl, sym, ◌∙◌, ap, subst, arith}
-use Rattle.std.specs.Prelude.{All}
+use Rattle.std.proofs.Common.{◌≡◌, ◌+◌, ◌-◌, ◌<◌, ◌≤◌, List, [], ◌∷◌, ◌++◌, length, get_or, take, refl, sym, ◌∙◌, ap, subst, arith}
 use Rattle.std.proofs.lemmas.List.{length-take-le, get_or-take, take_all, take_more}
 use Rattle.asg_order.specs.Monoid.{Monoid, IsValue, IsLe, IsLess, IsOrderedMonoid}
 use Rattle.asg_rank.specs.declared.slots.Slot.{Slot}
-use Rattle.asg_rank.specs.Slots.{slot_of, slot_at, Ascends, HaveValues, AreUpTo, Inserts, Replaces, Refuses}
+use Rattle.asg_rank.specs.Slots.{slot_of, slot_at, Ascends, HaveValues, Inserts, Replaces, Refuses}
 use Rattle.asg_rank.proofs.SlotLists.{last_greatest}
 
 -- a list that isn't empty ends with an element

@@ -67,10 +67,16 @@ fn is_above<M: Ordered>(m: &M, x: M::Value, y: M::Value) -> bool
 }
 
 impl<V: Copy> Held<V> {
-    // Gives a slot memory of its own. The error is want of memory.
-    fn make(alloc: Global, slot: Slot<V>) -> Result<Held<V>, NoMemory>
-        ensures { IfOk result (λ held. held ≡ slot) }
+    // A slot over a side, in memory of its own. The error is want of memory.
+    fn make(alloc: Global, side: u32, index: V) -> Result<Held<V>, NoMemory>
+        ensures { IfOk result (λ held. length held.matching ≡ side) }
     {
+        let matching = Matching::make(alloc, side)?;
+        let slot = Slot {
+            node: 0,
+            index,
+            matching,
+        };
         let boxed = Box::new(alloc, slot)?;
         Ok(Held { slot: boxed })
     }
@@ -109,13 +115,7 @@ impl<V: Copy> Slots<V> {
         let used = Vec::with_capacity(alloc, room as usize)?;
         let mut free = Vec::with_capacity(alloc, room as usize)?;
         'slots: for _ in 0..room {
-            let matching = Matching::make(alloc, side)?;
-            let slot = Slot {
-                node: 0,
-                index,
-                matching,
-            };
-            free.push(Held::make(alloc, slot)?)?;
+            free.push_reserved(Held::make(alloc, side, index)?);
         }
         Ok(Slots {
             side,
@@ -261,7 +261,8 @@ fn enter<M: Ordered>(
 }
 
 /// Offers a node that has its best choice. Where a slot is free it takes one, and otherwise that of
-/// the last node, if that one's index is greater. There is a slot. It takes no memory.
+/// the last node, if that one's index is greater. There is a slot. It takes no memory. Its place is
+/// found by halving, and one word moves for each slot behind it.
 pub(crate) fn offer<M: Ordered>(
     m: &M,
     slots: &mut Slots<M::Value>,

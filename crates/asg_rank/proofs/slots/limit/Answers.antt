@@ -1,4 +1,4 @@
-use Rattle.std.proofs.Common.{◌≡◌, ℕ, ◌-◌, ◌<◌, ◌≤◌, length, sym, ◌∙◌, ap, subst, arith, ⊎_elim}
+use Rattle.std.proofs.Common.{◌≡◌, ◌-◌, ◌≤◌, length, sym, ◌∙◌, ap, subst, arith}
 use Rattle.std.specs.Prelude.{[]}
 use Rattle.asg_order.specs.Monoid.{IsValue}
 use Rattle.asg_rank.specs.Slots.{slot_of, slot_at, AreUpTo}

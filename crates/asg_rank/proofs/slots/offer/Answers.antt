@@ -1,9 +1,7 @@
-use Rattle.std.proofs.Common.{◌≡◌, ℕ, ◌+◌, ◌-◌, ◌<◌, ◌≤◌, inl, inr, length, take, refl, sym, ◌∙◌, ap, subst, arith}
-use Rattle.std.specs.Prelude.{[], ◌∷◌, ◌++◌}
-use Rattle.std.proofs.lemmas.List.{length-take-le}
-use Rattle.std.proofs.lemmas.List.Elements.{All-take}
+use Rattle.std.proofs.Common.{◌≡◌, ◌-◌, inl, inr, length, refl, sym, ◌∙◌, ap, subst, arith}
+use Rattle.std.specs.Prelude.{[]}
 use Rattle.asg_order.specs.Monoid.{IsValue, IsLe, IsLess}
-use Rattle.asg_rank.specs.Slots.{SlotList, slot_of, slot_at, HaveValues, Ascends}
+use Rattle.asg_rank.specs.Slots.{SlotList, slot_of, slot_at, Ascends}
 use Rattle.asg_rank.proofs.OfferLemmas.{ascends_before_last, replaced, refused}
 use Rattle.asg_rank.proofs.slots.offer.Goals as goal
 
@@ -15,25 +13,6 @@ is_above-requires-clause-left g c =
     let full = c.if-count-room.false in
     let some = c.requires.room in
     subst (IsValue M) (sym (c.index.ensures M.unit)) (c.requires.values (c.len-count.result - 1) (slot_of 0 M.unit []) (omega (arith, count, room, full, some)))
-
-pub enter-requires-then-is_above-clause-room : goal.enter-requires-then-is_above-clause-room
-enter-requires-then-is_above-clause-room g c =
-    let used = c.args.slots.now.used in
-    let count = c.len-count.ensures.count in
-    let most = c.len-count.ensures.most in
-    let room = c.room.ensures.room in
-    let full = c.if-count-room.false in
-    let some = c.requires.room in
-    let now : length c.free_last.new.self.used ≡ length used - 1 =
-    ap (λ (s : SlotList _). length s.used) c.free_last.ensures ∙ length-take-le (length used - 1) used (omega arith) in
-    let same : c.free_last.new.self.room ≡ c.args.slots.now.room = ap (λ (s : SlotList _). s.room) c.free_last.ensures in
-    omega (arith, now, same, count, most, room, full, some)
-
-pub enter-requires-then-is_above-clause-values : goal.enter-requires-then-is_above-clause-values
-enter-requires-then-is_above-clause-values g c =
-    let M = g.M.Ordered.monoid_of c.args.m.now in
-    let used = c.args.slots.now.used in
-    subst (HaveValues M) (sym (ap (λ (s : SlotList _). s.used) c.free_last.ensures)) (All-take (λ s. IsValue M s.index) (length used - 1) used c.requires.values)
 
 pub enter-requires-then-is_above-clause-ascends : goal.enter-requires-then-is_above-clause-ascends
 enter-requires-then-is_above-clause-ascends g c =

@@ -1,20 +1,9 @@
-use Rattle.std.proofs.Common.{◌≡◌, ℕ, ◌+◌, ◌-◌, ◌/◌, ◌<◌, ◌≤◌, length, drop, refl, sym, ap, subst, arith}
-use Rattle.std.specs.Prelude.{[], All}
-use Rattle.std.proofs.lemmas.List.{length-drop}
+use Rattle.std.proofs.Common.{◌+◌, ◌-◌, ◌/◌, ◌<◌, length, refl, sym, subst, arith}
+use Rattle.std.specs.Prelude.{[]}
 use Rattle.asg_order.specs.Monoid.{IsValue, IsLe, IsLess}
 use Rattle.asg_rank.specs.Slots.{slot_of}
 use Rattle.asg_rank.proofs.PlaceLemmas.{upto_slot, above_slot}
 use Rattle.asg_rank.proofs.slots.place_for.Goals as goal
-
-pub places-init : goal.places-init
-places-init g c =
-    let count = c.len-high.ensures.count in
-    record {
-      order = omega arith;
-      within = omega (arith, count);
-      upto = λ k d h. absurd (omega (arith, h));
-      above = λ k d h. absurd (omega (arith, h, count, length-drop c.len-high.result c.args.slots.now.used));
-    }
 
 pub is_above-requires-clause-left : goal.is_above-requires-clause-left
 is_above-requires-clause-left g c =
@@ -55,12 +44,3 @@ places-preserved g c =
       upto = upto_slot M (g.met.M.Ordered.laws c.args.m.now) used c.requires.values c.requires.ascends c.args.index c.requires.index middle inside (subst (λ z. IsLe M z c.args.index) (c.index.ensures M.unit) (c.if-is_above.ensures.upto refl));
       above = i.above;
     }
-
-pub returns-clause-above : goal.returns-clause-above
-returns-clause-above g c =
-    let M = g.M.Ordered.monoid_of c.args.m.now in
-    let i = c.places.invariant in
-    let order = i.order in
-    let test = c.places-test.false in
-    let same : c.places.high ≡ c.places.low = omega (arith, order, test) in
-    subst (λ n. All (λ slot. IsLess M c.args.index slot.index) (drop n c.args.slots.now.used)) same i.above

@@ -21,7 +21,7 @@ places-preserved-then-is_above g c =
     let within = i.within in
     let test = c.places-test.true in
     let middle = c.places.low + (c.places.high - c.places.low) / 2 in
-    let inside : c.places.low + (c.places.high - c.places.low) / 2 < length used = omega (arith, within, test) in
+    let inside : middle < length used = omega (arith, within, test) in
     record {
       order = omega (arith, test);
       within = omega (arith, inside);
@@ -37,7 +37,7 @@ places-preserved g c =
     let within = i.within in
     let test = c.places-test.true in
     let middle = c.places.low + (c.places.high - c.places.low) / 2 in
-    let inside : c.places.low + (c.places.high - c.places.low) / 2 < length used = omega (arith, within, test) in
+    let inside : middle < length used = omega (arith, within, test) in
     record {
       order = omega (arith, test);
       within = within;

@@ -1,8 +1,9 @@
 -- What solving the square of an instance from the unit on shows of the root of a search.
 use Rattle.std.proofs.Common.{◌≡◌, ℕ, ◌+◌, ◌-◌, ◌*◌, ◌<◌, ◌≤◌, ◌⊎◌, Bool, true, false, cond, List, [], ◌∷◌, length, Option, Some, None, refl, sym, ◌∙◌, ap, subst, arith, ⊎_elim, is_some}
-use Rattle.std.specs.Prelude.{IfSome, IsSome, is_none}
+use Rattle.std.specs.Prelude.{IfOk, IfSome, IsSome, Result, is_none}
 use Rattle.std.proofs.lemmas.Bool.{cases_lt}
 use Rattle.std.proofs.lemmas.Option.{IfSome_then}
+use Rattle.std.proofs.lemmas.Result.{IfOk-weaker}
 use Rattle.std.proofs.lemmas.List.Sums.{count_by-le-length}
 use Rattle.asg_model.specs.declared.bands.Band.TheVariants.{Whole}
 use Rattle.asg_model.specs.declared.objectives.Objective.{Objective}
@@ -43,7 +44,7 @@ use Rattle.asg_rank.specs.declared.roots.Root.{Root}
 use Rattle.asg_rank.specs.declared.searches.Search.{Search}
 use Rattle.asg_rank.specs.Cuts.{AreBitsFor}
 use Rattle.asg_rank.specs.Opening.{IsRootOf, IsBlank, IsPlantable}
-use Rattle.asg_rank.specs.Roots.{IsSolvedRoot}
+use Rattle.asg_rank.specs.Roots.{IsSolvedRoot, IsInstanceRoot}
 use Rattle.asg_rank.specs.Rooms.{answer_room}
 use Rattle.asg_rank.specs.Rules.{Rules, Leads, IsSolved, IsReducedTo, reduced_cell}
 use Rattle.asg_rank.specs.Searches.{IsRankable, HasMemory}
@@ -222,3 +223,25 @@ module _ {V : Type 0} (R : Rules V) (laws : IsOrderedMonoid R.monoid) (X : Probl
 -- the side of a root that was solved
 pub root_side : {V : Type 0} (M : Monoid V) (difference : V → V → V) (Q : Grid V) (records : ℕ) (root : Root V) → IsSolvedRoot M difference Q records root → root.reduced.now.side ≡ Q.side
 root_side {V} M difference Q records root is = is.lead.labels.side ∙ ap (λ (g : Grid V). g.side) is.start
+
+-- what is said of each thing that may be there holds of the one that is
+pub at_some : {A : Type 0} (o : Option A) (x : A) → o ≡ Some x → (P : A → Type 0) → IfSome o P → P x
+at_some {A} o x e P h = subst (λ (w : Option A). IfSome w P) e h
+
+-- what follows of each root follows where there is one
+pub IfOk-weaker_some : {A E : Type 0} (r : Result (Option A) E) (P Q : A → Type 0) → ((x : A) → P x → Q x) → IfOk r (λ found. IfSome found P) → IfOk r (λ found. IfSome found Q)
+IfOk-weaker_some r P Q follows = IfOk-weaker r (λ found. IfSome found P) (λ found. IfSome found Q) (λ found has. IfSome_then found has follows)
+
+-- a square that was solved is that of its instance
+pub root_of_instance : {V : Type 0} (M : Monoid V) (difference : V → V → V) (enter : Cost → V) (X : Problem) (records : ℕ) (Q : Grid V) → IsSquareOf X M.unit enter Q → (root : Root V) → IsSolvedRoot M difference Q records root → IsInstanceRoot M difference enter X records root
+root_of_instance M difference enter X records Q square root solved = record { square = Q; of_instance = square; solved = solved }
+
+-- the side of the root of an instance
+pub instance_side : {V : Type 0} {M : Monoid V} {difference : V → V → V} {enter : Cost → V} {X : Problem} {records : ℕ} {root : Root V} → IsInstanceRoot M difference enter X records root → root.reduced.now.side ≡ square_side X
+instance_side {V} {M} {difference} {enter} {X} {records} {root} is =
+    root_side M difference is.square records root is.solved ∙ is.of_instance.labels.side
+
+-- the root of an instance is so by an equal monoid too
+pub equal_root : {T V : Type 0} {records : ℕ} (monoid_of : T → Monoid V) (difference : T → V → V → V) (enter : Cost → V) (X : Problem) (root : Root V) (a b : T) → a ≡ b → IsInstanceRoot (monoid_of a) (difference a) enter X records root → IsInstanceRoot (monoid_of b) (difference b) enter X records root
+equal_root {T} {V} {records} monoid_of difference enter X root a b e is =
+    subst (λ (z : T). IsInstanceRoot (monoid_of z) (difference z) enter X records root) e is

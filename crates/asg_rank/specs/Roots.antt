@@ -4,10 +4,12 @@ use Rattle.asg_admit.specs.declared.reduced.Reduced.{Reduced}
 use Rattle.asg_admit.specs.Reduced.{IsReduced}
 use Rattle.asg_algebra.specs.Ended.{EndsIn, last_of}
 use Rattle.asg_algebra.specs.Solved.{LeadTo}
+use Rattle.asg_model.specs.declared.parts.Cost.{Cost}
+use Rattle.asg_model.specs.Problem.{Problem}
 use Rattle.asg_order.specs.Monoid.{Monoid}
 use Rattle.asg_pool.specs.Forest.{Forest, IsLive, phases_to}
 use Rattle.asg_proof.specs.Phases.{PhaseOf}
-use Rattle.asg_square.specs.Grid.{Grid}
+use Rattle.asg_square.specs.Grid.{Grid, IsSquareOf}
 use Rattle.asg_rank.specs.declared.roots.Root.{Root}
 
 -- a square was solved from the unit on, in a region without trails that had so many records
@@ -26,3 +28,10 @@ pub record IsSolvedRoot {V : Type 0} (M : Monoid V) (difference : V → V → V)
   pub bench_side : root.bench.side ≡ Q.side
   pub matching_side : length root.matching ≡ Q.side
   pub ends : EndsIn M root.reduced root.matching root.bench.rows root.ended
+
+-- the square of an instance, its live costs entered as values, was solved so
+pub record IsInstanceRoot {V : Type 0} (M : Monoid V) (difference : V → V → V) (enter : Cost → V) (X : Problem)
+    (records : ℕ) (root : Root V) : Type 0 where
+  pub square : Grid V
+  pub of_instance : IsSquareOf X M.unit enter square
+  pub solved : IsSolvedRoot M difference square records root

@@ -4,10 +4,12 @@
 //! The choices that weren't given stand in parts that have none in common, the open nodes of a
 //! search tree. Each part is the instance without some cells, and its index, the product of the
 //! steps of its phases, is at most the product of each of its choices. The part of the least index
-//! gives the next answer, and its children take its place [Murty 1968]. A child needs no square of
-//! its own: its phases are those of its parent and at most one more, found by one tree on its
-//! parent's square, of which bits tell the cells that it keeps. Contracts see a ranker as its kind,
-//! its instance, how many answers were asked for, and those that it gave.
+//! gives the next answer, and its children take its place [Murty 1968]. The root, the part of all
+//! choices, has few phases, which are guessed and tested (`asg_duals`); where no guess passes the
+//! tests, those of the engine. A child needs no square of its own: its phases are those of its
+//! parent and at most one more, found by one tree on its parent's square, of which bits tell the
+//! cells that it keeps. Contracts see a ranker as its kind, its instance, how many answers were
+//! asked for, and those that it gave.
 #![tactic(auto)]
 
 mod child_nodes;
@@ -18,6 +20,7 @@ mod cuts;
 mod desks;
 mod entries;
 mod giving;
+mod guesses;
 mod hall_pools;
 mod masked_cells;
 mod opening;
@@ -32,6 +35,7 @@ mod trees;
 mod written_nodes;
 
 pub use choice_lists::Choices;
+pub use guesses::{Hint, RootGuess};
 pub use ranker::{MOST_WORK, Next, RankRefusal, Ranker};
 pub use rankings::{RankOutcome, ranking};
 pub use rooms::counting_law;

@@ -17,14 +17,15 @@ use crate::NoMemory;
 use crate::child_nodes::{close_child, push_child};
 use crate::desks::Desk;
 use crate::entries::State;
+use crate::guesses::RootGuess;
 use crate::hall_pools::HallPool;
 use crate::rooms::answer_room;
-use crate::roots::{Root, solve_root};
+use crate::roots::{Root, instance_root};
 use crate::searches::Search;
 use crate::slots::{Slots, offer};
 use crate::trees::Tree;
 use asg_admit::Reduced;
-use asg_algebra::{Bench, Solved, SquareSolver, entered_square};
+use asg_algebra::{Bench, Solved};
 use asg_match::Matching;
 use asg_model::laws::infeasible_law;
 use asg_model::{Choice, Instance};
@@ -183,7 +184,7 @@ pub(crate) fn open_search<K: Kind>(
     count: u32,
 ) -> Result<Search<<K::M as Ordered>::Value>, NoMemory>
 where
-    K::M: SquareSolver,
+    K::M: RootGuess,
     requires place { inst.now.place ≡ PlaceAll }
     requires side { square_side inst.now ≤ most_side }
     requires passes { PassesNegative (K.objective kind.now) inst.now }
@@ -199,9 +200,8 @@ where
     let _rows = inst.rows();
     let m = kind.monoid();
     let room = answer_room(inst, count);
-    let square = entered_square(alloc, kind, inst)?;
-    let records = square.side() + (room - 1) * inst.placed();
-    let root = solve_root(alloc, m, square, records)?;
+    let records = inst.side() + (room - 1) * inst.placed();
+    let root = instance_root(alloc, kind, inst, records)?;
     let parts = blank_search(alloc, inst, root, room, m.unit())?;
     let (search, ended, matching) = parts;
     let mut search = search;

@@ -14,12 +14,12 @@ ghost use Rattle.asg_rank.specs.Rankings.{ranking_work, IsExhausted, IsRefusal, 
 ghost use Rattle.asg_rank.specs.Rooms.{most_work};
 
 use crate::NoMemory;
+use crate::guesses::RootGuess;
 use crate::opening::open_search;
 use crate::rooms::counting_law;
 use crate::searches::{Search, advance};
 use crate::trees::root_hall;
 use crate::written_nodes::written_nodes;
-use asg_algebra::SquareSolver;
 use asg_model::{Choice, Instance};
 use asg_order::{Kind, Ordered};
 use asg_proof::Nodes;
@@ -89,13 +89,15 @@ impl<K: Kind + Drop> Model for Ranker<K> {
 
 impl<K: Kind + Drop> Ranker<K>
 where
-    K::M: SquareSolver,
+    K::M: RootGuess,
 {
     /// A ranker of the first `count` choices of an instance. All rows are placed, the side of its
     /// square is at most 2,000, the objective refuses no live cost (`asg_model::negative`), at
     /// least one choice is asked for, and the kind's reach is at least the cost limit. The errors:
     /// the count times the rows times the side is above 4,000,000, or want of memory. All memory is
-    /// taken here. The time grows with the cube of the side at most.
+    /// taken here. Few phases that solve the root are guessed first and tested (`asg_duals`); where
+    /// no guess passes the tests, the engine solves it by shortest augmenting paths, with one phase
+    /// for each row that needs one. The time grows with the cube of the side at most.
     pub fn open(
         alloc: Global,
         kind: K,

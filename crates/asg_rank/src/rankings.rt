@@ -15,8 +15,8 @@ ghost use Rattle.asg_rank.specs.Rooms.{most_work};
 
 use crate::NoMemory;
 use crate::choice_lists::Choices;
+use crate::guesses::RootGuess;
 use crate::ranker::{Next, RankRefusal, Ranker};
-use asg_algebra::SquareSolver;
 use asg_model::{Choice, Instance, Objective};
 use asg_monoids::{PeakKind, SumKind, TimeKind};
 use asg_order::Kind;
@@ -35,7 +35,7 @@ pub enum RankOutcome {
 // Has a ranker give all answers that it has to give. It takes no memory. Gives how many they are.
 fn give_all<K: Kind + Drop>(ranker: &mut Ranker<K>) -> u32
 where
-    K::M: SquareSolver,
+    K::M: RootGuess,
     requires { ranker.old.given ≡ [] }
     ensures many { result ≡ length ranker.new.given }
     ensures done { IsExhausted ranker.new.problem ranker.new.count ranker.new.given }
@@ -69,7 +69,7 @@ fn listed<K: Kind + Drop>(
     given: u32,
 ) -> Result<Choices, NoMemory>
 where
-    K::M: SquareSolver,
+    K::M: RootGuess,
     requires { given ≡ length ranker.now.given }
     ensures { IfOk result (λ choices. choices ≡ ranker.now.given) }
 {
@@ -99,7 +99,7 @@ fn ranked_outcome<K: Kind + Drop>(
     given: u32,
 ) -> Result<RankOutcome, NoMemory>
 where
-    K::M: SquareSolver,
+    K::M: RootGuess,
     requires many { given ≡ length ranker.now.given }
     requires some { 1 ≤ given }
     requires done { IsExhausted ranker.now.problem ranker.now.count ranker.now.given }
@@ -121,7 +121,7 @@ where
 // The outcome where a ranker had no answer to give. The error is want of memory.
 fn none_outcome<K: Kind + Drop>(alloc: Global, ranker: &Ranker<K>) -> Result<RankOutcome, NoMemory>
 where
-    K::M: SquareSolver,
+    K::M: RootGuess,
     requires none { ranker.now.given ≡ [] }
     requires done { IsExhausted ranker.now.problem ranker.now.count ranker.now.given }
     ensures { let m = K.monoid ranker.now.kind in
@@ -141,7 +141,7 @@ fn outcome_of<K: Kind + Drop>(
     ranker: &mut Ranker<K>,
 ) -> Result<RankOutcome, NoMemory>
 where
-    K::M: SquareSolver,
+    K::M: RootGuess,
     requires { ranker.old.given ≡ [] }
     ensures { let m = K.monoid ranker.old.kind in
         IfOk result (IsOutcomeIn (K.M.monoid_of m) (K.M.difference m) (K.M.word_of m)
@@ -164,7 +164,7 @@ fn ranking_by<K: Kind + Drop>(
     count: u32,
 ) -> Result<RankOutcome, RankRefusal>
 where
-    K::M: SquareSolver,
+    K::M: RootGuess,
     requires place { inst.now.place ≡ PlaceAll }
     requires side { square_side inst.now ≤ most_side }
     requires passes { PassesNegative (K.objective kind) inst.now }

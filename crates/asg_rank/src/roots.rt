@@ -1,16 +1,22 @@
 //! The root of a search: the square of the instance, solved.
 
-ghost use Rattle.std.specs.Prelude.{◌≡◌, ◌≤◌, [], None, replicate, IfOk, length};
+ghost use Rattle.std.specs.Prelude.{◌≡◌, ◌≤◌, [], None, replicate, IfOk, IfSome, length};
+ghost use Rattle.asg_model.specs.Limits.{most_cost, most_side};
+ghost use Rattle.asg_model.specs.Refused.{PassesNegative};
+ghost use Rattle.asg_model.specs.Shapes.{square_side};
 ghost use Rattle.asg_proof.specs.Steps.{HasValues};
-ghost use Rattle.asg_square.specs.Grid.{cell_at};
-ghost use Rattle.asg_rank.specs.Roots.{IsSolvedRoot};
+ghost use Rattle.asg_square.specs.Grid.{cell_at, IsSquareOf};
+ghost use Rattle.asg_rank.specs.Roots.{IsSolvedRoot, IsInstanceRoot};
 
 use crate::NoMemory;
+use crate::guesses::{Hint, RootGuess};
 use asg_admit::Reduced;
-use asg_algebra::{Bench, Solved, SolvedSquare, SquareSolver};
+use asg_algebra::{Bench, Solved, SolvedSquare, SquareSolver, entered_square};
 use asg_match::Matching;
-use asg_order::Ordered;
+use asg_model::Instance;
+use asg_order::{Kind, Ordered};
 use asg_pool::Region;
+use asg_proof::Phase;
 use asg_square::Square;
 use std::alloc::Global;
 
@@ -34,9 +40,9 @@ fn spare_region<V: Copy>(alloc: Global, side: u32, records: u32) -> Result<Regio
     Ok(region)
 }
 
-/// Solves a square from the unit on, in a region with so many records. The error is want of memory.
-/// The time grows with the cube of the side at most.
-pub(crate) fn solve_root<M: SquareSolver>(
+// Solves a square from the unit on by the engine, in a region with so many records. The error is
+// want of memory. The time grows with the cube of the side at most.
+fn solve_root<M: SquareSolver>(
     alloc: Global,
     m: &M,
     square: Square<M::Value>,
@@ -63,4 +69,144 @@ pub(crate) fn solve_root<M: SquareSolver>(
         bench,
         region,
     })
+}
+
+// The same by phases and columns that are given; `None` where they don't pass the tests or don't
+// solve it.
+fn given_root<M: SquareSolver>(
+    alloc: Global,
+    m: &M,
+    square: Square<M::Value>,
+    records: u32,
+    phases: &[Phase<M::Value>],
+    columns: &[u32],
+) -> Result<Option<Root<M::Value>>, NoMemory>
+    requires values { HasValues (M.monoid_of m.now) square.side (cell_at square) }
+    requires records { square.side ≤ records }
+    requires few { length phases.now ≤ square.side }
+    ensures { IfOk result (λ found. IfSome found
+        (IsSolvedRoot (M.monoid_of m.now) (M.difference m.now) square records)) }
+{
+    let side = square.side();
+    let mut matching = Matching::make(alloc, side)?;
+    let bench = Bench::make(alloc, side)?;
+    let mut region = spare_region(alloc, side, records)?;
+    let reduced = Reduced {
+        now: square,
+        index: m.unit(),
+    };
+    let found = m.solve_given(alloc, reduced, &mut matching, &mut region, phases, columns)?;
+    match found {
+        Some(solved) => {
+            let SolvedSquare { reduced, ended } = solved;
+            Ok(Some(Root {
+                reduced,
+                ended,
+                matching,
+                bench,
+                region,
+            }))
+        }
+        None => Ok(None),
+    }
+}
+
+// The same by a hint, whose phases may be more than the rows.
+fn hinted_root<M: SquareSolver>(
+    alloc: Global,
+    m: &M,
+    square: Square<M::Value>,
+    records: u32,
+    hint: &Hint<M::Value>,
+) -> Result<Option<Root<M::Value>>, NoMemory>
+    requires values { HasValues (M.monoid_of m.now) square.side (cell_at square) }
+    requires records { square.side ≤ records }
+    ensures { IfOk result (λ found. IfSome found
+        (IsSolvedRoot (M.monoid_of m.now) (M.difference m.now) square records)) }
+{
+    let phases = hint.phases();
+    if phases.len() > square.side() as usize {
+        return Ok(None);
+    }
+    given_root(alloc, m, square, records, phases, hint.columns())
+}
+
+// Solves the square of an instance, its live costs entered into the monoid of a kind, by the
+// engine.
+fn entered_root<K: Kind>(
+    alloc: Global,
+    kind: &K,
+    inst: &Instance,
+    square: Square<<K::M as Ordered>::Value>,
+    records: u32,
+) -> Result<Root<<K::M as Ordered>::Value>, NoMemory>
+where
+    K::M: SquareSolver,
+    requires passes { PassesNegative (K.objective kind.now) inst.now }
+    requires reach { most_cost ≤ K.reach kind.now }
+    requires square { let unit = (K.M.monoid_of (K.monoid kind.now)).unit in
+        IsSquareOf inst.now unit (K.entered kind.now) square }
+    requires records { square_side inst.now ≤ records }
+    ensures { let m = K.monoid kind.now in
+        IfOk result (IsInstanceRoot (K.M.monoid_of m) (K.M.difference m) (K.entered kind.now)
+        inst.now records) }
+{
+    let _rows = inst.rows();
+    solve_root(alloc, kind.monoid(), square, records)
+}
+
+// The same by a hint, where it solves the square.
+fn hinted_entered_root<K: Kind>(
+    alloc: Global,
+    kind: &K,
+    inst: &Instance,
+    square: Square<<K::M as Ordered>::Value>,
+    records: u32,
+    hint: &Hint<<K::M as Ordered>::Value>,
+) -> Result<Option<Root<<K::M as Ordered>::Value>>, NoMemory>
+where
+    K::M: SquareSolver,
+    requires passes { PassesNegative (K.objective kind.now) inst.now }
+    requires reach { most_cost ≤ K.reach kind.now }
+    requires square { let unit = (K.M.monoid_of (K.monoid kind.now)).unit in
+        IsSquareOf inst.now unit (K.entered kind.now) square }
+    requires records { square_side inst.now ≤ records }
+    ensures { let m = K.monoid kind.now in
+        IfOk result (λ found. IfSome found (IsInstanceRoot (K.M.monoid_of m) (K.M.difference m)
+        (K.entered kind.now) inst.now records)) }
+{
+    let _rows = inst.rows();
+    hinted_root(alloc, kind.monoid(), square, records, hint)
+}
+
+/// Solves the square of an instance, its live costs entered into the monoid of a kind, from the
+/// unit on, in a region with so many records: by phases that are guessed, and where these don't
+/// pass the tests by those of the engine, over a square that is made anew. Where nothing is
+/// guessed, the engine solves the square that was made. The error is want of memory. The time grows
+/// with the cube of the side at most.
+pub(crate) fn instance_root<K: Kind>(
+    alloc: Global,
+    kind: &K,
+    inst: &Instance,
+    records: u32,
+) -> Result<Root<<K::M as Ordered>::Value>, NoMemory>
+where
+    K::M: RootGuess,
+    requires side { square_side inst.now ≤ most_side }
+    requires passes { PassesNegative (K.objective kind.now) inst.now }
+    requires reach { most_cost ≤ K.reach kind.now }
+    requires records { square_side inst.now ≤ records }
+    ensures { let m = K.monoid kind.now in
+        IfOk result (IsInstanceRoot (K.M.monoid_of m) (K.M.difference m) (K.entered kind.now)
+        inst.now records) }
+{
+    let square = entered_square(alloc, kind, inst)?;
+    let Some(hint) = kind.monoid().guess(alloc, kind.objective(), &square)? else {
+        return entered_root(alloc, kind, inst, square, records);
+    };
+    if let Some(root) = hinted_entered_root(alloc, kind, inst, square, records, &hint)? {
+        return Ok(root);
+    }
+    let square = entered_square(alloc, kind, inst)?;
+    entered_root(alloc, kind, inst, square, records)
 }

@@ -1,0 +1,38 @@
+use Rattle.std.proofs.Common.{◌≡◌, ◌≤◌, sym, subst, arith}
+use Rattle.std.specs.Prelude.{IfOk, IfSome}
+use Rattle.asg_proof.specs.Steps.{HasValues}
+use Rattle.asg_square.specs.Grid.{cell_at}
+use Rattle.asg_rank.specs.Roots.{IsInstanceRoot, IsSolvedRoot}
+use Rattle.asg_rank.proofs.RootSteps.{IfOk-weaker_some, enters_values, square_values, root_of_instance}
+use Rattle.asg_rank.proofs.roots.hinted_entered_root.Goals as goal
+
+pub hinted_root-requires-clause-values : goal.hinted_root-requires-clause-values
+hinted_root-requires-clause-values g c =
+    let kind = c.args.kind.now in
+    let k = g.K.Kind.monoid kind in
+    let M = g.K.M.Ordered.monoid_of k in
+    let X = c.args.inst.now in
+    let enter = g.K.Kind.entered kind in
+    let Q = c.args.square in
+    let live = enters_values M enter (g.K.Kind.objective kind) (g.K.Kind.reach kind) X c.requires.reach c.rows-rows.ensures.instance c.requires.passes (g.met.K.Kind.enters_value kind) in
+    subst (λ n. HasValues (g.K.M.Ordered.monoid_of n) Q.side (cell_at Q)) (sym c.monoid.ensures)
+    (square_values M (g.met.K.M.Ordered.laws k) X enter Q c.requires.square live)
+
+pub hinted_root-requires-clause-records : goal.hinted_root-requires-clause-records
+hinted_root-requires-clause-records g c =
+    let side = c.requires.square.labels.side in
+    let most = c.requires.records in
+    omega (arith, side, most)
+
+pub returns : goal.returns
+returns g c =
+    let kind = c.args.kind.now in
+    let k = g.K.Kind.monoid kind in
+    let M = g.K.M.Ordered.monoid_of k in
+    let d = g.K.M.DMonoid.difference k in
+    let X = c.args.inst.now in
+    let enter = g.K.Kind.entered kind in
+    let Q = c.args.square in
+    IfOk-weaker_some c.hinted_root.result (IsSolvedRoot M d Q c.args.records) (IsInstanceRoot M d enter X c.args.records)
+    (root_of_instance M d enter X c.args.records Q c.requires.square)
+    (subst (λ n. IfOk c.hinted_root.result (λ found. IfSome found (IsSolvedRoot (g.K.M.Ordered.monoid_of n) (g.K.M.DMonoid.difference n) Q c.args.records))) c.monoid.ensures c.hinted_root.ensures)

@@ -34,7 +34,6 @@ use Rattle.asg_square.specs.Masked.{keeps, masked_grid}
 use Rattle.asg_square.specs.Presence.{has_cell}
 use Rattle.asg_square.specs.laws.Masks.{cell_at-masked}
 use Rattle.asg_admit.specs.declared.reduced.Reduced.{Reduced}
-use Rattle.asg_admit.specs.Reduced.{KeepsLabels}
 use Rattle.asg_algebra.specs.declared.solving.Solved.{Solved}
 use Rattle.asg_algebra.specs.declared.solving.Solved.TheVariants.{Perfect, Short}
 use Rattle.asg_algebra.specs.Ended.{EndsIn, last_of}

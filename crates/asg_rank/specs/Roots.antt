@@ -1,14 +1,12 @@
 -- The root of a search: the square of the instance, solved.
-use Rattle.std.specs.Prelude.{◌≡◌, ℕ, ◌+◌, ◌≤◌, List, [], length, Option, None, IfSome}
+use Rattle.std.specs.Prelude.{◌≡◌, ℕ, ◌+◌, ◌≤◌, length, None, IfSome}
 use Rattle.asg_admit.specs.declared.reduced.Reduced.{Reduced}
-use Rattle.asg_admit.specs.Reduced.{IsReduced}
 use Rattle.asg_algebra.specs.Ended.{EndsIn, last_of}
 use Rattle.asg_algebra.specs.Solved.{LeadTo}
 use Rattle.asg_model.specs.declared.parts.Cost.{Cost}
 use Rattle.asg_model.specs.Problem.{Problem}
 use Rattle.asg_order.specs.Monoid.{Monoid}
 use Rattle.asg_pool.specs.Forest.{Forest, IsLive, phases_to}
-use Rattle.asg_proof.specs.Phases.{PhaseOf}
 use Rattle.asg_square.specs.Grid.{Grid, IsSquareOf}
 use Rattle.asg_rank.specs.declared.roots.Root.{Root}
 

@@ -1,4 +1,4 @@
-use Rattle.std.proofs.Common.{◌≡◌, ℕ, ◌+◌, ◌-◌, ◌*◌, ◌<◌, ◌≤◌, List, Option, take, sym, ◌∙◌, ap, subst, arith}
+use Rattle.std.proofs.Common.{◌≡◌, ◌+◌, ◌-◌, ◌*◌, ◌≤◌, take, sym, ◌∙◌, ap, subst, arith}
 use Rattle.asg_model.specs.Counts.{placed}
 use Rattle.asg_proof.specs.PhaseProofs.{EntersValues}
 use Rattle.asg_rank.specs.Opening.{IsBlank}

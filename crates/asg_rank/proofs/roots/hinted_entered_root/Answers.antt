@@ -1,4 +1,4 @@
-use Rattle.std.proofs.Common.{◌≡◌, ◌≤◌, sym, subst, arith}
+use Rattle.std.proofs.Common.{sym, subst, arith}
 use Rattle.std.specs.Prelude.{IfOk, IfSome}
 use Rattle.asg_proof.specs.Steps.{HasValues}
 use Rattle.asg_square.specs.Grid.{cell_at}

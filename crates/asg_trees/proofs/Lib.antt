@@ -13,3 +13,4 @@ pub mod GroupLemmas
 pub mod TallyLemmas
 pub mod SiblingLemmas
 pub mod PathLemmas
+pub mod NarrowTrees

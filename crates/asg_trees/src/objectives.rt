@@ -9,14 +9,18 @@ ghost use Rattle.asg_model.specs.Refused.{PassesNegative};
 ghost use Rattle.asg_model.specs.Shapes.{square_side};
 ghost use Rattle.asg_model.specs.ValidChoice.{IsValid};
 ghost use Rattle.asg_monoids.specs.Entered.{is_sum_objective};
+ghost use Rattle.asg_monoids.specs.NarrowObjectives.{is_narrow_objective};
 ghost use Rattle.asg_trees.specs.Judged.{TellsRanking};
 
 use crate::NoMemory;
 use crate::trees::judge_tree;
 use crate::verdicts::TreeVerdict;
 use asg_model::{Choice, Instance, Objective};
+use asg_monoids::laws::narrow_sums;
 use asg_monoids::{PeakKind, SumKind, TimeKind};
+use asg_narrow_kinds::NarrowKind;
 use asg_proof::Node;
+use asg_proof::ranking_laws::tree_tops_law;
 use std::alloc::Global;
 
 // The verdict by an objective of sums.
@@ -39,6 +43,35 @@ fn judge_sums(
     let kind = SumKind::of(objective);
     let verdict = judge_tree(alloc, &kind, inst, count, answers, nodes)?;
     Ok(verdict)
+}
+
+// The verdict by `sum` or `sum-max`: first by sums in 64 bits, and where these don't tell that the
+// nodes are a search tree, by those in 128 bits, which are the sums of the contract.
+fn judge_narrow(
+    alloc: Global,
+    objective: Objective,
+    inst: &Instance,
+    count: usize,
+    answers: &[Choice],
+    nodes: &[Node],
+) -> Result<TreeVerdict, NoMemory>
+    requires narrow { IsTrue (is_narrow_objective objective) }
+    requires place { inst.now.place ≡ PlaceAll }
+    requires side { square_side inst.now ≤ most_side }
+    requires passes { PassesNegative objective inst.now }
+    requires some { 1 ≤ length answers.now }
+    requires valid { All (IsValid inst.now) answers.now }
+    ensures { IfOk result (TellsRanking objective inst.now count answers.now nodes.now) }
+{
+    narrow_sums();
+    tree_tops_law();
+    let _rows = inst.rows();
+    let kind = NarrowKind::of(objective);
+    let verdict = judge_tree(alloc, &kind, inst, count, answers, nodes)?;
+    match verdict {
+        TreeVerdict::Tree => Ok(TreeVerdict::Tree),
+        _ => judge_sums(alloc, objective, inst, count, answers, nodes),
+    }
 }
 
 // The verdict by a bottleneck objective.
@@ -107,7 +140,10 @@ pub fn judge(
     ensures { IfOk result (TellsRanking objective inst.now count answers.now nodes.now) }
 {
     match objective {
-        Objective::Sum | Objective::SumMax | Objective::SumPair | Objective::Capped(_) => {
+        Objective::Sum | Objective::SumMax => {
+            judge_narrow(alloc, objective, inst, count, answers, nodes)
+        }
+        Objective::SumPair | Objective::Capped(_) => {
             judge_sums(alloc, objective, inst, count, answers, nodes)
         }
         Objective::Bottleneck | Objective::BottleneckMax => {

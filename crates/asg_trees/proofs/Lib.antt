@@ -3,6 +3,8 @@ pub mod MaskedTrails
 pub mod OwnTrails
 pub mod NodeFacts
 pub mod CellLemmas
+pub mod CopyLemmas
+pub mod KeptRows
 pub mod MaskLemmas
 pub mod HallLemmas
 pub mod OwnPhases

@@ -1,5 +1,5 @@
 -- Rows of bits of a branch, row by row.
-use Rattle.std.proofs.Common.{◌≡◌, ◌≢◌, ◌⊎◌, ℕ, zero, suc, ◌+◌, ◌<◌, ◌≤◌, min, max, Bool, true, false, not, cond, eqb, List, length, get_or, Option, Some, None, inl, inr, refl, sym, ap, subst, ◌∙◌, arith, ⊎_elim}
+use Rattle.std.proofs.Common.{◌≡◌, ◌≢◌, ◌⊎◌, ℕ, zero, suc, ◌+◌, ◌-◌, ◌<◌, ◌≤◌, min, max, Bool, true, false, not, cond, eqb, List, length, get_or, Option, Some, None, inl, inr, refl, sym, ap, subst, ◌∙◌, arith, ⊎_elim}
 use Rattle.std.specs.Prelude.{nat_lt}
 use Rattle.std.proofs.lemmas.Bool.{false≢true, cases_Bool, cases_lt, cases_eq, lt-ltb, le-ltb, ne_eqb, cond-true, cond-false}
 use Rattle.std.proofs.lemmas.List.{get_or_default}
@@ -13,42 +13,21 @@ use Rattle.asg_model.specs.Sums.{count_below}
 use Rattle.asg_model.specs.ValidChoice.{takes}
 use Rattle.asg_model.specs.declared.parts.Row.{Row}
 use Rattle.asg_model.specs.laws.Rows.{active_below, no_row, row-from_active}
-use Rattle.asg_square.specs.BitTable.{BitTable, PutsBit, has_bit}
+use Rattle.asg_square.specs.BitTable.{BitTable, has_bit}
 use Rattle.asg_square.specs.Grid.{HasLabelsOf, Grid}
 use Rattle.asg_square.specs.Labels.{column_label, row_label}
-use Rattle.asg_square.specs.laws.Places.{place_hit, place_missed}
+use Rattle.asg_square.specs.laws.Bijections.{sum_below-split}
 use Rattle.asg_proof.specs.Children.{is_chosen, is_kept_at, row_number}
 use Rattle.asg_proof.specs.Masks.{keeps_cell, keeps_labelled}
 use Rattle.asg_trees.specs.Kept.{HasSize, IsMaskOf, IsNumbered, KeepsOtherRows, MarksNumbered, MarksRow, MarksRows, keeps_label}
 
--- ---- one row
-
--- the bits of the first so many columns of a row
-pub record MarksSoFar (labels : List (Option ℕ)) (side branch number : ℕ) (chosen : Option ℕ) (row columns : ℕ) (before after : BitTable) : Type 0 where
-  pub size : HasSize side after
-  pub here : (k : ℕ) → k < columns → has_bit after row k ≡ keeps_label branch number chosen (get_or labels k None)
-  pub others : (r k : ℕ) → r ≢ row → has_bit after r k ≡ has_bit before r k
-
-module _ (labels : List (Option ℕ)) (side branch number : ℕ) (chosen : Option ℕ) (row : ℕ) (before : BitTable) where
-  pub marks_none : HasSize side before → MarksSoFar labels side branch number chosen row 0 before before
-  marks_none size = record { size = size; here = λ k below. absurd (omega (arith, below)); others = λ r k apart. refl }
-
-  pub marks_more : (k : ℕ) (so_far after : BitTable) (keeps : Bool) → MarksSoFar labels side branch number chosen row k before so_far → keeps ≡ keeps_label branch number chosen (get_or labels k None)
-      → PutsBit so_far after row k keeps → MarksSoFar labels side branch number chosen row (k + 1) before after
-  marks_more k so_far after keeps m is puts = record {
-    size = record { rows = puts.rows ∙ m.size.rows; columns = puts.columns ∙ m.size.columns };
-    here = λ j below.
-        ⊎_elim
-        (λ (same : j ≡ k).
-        puts.bits row j ∙ place_hit row row j k keeps (has_bit so_far row j) refl same ∙ is
-        ∙ ap (λ i. keeps_label branch number chosen (get_or labels i None)) (sym same))
-        (λ (other : j ≢ k).
-        puts.bits row j ∙ place_missed row row j k keeps (has_bit so_far row j) (λ e f. other f) ∙ m.here j (omega (arith, below, other)))
-        (cases_eq j k);
-    others = λ r j apart. puts.bits r j ∙ place_missed r row j k keeps (has_bit so_far r j) (λ e f. apart e) ∙ m.others r j apart;
-  }
-
 -- ---- rows by their numbers
+
+count_upto : (p : ℕ → Bool) (a b : ℕ) → a ≤ b → count_below p a ≤ count_below p b
+count_upto p a b upto =
+    let place : a + (b - a) ≡ b = omega (arith, upto) in
+    let split = sum_below-split (λ k. cond (p k) 1 0) a (b - a) in
+    omega (arith, split, ap (count_below p) place)
 
 module _ (X : Problem) (f labels : List (Option ℕ)) (side branch from to : ℕ) where
   -- a row that isn't numbered so stays
@@ -61,7 +40,7 @@ module _ (X : Problem) (f labels : List (Option ℕ)) (side branch from to : ℕ
 
   -- a row whose bits are set is
   pub marked_row : (row number : ℕ) (chosen : Option ℕ) (before after : BitTable) → number ≡ row_number X row → chosen ≡ get_or f row None → IsNumbered X from to row
-      → MarksRow labels side branch number chosen row before after → MarksNumbered X f labels side branch from to row before after
+      → MarksRow labels side (keeps_label branch number chosen) row before after → MarksNumbered X f labels side branch from to row before after
   marked_row row number chosen before after is given numbered m = record {
     size = m.size;
     marked = λ k below n.
@@ -92,6 +71,22 @@ module _ (X : Problem) (f labels : List (Option ℕ)) (side branch from to : ℕ
         (λ (same : r ≡ row). one.others r k (inr (subst (λ i. IsNumbered X from to i → ⊥) same none)) ∙ m.others r k (inr none))
         (λ (other : r ≢ row). one.others r k (inl other) ∙ m.others r k (inr none))
         (cases_eq r row))
+        apart;
+  }
+
+  -- where the rows before one have all the numbers, no row from it on is numbered so
+  pub rows_done : (row : ℕ) (before after : BitTable) → row ≤ length X.rows → to ≤ count_below (is_active X) row → MarksRows X f labels side branch from to row before after → MarksRows X f labels side branch from to (length X.rows) before after
+  rows_done row before after within all m = record {
+    size = m.size;
+    marked = λ r k below hk numbered.
+        ⊎_elim
+        (λ (old : r < row). m.marked r k old hk numbered)
+        (λ (new : row ≤ r). let up = count_upto (is_active X) row r new in absurd (omega (arith, numbered.most, all, up)))
+        (cases_lt r row);
+    others = λ r k apart.
+        ⊎_elim
+        (λ (past : length X.rows ≤ r). m.others r k (inl (omega (arith, past, within))))
+        (λ (none : IsNumbered X from to r → ⊥). m.others r k (inr none))
         apart;
   }
 

@@ -32,12 +32,12 @@ pub record KeepsOtherRows (X : Problem) (bits : BitTable) : Type 0 where
   pub size : HasSize (square_side X) bits
   pub each : (r k : ℕ) → r < square_side X → k < square_side X → is_active X r ≢ true → IsTrue (has_bit bits r k)
 
--- the bits of one row are those that a branch keeps, by the labels of the columns; all others are
--- as before
-pub record MarksRow (labels : List (Option ℕ)) (side branch number : ℕ) (chosen : Option ℕ) (row : ℕ)
+-- the bits of one row are set where this is so of the labels of the columns; all others are as
+-- before
+pub record MarksRow (labels : List (Option ℕ)) (side : ℕ) (keeps : Option ℕ → Bool) (row : ℕ)
     (before after : BitTable) : Type 0 where
   pub size : HasSize side after
-  pub here : (k : ℕ) → k < side → has_bit after row k ≡ keeps_label branch number chosen (slice_index_or labels k None)
+  pub here : (k : ℕ) → k < side → has_bit after row k ≡ keeps (slice_index_or labels k None)
   pub others : (r k : ℕ) → r ≢ row → has_bit after r k ≡ has_bit before r k
 
 -- a row is active, and its number is one of those from one on up to another

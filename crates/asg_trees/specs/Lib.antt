@@ -1,6 +1,7 @@
 pub mod Trees
 pub mod Groups
 pub mod Kept
+pub mod Copies
 pub mod Halls
 pub mod Trails
 pub mod Marks

@@ -16,6 +16,7 @@
 #![tactic(auto)]
 
 mod chosen_cells;
+mod copies;
 mod groups;
 mod hall_tests;
 mod marks;

@@ -1,61 +1,73 @@
 //! Which cells of a square a branch keeps, as rows of bits.
 
-ghost use Rattle.std.specs.Prelude.{◌≡◌, ◌+◌, ◌<◌, ◌≤◌, IfOk, length};
+ghost use Rattle.std.specs.Prelude.{◌≡◌, ◌+◌, ◌<◌, ◌≤◌, true, IfOk, length};
 ghost use Rattle.asg_model.specs.declared.parts.Place.TheVariants.{All as PlaceAll};
 ghost use Rattle.asg_model.specs.Instances.{IsInstance};
 ghost use Rattle.asg_model.specs.Limits.{most_side};
 ghost use Rattle.asg_model.specs.Live.{is_active};
 ghost use Rattle.asg_model.specs.Shapes.{square_side};
 ghost use Rattle.asg_model.specs.Sums.{count_below};
-ghost use Rattle.asg_model.specs.ValidChoice.{takes};
-ghost use Rattle.asg_proof.specs.Children.{is_kept_at};
 ghost use Rattle.asg_square.specs.Grid.{HasLabelsOf};
+ghost use Rattle.asg_trees.specs.Copies.{StandInOrder, keeps_alone, keeps_others};
 ghost use Rattle.asg_trees.specs.Kept.{HasSize, IsMaskOf, KeepsAll, KeepsOtherRows, MarksNumbered, MarksRow, MarksRows};
 ghost use Rattle.asg_trees.specs.Kept.{keeps_label};
 
 use crate::NoMemory;
+use crate::copies::{copies_of, copy_count};
 use asg_model::{Choice, Instance};
 use asg_square::{BitRows, Square};
 use std::alloc::Global;
 
-// Whether a branch keeps the cell of an active row, by its number and by whether the choice gives
-// it the cell.
-fn is_kept_at(branch: u32, number: u32, is_chosen: bool) -> bool
-    ensures { result ≡ is_kept_at branch number is_chosen }
+// Lets a row keep all cells.
+fn keep_all<V: Copy>(kept: &mut BitRows, square: &Square<V>, row: u32)
+    requires size { HasSize square.now.side kept.old }
+    requires row { row < square.now.side }
+    ensures { MarksRow square.now.column_labels square.now.side (λ _. true) row kept.old kept.new }
 {
-    if number < branch {
-        is_chosen
-    } else if number == branch {
-        !is_chosen
-    } else {
-        true
-    }
+    let side = square.side();
+    kept.put_columns(row, 0, side, true);
 }
 
-// Whether a choice gives a row the column.
-fn takes(column: u32, chosen: Option<u32>) -> bool
-    ensures { result ≡ takes column chosen }
+// Lets a row keep all cells but those of the copies of the column that it chooses.
+fn keep_others<V: Copy>(kept: &mut BitRows, square: &Square<V>, row: u32, chosen: Option<u32>)
+    requires size { HasSize square.now.side kept.old }
+    requires order { StandInOrder square.now.column_labels }
+    requires row { row < square.now.side }
+    ensures { MarksRow square.now.column_labels square.now.side (keeps_others chosen) row kept.old
+        kept.new }
 {
-    match chosen {
-        Some(other) => other == column,
-        None => false,
-    }
+    let copies = copies_of(square, chosen);
+    let side = square.side();
+    kept.put_columns(row, 0, side, true);
+    kept.put_columns(row, copies.from, copies.to, false);
 }
 
-// Whether a branch keeps the cell of an active row, by its number and by what the choice gives it,
-// in a column with this label.
-fn keeps_label(branch: u32, number: u32, chosen: Option<u32>, label: Option<u32>) -> bool
-    ensures { result ≡ keeps_label branch number chosen label }
+// Lets a row keep the cells of the copies of the column that it chooses alone, and those of what is
+// no copy of a column.
+fn keep_alone<V: Copy>(
+    kept: &mut BitRows,
+    inst: &Instance,
+    square: &Square<V>,
+    row: u32,
+    chosen: Option<u32>,
+)
+    requires size { HasSize square.now.side kept.old }
+    requires labels { HasLabelsOf inst.now square.now }
+    requires row { row < square.now.side }
+    ensures { MarksRow square.now.column_labels square.now.side (keeps_alone chosen) row kept.old
+        kept.new }
 {
-    match label {
-        Some(column) => is_kept_at(branch, number, takes(column, chosen)),
-        None => true,
-    }
+    let copies = copies_of(square, chosen);
+    let count = copy_count(inst, square);
+    let side = square.side();
+    kept.put_only(row, copies.from, copies.to);
+    kept.put_columns(row, count, side, true);
 }
 
-// Sets the bits of a row that stands for an active one to those that a branch keeps.
+// Sets the bits of a row that stands for an active one to those that a branch keeps, by words.
 fn mark_row<V: Copy>(
     kept: &mut BitRows,
+    inst: &Instance,
     square: &Square<V>,
     row: u32,
     branch: u32,
@@ -63,14 +75,20 @@ fn mark_row<V: Copy>(
     chosen: Option<u32>,
 )
     requires size { HasSize square.now.side kept.old }
+    requires labels { HasLabelsOf inst.now square.now }
     requires row { row < square.now.side }
-    ensures { MarksRow square.now.column_labels square.now.side branch number chosen row kept.old
-        kept.new }
+    ensures { MarksRow square.now.column_labels square.now.side (keeps_label branch number chosen)
+        row kept.old kept.new }
 {
-    for column in 0..square.side() {
-        let keeps = keeps_label(branch, number, chosen, square.column_label(column));
-        kept.put(row, column, keeps);
+    if branch < number {
+        keep_all(kept, square, row);
+        return;
     }
+    if number < branch {
+        keep_alone(kept, inst, square, row, chosen);
+        return;
+    }
+    keep_others(kept, square, row, chosen);
 }
 
 // Sets the bits of a row to those that a branch keeps, where it is active and its number is one of
@@ -88,6 +106,7 @@ fn mark_active<V: Copy>(
     before: u32,
 ) -> u32
     requires size { HasSize square.now.side kept.old }
+    requires labels { HasLabelsOf inst.now square.now }
     requires choice { length choice.now ≡ length inst.now.rows }
     requires row { row < length inst.now.rows }
     requires within { length inst.now.rows ≤ square.now.side }
@@ -106,12 +125,12 @@ fn mark_active<V: Copy>(
     if to < number {
         return number;
     }
-    mark_row(kept, square, row, branch, number, choice.get(row));
+    mark_row(kept, inst, square, row, branch, number, choice.get(row));
     number
 }
 
 // Sets the bits of the active rows whose numbers are those from one on up to another to those that
-// a branch keeps.
+// a branch keeps. The rows after these aren't looked at.
 fn mark_rows<V: Copy>(
     kept: &mut BitRows,
     inst: &Instance,
@@ -122,6 +141,7 @@ fn mark_rows<V: Copy>(
     to: u32,
 )
     requires size { HasSize square.now.side kept.old }
+    requires labels { HasLabelsOf inst.now square.now }
     requires choice { length choice.now ≡ length inst.now.rows }
     requires within { length inst.now.rows ≤ square.now.side }
     ensures { MarksRows inst.now choice.now square.now.column_labels square.now.side branch from to
@@ -129,6 +149,9 @@ fn mark_rows<V: Copy>(
 {
     let mut number = 0;
     for row in 0..choice.len() {
+        if to <= number {
+            return;
+        }
         number = mark_active(kept, inst, square, choice, branch, from, to, row, number);
     }
 }
@@ -167,7 +190,7 @@ pub(crate) fn make_mask<V: Copy>(
 }
 
 /// Sets bits that a branch of the same choice keeps to those of another branch. The time is that of
-/// the rows, and of the cells of those whose numbers lie between the branches.
+/// the rows, and of the words of those whose numbers lie between the branches.
 pub(crate) fn move_mask<V: Copy>(
     kept: &mut BitRows,
     inst: &Instance,

@@ -1,15 +1,27 @@
-use Rattle.std.proofs.Common.{None, sym, ap, ◌∙◌}
-use Rattle.std.proofs.lemmas.Option.{get_or_from_slice_get}
+use Rattle.std.proofs.Common.{true}
+use Rattle.asg_trees.specs.Copies.{keeps_alone, keeps_others}
 use Rattle.asg_trees.specs.Kept.{keeps_label}
-use Rattle.asg_trees.proofs.MaskLemmas.{marks_more}
+use Rattle.asg_trees.proofs.CopyLemmas.{in_order}
+use Rattle.asg_trees.proofs.KeptRows.{label_after, label_alone, label_lost, marks_alike}
 use Rattle.asg_trees.proofs.masks.mark_row.Goals as goal
 
-pub loop-column-preserved : goal.loop-column-preserved
-loop-column-preserved g c =
-    let labels = c.args.square.now.column_labels in
-    let k = c.loop-column.column in
-    let label = get_or_from_slice_get labels k c.column_label.result None c.column_label.ensures in
-    marks_more labels c.args.square.now.side c.args.branch c.args.number c.args.chosen c.args.row c.args.kept.now k c.loop-column.kept c.put.new.self c.keeps_label-keeps.result
-    c.loop-column.invariant
-    (c.keeps_label-keeps.ensures ∙ ap (keeps_label c.args.branch c.args.number c.args.chosen) (sym label))
-    c.put.ensures
+pub keep_others-requires-clause-order : goal.keep_others-requires-clause-order
+keep_others-requires-clause-order g c = in_order c.args.inst.now c.args.square.now c.requires.labels
+
+pub returns-then-branch-number : goal.returns-then-branch-number
+returns-then-branch-number g c =
+    let Q = c.args.square.now in
+    marks_alike Q.column_labels Q.side c.args.row (λ _. true) (keeps_label c.args.branch c.args.number c.args.chosen) c.args.kept.now c.keep_all.new.kept
+    (label_after c.args.branch c.args.number c.args.chosen c.if-branch-number.true) c.keep_all.ensures
+
+pub returns-then-number-branch : goal.returns-then-number-branch
+returns-then-number-branch g c =
+    let Q = c.args.square.now in
+    marks_alike Q.column_labels Q.side c.args.row (keeps_alone c.args.chosen) (keeps_label c.args.branch c.args.number c.args.chosen) c.args.kept.now c.keep_alone.new.kept
+    (label_alone c.args.branch c.args.number c.args.chosen c.if-number-branch.true) c.keep_alone.ensures
+
+pub returns : goal.returns
+returns g c =
+    let Q = c.args.square.now in
+    marks_alike Q.column_labels Q.side c.args.row (keeps_others c.args.chosen) (keeps_label c.args.branch c.args.number c.args.chosen) c.args.kept.now c.keep_others.new.kept
+    (label_lost c.args.branch c.args.number c.args.chosen c.if-branch-number.false c.if-number-branch.false) c.keep_others.ensures

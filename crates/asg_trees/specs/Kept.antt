@@ -1,5 +1,5 @@
 -- Rows of bits that say which cells of a square a branch keeps.
-use Rattle.std.specs.Prelude.{◌≡◌, ◌≢◌, ◌⊎◌, ℕ, ◌<◌, ◌≤◌, Bool, true, IsTrue, if◌then◌else◌, IsSome, Option, Some, None, List, slice_index_or}
+use Rattle.std.specs.Prelude.{◌≡◌, ◌≢◌, ◌⊎◌, ℕ, ◌+◌, ◌<◌, ◌≤◌, Bool, true, IsTrue, if◌then◌else◌, IsSome, Option, Some, None, List, slice_index_or}
 use Rattle.asg_model.specs.Live.{is_active}
 use Rattle.asg_model.specs.Problem.{Problem}
 use Rattle.asg_model.specs.Shapes.{square_side}
@@ -7,6 +7,7 @@ use Rattle.asg_model.specs.ValidChoice.{Chooses, takes}
 use Rattle.asg_square.specs.BitTable.{BitTable, has_bit}
 use Rattle.asg_square.specs.Grid.{Grid, cell_at}
 use Rattle.asg_square.specs.Masked.{masked_grid}
+use Rattle.asg_square.specs.WordBits.{HasBit}
 use Rattle.asg_admit.specs.Reduced.{KeepsLabels}
 use Rattle.asg_proof.specs.Children.{is_kept_at, row_number}
 use Rattle.asg_proof.specs.Masks.{keeps_cell}
@@ -74,6 +75,13 @@ pub record HasKept {V : Type 0} (Q : Grid V) (bits : List ℕ) (r d : ℕ) : Typ
 -- each row has a kept cell in a copy of the column that it chooses
 abbrev pub ChoosesKept : {V : Type 0} → Grid V → List ℕ → List (Option ℕ) → Type 0
 ChoosesKept Q bits f = (r d : ℕ) → Chooses f r d → HasKept Q bits r d
+
+-- the cells of a row, behind a place, whose bits a word has are taken out, and all others stay
+pub record TakesOutBits {V : Type 0} (row first word : ℕ) (before after : Grid V) : Type 0 where
+  pub labels : KeepsLabels before after
+  pub taken : (k : ℕ) → k < 64 → HasBit word k → cell_at after row (first + k) ≡ None
+  pub others : (r k : ℕ) → (r ≢ row) ⊎ ((j : ℕ) → j < 64 → HasBit word j → k ≢ first + j)
+      → cell_at after r k ≡ cell_at before r k
 
 -- of the first so many cells of a row those are taken out whose bits aren't set, and all others
 -- stay

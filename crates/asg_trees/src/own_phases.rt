@@ -16,8 +16,9 @@ use asg_replays::{first_bad, read_steps};
 use asg_square::{BitRows, Square};
 use std::alloc::Global;
 
-// Whether the steps of a phase times the rows that enter are at most the side, so that it is tested
-// cell by cell in a time that is at most that of the cells.
+// Whether the steps of a phase times the rows that enter are at most so few times the side that to
+// test the phase cell by cell, in each row that enters step by step, takes no longer than to copy
+// the square.
 fn is_short(phase: &WrittenPhase, side: u32) -> bool {
     let steps = phase.steps().len();
     let entering = phase
@@ -25,7 +26,7 @@ fn is_short(phase: &WrittenPhase, side: u32) -> bool {
         .iter()
         .filter(|mark| (**mark as usize) < steps)
         .count();
-    entering.saturating_mul(steps) <= side as usize
+    entering.saturating_mul(steps) <= 4 * side as usize
 }
 
 // The index of one phase after another, where it is admitted from the kept cells of a square, which

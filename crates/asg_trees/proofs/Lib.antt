@@ -15,4 +15,5 @@ pub mod GroupLemmas
 pub mod TallyLemmas
 pub mod SiblingLemmas
 pub mod PathLemmas
+pub mod BranchLemmas
 pub mod NarrowTrees

@@ -34,12 +34,38 @@ fn count_branch(nodes: &[Node], members: &Groups, n: usize, branch: u32) -> usiz
     count
 }
 
-// Whether each of so many branches of a node has one node.
+// Whether the nodes that name a parent have the branches up to a number in order, so that each of
+// these has one node.
+fn are_in_order(nodes: &[Node], members: &Groups, n: usize, branches: u32) -> bool
+    requires members { AreGroups (parent_keys nodes.now) (length nodes.now) members.now }
+    requires upto { n ≤ length nodes.now }
+    ensures { IsTrue result → (i : ℕ) → 1 ≤ i → i ≤ branches → child_count nodes.now n i ≡ 1 }
+{
+    let mut count = 0;
+    let mut member = members.first_of(n);
+    'members: while member != 0 {
+        if count >= branches {
+            return false;
+        }
+        if branch_of(nodes, member) != count + 1 {
+            return false;
+        }
+        count += 1;
+        member = members.next_of(member);
+    }
+    count >= branches
+}
+
+// Whether each of so many branches of a node has one node. Where they stand in order the time is
+// that of the branches, else that of the branches times the nodes that name the parent.
 fn has_branches(nodes: &[Node], members: &Groups, n: usize, branches: u32) -> bool
     requires members { AreGroups (parent_keys nodes.now) (length nodes.now) members.now }
     requires upto { n ≤ length nodes.now }
     ensures { IsTrue result ↔ ((i : ℕ) → 1 ≤ i → i ≤ branches → child_count nodes.now n i ≡ 1) }
 {
+    if are_in_order(nodes, members, n, branches) {
+        return true;
+    }
     for before in 0..branches {
         if count_branch(nodes, members, n, before + 1) != 1 {
             return false;
@@ -49,7 +75,8 @@ fn has_branches(nodes: &[Node], members: &Groups, n: usize, branches: u32) -> bo
 }
 
 /// Whether a node's answer is one of so many, that no node before it has, and each of so many
-/// branches has one node. The time is that of the branches times the nodes that name it.
+/// branches has one node. The time is that of the branches where these stand in order, else that of
+/// the branches times the nodes that name it.
 pub(crate) fn has_own_answer(
     nodes: &[Node],
     members: &Groups,

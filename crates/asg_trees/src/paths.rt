@@ -1,6 +1,7 @@
 //! The square of a node, found on the way from the root.
 
 ghost use Rattle.std.specs.Prelude.{◌≡◌, ◌<◌, ◌≤◌, ℕ, IsTrue, IfOk, length};
+ghost use Rattle.asg_model.specs.Shapes.{square_side};
 ghost use Rattle.asg_proof.specs.Nodes.{answer_number, node_answer, node_at};
 ghost use Rattle.asg_proof.specs.SearchTrees.{is_answered};
 ghost use Rattle.asg_trees.specs.Kept.{KeepsOtherRows};
@@ -86,10 +87,10 @@ fn go_down<K: Kind>(
     Ok(())
 }
 
-/// The square of an answered node after its trail, with the trail's index: that of the root, from
-/// which the nodes on the way to it take cells out, and on which their own phases are replayed. The
-/// error is want of memory.
-pub(crate) fn square_of<K: Kind>(
+/// Makes a square that of an answered node after its trail, with the trail's index: it takes over
+/// that of the root, and then the nodes on the way from there take cells out, and their own phases
+/// are replayed. The error is want of memory.
+pub(crate) fn lead_to<K: Kind>(
     alloc: Global,
     kind: &K,
     inst: &Instance,
@@ -97,8 +98,9 @@ pub(crate) fn square_of<K: Kind>(
     nodes: &[Node],
     kept: &mut BitRows,
     root: &Reduced<<<K as Kind>::M as Ordered>::Value>,
+    reduced: &mut Reduced<<<K as Kind>::M as Ordered>::Value>,
     n: usize,
-) -> Result<Reduced<<<K as Kind>::M as Ordered>::Value>, NoMemory>
+) -> Result<(), NoMemory>
     requires tree { let T = tree_of (K.M.monoid_of (K.monoid kind.now))
         (K.M.difference (K.monoid kind.now)) (K.M.word_of (K.monoid kind.now))
         (K.entered kind.now) inst.now answers.now nodes.now in IsTree T }
@@ -113,22 +115,22 @@ pub(crate) fn square_of<K: Kind>(
         (K.M.difference (K.monoid kind.now)) (K.M.word_of (K.monoid kind.now))
         (K.entered kind.now) inst.now answers.now nodes.now in
         StandsAt T 1 root.now.now root.now.index }
+    requires room { reduced.old.now.side ≡ square_side inst.now }
     ensures kept { IfOk result (λ _. KeepsOtherRows inst.now kept.new) }
+    ensures room { IfOk result (λ _. reduced.new.now.side ≡ square_side inst.now) }
     ensures stands { let T = tree_of (K.M.monoid_of (K.monoid kind.now))
         (K.M.difference (K.monoid kind.now)) (K.M.word_of (K.monoid kind.now))
         (K.entered kind.now) inst.now answers.now nodes.now in
-        IfOk result (λ reduced. StandsAt T n reduced.now reduced.index) }
+        IfOk result (λ _. StandsAt T n reduced.new.now reduced.new.index) }
 {
     let path = path_from(alloc, nodes, n)?;
-    let mut reduced = Reduced {
-        now: root.now.copy(alloc)?,
-        index: root.index,
-    };
+    reduced.now.take(&root.now);
+    reduced.index = root.index;
     let mut left = path.len();
     'steps: while left > 0 {
         left -= 1;
         let step = path.as_slice()[left];
-        go_down(alloc, kind, inst, answers, nodes, kept, &mut reduced, step)?;
+        go_down(alloc, kind, inst, answers, nodes, kept, reduced, step)?;
     }
-    Ok(reduced)
+    Ok(())
 }

@@ -22,7 +22,7 @@ use crate::groups::{Groups, by_answer, by_parent};
 use crate::marks::judge_mark;
 use crate::masks::whole_mask;
 use crate::node_parts::{has_answer, own_of};
-use crate::paths::square_of;
+use crate::paths::lead_to;
 use crate::places::first_misplaced;
 use crate::siblings::{judge_children, tallied};
 use crate::verdicts::{Tally, TreeVerdict};
@@ -104,8 +104,8 @@ fn judge_root<K: Kind>(
     Ok(tallied(so_far, 1, judgement))
 }
 
-// Judges the nodes that name a parent, if it has an answer, and tallies them. The error is want of
-// memory.
+// Judges the nodes that name a parent, if it has an answer, on a square that is made the parent's,
+// and tallies them. The error is want of memory.
 fn judge_parent<K: Kind>(
     alloc: Global,
     kind: &K,
@@ -117,6 +117,7 @@ fn judge_parent<K: Kind>(
     count: usize,
     last: Option<<<K as Kind>::M as Ordered>::Value>,
     root: &Reduced<<<K as Kind>::M as Ordered>::Value>,
+    reduced: &mut Reduced<<<K as Kind>::M as Ordered>::Value>,
     kept: &mut BitRows,
     parent: usize,
     so_far: Tally,
@@ -141,7 +142,9 @@ fn judge_parent<K: Kind>(
         (K.M.difference (K.monoid kind.now)) (K.M.word_of (K.monoid kind.now))
         (K.entered kind.now) inst.now answers.now nodes.now in
         IsTallied T count parent 0 so_far }
+    requires room { reduced.old.now.side ≡ square_side inst.now }
     ensures kept { IfOk result (λ _. KeepsOtherRows inst.now kept.new) }
+    ensures room { IfOk result (λ _. reduced.new.now.side ≡ square_side inst.now) }
     ensures tallied { let T = tree_of (K.M.monoid_of (K.monoid kind.now))
         (K.M.difference (K.monoid kind.now)) (K.M.word_of (K.monoid kind.now))
         (K.entered kind.now) inst.now answers.now nodes.now in
@@ -153,9 +156,11 @@ fn judge_parent<K: Kind>(
     if members.first_of(parent) == 0 {
         return Ok(so_far);
     }
-    let reduced = square_of(alloc, kind, inst, answers, nodes, kept, root, parent)?;
+    lead_to(
+        alloc, kind, inst, answers, nodes, kept, root, reduced, parent,
+    )?;
     judge_children(
-        alloc, kind, inst, answers, nodes, members, given, count, last, &reduced, kept, parent,
+        alloc, kind, inst, answers, nodes, members, given, count, last, reduced, kept, parent,
         so_far,
     )
 }
@@ -197,11 +202,28 @@ fn judge_parents<K: Kind>(
         (K.entered kind.now) inst.now answers.now nodes.now in
         IfOk result (IsWholeTally T count) }
 {
+    let now = root.now.copy(alloc)?;
+    let mut reduced = Reduced {
+        now,
+        index: root.index,
+    };
     let mut tally = so_far;
     let mut parent = 1;
     'parents: while parent < tally.fault {
         tally = judge_parent(
-            alloc, kind, inst, answers, nodes, members, given, count, last, root, kept, parent,
+            alloc,
+            kind,
+            inst,
+            answers,
+            nodes,
+            members,
+            given,
+            count,
+            last,
+            root,
+            &mut reduced,
+            kept,
+            parent,
             tally,
         )?;
         parent += 1;

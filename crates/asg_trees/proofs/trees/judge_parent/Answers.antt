@@ -22,8 +22,8 @@ returns-then-first_of-eq0-clause-tallied g c =
     members_done T c.args.count c.args.parent keys c.args.so_far 0 (inl refl)
     (members_first T c.args.count c.args.parent keys c.args.so_far 0 first c.requires.tallied)
 
-pub square_of-requires-clause-sound : goal.square_of-requires-clause-sound
-square_of-requires-clause-sound g c =
+pub lead_to-requires-clause-sound : goal.lead_to-requires-clause-sound
+lead_to-requires-clause-sound g c =
     let kind = c.args.kind.now in
     let T = tree_of (g.K.M.Ordered.monoid_of (g.K.Kind.monoid kind)) (g.K.M.DMonoid.difference (g.K.Kind.monoid kind)) (g.K.M.Written.word_of (g.K.Kind.monoid kind)) (g.K.Kind.entered kind) c.args.inst.now c.args.answers.now c.args.nodes.now in
     sound_upto T c.args.count c.args.parent c.args.so_far c.requires.tallied c.requires.below

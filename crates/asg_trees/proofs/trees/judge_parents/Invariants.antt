@@ -1,4 +1,5 @@
-use Rattle.std.proofs.Common.{◌+◌, ◌-◌, ◌<◌, ◌≤◌, length}
+use Rattle.std.proofs.Common.{◌≡◌, ◌+◌, ◌-◌, ◌<◌, ◌≤◌, length}
+use Rattle.asg_model.specs.Shapes.{square_side}
 use Rattle.asg_trees.specs.Kept.{KeepsOtherRows}
 use Rattle.asg_trees.specs.Tallies.{IsTallied}
 use Rattle.asg_trees.specs.Trails.{StandsAt}
@@ -13,6 +14,7 @@ invariant-parents g l =
       from : 1 ≤ l.parent;
       others : KeepsOtherRows l.inst l.kept;
       stands : 1 < l.tally.fault → StandsAt T 1 l.root.now l.root.index;
+      room : 1 < l.tally.fault → l.reduced.now.side ≡ square_side l.inst;
       tallied : IsTallied T l.count l.parent 0 l.tally;
     }
 

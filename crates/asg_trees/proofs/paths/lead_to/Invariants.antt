@@ -2,7 +2,7 @@ use Rattle.std.proofs.Common.{◌≡◌, ◌<◌, ◌≤◌, length, get_or}
 use Rattle.asg_trees.specs.Kept.{KeepsOtherRows}
 use Rattle.asg_trees.specs.Trails.{StandsAt}
 use Rattle.asg_trees.specs.Trees.{tree_of}
-use Rattle.asg_trees.proofs.paths.square_of.Given as goal
+use Rattle.asg_trees.proofs.paths.lead_to.Given as goal
 
 -- the square is that of the root, or of the last node that was gone down to
 abbrev pub invariant-steps : goal.invariant-steps

@@ -1,10 +1,14 @@
-use Rattle.std.proofs.Common.{◌≡◌, ℕ, ◌-◌, true, List, get_or, sym, ap, subst, arith}
+use Rattle.std.proofs.Common.{◌≡◌, ℕ, ◌-◌, true, List, get_or, sym, ap, subst, ◌∙◌, arith}
 use Rattle.asg_proof.specs.Nodes.{node_at}
 use Rattle.asg_proof.specs.SearchTrees.{is_answered}
 use Rattle.asg_trees.specs.Trails.{StandsAt}
 use Rattle.asg_trees.specs.Trees.{tree_of}
+use Rattle.asg_trees.proofs.NodeFacts.{side-of_node}
 use Rattle.asg_trees.proofs.PathLemmas.{at_end, path_answered, step_from}
-use Rattle.asg_trees.proofs.paths.square_of.Goals as goal
+use Rattle.asg_trees.proofs.paths.lead_to.Goals as goal
+
+pub take-requires : goal.take-requires
+take-requires g c = c.requires.room ∙ sym (c.requires.root.labels.side ∙ side-of_node c.args.inst.now c.args.answers.now c.args.nodes.now 1)
 
 pub go_down-requires-clause-sound : goal.go_down-requires-clause-sound
 go_down-requires-clause-sound g c = λ m from upto.
@@ -51,3 +55,8 @@ returns-clause-stands g c =
     at_end c.args.nodes.now c.args.n c.in_ok-path.path.items c.in_ok-path.ensures
     (λ m. StandsAt T m c.steps.reduced.now c.steps.reduced.index) c.steps.left c.steps.invariant.upto c.steps.invariant.at_root c.steps.invariant.at_node
     (omega (arith, c.steps-test.false)) c.requires.from
+
+pub returns-clause-room : goal.returns-clause-room
+returns-clause-room g c =
+    let stands = returns-clause-stands g c in
+    stands.labels.side ∙ side-of_node c.args.inst.now c.args.answers.now c.args.nodes.now c.args.n

@@ -16,6 +16,7 @@
 #![tactic(auto)]
 
 mod chosen_cells;
+mod conclusions;
 mod copies;
 mod groups;
 mod hall_tests;

@@ -1,6 +1,6 @@
 //! Search trees, judged over the monoid of a kind.
 
-ghost use Rattle.std.specs.Prelude.{◌≡◌, ◌+◌, ◌<◌, ◌≤◌, List, None, IfOk, IfSome, All, length};
+ghost use Rattle.std.specs.Prelude.{◌≡◌, ◌+◌, ◌<◌, ◌≤◌, List, None, IfOk, All, length};
 ghost use Rattle.asg_model.specs.declared.parts.Place.TheVariants.{All as PlaceAll};
 ghost use Rattle.asg_model.specs.Limits.{most_cost, most_side};
 ghost use Rattle.asg_model.specs.Refused.{PassesNegative};
@@ -10,7 +10,7 @@ ghost use Rattle.asg_order.specs.Entering.{LiesWithin};
 ghost use Rattle.asg_proof.specs.declared.nodes.Node.{Node as N};
 ghost use Rattle.asg_replays.specs.Replays.{IsStart};
 ghost use Rattle.asg_trees.specs.Groups.{AreGroups, answer_keys, parent_keys};
-ghost use Rattle.asg_trees.specs.Judged.{AreGiven, IsLacking, TellsTree, conclusion, conclusion_sound};
+ghost use Rattle.asg_trees.specs.Judged.{TellsTree};
 ghost use Rattle.asg_trees.specs.Kept.{KeepsAll, KeepsOtherRows};
 ghost use Rattle.asg_trees.specs.Marks.{IsLastProduct};
 ghost use Rattle.asg_trees.specs.Tallies.{HavePlaces, IsTallied, IsWholeTally};
@@ -18,6 +18,7 @@ ghost use Rattle.asg_trees.specs.Trails.{StandsAt};
 ghost use Rattle.asg_trees.specs.Trees.{IsSound, IsTree, tree_of};
 
 use crate::NoMemory;
+use crate::conclusions::{concluded, first_lacking};
 use crate::groups::{Groups, by_answer, by_parent};
 use crate::marks::judge_mark;
 use crate::masks::whole_mask;
@@ -249,49 +250,6 @@ fn last_product<K: Kind>(
         return None;
     }
     Some(chosen_fold(kind, inst, &answers[answers.len() - 1]))
-}
-
-// The first answer that has no node.
-fn first_lacking(given: &Groups, nodes: &[Node], answers: &[Choice]) -> Option<usize>
-    requires { AreGroups (answer_keys nodes.now) (length answers.now) given.now }
-    ensures some { IfSome result (IsLacking answers.now nodes.now) }
-    ensures none { result ≡ None → AreGiven answers.now nodes.now }
-{
-    let _ = nodes;
-    for before in 0..answers.len() {
-        if given.first_of(before + 1) == 0 {
-            return Some(before + 1);
-        }
-    }
-    None
-}
-
-// The verdict on a tree none of whose nodes is at fault, by the least that is open and may not be,
-// and by an answer that has no node.
-fn concluded_sound(left: usize, nodes: usize, lacking: Option<usize>) -> TreeVerdict
-    ensures { result ≡ conclusion_sound left nodes lacking }
-{
-    match lacking {
-        Some(_) => TreeVerdict::NodeLacks,
-        None => {
-            if left <= nodes {
-                TreeVerdict::OpenAt(left)
-            } else {
-                TreeVerdict::Tree
-            }
-        }
-    }
-}
-
-// The verdict on a tree of which all is tallied, by an answer that has no node.
-fn concluded(tally: Tally, nodes: usize, lacking: Option<usize>) -> TreeVerdict
-    ensures { result ≡ conclusion tally nodes lacking }
-{
-    if tally.fault <= nodes {
-        TreeVerdict::FaultAt(tally.fault)
-    } else {
-        concluded_sound(tally.left, nodes, lacking)
-    }
 }
 
 /// Judges whether nodes are a search tree of answers that are valid, of which so many were asked

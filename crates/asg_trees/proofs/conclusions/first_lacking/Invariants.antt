@@ -1,6 +1,6 @@
 use Rattle.std.proofs.Common.{ℕ, ◌≤◌}
 use Rattle.asg_proof.specs.SearchTrees.{IsGiven}
-use Rattle.asg_trees.proofs.trees.first_lacking.Given as goal
+use Rattle.asg_trees.proofs.conclusions.first_lacking.Given as goal
 
 -- each answer so far has a node
 abbrev pub invariant-loop-before : goal.invariant-loop-before

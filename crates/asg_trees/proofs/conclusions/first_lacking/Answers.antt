@@ -2,7 +2,7 @@ use Rattle.std.proofs.Common.{◌≡◌, ◌+◌, ◌<◌, ◌≤◌, sym, subst
 use Rattle.std.proofs.lemmas.Bool.{cases_lt}
 use Rattle.asg_proof.specs.SearchTrees.{IsGiven}
 use Rattle.asg_trees.proofs.GroupLemmas.{IsNextAnswer, given_by}
-use Rattle.asg_trees.proofs.trees.first_lacking.Goals as goal
+use Rattle.asg_trees.proofs.conclusions.first_lacking.Goals as goal
 
 pub loop-before-preserved : goal.loop-before-preserved
 loop-before-preserved c a from upto =

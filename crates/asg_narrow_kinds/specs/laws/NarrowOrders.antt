@@ -1,15 +1,21 @@
 -- Entering sums in 64 bits keeps the order of values, for `sum` and `sum-max`.
-use Rattle.std.proofs.Common.{◌≡◌, ℕ, ◌<◌, ◌≤◌, ◌^◌, List, length, arith, sym, subst}
+use Rattle.std.proofs.Common.{◌≡◌, ℕ, ◌<◌, ◌≤◌, ◌^◌, List, length, Option, arith, sym, subst, is_some}
 use Rattle.std.specs.Prelude.{All, sum_by, true, ◌↔◌}
 use Rattle.std.proofs.lemmas.Bool.Decides.{nat_tests}
 use Rattle.std.proofs.lemmas.Int.{ints}
+use Rattle.std.proofs.lemmas.List.Sums.{count_by-le-length}
 use Rattle.asg_model.specs.declared.parts.Cost.{Cost}
 use Rattle.asg_model.specs.declared.objectives.Objective.{Objective}
 use Rattle.asg_model.specs.declared.objectives.Objective.TheVariants.{Sum, SumMax}
 use Rattle.asg_model.specs.Limits.{most_rows}
+use Rattle.asg_model.specs.Problem.{Problem}
+use Rattle.asg_model.specs.Refused.{PassesNegative}
+use Rattle.asg_model.specs.ValidChoice.{IsValid}
+use Rattle.asg_model.specs.Values.{costs_of}
 use Rattle.asg_order.specs.Monoid.{IsLess, IsValue}
-use Rattle.asg_order.specs.Entering.{MayEnter}
-use Rattle.asg_order.specs.Bridge.{KeepsOrder, costs_fold}
+use Rattle.asg_order.specs.Entering.{LiesWithin, MayEnter}
+use Rattle.asg_order.specs.Bridge.{KeepsOrder, choice_fold, costs_fold}
+use Rattle.asg_order.specs.laws.ChosenCosts.{costs_may_enter, length-costs_of}
 use Rattle.asg_monoids.specs.BoundedSums.{bounded_sums, narrow_top}
 use Rattle.asg_monoids.specs.Entered.{cost_reach, sum_entered}
 use Rattle.asg_monoids.specs.NarrowObjectives.{is_narrow_objective}
@@ -40,6 +46,16 @@ same SumMax u is few may =
     let s = sum_turned (λ cost. cost.a) u (near_a SumMax u may) in
     same_below SumMax u (omega (arith, s.1, few))
 same _ u is few may = absurd (cc)
+
+-- a valid choice has the same product by both, where the instance has no more rows than it may
+-- have, and its live costs lie within the reach and pass the objective
+pub narrow_product : (objective : Objective) (X : Problem) (choice : List (Option ℕ)) → is_narrow_objective objective ≡ true → length X.rows ≤ most_rows → LiesWithin cost_reach X → PassesNegative objective X → IsValid X choice
+    → choice_fold (bounded_sums (2 ^ 120)) (sum_entered objective) X choice ≡ choice_fold (bounded_sums narrow_top) (sum_entered objective) X choice
+unfolding narrow wide
+narrow_product objective X choice is few near passes valid =
+    sym (same objective (costs_of X choice) is
+    (omega (arith, length-costs_of X choice valid, valid.counted, valid.over, count_by-le-length is_some choice, few))
+    (costs_may_enter objective cost_reach X choice near passes))
 
 -- of equal numbers, the one is strictly less by the narrow sums exactly where it is by the wide
 less_is : {Better : Type 0} (x y p q : ℕ) → x ≡ p → y ≡ q → Better ↔ IsLess (bounded_sums (2 ^ 120)) p q → Better ↔ IsLess (bounded_sums narrow_top) x y

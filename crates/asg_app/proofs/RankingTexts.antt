@@ -21,8 +21,8 @@ use Rattle.asg_proof.specs.Nodes.{IsNumber, node_at, node_instance, node_trail, 
 use Rattle.asg_proof.specs.Phases.{PhaseOf, worded}
 use Rattle.asg_proof.specs.SearchTrees.{HasTrail, IsMarked, IsSearchTree}
 use Rattle.asg_proof.specs.TreeProofs.{ProvesRanking}
-use Rattle.asg_rank.specs.Rankings.{HaveFewPhases}
-use Rattle.asg_rank.specs.RankOutcomes.{AreCountable, IsProvedRanking}
+use Rattle.asg_rank.specs.Rankings.{AreCountable, HaveFewPhases}
+use Rattle.asg_rank.specs.RankOutcomes.{IsProvedRanking}
 use Rattle.asg_doc.specs.HasText.{HasMarkText, HasNodeText, HasStepText, HasTreeText}
 use Rattle.asg_doc.specs.Words.{HasWord, has_grades}
 use Rattle.asg_app.proofs.HallRows.{AreRows-hall, IsHallShort}

@@ -1,7 +1,7 @@
 -- What a ranker tells once no answer is left.
 use Rattle.std.proofs.Common.{◌≡◌, ◌≢◌, ◌↔◌, ℕ, ◌-◌, ◌*◌, ◌^◌, ◌<◌, ◌≤◌, zero, suc, List, length, Option, sym, ap, subst, arith}
 use Rattle.std.specs.Prelude.{All, AllPairs}
-use Rattle.std.proofs.Math.Nat.{mul_comm}
+use Rattle.std.proofs.Math.Nat.{mul_comm, mul-le-mul_right}
 use Rattle.std.proofs.lemmas.List.{length-take-le}
 use Rattle.asg_model.specs.declared.objectives.Objective.{Objective}
 use Rattle.asg_model.specs.declared.parts.Cost.{Cost}
@@ -24,7 +24,7 @@ use Rattle.asg_square.specs.Cells.{IsSquareChoice}
 use Rattle.asg_rank.specs.declared.entries.State.TheVariants.{Open}
 use Rattle.asg_rank.specs.declared.searches.Search.{Search}
 use Rattle.asg_rank.specs.Entries.{entry_at, child_number}
-use Rattle.asg_rank.specs.Rankings.{IsExhausted, HaveFewPhases, LeaveLastOpen}
+use Rattle.asg_rank.specs.Rankings.{AreCountable, IsExhausted, HaveFewPhases, LeaveLastOpen}
 use Rattle.asg_rank.specs.Rules.{Rules}
 use Rattle.asg_rank.specs.Searches.{winner_in, given_of, IsReady}
 use Rattle.asg_rank.specs.Trees.{given_at}
@@ -59,6 +59,9 @@ module _ {V : Type 0} (R : Rules V) (X : Problem) (count : ℕ) (S : Search V) (
   fits : length (given_of S) < 2 ^ 32
   fits = omega (arith, given_count, small)
 
+  within_room : length (given_of S) ≤ S.slots.room
+  within_room = let fit = ready.memory.given_fit in omega (arith, given_count, fit)
+
   few : length (given_of S) ≤ count
   few = let fit = ready.memory.given_fit in let room = ready.room_is in omega (arith, given_count, fit, room)
 
@@ -74,6 +77,19 @@ module _ {V : Type 0} (R : Rules V) (X : Problem) (count : ℕ) (S : Search V) (
     pub few_now : IsForest S.tree.region → HaveFewPhases (square_side X) nodes
     few_now forest =
         few_phases R word_of X (given_of S) (winner_in R.monoid.unit S.slots.used) S.tree ready.search.part ready.search.tree fits valid nodes written forest (square_side X) ready.memory.region_side
+
+    -- the nodes can be counted in 32 bits, and so can the phases of the root
+    pub countable_now : AreCountable nodes
+    countable_now =
+        let all = written.count in
+        let upto = ready.search.tree.upto_is in
+        let some = ready.search.tree.some in
+        let times = mul-le-mul_right (placed X) within_room in
+        let small = ready.memory.small in
+        record {
+          nodes_fit = omega (arith, all, upto, times, small);
+          root_fits = (written.each 1 (omega arith) (omega (arith, all, some))).own_are.root_fits ready.search.tree.root.parent_is;
+        }
 
     -- where all answers were given that were asked for, the children of the last one's node are open
     pub last_now : LeaveLastOpen count (given_of S) nodes

@@ -1,5 +1,5 @@
 -- What the ranking of an instance gives.
-use Rattle.std.specs.Prelude.{ℕ, ◌<◌, ◌^◌, All, List, Option, length}
+use Rattle.std.specs.Prelude.{ℕ, All, List, Option}
 use Rattle.asg_model.specs.declared.bands.Band.TheVariants.{Whole}
 use Rattle.asg_model.specs.declared.objectives.Objective.{Objective}
 use Rattle.asg_model.specs.HallSet.{IsHall}
@@ -10,18 +10,12 @@ use Rattle.asg_model.specs.declared.parts.Cost.{Cost}
 use Rattle.asg_order.specs.declared.words.Word.{Word}
 use Rattle.asg_order.specs.Monoid.{Monoid}
 use Rattle.asg_proof.specs.declared.nodes.Node.{Node}
-use Rattle.asg_proof.specs.Nodes.{node_at}
 use Rattle.asg_proof.specs.Ranked.{AreListed}
 use Rattle.asg_proof.specs.SearchTrees.{IsSearchTree}
 use Rattle.asg_proof.specs.TreeProofs.{ProvesRanking}
 use Rattle.asg_rank.specs.declared.rankings.RankOutcome.{RankOutcome}
 use Rattle.asg_rank.specs.declared.rankings.RankOutcome.TheVariants.{Listed, Nothing}
-use Rattle.asg_rank.specs.Rankings.{HaveFewPhases, LeaveLastOpen}
-
--- the nodes can be counted in 32 bits, and so can the phases of the root
-pub record AreCountable (nodes : List Node) : Type 0 where
-  pub nodes_fit : length nodes < 2 ^ 32
-  pub root_fits : length (node_at nodes 1).own < 2 ^ 32
+use Rattle.asg_rank.specs.Rankings.{AreCountable, HaveFewPhases, LeaveLastOpen}
 
 -- valid choices that may be listed, and nodes that prove that nothing better was left out, with few
 -- phases

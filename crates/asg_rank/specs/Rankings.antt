@@ -1,5 +1,5 @@
 -- What contracts see of a ranker, and what its answers mean.
-use Rattle.std.specs.Prelude.{◌≡◌, ◌⊎◌, ◌++◌, ◌∷◌, [], ℕ, ◌*◌, ◌<◌, ◌≤◌, All, Option, List, length, Contains}
+use Rattle.std.specs.Prelude.{◌≡◌, ◌⊎◌, ◌++◌, ◌∷◌, [], ℕ, ◌*◌, ◌^◌, ◌<◌, ◌≤◌, All, Option, List, length, Contains}
 use Rattle.asg_model.specs.declared.objectives.Objective.{Objective}
 use Rattle.asg_model.specs.Counts.{placed}
 use Rattle.asg_model.specs.Problem.{Problem}
@@ -49,6 +49,11 @@ Gives objective X count before after Done = (after ≡ before) × IsExhausted X 
 pub record HaveFewPhases (side : ℕ) (nodes : List Node) : Type 0 where
   pub over : (n : ℕ) → IsNumber nodes n → All (IsPhaseOver side) (node_at nodes n).own
   pub one : (n : ℕ) → IsNumber nodes n → 1 < n → length (node_at nodes n).own ≤ 1
+
+-- the nodes can be counted in 32 bits, and so can the phases of the root
+pub record AreCountable (nodes : List Node) : Type 0 where
+  pub nodes_fit : length nodes < 2 ^ 32
+  pub root_fits : length (node_at nodes 1).own < 2 ^ 32
 
 -- where all answers that were asked for were given, the children of the last one's node are open
 abbrev pub LeaveLastOpen : ℕ → List (List (Option ℕ)) → List Node → Type 0

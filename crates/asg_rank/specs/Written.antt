@@ -53,10 +53,12 @@ pub record IsTold {V : Type 0} (M : Monoid V) (T : Tree V) (e : Entry V) : Type 
   pub parent_upto : e.parent ≤ length T.entries.items
   pub next : 1 ≤ e.parent → IsNext T.region (entry_at M.unit T.entries.items e.parent).trail e.trail
 
--- its own phases: all of its trail at a root, else those beyond its parent's
+-- its own phases: all of its trail at a root, which can be counted in 32 bits, else those beyond
+-- its parent's
 pub record IsWrittenOwn {V : Type 0} (unit : V) (word_of : V → Word) (T : Tree V) (e : Entry V)
     (own : List (PhaseOf Word)) : Type 0 where
   pub root : e.parent ≡ 0 → own ≡ map (worded word_of) (phases_to T.region e.trail)
+  pub root_fits : e.parent ≡ 0 → length own < 2 ^ 32
   pub below : 1 ≤ e.parent → AreOwn word_of T.region (entry_at unit T.entries.items e.parent).trail e.trail own
 
 pub record IsWrittenNode {V : Type 0} (unit : V) (word_of : V → Word) (T : Tree V) (e : Entry V) (node : Node)

@@ -10,7 +10,8 @@ ghost use Rattle.asg_model.specs.Shapes.{square_side};
 ghost use Rattle.asg_proof.specs.Nodes.{answer_at};
 ghost use Rattle.asg_proof.specs.Ranked.{AreListed};
 ghost use Rattle.asg_proof.specs.SearchTrees.{IsSearchTree};
-ghost use Rattle.asg_rank.specs.Rankings.{ranking_work, IsExhausted, IsRefusal, Gives, HaveFewPhases, LeaveLastOpen};
+ghost use Rattle.asg_rank.specs.Rankings.{ranking_work, IsExhausted, IsRefusal, Gives};
+ghost use Rattle.asg_rank.specs.Rankings.{AreCountable, HaveFewPhases, LeaveLastOpen};
 ghost use Rattle.asg_rank.specs.Rooms.{most_work};
 
 use crate::NoMemory;
@@ -174,6 +175,7 @@ where
             IfOk result (λ nodes. IsSearchTree (K.M.monoid_of m) (K.M.difference m) (K.M.word_of m)
             (K.entered kind) self.now.problem self.now.count self.now.given nodes) }
         ensures phases { IfOk result (HaveFewPhases (square_side self.now.problem)) }
+        ensures countable { IfOk result AreCountable }
         ensures last { IfOk result (LeaveLastOpen self.now.count self.now.given) }
     {
         square_law::<<K::M as Ordered>::Value>();

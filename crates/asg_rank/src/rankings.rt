@@ -10,7 +10,7 @@ ghost use Rattle.asg_model.specs.Shapes.{square_side};
 ghost use Rattle.asg_model.specs.ValidChoice.{IsValid};
 ghost use Rattle.asg_monoids.specs.Entered.{is_sum_objective};
 ghost use Rattle.asg_rank.specs.Rankings.{IsExhausted, IsRefusal, ranking_work};
-ghost use Rattle.asg_rank.specs.RankOutcomes.{AreCountable, IsOutcomeIn, IsRankOutcome};
+ghost use Rattle.asg_rank.specs.RankOutcomes.{IsOutcomeIn, IsRankOutcome};
 ghost use Rattle.asg_rank.specs.Rooms.{most_work};
 
 use crate::NoMemory;
@@ -21,7 +21,7 @@ use asg_model::{Choice, Instance, Objective};
 use asg_monoids::{PeakKind, SumKind, TimeKind};
 use asg_order::Kind;
 use asg_proof::{Ids, Nodes};
-use std::alloc::{AllocError, Global};
+use std::alloc::Global;
 
 /// What a ranking gives.
 #[derive(Debug, Drop)]
@@ -80,17 +80,6 @@ where
     Ok(Choices::from_vec(choices))
 }
 
-// Whether the nodes can be counted in 32 bits, and so can the phases of the root. No memory that
-// there is holds more.
-fn are_countable(nodes: &Nodes) -> bool
-    ensures { IsTrue result → AreCountable nodes.now }
-{
-    match nodes.as_slice().get(0) {
-        Some(root) => nodes.len() <= u32::MAX as usize && root.own.len() <= u32::MAX as usize,
-        None => false,
-    }
-}
-
 // The outcome where a ranker gave so many answers, and nothing is left to give. The error is want
 // of memory.
 fn ranked_outcome<K: Kind + Drop>(
@@ -111,11 +100,7 @@ where
 {
     let answers = listed(alloc, ranker, given)?;
     let nodes = ranker.nodes(alloc)?;
-    if are_countable(&nodes) {
-        Ok(RankOutcome::Listed { answers, nodes })
-    } else {
-        Err(AllocError)
-    }
+    Ok(RankOutcome::Listed { answers, nodes })
 }
 
 // The outcome where a ranker had no answer to give. The error is want of memory.

@@ -1,6 +1,6 @@
 //! The search tree as documents have it.
 
-ghost use Rattle.std.specs.Prelude.{◌≡◌, ◌≤◌, ℕ, All, length, map, IfOk, IfSome};
+ghost use Rattle.std.specs.Prelude.{◌≡◌, ◌≤◌, ◌<◌, ◌^◌, ℕ, All, length, map, IfOk, IfSome};
 ghost use Rattle.asg_order.specs.Monoid.{IsValue};
 ghost use Rattle.asg_pool.specs.Forest.{IsLive, phases_to, phases_of, last_phase};
 ghost use Rattle.asg_proof.specs.NodeLists.{IsMarkPart, IsNodePart};
@@ -89,7 +89,18 @@ fn trails_to<V: Copy>(
     Ok(trails)
 }
 
-// All phases of a trail, with each step as its word.
+// How many phases lead to a trail.
+fn phase_count<V: Copy>(region: &Region<V>, last: Option<Trail>) -> u32
+    requires { IfSome last (IsLive region.now) }
+    ensures { result ≡ length (phases_to region.now last) }
+{
+    match last {
+        Some(trail) => region.len(trail),
+        None => 0,
+    }
+}
+
+// All phases of a trail, with each step as its word. They can be counted in 32 bits.
 fn all_phases<M: Written>(
     alloc: Global,
     m: &M,
@@ -98,12 +109,14 @@ fn all_phases<M: Written>(
 ) -> Result<Phases, NoMemory>
     requires live { IfSome last (IsLive region.now) }
     requires values { AreOfValues (M.monoid_of m.now) (phases_to region.now last) }
-    ensures { IfOk result (λ phases. phases
+    ensures phases { IfOk result (λ phases. phases
         ≡ map (worded (M.word_of m.now)) (phases_to region.now last)) }
+    ensures fits { IfOk result (λ phases. length phases < 2 ^ 32) }
 {
     let _spare = region.spare();
+    let count = phase_count(region, last);
     let trails = trails_to(alloc, region, last)?;
-    let mut phases = Vec::with_capacity(alloc, trails.len())?;
+    let mut phases = Vec::with_capacity(alloc, count as usize)?;
     'trails: for k in 0..trails.len() {
         let trail = trails[trails.len() - 1 - k];
         phases.push(written_phase(alloc, m, region, trail)?)?;

@@ -5,11 +5,11 @@ use Rattle.asg_model.specs.Shapes.{square_side}
 use Rattle.asg_proof.specs.Ranked.{AreListed}
 use Rattle.asg_proof.specs.SearchTrees.{IsSearchTree}
 use Rattle.asg_rank.specs.Entries.{entry_at}
-use Rattle.asg_rank.specs.Rankings.{Ranking, IsExhausted, HaveFewPhases, LeaveLastOpen}
+use Rattle.asg_rank.specs.Rankings.{Ranking, AreCountable, IsExhausted, HaveFewPhases, LeaveLastOpen}
 use Rattle.asg_rank.specs.Rules.{rules_of}
 use Rattle.asg_rank.specs.Searches.{given_of}
 use Rattle.asg_rank.specs.Written.{IsTold, AreWrittenNodes}
-use Rattle.asg_rank.proofs.LastTrees.{kind_bridge, told_now, listed_now, tree_now, few_now, last_now}
+use Rattle.asg_rank.proofs.LastTrees.{kind_bridge, told_now, listed_now, tree_now, few_now, countable_now, last_now}
 use Rattle.asg_rank.proofs.ranker.Ranker.nodes.Goals as goal
 
 pub written_nodes-requires : goal.written_nodes-requires
@@ -73,3 +73,14 @@ returns-clause-last g c =
     subst (λ (r : Ranking _). IfOk result (LeaveLastOpen r.count r.given)) c.self.view_is
     (IfOk-weaker result (AreWrittenNodes R.monoid.unit word_of s.search.tree) (LeaveLastOpen s.count (given_of s.search))
     (last_now R s.inst s.count s.search c.self.invariant.ready c.rows-rows.ensures.instance word_of) written)
+
+pub returns-clause-countable : goal.returns-clause-countable
+returns-clause-countable g c =
+    let s = c.self.inside in
+    let m = g.K.Kind.monoid s.kind in
+    let word_of = g.K.M.Written.word_of m in
+    let R = rules_of (g.K.M.Ordered.monoid_of m) (g.K.M.DMonoid.difference m) (g.K.Kind.entered s.kind) in
+    let result = c.written_nodes.result in
+    let written = subst (λ n. IfOk result (AreWrittenNodes (g.K.M.Ordered.monoid_of n).unit (g.K.M.Written.word_of n) s.search.tree)) c.monoid.ensures c.written_nodes.ensures in
+    IfOk-weaker result (AreWrittenNodes R.monoid.unit word_of s.search.tree) AreCountable
+    (countable_now R s.inst s.count s.search c.self.invariant.ready c.rows-rows.ensures.instance word_of) written

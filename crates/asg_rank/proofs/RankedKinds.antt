@@ -1,74 +1,110 @@
--- What a ranking by the monoid of an objective gives is what a ranking by the objective gives.
-use Rattle.std.proofs.Common.{ℕ, ◌^◌, List, Option}
-use Rattle.std.specs.Prelude.{IsTrue}
+-- What a ranking in the monoid of a kind gives is what a ranking by its objective gives.
+use Rattle.std.proofs.Common.{◌≡◌, ℕ, ◌-◌, ◌^◌, ◌≤◌, List, [], Option, length, arith, subst}
+use Rattle.std.specs.Prelude.{All, IsTrue, true}
 use Rattle.asg_model.specs.declared.objectives.Objective.{Objective}
-use Rattle.asg_model.specs.declared.objectives.Objective.TheVariants.{Sum, SumMax, SumPair, Capped, Bottleneck, BottleneckMax, TimeCost, Balanced, Lex}
+use Rattle.asg_model.specs.declared.objectives.Objective.TheVariants.{Sum, SumMax, SumPair, Capped, Bottleneck, BottleneckMax, TimeCost}
+use Rattle.asg_model.specs.declared.parts.Cost.{Cost}
+use Rattle.asg_model.specs.Instances.{IsInstance}
 use Rattle.asg_model.specs.Objectives.{is_bottleneck}
 use Rattle.asg_model.specs.Problem.{Problem}
-use Rattle.asg_monoids.specs.BoundedSums.{bounded_sums, bounded_difference, plain_word}
-use Rattle.asg_monoids.specs.Entered.{is_sum_objective, peak_entered, sum_entered, time_entered, top_of}
+use Rattle.asg_model.specs.Refused.{PassesNegative}
+use Rattle.asg_model.specs.ValidChoice.{IsValid}
+use Rattle.asg_monoids.specs.BoundedSums.{bounded_sums, bounded_difference, narrow_top, plain_word}
+use Rattle.asg_monoids.specs.Entered.{cost_reach, is_sum_objective, peak_entered, sum_entered, time_entered, top_of}
 use Rattle.asg_monoids.specs.Grades.{graded, graded_difference, graded_word}
 use Rattle.asg_monoids.specs.Maxima.{maxima, maxima_difference}
+use Rattle.asg_monoids.specs.NarrowObjectives.{is_narrow_objective}
+use Rattle.asg_narrow_kinds.specs.laws.NarrowOrders.{narrow_product}
+use Rattle.asg_order.specs.declared.words.Word.{Word}
+use Rattle.asg_order.specs.Bridge.{choice_fold}
+use Rattle.asg_order.specs.Monoid.{Monoid}
 use Rattle.asg_proof.specs.declared.nodes.Node.{Node}
+use Rattle.asg_proof.specs.laws.LiveCosts.{lies_within}
+use Rattle.asg_proof.specs.SearchTrees.{IsSearchTree, last_answer}
 use Rattle.asg_proof.specs.TreeProofs.{IsPeakTree, IsSumTree, ProvesRanking}
 use Rattle.asg_rank.specs.declared.rankings.RankOutcome.{RankOutcome}
 use Rattle.asg_rank.specs.declared.rankings.RankOutcome.TheVariants.{Listed, Nothing}
 use Rattle.asg_rank.specs.RankOutcomes.{IsOutcomeIn, IsRankOutcome}
 
-sums_prove : (objective : Objective) (X : Problem) (count : ℕ) (answers : List (List (Option ℕ))) (nodes : List Node) → IsTrue (is_sum_objective objective) → IsSumTree objective X count answers nodes → ProvesRanking objective X count answers nodes
+-- search trees of valid answers prove rankings by the objective
+abbrev TreesProve : {V : Type 0} → Monoid V → (V → V → V) → (V → Word) → (Cost → V) → Objective → Problem → ℕ → Type 0
+TreesProve M difference word_of enter objective X count =
+    (answers : List (List (Option ℕ))) (nodes : List Node) → 1 ≤ length answers → All (IsValid X) answers
+    → IsSearchTree M difference word_of enter X count answers nodes → ProvesRanking objective X count answers nodes
+
+-- then an outcome in the monoid is one of the objective
+outcome_by : {V : Type 0} (M : Monoid V) (difference : V → V → V) (word_of : V → Word) (enter : Cost → V) (objective : Objective) (X : Problem) (count : ℕ) → TreesProve M difference word_of enter objective X count
+    → (outcome : RankOutcome) → IsOutcomeIn M difference word_of enter objective X count outcome → IsRankOutcome objective X count outcome
+outcome_by M difference word_of enter objective X count prove (Listed answers nodes) ranked = record {
+  listed = ranked.listed;
+  valid = ranked.valid;
+  proved = prove answers nodes ranked.listed.some ranked.valid ranked.tree;
+  phases = ranked.phases;
+  last_open = ranked.last_open;
+  countable = ranked.countable;
+}
+outcome_by M difference word_of enter objective X count prove (Nothing rows) hall = hall
+
+sums_prove : (objective : Objective) (X : Problem) (count : ℕ) (answers : List (List (Option ℕ))) (nodes : List Node) → is_sum_objective objective ≡ true → IsSumTree objective X count answers nodes → ProvesRanking objective X count answers nodes
 sums_prove Sum X count answers nodes is tree = tree
 sums_prove SumMax X count answers nodes is tree = tree
 sums_prove SumPair X count answers nodes is tree = tree
 sums_prove (Capped cap) X count answers nodes is tree = tree
-sums_prove Bottleneck X count answers nodes is tree = cc
-sums_prove BottleneckMax X count answers nodes is tree = cc
-sums_prove TimeCost X count answers nodes is tree = cc
-sums_prove Balanced X count answers nodes is tree = cc
-sums_prove Lex X count answers nodes is tree = cc
+sums_prove _ X count answers nodes is tree = absurd (cc)
 
-peaks_prove : (objective : Objective) (X : Problem) (count : ℕ) (answers : List (List (Option ℕ))) (nodes : List Node) → IsTrue (is_bottleneck objective) → IsPeakTree objective X count answers nodes → ProvesRanking objective X count answers nodes
+peaks_prove : (objective : Objective) (X : Problem) (count : ℕ) (answers : List (List (Option ℕ))) (nodes : List Node) → is_bottleneck objective ≡ true → IsPeakTree objective X count answers nodes → ProvesRanking objective X count answers nodes
 peaks_prove Bottleneck X count answers nodes is tree = tree
 peaks_prove BottleneckMax X count answers nodes is tree = tree
-peaks_prove Sum X count answers nodes is tree = cc
-peaks_prove SumMax X count answers nodes is tree = cc
-peaks_prove SumPair X count answers nodes is tree = cc
-peaks_prove (Capped cap) X count answers nodes is tree = cc
-peaks_prove TimeCost X count answers nodes is tree = cc
-peaks_prove Balanced X count answers nodes is tree = cc
-peaks_prove Lex X count answers nodes is tree = cc
+peaks_prove _ X count answers nodes is tree = absurd (cc)
 
-pub sum_outcome : (objective : Objective) (X : Problem) (count : ℕ) (outcome : RankOutcome) → IsTrue (is_sum_objective objective) → IsOutcomeIn (bounded_sums (top_of objective)) bounded_difference plain_word (sum_entered objective) objective X count outcome
+wide_sums_prove : (objective : Objective) (X : Problem) (count : ℕ) (answers : List (List (Option ℕ))) (nodes : List Node) → is_narrow_objective objective ≡ true → IsSearchTree (bounded_sums (2 ^ 120)) bounded_difference plain_word (sum_entered objective) X count answers nodes
+    → ProvesRanking objective X count answers nodes
+wide_sums_prove Sum X count answers nodes is tree = tree
+wide_sums_prove SumMax X count answers nodes is tree = tree
+wide_sums_prove _ X count answers nodes is tree = absurd (cc)
+
+-- a search tree where sums stop at a top is one where they stop at a greater top, if the last
+-- answer has the same product
+abbrev pub TreesByTops : Type 0
+TreesByTops =
+    (low high : ℕ) (word_of : ℕ → Word) (enter : Cost → ℕ) (X : Problem) (count : ℕ) (answers : List (List (Option ℕ))) (nodes : List Node)
+    → low ≤ high
+    → choice_fold (bounded_sums high) enter X (last_answer answers) ≡ choice_fold (bounded_sums low) enter X (last_answer answers)
+    → IsSearchTree (bounded_sums low) bounded_difference word_of enter X count answers nodes
+    → IsSearchTree (bounded_sums high) bounded_difference word_of enter X count answers nodes
+
+-- the kind of sums in 64 bits
+pub narrow_outcome : TreesByTops → (objective : Objective) → IsTrue (is_narrow_objective objective) → (X : Problem) → IsInstance X → PassesNegative objective X → (count : ℕ) (outcome : RankOutcome) → IsOutcomeIn (bounded_sums narrow_top) bounded_difference plain_word (sum_entered objective) objective X count outcome
     → IsRankOutcome objective X count outcome
-sum_outcome objective X count (Listed answers nodes) is ranked = record {
-  listed = ranked.listed;
-  valid = ranked.valid;
-  proved = sums_prove objective X count answers nodes is ranked.tree;
-  phases = ranked.phases;
-  last_open = ranked.last_open;
-  countable = ranked.countable;
-}
-sum_outcome objective X count (Nothing rows) is hall = hall
+narrow_outcome tops objective is X instance passes count =
+    outcome_by (bounded_sums narrow_top) bounded_difference plain_word (sum_entered objective) objective X count
+    (λ answers nodes some valid tree.
+    let last = valid (length answers - 1) [] (omega (arith, some)) in
+    wide_sums_prove objective X count answers nodes is
+    (tops narrow_top (2 ^ 120) plain_word (sum_entered objective) X count answers nodes (omega arith)
+    (narrow_product objective X (last_answer answers) is instance.well_formed.few_rows (lies_within cost_reach X (omega arith) instance) passes last)
+    tree))
 
-pub peak_outcome : (objective : Objective) (X : Problem) (count : ℕ) (outcome : RankOutcome) → IsTrue (is_bottleneck objective) → IsOutcomeIn maxima maxima_difference plain_word (peak_entered objective) objective X count outcome
+-- the kind of sums in 128 bits
+pub sum_outcome : (objective : Objective) → IsTrue (is_sum_objective objective) → (top : ℕ) → top ≡ top_of objective → (X : Problem) (count : ℕ) (outcome : RankOutcome) → IsOutcomeIn (bounded_sums top) bounded_difference plain_word (sum_entered objective) objective X count outcome
     → IsRankOutcome objective X count outcome
-peak_outcome objective X count (Listed answers nodes) is ranked = record {
-  listed = ranked.listed;
-  valid = ranked.valid;
-  proved = peaks_prove objective X count answers nodes is ranked.tree;
-  phases = ranked.phases;
-  last_open = ranked.last_open;
-  countable = ranked.countable;
-}
-peak_outcome objective X count (Nothing rows) is hall = hall
+sum_outcome objective is top stops X count =
+    outcome_by (bounded_sums top) bounded_difference plain_word (sum_entered objective) objective X count
+    (λ answers nodes some valid tree.
+    sums_prove objective X count answers nodes is
+    (subst (λ n. IsSearchTree (bounded_sums n) bounded_difference plain_word (sum_entered objective) X count answers nodes) stops tree))
 
-pub time_outcome : (X : Problem) (count : ℕ) (outcome : RankOutcome) → IsOutcomeIn (graded (bounded_sums (2 ^ 120))) (graded_difference (bounded_sums (2 ^ 120)) bounded_difference) graded_word time_entered TimeCost X count outcome
+-- the kind of maxima
+pub peak_outcome : (objective : Objective) → IsTrue (is_bottleneck objective) → (X : Problem) (count : ℕ) (outcome : RankOutcome) → IsOutcomeIn maxima maxima_difference plain_word (peak_entered objective) objective X count outcome
+    → IsRankOutcome objective X count outcome
+peak_outcome objective is X count =
+    outcome_by maxima maxima_difference plain_word (peak_entered objective) objective X count
+    (λ answers nodes some valid tree. peaks_prove objective X count answers nodes is tree)
+
+-- the kind of sums with a grade before them
+pub time_outcome : (top : ℕ) → top ≡ 2 ^ 120 → (X : Problem) (count : ℕ) (outcome : RankOutcome) → IsOutcomeIn (graded (bounded_sums top)) (graded_difference (bounded_sums top) bounded_difference) graded_word time_entered TimeCost X count outcome
     → IsRankOutcome TimeCost X count outcome
-time_outcome X count (Listed answers nodes) ranked = record {
-  listed = ranked.listed;
-  valid = ranked.valid;
-  proved = ranked.tree;
-  phases = ranked.phases;
-  last_open = ranked.last_open;
-  countable = ranked.countable;
-}
-time_outcome X count (Nothing rows) hall = hall
+time_outcome top stops X count =
+    outcome_by (graded (bounded_sums top)) (graded_difference (bounded_sums top) bounded_difference) graded_word time_entered TimeCost X count
+    (λ answers nodes some valid tree.
+    subst (λ n. IsSearchTree (graded (bounded_sums n)) (graded_difference (bounded_sums n) bounded_difference) graded_word time_entered X count answers nodes) stops tree)

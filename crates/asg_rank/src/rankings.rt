@@ -1,14 +1,12 @@
 //! The ranking of an instance by an objective.
 
 ghost use Rattle.std.specs.Prelude.{◌≡◌, ◌≤◌, [], All, IsTrue, IfOk, IfErr, length};
-ghost use Rattle.asg_model.specs.declared.objectives.Objective.TheVariants.{TimeCost};
 ghost use Rattle.asg_model.specs.declared.parts.Place.TheVariants.{All as PlaceAll};
 ghost use Rattle.asg_model.specs.Limits.{most_cost, most_side};
-ghost use Rattle.asg_model.specs.Objectives.{is_algebraic, is_bottleneck};
+ghost use Rattle.asg_model.specs.Objectives.{is_algebraic};
 ghost use Rattle.asg_model.specs.Refused.{PassesNegative};
 ghost use Rattle.asg_model.specs.Shapes.{square_side};
 ghost use Rattle.asg_model.specs.ValidChoice.{IsValid};
-ghost use Rattle.asg_monoids.specs.Entered.{is_sum_objective};
 ghost use Rattle.asg_rank.specs.Rankings.{IsExhausted, IsRefusal, ranking_work};
 ghost use Rattle.asg_rank.specs.RankOutcomes.{IsOutcomeIn, IsRankOutcome};
 ghost use Rattle.asg_rank.specs.Rooms.{most_work};
@@ -19,7 +17,9 @@ use crate::guesses::RootGuess;
 use crate::ranker::{Next, RankRefusal, Ranker};
 use asg_model::{Choice, Instance, Objective};
 use asg_monoids::{PeakKind, SumKind, TimeKind};
+use asg_narrow_kinds::NarrowKind;
 use asg_order::Kind;
+use asg_proof::ranking_laws::tree_tops_law;
 use asg_proof::{Ids, Nodes};
 use std::alloc::Global;
 
@@ -165,70 +165,13 @@ where
     Ok(outcome_of(alloc, &mut ranker)?)
 }
 
-// The ranking by an objective of sums.
-fn rank_sums(
-    alloc: Global,
-    objective: Objective,
-    inst: &Instance,
-    count: u32,
-) -> Result<RankOutcome, RankRefusal>
-    requires sums { IsTrue (is_sum_objective objective) }
-    requires place { inst.now.place ≡ PlaceAll }
-    requires side { square_side inst.now ≤ most_side }
-    requires passes { PassesNegative objective inst.now }
-    requires some { 1 ≤ count }
-    ensures outcome { IfOk result (IsRankOutcome objective inst.now count) }
-    ensures within { IfOk result (λ _. ranking_work inst.now count ≤ most_work) }
-    ensures refusal { IfErr result (IsRefusal inst.now count) }
-{
-    let kind = SumKind::of(objective);
-    let outcome = ranking_by(alloc, kind, inst, count)?;
-    Ok(outcome)
-}
-
-// The ranking by a bottleneck objective.
-fn rank_peaks(
-    alloc: Global,
-    objective: Objective,
-    inst: &Instance,
-    count: u32,
-) -> Result<RankOutcome, RankRefusal>
-    requires peaks { IsTrue (is_bottleneck objective) }
-    requires place { inst.now.place ≡ PlaceAll }
-    requires side { square_side inst.now ≤ most_side }
-    requires passes { PassesNegative objective inst.now }
-    requires some { 1 ≤ count }
-    ensures outcome { IfOk result (IsRankOutcome objective inst.now count) }
-    ensures within { IfOk result (λ _. ranking_work inst.now count ≤ most_work) }
-    ensures refusal { IfErr result (IsRefusal inst.now count) }
-{
-    let kind = PeakKind::of(objective);
-    let outcome = ranking_by(alloc, kind, inst, count)?;
-    Ok(outcome)
-}
-
-// The ranking by `time-cost`.
-fn rank_times(alloc: Global, inst: &Instance, count: u32) -> Result<RankOutcome, RankRefusal>
-    requires place { inst.now.place ≡ PlaceAll }
-    requires side { square_side inst.now ≤ most_side }
-    requires passes { PassesNegative TimeCost inst.now }
-    requires some { 1 ≤ count }
-    ensures outcome { IfOk result (IsRankOutcome TimeCost inst.now count) }
-    ensures within { IfOk result (λ _. ranking_work inst.now count ≤ most_work) }
-    ensures refusal { IfErr result (IsRefusal inst.now count) }
-{
-    let kind = TimeKind::new();
-    let outcome = ranking_by(alloc, kind, inst, count)?;
-    Ok(outcome)
-}
-
 /// The first `count` choices of an instance for an algebraic objective, from the best on, or all
 /// valid ones where they are fewer, with the tree that proves the ranking: each of its nodes but
 /// the root has at most one phase beyond those of its parent. Where no choice is valid, a Hall set
 /// of the whole instance. The objective is any but `Balanced` and `Lex`, it refuses no live cost of
 /// the instance (`asg_model::negative`), all rows are placed, the side is at most 2,000, and at
-/// least one choice is asked for. The errors: the count times the rows times the side is above
-/// 4,000,000, or want of memory.
+/// least one choice is asked for. The sums of `sum` and `sum-max` are taken in 64 bits. The errors:
+/// the count times the rows times the side is above 4,000,000, or want of memory.
 pub fn ranking(
     alloc: Global,
     objective: Objective,
@@ -244,14 +187,19 @@ pub fn ranking(
     ensures within { IfOk result (λ _. ranking_work inst.now count ≤ most_work) }
     ensures refusal { IfErr result (IsRefusal inst.now count) }
 {
+    tree_tops_law();
+    let _rows = inst.rows();
     match objective {
-        Objective::Sum | Objective::SumMax | Objective::SumPair | Objective::Capped(_) => {
-            rank_sums(alloc, objective, inst, count)
+        Objective::Sum | Objective::SumMax => {
+            ranking_by(alloc, NarrowKind::of(objective), inst, count)
+        }
+        Objective::SumPair | Objective::Capped(_) => {
+            ranking_by(alloc, SumKind::of(objective), inst, count)
         }
         Objective::Bottleneck | Objective::BottleneckMax => {
-            rank_peaks(alloc, objective, inst, count)
+            ranking_by(alloc, PeakKind::of(objective), inst, count)
         }
-        Objective::TimeCost => rank_times(alloc, inst, count),
+        Objective::TimeCost => ranking_by(alloc, TimeKind::new(), inst, count),
         Objective::Balanced | Objective::Lex => unreachable!(),
     }
 }

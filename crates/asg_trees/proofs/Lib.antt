@@ -7,6 +7,7 @@ pub mod CopyLemmas
 pub mod KeptRows
 pub mod MaskLemmas
 pub mod HallLemmas
+pub mod MetColumns
 pub mod OwnPhases
 pub mod MarkLemmas
 pub mod OpenLemmas

@@ -1,18 +1,18 @@
 //! Hall sets, told on the kept cells of a square.
 
-ghost use Rattle.std.specs.Prelude.{◌≡◌, ◌≢◌, ◌↔◌, ◌<◌, ℕ, None, IsTrue, IfOk, IfSome, All, AllPairs, length, slice_index};
+ghost use Rattle.std.specs.Prelude.{◌≡◌, ◌≢◌, ◌↔◌, ◌<◌, ◌+◌, ◌*◌, ◌/◌, ◌%◌, ℕ, None, IsTrue, IfOk, IfSome, All, AllPairs, length, slice_index};
 ghost use Rattle.std.specs.List.{list_any};
 ghost use Rattle.asg_model.specs.declared.parts.Place.TheVariants.{All as PlaceAll};
 ghost use Rattle.asg_model.specs.HallSet.{is_counted_id};
 ghost use Rattle.asg_model.specs.Shapes.{square_side};
-ghost use Rattle.asg_model.specs.Sums.{count_below};
+ghost use Rattle.asg_model.specs.Sums.{count_below, one};
+ghost use Rattle.asg_square.specs.BitTable.{is_bit_set, word_count};
 ghost use Rattle.asg_square.specs.HallColumns.{OutnumberColumns};
 ghost use Rattle.asg_trees.specs.Kept.{HasSize};
-ghost use Rattle.asg_trees.specs.Halls.{AreRowsOf, counted_place};
+ghost use Rattle.asg_trees.specs.Halls.{AreMetIn, AreRowsOf, counted_place};
 ghost use Rattle.asg_trees.specs.Marks.{kept_cells};
 
 use crate::NoMemory;
-use crate::chosen_cells::is_kept;
 use asg_model::Instance;
 use asg_square::{BitRows, Square};
 use std::alloc::Global;
@@ -68,22 +68,63 @@ fn rows_of(alloc: Global, inst: &Instance, ids: &[u32]) -> Result<Option<Vec<u32
     Ok(Some(rows))
 }
 
-// Whether some of the rows has a kept cell in a column.
-fn is_met<V: Copy>(square: &Square<V>, kept: &BitRows, rows: &[u32], column: u32) -> bool
+// Of the 64 columns of a word, those in which a row has a kept cell.
+#[inline]
+fn kept_columns<V: Copy>(square: &Square<V>, kept: &BitRows, row: u32, number: u32) -> u64
+    requires size { HasSize square.now.side kept.now }
+    requires row { row < square.now.side }
+    requires number { number < word_count square.now.side }
+    ensures { (k : ℕ) → k < 64
+        → is_bit_set result k ≡ kept_cells square.now kept.now row (64 * number + k) }
+{
+    let _grid = square.side();
+    let present = square.row_words(row);
+    let bits = kept.row(row);
+    present[number as usize] & bits[number as usize]
+}
+
+// Of the 64 columns of a word, those in which some of the rows has a kept cell.
+fn met_in_word<V: Copy>(square: &Square<V>, kept: &BitRows, rows: &[u32], number: u32) -> u64
+    requires size { HasSize square.now.side kept.now }
+    requires rows { All (λ row. row < square.now.side) rows.now }
+    requires number { number < word_count square.now.side }
+    ensures { AreMetIn (kept_cells square.now kept.now) rows.now number result }
+{
+    let mut met = 0;
+    for place in 0..rows.len() {
+        met |= kept_columns(square, kept, rows[place], number);
+    }
+    met
+}
+
+// The same word of the columns among which a column is, where the word of those among which the
+// column before it is is known.
+fn met_near<V: Copy>(square: &Square<V>, kept: &BitRows, rows: &[u32], column: u32, met: u64) -> u64
     requires size { HasSize square.now.side kept.now }
     requires rows { All (λ row. row < square.now.side) rows.now }
     requires column { column < square.now.side }
-    ensures { result ≡ list_any (λ row. kept_cells square.now kept.now row column) rows.now }
+    requires met { column % 64 ≢ 0
+        → AreMetIn (kept_cells square.now kept.now) rows.now (column / 64) met }
+    ensures { AreMetIn (kept_cells square.now kept.now) rows.now (column / 64) result }
 {
-    for place in 0..rows.len() {
-        if is_kept(square, kept, rows[place], column) {
-            return true;
-        }
+    if column % 64 == 0 {
+        met_in_word(square, kept, rows, column / 64)
+    } else {
+        met
     }
-    false
 }
 
-// In how many columns some of the rows has a kept cell.
+// 1 where a bit of a word is set, else 0.
+#[inline]
+fn one_of(word: u64, bit: u32) -> usize
+    requires { bit < 64 }
+    ensures { result ≡ one (is_bit_set word bit) }
+{
+    if word >> bit & 1 == 1 { 1 } else { 0 }
+}
+
+// In how many columns some of the rows has a kept cell. The time is that of the rows times the
+// words of a row, and of the columns.
 fn met_columns<V: Copy>(square: &Square<V>, kept: &BitRows, rows: &[u32]) -> usize
     requires size { HasSize square.now.side kept.now }
     requires rows { All (λ row. row < square.now.side) rows.now }
@@ -91,17 +132,17 @@ fn met_columns<V: Copy>(square: &Square<V>, kept: &BitRows, rows: &[u32]) -> usi
         rows.now) square.now.side }
 {
     let mut count = 0;
+    let mut met = 0;
     for column in 0..square.side() {
-        if is_met(square, kept, rows, column) {
-            count += 1;
-        }
+        met = met_near(square, kept, rows, column, met);
+        count += one_of(met, column % 64);
     }
     count
 }
 
 /// Whether rows, by id, differ, are active, and are more than the columns of the square in which
-/// some of them has a kept cell. The time is that of the rows times the columns. The error is want
-/// of memory.
+/// some of them has a kept cell. The time is that of the rows times the words of a row, and of the
+/// columns, besides that of finding the rows. The error is want of memory.
 pub(crate) fn outnumber<V: Copy>(
     alloc: Global,
     inst: &Instance,

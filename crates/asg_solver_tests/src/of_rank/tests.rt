@@ -162,6 +162,34 @@ fn ranks_in_order(rt: HostRuntime) -> Result<(), Fail> {
     Ok(())
 }
 
+// Whether the first of the nodes, the root, has at most so many phases.
+fn has_few(nodes: &[Node], most: usize) -> bool {
+    match nodes.get(0) {
+        Some(root) => root.own.len() <= most,
+        None => false,
+    }
+}
+
+// Whether the root of a ranking by an objective has at most so many phases.
+fn has_few_at_root(alloc: Global, inst: &Instance, objective: Objective, most: usize) -> bool {
+    match ranking_of(alloc, objective, inst, 1) {
+        Some(Ok(RankOutcome::Listed { answers, nodes })) => {
+            answers.len() == 1 && has_few(nodes.as_slice(), most)
+        }
+        _ => false,
+    }
+}
+
+// For sums, as many as the side has binary digits; for a bottleneck, one to it.
+#[test]
+fn few_phases_at_the_root(rt: HostRuntime) -> Result<(), Fail> {
+    let inst = PLAIN.instance(rt.alloc())?;
+    assert!(rt; has_few_at_root(rt.alloc(), &inst, Objective::Sum, 2));
+    assert!(rt; has_few_at_root(rt.alloc(), &inst, Objective::Capped(8), 2));
+    assert!(rt; has_few_at_root(rt.alloc(), &inst, Objective::Bottleneck, 1));
+    Ok(())
+}
+
 // Whether the outcome for an objective is a Hall set of two rows.
 fn gives_hall_set(alloc: Global, inst: &Instance, objective: Objective) -> bool {
     match ranking_of(alloc, objective, inst, 3) {

@@ -16,9 +16,8 @@ use asg_replays::{first_bad, read_steps};
 use asg_square::{BitRows, Square};
 use std::alloc::Global;
 
-// Whether the steps of a phase times the rows that enter are at most so few times the side that to
-// test the phase cell by cell, in each row that enters step by step, takes no longer than to copy
-// the square.
+// Whether the steps of a phase times the rows that enter are at most four times the side, so that it
+// is tested cell by cell in a time that is in proportion to the cells, as that of a copy is.
 fn is_short(phase: &WrittenPhase, side: u32) -> bool {
     let steps = phase.steps().len();
     let entering = phase

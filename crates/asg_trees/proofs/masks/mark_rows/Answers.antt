@@ -1,6 +1,24 @@
-use Rattle.std.proofs.Common.{arith}
-use Rattle.asg_trees.proofs.MaskLemmas.{rows_done}
+use Rattle.std.proofs.Common.{arith, refl}
+use Rattle.asg_trees.proofs.MaskLemmas.{rows_done, rows_more, rows_none}
 use Rattle.asg_trees.proofs.masks.mark_rows.Goals as goal
+
+pub loop-row-init : goal.loop-row-init
+loop-row-init g c =
+    let Q = c.args.square.now in
+    record {
+      number = refl;
+      marks = rows_none c.args.inst.now c.args.choice.now Q.column_labels Q.side c.args.branch c.args.from c.args.to c.args.kept.now c.requires.size;
+    }
+
+pub loop-row-preserved : goal.loop-row-preserved
+loop-row-preserved g c =
+    let Q = c.args.square.now in
+    let l = c.loop-row in
+    let marked = c.mark_active-number in
+    record {
+      number = marked.ensures.number;
+      marks = rows_more c.args.inst.now c.args.choice.now Q.column_labels Q.side c.args.branch c.args.from c.args.to l.row c.args.kept.now l.kept marked.new.kept l.invariant.marks marked.ensures.marks;
+    }
 
 pub returns-then-to-number : goal.returns-then-to-number
 returns-then-to-number g c =

@@ -47,7 +47,7 @@ module _ {V : Type 0} (R : Rules V) (X : Problem) (count made : ℕ) (S : Search
         pub times : (slots.room - S.given) * placed X ≡ (S.slots.room - S.given) * placed X
         times = ap (λ n. (n - S.given) * placed X) room
 
-        standing_more : IsStanding R tree growing.search.part desk.node desk.work
+        pub standing_more : IsStanding R tree growing.search.part desk.node desk.work
         standing_more =
             subst (λ n. IsStanding R tree growing.search.part n desk.work) (sym stands_is)
             (subst (λ w. IsStanding R tree growing.search.part S.desk.node w) (sym work_is)

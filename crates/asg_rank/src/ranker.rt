@@ -130,9 +130,11 @@ where
         })
     }
 
-    /// The next answer: a best choice of those that weren't given yet. It takes no memory. The time
-    /// is that of one tree on the square for each row that is placed, of making the square again for
-    /// each node on the way from the root, and of finding each child its place among those kept.
+    /// The next answer: a best choice of those that weren't given yet. It takes no memory. Where a
+    /// child of its node may be among the answers that are left, the time is that of one tree on
+    /// the square for each row that is placed, of making the square for each node on the way from
+    /// the one that it was made for last, if that lies on it, and else from the root, and of
+    /// finding each child its place among those kept.
     pub fn next(&mut self) -> Next
         ensures gives { Gives (K.objective self.old.kind) self.old.problem self.old.count
             self.old.given self.new.given result }

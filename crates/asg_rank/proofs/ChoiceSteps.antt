@@ -4,15 +4,12 @@ use Rattle.std.proofs.lemmas.List.{length-map, get_or-map}
 use Rattle.std.specs.Prelude.{IsSome, slice_index, unwrap_or}
 use Rattle.asg_model.specs.declared.parts.Cost.{Cost}
 use Rattle.asg_model.specs.Instances.{IsInstance}
-use Rattle.asg_model.specs.Live.{live_at}
-use Rattle.asg_model.specs.Problem.{Problem, problem_of}
+use Rattle.asg_model.specs.Problem.{Problem}
 use Rattle.asg_model.specs.Shapes.{square_side}
 use Rattle.asg_model.specs.ValidChoice.{IsValid}
-use Rattle.asg_model.specs.Values.{costs_of}
 use Rattle.asg_match.specs.Matching.{Matches, IsMatched, IsPerfect, column_at}
 use Rattle.asg_match.specs.laws.Matchings.{AllPairs-listed, Some-from_test}
-use Rattle.asg_order.specs.Bridge.{costs_fold, choice_fold}
-use Rattle.asg_order.specs.Monoid.{Monoid, IsValue, IsOrderedMonoid, fold_of}
+use Rattle.asg_order.specs.Monoid.{IsOrderedMonoid}
 use Rattle.asg_algebra.specs.Growing.{IsAbsorbed}
 use Rattle.asg_pool.specs.Forest.{Forest, phases_to}
 use Rattle.asg_proof.specs.PhaseProofs.{EntersValues}
@@ -20,9 +17,7 @@ use Rattle.asg_proof.specs.Phases.{PhaseOf, AreAdmittedPhases, after_phases, ind
 use Rattle.asg_proof.specs.Steps.{HasSide, HasValues, assignment_fold}
 use Rattle.asg_proof.specs.laws.PhaseLists.{is_some-phases}
 use Rattle.asg_proof.specs.laws.Squares.{HasSide-square_cell, HasValues-square_cell}
-use Rattle.asg_square.specs.Cells.{IsAssignment, IsPresent, IsSquareChoice, choice_of, square_cell, assignment_values}
-use Rattle.asg_square.specs.Grid.{Grid, cell_at, grid_choice}
-use Rattle.asg_rank.specs.Chosen.{IsChosenBy}
+use Rattle.asg_square.specs.Cells.{IsAssignment, IsPresent, IsSquareChoice, choice_of, square_cell}
 use Rattle.asg_rank.specs.Rules.{Rules, Leads, IsSolved, reduced_cell}
 
 some_present : {V : Type 0} (o : Option V) (x : V) → o ≡ Some x → IsSome o

@@ -1,18 +1,18 @@
 -- There are at most as many different valid choices as ways to give each active row any column: each choice is a number
 -- with a digit for each row that chooses.
-use Rattle.std.proofs.Common.{◌≡◌, ◌≢◌, ℕ, zero, suc, ◌+◌, ◌*◌, ◌^◌, ◌<◌, ◌≤◌, Bool, true, false, cond, ◌&&◌, List, [], ◌∷◌, length, get_or, map, Option, Some, None, refl, sym, ◌∙◌, ap, subst, arith, ⊎_elim}
+use Rattle.std.proofs.Common.{◌≡◌, ◌≢◌, ℕ, suc, ◌+◌, ◌*◌, ◌^◌, ◌<◌, ◌≤◌, Bool, true, false, cond, ◌&&◌, List, [], ◌∷◌, length, get_or, map, Option, Some, None, refl, sym, ◌∙◌, ap, subst, arith, ⊎_elim}
 use Rattle.std.specs.Prelude.{All, AllPairs, Contains, IsSome, is_some, count_by}
 use Rattle.std.specs.Option.{option_map_or}
 use Rattle.std.specs.List.{range_with_len}
 use Rattle.std.proofs.Math.Nat.{mul-le-mul_left, pow-suc, pow-zero}
-use Rattle.std.proofs.lemmas.Bool.{cases_lt, cases_Bool, false≢true, and_parts}
+use Rattle.std.proofs.lemmas.Bool.{cases_lt, cases_Bool, false≢true}
 use Rattle.std.proofs.lemmas.List.{length-map, get_or-map}
 use Rattle.std.proofs.lemmas.List.FromFn.{length-range_with_len}
 use Rattle.std.proofs.lemmas.List.Sums.{sum_by-cons}
 use Rattle.std.proofs.lemmas.Option.{slice_get_past}
 use Rattle.asg_model.specs.declared.parts.Place.TheVariants.{All as PlaceAll}
 use Rattle.asg_model.specs.Counts.{placed}
-use Rattle.asg_model.specs.Live.{live_at, is_active, is_open}
+use Rattle.asg_model.specs.Live.{is_active, is_open}
 use Rattle.asg_model.specs.Problem.{Problem}
 use Rattle.asg_model.specs.Sums.{one}
 use Rattle.asg_model.specs.ValidChoice.{IsValid}

@@ -1,13 +1,10 @@
 -- The answer of the kept node that has the least index.
-use Rattle.std.proofs.Common.{◌≡◌, ◌↔◌, ℕ, ◌+◌, ◌-◌, ◌*◌, ◌<◌, ◌≤◌, List, [], ◌∷◌, ◌++◌, length, get_or, set, take, map, Option, Some, None, refl, sym, ◌∙◌, ap, subst, arith, ⊎_elim, is_some, true}
-use Rattle.std.specs.Prelude.{IfSome, IsSome, IsTrue, All, slice_index, slice_index_or, option_and_then, vec_len, vec_capacity}
-use Rattle.std.specs.List.{range_with_len}
-use Rattle.std.proofs.lemmas.List.{length-take-le, length-append, take_more, take-set, get_or-set_same, length-set}
+use Rattle.std.proofs.Common.{◌≡◌, ◌↔◌, ℕ, ◌<◌, List, length, Option, Some, None, sym, ◌∙◌, ap, subst, arith, is_some, true}
+use Rattle.std.specs.Prelude.{IfSome, slice_index, slice_index_or, option_and_then}
 use Rattle.std.proofs.lemmas.List.FromFn.{get_or-map-range_with_len}
 use Rattle.asg_model.specs.declared.bands.Band.TheVariants.{Whole}
 use Rattle.asg_model.specs.declared.parts.Cost.{Cost}
 use Rattle.asg_model.specs.declared.parts.Place.TheVariants.{All as PlaceAll}
-use Rattle.asg_model.specs.Counts.{placed}
 use Rattle.asg_model.specs.Instances.{IsInstance}
 use Rattle.asg_model.specs.Live.{is_active, live_at}
 use Rattle.asg_model.specs.Problem.{Problem, problem_of}
@@ -18,22 +15,22 @@ use Rattle.asg_model.specs.laws.Rows.{row-from_active}
 use Rattle.asg_match.specs.Matching.{Matches}
 use Rattle.asg_match.specs.laws.Matchings.{Matches-same, Matches-below}
 use Rattle.asg_order.specs.Bridge.{costs_fold, choice_fold}
-use Rattle.asg_order.specs.Monoid.{Monoid, IsValue, IsLe, IsOrderedMonoid, fold_of}
+use Rattle.asg_order.specs.Monoid.{Monoid, IsValue, IsOrderedMonoid, fold_of}
 use Rattle.asg_admit.specs.declared.reduced.Reduced.{Reduced}
 use Rattle.asg_pool.specs.Forest.{Forest, phases_to}
 use Rattle.asg_proof.specs.PhaseProofs.{EntersValues}
 use Rattle.asg_proof.specs.Steps.{assignment_fold}
 use Rattle.asg_proof.specs.laws.PhaseLists.{is_some-phases}
 use Rattle.asg_square.specs.Cells.{IsAssignment, IsSquareChoice, choice_of, square_cell, assignment_values}
-use Rattle.asg_square.specs.Grid.{Grid, cell_at, HasLabelsOf, IsWithinSquareOf, IsPerm, grid_chosen, grid_choice}
+use Rattle.asg_square.specs.Grid.{Grid, cell_at, HasLabelsOf, IsWithinSquareOf, grid_chosen, grid_choice}
 use Rattle.asg_square.specs.Labels.{row_label, column_label}
 use Rattle.asg_square.specs.Presence.{has_cell}
 use Rattle.asg_rank.specs.declared.slots.Slot.{Slot}
 use Rattle.asg_rank.specs.Chosen.{IsChosenBy}
-use Rattle.asg_rank.specs.Rules.{Rules, Leads, IsSolved, IsReducedTo, reduced_cell}
+use Rattle.asg_rank.specs.Rules.{Rules, Leads, IsSolved, IsReducedTo}
 use Rattle.asg_rank.specs.Searches.{IsAnswer}
 use Rattle.asg_rank.proofs.BitSteps.{label_is, active_labelled}
-use Rattle.asg_rank.proofs.ChoiceSteps.{assigned, fold_is}
+use Rattle.asg_rank.proofs.ChoiceSteps.{assigned}
 use Rattle.asg_rank.proofs.Shapes.{same_side}
 
 -- the square of the instance after phases has cells only where that of the instance has some

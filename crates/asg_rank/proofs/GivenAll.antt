@@ -1,9 +1,8 @@
 -- A ranker that gives one answer after another until nothing is left to give.
-use Rattle.std.proofs.Common.{◌≡◌, ℕ, ◌+◌, ◌-◌, ◌<◌, ◌≤◌, List, [], ◌∷◌, ◌++◌, length, length-append, get_or, All, Option, refl, sym, ap, ◌∙◌, subst, arith}
+use Rattle.std.proofs.Common.{◌≡◌, ℕ, ◌-◌, ◌≤◌, List, [], ◌∷◌, ◌++◌, length, length-append, get_or, All, Option, refl, sym, ap, ◌∙◌, subst, arith}
 use Rattle.std.proofs.Math.Seq.{get_or-append_seam}
 use Rattle.std.proofs.lemmas.List.Elements.{All-nil, All-push}
 use Rattle.asg_model.specs.declared.objectives.Objective.{Objective}
-use Rattle.asg_model.specs.Problem.{Problem}
 use Rattle.asg_model.specs.ValidChoice.{IsValid}
 use Rattle.asg_proof.specs.Nodes.{answer_at}
 use Rattle.asg_rank.specs.declared.ranker.Next.TheVariants.{Answer, Done}

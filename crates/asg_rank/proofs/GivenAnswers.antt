@@ -1,6 +1,6 @@
 -- The kept node of the least index: where its matching stands, and the choice that it gives.
-use Rattle.std.proofs.Common.{◌≡◌, ◌↔◌, ℕ, zero, suc, ◌+◌, ◌*◌, ◌^◌, ◌<◌, ◌≤◌, Bool, true, false, cond, List, [], length, set, map, min, Option, Some, None, refl, sym, ◌∙◌, ap, subst, arith, is_some}
-use Rattle.std.specs.Prelude.{All, IfSome, IsSome, slice_index, slice_get, vec_len, option_and_then}
+use Rattle.std.proofs.Common.{◌≡◌, ◌↔◌, ℕ, zero, suc, ◌+◌, ◌*◌, ◌^◌, ◌<◌, ◌≤◌, Bool, true, false, cond, List, length, set, map, min, Option, Some, None, refl, sym, ◌∙◌, ap, subst, arith, is_some}
+use Rattle.std.specs.Prelude.{All, IfSome, IsSome, slice_index, slice_get, option_and_then}
 use Rattle.std.proofs.Math.Nat.{pow-zero, le-mul_of_pos_right}
 use Rattle.std.proofs.lemmas.List.{length-set}
 use Rattle.std.proofs.lemmas.List.Elements.{All-map, All-set}
@@ -37,7 +37,7 @@ use Rattle.asg_rank.specs.declared.searches.Search.{Search}
 use Rattle.asg_rank.specs.Chosen.{IsChosenBy}
 use Rattle.asg_rank.specs.Entries.{entry_at}
 use Rattle.asg_rank.specs.Expansions.{IsLeastNew}
-use Rattle.asg_rank.specs.Rules.{Rules, IsSolved, Leads, IsReducedTo, reduced_cell}
+use Rattle.asg_rank.specs.Rules.{Rules, IsSolved, Leads, IsReducedTo}
 use Rattle.asg_rank.specs.Searches.{winner_in, given_of, IsAnswer, IsDesk, IsReady, HasMemory}
 use Rattle.asg_rank.specs.Slots.{SlotList, slot_at}
 use Rattle.asg_rank.proofs.ChoiceSteps.{fold_is}

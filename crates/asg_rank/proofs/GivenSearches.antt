@@ -1,7 +1,7 @@
 -- A search after one more answer, whose children are to come.
-use Rattle.std.proofs.Common.{◌≡◌, ℕ, ◌+◌, ◌-◌, ◌*◌, ◌<◌, ◌≤◌, List, [], ◌∷◌, ◌++◌, length, get_or, set, take, Option, refl, sym, ◌∙◌, ap, subst, arith}
-use Rattle.std.specs.Prelude.{All, vec_len, vec_capacity}
-use Rattle.std.proofs.lemmas.List.{length-take-le, length-append, take_more, take-set, get_or-set_same, length-set}
+use Rattle.std.proofs.Common.{◌≡◌, ℕ, ◌+◌, ◌-◌, ◌*◌, ◌<◌, ◌≤◌, List, [], ◌∷◌, ◌++◌, length, set, take, Option, refl, sym, ◌∙◌, ap, subst, arith}
+use Rattle.std.specs.Prelude.{vec_capacity}
+use Rattle.std.proofs.lemmas.List.{length-take-le, take_more, take-set, get_or-set_same, length-set}
 use Rattle.asg_model.specs.Counts.{placed}
 use Rattle.asg_model.specs.Problem.{Problem}
 use Rattle.asg_pool.specs.Forest.{Forest, trail_at}
@@ -9,14 +9,12 @@ use Rattle.asg_rank.specs.HallPools.{HallSets}
 use Rattle.asg_rank.specs.declared.entries.Entry.{Entry}
 use Rattle.asg_rank.specs.declared.entries.State.TheVariants.{Answered}
 use Rattle.asg_rank.specs.declared.searches.Search.{Search}
-use Rattle.asg_rank.specs.declared.trees.Tree.{Tree}
 use Rattle.asg_rank.specs.Entries.{entry_at, with_state}
 use Rattle.asg_rank.specs.Expansions.{IsGrowing, IsLeastNew, IsOneMore}
 use Rattle.asg_rank.specs.Rules.{Rules, IsReducedTo}
 use Rattle.asg_rank.specs.Searches.{winner_in, given_of, IsAnswer, IsSearch, IsBase, IsReady, HasMemory}
 use Rattle.asg_rank.specs.Settled.{IsStanding}
 use Rattle.asg_rank.specs.Slots.{SlotList, slot_at}
-use Rattle.asg_rank.specs.Trees.{HasRoomFor}
 use Rattle.asg_rank.proofs.EntryLists.{entry_kept, count_same}
 use Rattle.asg_rank.proofs.KeptSquares.{standing_kept}
 use Rattle.asg_rank.proofs.SearchSteps.{search_answered}

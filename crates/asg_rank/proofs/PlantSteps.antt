@@ -1,6 +1,6 @@
 -- A search with its root alone.
-use Rattle.std.proofs.Common.{◌≡◌, ◌≢◌, ℕ, ◌+◌, ◌-◌, ◌*◌, ◌<◌, ◌≤◌, ◌⊎◌, inl, inr, List, [], ◌∷◌, ◌++◌, length, get_or, take, Option, Some, None, refl, sym, ◌∙◌, ap, subst, arith, ⊎_elim}
-use Rattle.std.specs.Prelude.{IsTrue, All, Contains, vec_len, vec_capacity}
+use Rattle.std.proofs.Common.{◌≡◌, ℕ, ◌+◌, ◌-◌, ◌*◌, ◌<◌, ◌≤◌, ◌⊎◌, inl, inr, List, [], ◌∷◌, ◌++◌, length, get_or, take, Option, None, refl, sym, ◌∙◌, ap, subst, arith, ⊎_elim}
+use Rattle.std.specs.Prelude.{vec_len, vec_capacity}
 use Rattle.std.proofs.Math.Nat.{mul-le-mul_right}
 use Rattle.std.proofs.Math.Seq.{get_or-append_seam}
 use Rattle.std.proofs.lemmas.List.{length-append}
@@ -11,23 +11,21 @@ use Rattle.asg_model.specs.Problem.{Problem}
 use Rattle.asg_model.specs.Shapes.{square_side}
 use Rattle.asg_model.specs.ValidChoice.{IsValid}
 use Rattle.asg_order.specs.Monoid.{Monoid, IsOrderedMonoid}
-use Rattle.asg_pool.specs.Forest.{Forest, IsLive, trail_at}
+use Rattle.asg_pool.specs.Forest.{Forest, trail_at}
 use Rattle.asg_algebra.specs.declared.solving.Solved.{Solved}
-use Rattle.asg_algebra.specs.declared.solving.Solved.TheVariants.{Perfect, Short}
 use Rattle.asg_rank.specs.declared.desks.Desk.{Desk}
 use Rattle.asg_rank.specs.declared.entries.Entry.{Entry}
-use Rattle.asg_rank.specs.declared.entries.State.{State}
 use Rattle.asg_rank.specs.declared.entries.State.TheVariants.{Open, Empty}
 use Rattle.asg_rank.specs.declared.searches.Search.{Search}
 use Rattle.asg_rank.specs.declared.slots.Slot.{Slot}
 use Rattle.asg_rank.specs.declared.trees.Tree.{Tree}
-use Rattle.asg_rank.specs.Entries.{entry_at, entry_of, is_open_state, is_open_at}
+use Rattle.asg_rank.specs.Entries.{entry_at, entry_of}
 use Rattle.asg_rank.specs.HallPools.{HallSets, hall_at}
-use Rattle.asg_rank.specs.Opening.{IsBlank, IsRootOf, IsPlantable}
+use Rattle.asg_rank.specs.Opening.{IsPlantable}
 use Rattle.asg_rank.specs.Rooms.{answer_room}
-use Rattle.asg_rank.specs.Rules.{Rules, Leads, IsSolved, IsReducedTo, KeepsTrails}
-use Rattle.asg_rank.specs.Searches.{winner_in, given_of, IsBehind, AreSlots, IsSearch, HasMemory, IsDesk, IsReady}
-use Rattle.asg_rank.specs.Slots.{SlotList, slot_of, slot_at, Inserts, Replaces, Refuses, Offers}
+use Rattle.asg_rank.specs.Rules.{Rules, Leads, IsSolved, IsReducedTo}
+use Rattle.asg_rank.specs.Searches.{winner_in, given_of, AreSlots, IsSearch, IsDesk, IsReady}
+use Rattle.asg_rank.specs.Slots.{SlotList, slot_of, Inserts, Replaces, Refuses, Offers}
 use Rattle.asg_rank.specs.Trees.{HasState, IsNode, IsRoot, IsTree, HasRoomFor}
 use Rattle.asg_rank.proofs.OpenNodes.{open_within, open_here}
 use Rattle.asg_rank.proofs.SlotSteps.{slots_stay, slots_offered}

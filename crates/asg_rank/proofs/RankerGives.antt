@@ -1,5 +1,5 @@
 -- What a ranker gives: its next answer, and the Hall set of its root.
-use Rattle.std.proofs.Common.{◌≡◌, ◌≢◌, ◌↔◌, ℕ, ◌+◌, ◌-◌, ◌*◌, ◌^◌, ◌<◌, ◌≤◌, List, [], length, get_or, take, min, Option, refl, sym, ◌∙◌, ap, subst, arith}
+use Rattle.std.proofs.Common.{◌≡◌, ◌≢◌, ◌↔◌, ℕ, ◌-◌, ◌^◌, ◌<◌, ◌≤◌, List, [], length, get_or, take, Option, refl, sym, ◌∙◌, ap, subst, arith}
 use Rattle.std.specs.Prelude.{All, AllPairs}
 use Rattle.std.proofs.lemmas.List.{get_or_default, get_or-take}
 use Rattle.asg_model.specs.declared.bands.Band.TheVariants.{Whole}
@@ -12,7 +12,7 @@ use Rattle.asg_model.specs.Instances.{IsInstance}
 use Rattle.asg_model.specs.Problem.{Problem}
 use Rattle.asg_model.specs.ValidChoice.{IsValid}
 use Rattle.asg_order.specs.Bridge.{Bridges}
-use Rattle.asg_order.specs.Monoid.{Monoid, IsOrderedMonoid}
+use Rattle.asg_order.specs.Monoid.{IsOrderedMonoid}
 use Rattle.asg_proof.specs.Nodes.{answer_at}
 use Rattle.asg_proof.specs.laws.LiveCosts.{lies_within}
 use Rattle.asg_square.specs.Cells.{IsSquareChoice}

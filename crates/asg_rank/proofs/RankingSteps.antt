@@ -1,8 +1,8 @@
 -- What the next answer is, by the objective.
-use Rattle.std.proofs.Common.{◌≡◌, ◌≢◌, ◌↔◌, ℕ, ◌+◌, ◌-◌, ◌*◌, ◌^◌, ◌<◌, ◌≤◌, ◌⊎◌, inl, inr, Bool, true, false, List, [], ◌∷◌, ◌++◌, length, get_or, min, Option, refl, sym, ◌∙◌, ap, subst, arith, ⊎_elim}
+use Rattle.std.proofs.Common.{◌≡◌, ◌≢◌, ◌↔◌, ℕ, ◌+◌, ◌-◌, ◌^◌, ◌<◌, ◌≤◌, inl, inr, List, [], ◌∷◌, ◌++◌, length, get_or, Option, sym, ◌∙◌, ap, subst, arith, ⊎_elim}
 use Rattle.std.specs.Prelude.{All, AllPairs, Contains}
 use Rattle.std.proofs.Math.Seq.{get_or-append_seam}
-use Rattle.std.proofs.lemmas.Bool.{cases_lt, false≢true}
+use Rattle.std.proofs.lemmas.Bool.{false≢true}
 use Rattle.std.proofs.lemmas.List.{length-append, get_or_append_left, get_or_default}
 use Rattle.std.proofs.lemmas.List.Elements.{Contains-get_or}
 use Rattle.asg_model.specs.declared.objectives.Objective.{Objective}
@@ -10,14 +10,14 @@ use Rattle.asg_model.specs.Counts.{placed}
 use Rattle.asg_model.specs.Problem.{Problem}
 use Rattle.asg_model.specs.ValidChoice.{IsValid}
 use Rattle.asg_order.specs.Bridge.{choice_fold}
-use Rattle.asg_order.specs.Monoid.{Monoid, IsLe, IsLess}
+use Rattle.asg_order.specs.Monoid.{IsLe, IsLess}
 use Rattle.asg_proof.specs.Nodes.{answer_at}
 use Rattle.asg_proof.specs.Ranked.{IsBetterChoice, IsNextBest}
 use Rattle.asg_rank.specs.declared.ranker.Next.{Next}
 use Rattle.asg_rank.specs.declared.ranker.Next.TheVariants.{Answer, Done}
-use Rattle.asg_rank.specs.Expansions.{IsLeastNew, IsOneMore, GivesLeast}
-use Rattle.asg_rank.specs.Rankings.{IsExhausted, Gives}
-use Rattle.asg_rank.specs.Rooms.{more_than_valid, answer_room}
+use Rattle.asg_rank.specs.Expansions.{IsLeastNew, GivesLeast}
+use Rattle.asg_rank.specs.Rankings.{Gives}
+use Rattle.asg_rank.specs.Rooms.{answer_room}
 use Rattle.asg_rank.specs.Rules.{Rules}
 
 -- the bridge between better choices and lesser products, of an instance

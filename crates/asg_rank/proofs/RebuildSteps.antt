@@ -1,22 +1,20 @@
 -- A square that loses the cells of a branch, and to which the phase is applied that a trail has beyond another one.
-use Rattle.std.proofs.Common.{◌≡◌, ◌≢◌, ℕ, ◌+◌, ◌<◌, ◌⊎◌, inl, inr, Bool, true, false, cond, List, [], ◌∷◌, ◌++◌, length, Option, Some, None, refl, sym, ◌∙◌, ap, subst, ⊎_elim}
+use Rattle.std.proofs.Common.{◌≡◌, ℕ, ◌<◌, Bool, true, false, cond, List, [], ◌∷◌, ◌++◌, Option, Some, None, refl, sym, ◌∙◌, ap, subst, ⊎_elim}
 use Rattle.std.specs.Prelude.{IfSome, option_and_then, option_map, unwrap_or}
 use Rattle.std.proofs.lemmas.Option.{none-some, same_Some}
 use Rattle.asg_model.specs.Problem.{Problem}
 use Rattle.asg_model.specs.Shapes.{square_side}
-use Rattle.asg_order.specs.Monoid.{Monoid, IsValue, IsOrderedMonoid, fold_of}
+use Rattle.asg_order.specs.Monoid.{IsValue, IsOrderedMonoid, fold_of}
 use Rattle.asg_admit.specs.declared.reduced.Reduced.{Reduced}
-use Rattle.asg_admit.specs.Reduced.{IsReduced, IsPhaseTo, KeepsLabels}
-use Rattle.asg_pool.specs.Forest.{Forest, Branch, trail_at, IsLive, parent_of, phases_of, phases_to, last_phase, IsForest, IsGrown}
+use Rattle.asg_pool.specs.Forest.{Forest, Branch, trail_at, phases_of, phases_to, last_phase, IsForest, IsGrown}
 use Rattle.asg_pool.specs.laws.Trails.{last_phase-push}
 use Rattle.asg_proof.specs.Children.{child}
-use Rattle.asg_proof.specs.Masks.{masked, keeps_cell}
+use Rattle.asg_proof.specs.Masks.{keeps_cell}
 use Rattle.asg_proof.specs.Phases.{PhaseOf, IsAdmittedPhase, AreAdmittedPhases, after_phase, after_phases, index_of}
-use Rattle.asg_proof.specs.Steps.{HasValues}
 use Rattle.asg_proof.specs.laws.MaskedSquares.{after_phases-child}
 use Rattle.asg_proof.specs.laws.PhaseLists.{after_phases-push, AreAdmittedPhases-back, index_of-push}
 use Rattle.asg_square.specs.Cells.{square_cell}
-use Rattle.asg_square.specs.Grid.{Grid, cell_at, HasLabelsOf}
+use Rattle.asg_square.specs.Grid.{cell_at}
 use Rattle.asg_rank.specs.Cuts.{LosesCells}
 use Rattle.asg_rank.specs.Entries.{IsNext}
 use Rattle.asg_rank.specs.Rules.{Rules, Leads, IsReducedTo, reduced_cell, GrewOn}

@@ -19,7 +19,7 @@ use Rattle.asg_square.specs.Grid.{HasLabelsOf, cell_at}
 use Rattle.asg_rank.specs.declared.entries.Entry.{Entry}
 use Rattle.asg_rank.specs.declared.trees.Tree.{Tree}
 use Rattle.asg_rank.specs.Cuts.{LosesCells}
-use Rattle.asg_rank.specs.Entries.{entry_at, child_number}
+use Rattle.asg_rank.specs.Entries.{entry_at}
 use Rattle.asg_rank.specs.Rules.{Rules, Leads, IsReducedTo}
 use Rattle.asg_rank.specs.Settled.{IsOwn, SettlesOwn}
 use Rattle.asg_rank.specs.Trees.{given_at, IsChildOf, IsWinner, IsTree}

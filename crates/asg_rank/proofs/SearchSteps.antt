@@ -1,6 +1,6 @@
 -- A search after one more child, and after one more answer.
-use Rattle.std.proofs.Common.{◌≡◌, ◌≢◌, ℕ, ◌+◌, ◌*◌, ◌<◌, ◌≤◌, ◌⊎◌, inl, inr, List, [], ◌∷◌, ◌++◌, length, get_or, Option, refl, sym, ◌∙◌, ap, subst, arith, ⊎_elim}
-use Rattle.std.specs.Prelude.{AllPairs, Contains}
+use Rattle.std.proofs.Common.{◌≡◌, ◌≢◌, ℕ, ◌+◌, ◌<◌, ◌≤◌, List, [], ◌∷◌, ◌++◌, length, Option, refl, sym, ◌∙◌, ap, subst, arith, ⊎_elim}
+use Rattle.std.specs.Prelude.{Contains}
 use Rattle.std.proofs.Math.Seq.{get_or-append_seam}
 use Rattle.std.proofs.lemmas.List.{get_or_append_left}
 use Rattle.std.proofs.lemmas.Bool.{cases_lt}
@@ -9,9 +9,6 @@ use Rattle.std.proofs.lemmas.List.Quantifiers.{all_pairs_push}
 use Rattle.asg_model.specs.declared.parts.Place.TheVariants.{All as PlaceAll}
 use Rattle.asg_model.specs.Counts.{placed}
 use Rattle.asg_model.specs.Problem.{Problem}
-use Rattle.asg_order.specs.Bridge.{choice_fold}
-use Rattle.asg_order.specs.Monoid.{Monoid, IsValue, IsLe, IsOrderedMonoid}
-use Rattle.asg_pool.specs.Forest.{Forest}
 use Rattle.asg_rank.specs.declared.entries.Entry.{Entry}
 use Rattle.asg_proof.specs.Children.{child}
 use Rattle.asg_rank.specs.declared.entries.State.{State}
@@ -23,7 +20,7 @@ use Rattle.asg_rank.specs.Expansions.{IsLeastNew}
 use Rattle.asg_rank.specs.Rules.{Rules, KeepsTrails}
 use Rattle.asg_rank.specs.Searches.{winner_in, IsAnswer, AreSlots, IsSearch}
 use Rattle.asg_rank.specs.Slots.{SlotList, slot_at}
-use Rattle.asg_rank.specs.Trees.{given_at, AreParts, HasState, IsNode, IsWinner, IsChildOf, IsTree}
+use Rattle.asg_rank.specs.Trees.{given_at, HasState, IsWinner, IsChildOf, IsTree}
 use Rattle.asg_rank.proofs.ChildSteps.{KeepsHalls, IsNextChild, more_children}
 use Rattle.asg_rank.proofs.AnswerSteps.{part_now, tree_now, slots_now, old_part, more}
 

@@ -1,11 +1,11 @@
 -- The slots after one more child was made.
-use Rattle.std.proofs.Common.{◌≡◌, ◌≢◌, ℕ, ◌+◌, ◌-◌, ◌<◌, ◌≤◌, ◌⊎◌, inl, inr, List, [], ◌∷◌, ◌++◌, length, get_or, Option, refl, sym, ◌∙◌, ap, subst, arith, ⊎_elim}
-use Rattle.std.specs.Prelude.{All, IfSome}
+use Rattle.std.proofs.Common.{◌≡◌, ◌≢◌, ℕ, ◌+◌, ◌<◌, ◌≤◌, ◌⊎◌, inl, inr, List, [], ◌∷◌, ◌++◌, length, get_or, Option, refl, sym, ◌∙◌, ap, subst, arith, ⊎_elim}
+use Rattle.std.specs.Prelude.{IfSome}
 use Rattle.std.proofs.lemmas.Bool.{cases_lt}
 use Rattle.std.proofs.lemmas.List.{length-append, get_or_append_left}
 use Rattle.std.proofs.Math.Seq.{get_or-append_seam}
 use Rattle.asg_model.specs.Problem.{Problem}
-use Rattle.asg_order.specs.Monoid.{Monoid, IsValue, IsLe, IsLess, IsOrderedMonoid}
+use Rattle.asg_order.specs.Monoid.{IsValue, IsLe, IsOrderedMonoid}
 use Rattle.asg_order.specs.laws.Orders.{le_from_less, reflexive}
 use Rattle.asg_pool.specs.Forest.{IsLive}
 use Rattle.asg_rank.specs.declared.entries.Entry.{Entry}

@@ -1,6 +1,6 @@
 -- Trails that a region keeps, and one that grew.
-use Rattle.std.proofs.Common.{◌≡◌, ◌≢◌, ℕ, ◌+◌, ◌≤◌, ◌⊎◌, inl, inr, List, [], ◌∷◌, ◌++◌, length, Option, Some, None, refl, sym, ◌∙◌, ap, subst, arith, ⊎_elim, is_some}
-use Rattle.std.specs.Prelude.{IfSome, IsSome, option_and_then, option_map, unwrap_or}
+use Rattle.std.proofs.Common.{◌≡◌, ℕ, ◌+◌, ◌≤◌, inl, inr, List, [], ◌∷◌, ◌++◌, Option, Some, None, refl, sym, ◌∙◌, ap, subst, arith, ⊎_elim, is_some}
+use Rattle.std.specs.Prelude.{IfSome, option_and_then, option_map, unwrap_or}
 use Rattle.std.proofs.lemmas.List.{append-nil}
 use Rattle.asg_model.specs.Problem.{Problem}
 use Rattle.asg_model.specs.Shapes.{square_side}
@@ -8,7 +8,7 @@ use Rattle.asg_match.specs.Matching.{IsPerfect}
 use Rattle.asg_algebra.specs.Growing.{IsAbsorbed}
 use Rattle.asg_algebra.specs.Served.{made_of}
 use Rattle.asg_algebra.specs.Solved.{ArePushed, IsPush}
-use Rattle.asg_pool.specs.Forest.{Forest, Branch, trail_at, IsLive, parent_of, phases_of, phases_to, Changes, grown_on}
+use Rattle.asg_pool.specs.Forest.{Forest, Branch, trail_at, IsLive, parent_of, phases_to}
 use Rattle.asg_pool.specs.laws.Trails.{live_differs, IsLive-pushed, phases_pushed}
 use Rattle.asg_proof.specs.Phases.{PhaseOf, AreAdmittedPhases, after_phases, index_of}
 use Rattle.asg_square.specs.Cells.{square_cell}

@@ -1,5 +1,5 @@
 -- What is written of a node: the choice of a matching, and the Hall set of rows.
-use Rattle.std.specs.Prelude.{◌≡◌, ◌≢◌, ℕ, ◌<◌, List, length, Option, slice_index}
+use Rattle.std.specs.Prelude.{◌≡◌, ℕ, ◌<◌, List, length, Option, slice_index}
 use Rattle.asg_match.specs.Matching.{Matches}
 use Rattle.asg_square.specs.Grid.{Grid, IsPerm, grid_choice, IsValidWithin}
 

@@ -1,9 +1,9 @@
 -- The nodes of a ranker, which count from 1.
-use Rattle.std.specs.Prelude.{◌≡◌, ◌⊎◌, ℕ, ◌+◌, ◌-◌, ◌*◌, ◌≤◌, ◌&&◌, nat_le, Bool, true, false, if◌then◌else◌, Option, Some, None, List, length, slice_index_or, slice_set}
+use Rattle.std.specs.Prelude.{◌≡◌, ◌⊎◌, ℕ, ◌+◌, ◌-◌, ◌*◌, ◌&&◌, nat_le, Bool, true, false, if◌then◌else◌, Option, Some, None, List, length, slice_index_or, slice_set}
 use Rattle.asg_pool.specs.Forest.{Forest}
 use Rattle.asg_rank.specs.declared.entries.Entry.{Entry}
 use Rattle.asg_rank.specs.declared.entries.State.{State}
-use Rattle.asg_rank.specs.declared.entries.State.TheVariants.{Answered, Open, Empty}
+use Rattle.asg_rank.specs.declared.entries.State.TheVariants.{Open}
 use Rattle.asg_rank.specs.Rules.{GrewOn}
 
 -- an open node without a parent or a trail

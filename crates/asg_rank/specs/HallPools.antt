@@ -1,5 +1,5 @@
 -- Lists of ids in one list, for which memory was taken.
-use Rattle.std.specs.Prelude.{◌≡◌, ℕ, ◌+◌, ◌*◌, ◌<◌, ◌≤◌, ◌^◌, List, [], length, map, take, drop, All, slice_index_or}
+use Rattle.std.specs.Prelude.{ℕ, ◌+◌, ◌*◌, ◌<◌, ◌≤◌, ◌^◌, List, [], length, map, take, drop, All, slice_index_or}
 
 -- lists of ids: how many fit, how long each may be, and those that there are
 pub record HallSets : Type 0 where

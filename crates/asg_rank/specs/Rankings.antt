@@ -1,7 +1,6 @@
 -- What contracts see of a ranker, and what its answers mean.
 use Rattle.std.specs.Prelude.{◌≡◌, ◌⊎◌, ◌++◌, ◌∷◌, [], ℕ, ◌*◌, ◌^◌, ◌<◌, ◌≤◌, All, Option, List, length, Contains}
 use Rattle.asg_model.specs.declared.objectives.Objective.{Objective}
-use Rattle.asg_model.specs.Counts.{placed}
 use Rattle.asg_model.specs.Problem.{Problem}
 use Rattle.asg_model.specs.Shapes.{square_side}
 use Rattle.asg_model.specs.ValidChoice.{IsValid}

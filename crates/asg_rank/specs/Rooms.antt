@@ -1,8 +1,7 @@
 -- How many answers a ranker may have to give.
-use Rattle.std.specs.Prelude.{◌≡◌, ℕ, ◌+◌, ◌*◌, ◌^◌, ◌<◌, ◌≤◌, min, length}
+use Rattle.std.specs.Prelude.{ℕ, ◌+◌, ◌^◌, min, length}
 use Rattle.asg_model.specs.Counts.{placed}
 use Rattle.asg_model.specs.Problem.{Problem}
-use Rattle.asg_model.specs.Shapes.{square_side}
 
 -- the greatest work of a ranking
 abbrev pub most_work : ℕ

@@ -1,5 +1,5 @@
 -- Nodes that have their best choice, in the order of their indexes.
-use Rattle.std.specs.Prelude.{◌≡◌, ◌⊎◌, ℕ, ◌+◌, ◌-◌, ◌<◌, ◌≤◌, List, [], ◌∷◌, ◌++◌, length, All, Option, Some, None, IfSome, slice_index_or}
+use Rattle.std.specs.Prelude.{◌≡◌, ◌⊎◌, ℕ, ◌<◌, List, [], ◌∷◌, ◌++◌, length, All, Option, IfSome, slice_index_or}
 use Rattle.asg_order.specs.Monoid.{Monoid, IsValue, IsLe, IsLess}
 use Rattle.asg_rank.specs.declared.slots.Slot.{Slot}
 

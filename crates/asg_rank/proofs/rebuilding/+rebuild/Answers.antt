@@ -1,8 +1,8 @@
-use Rattle.std.proofs.Common.{◌≡◌, ℕ, ◌+◌, ◌-◌, ◌<◌, ◌≤◌, length, refl, sym, ◌∙◌, ap, subst, arith}
+use Rattle.std.proofs.Common.{◌≡◌, ◌-◌, ◌<◌, ◌≤◌, length, refl, sym, ◌∙◌, ap, subst, arith}
 use Rattle.std.specs.Prelude.{slice_index_or}
 use Rattle.asg_rank.specs.Entries.{entry_at}
 use Rattle.asg_rank.specs.Rules.{rules_of, IsReducedTo}
-use Rattle.asg_rank.proofs.RebuiltCalls.{parent_is, parent_less, parent_from, parent_upto, answer_from, answer_below, next_is, over_is, cut_reduced, own_is_admitted, own_is_settled, labels_are, base_side}
+use Rattle.asg_rank.proofs.RebuiltCalls.{parent_less, parent_from, parent_upto, answer_from, answer_below, next_is, over_is, cut_reduced, own_is_admitted, own_is_settled, labels_are, base_side}
 use Rattle.asg_rank.proofs.rebuilding.+rebuild.Goals as goal
 
 pub returns-then-node-stands-clause-reduced : goal.returns-then-node-stands-clause-reduced

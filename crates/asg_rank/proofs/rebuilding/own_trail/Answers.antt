@@ -1,4 +1,4 @@
-use Rattle.std.proofs.Common.{◌≡◌, ◌≢◌, inr, Option, Some, None, ℕ, refl, rules}
+use Rattle.std.proofs.Common.{◌≢◌, inr, Option, Some, None, ℕ, refl, rules}
 use Rattle.asg_rank.specs.Settled.{IsOwn}
 use Rattle.asg_rank.proofs.rebuilding.own_trail.Goals as goal
 

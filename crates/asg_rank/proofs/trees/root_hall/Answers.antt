@@ -1,6 +1,5 @@
 use Rattle.std.proofs.Common.{◌≡◌, sym, ◌∙◌, ap, subst, ⊎_elim}
 use Rattle.asg_rank.specs.declared.entries.Entry.{Entry}
-use Rattle.asg_rank.specs.declared.entries.State.TheVariants.{Empty}
 use Rattle.asg_rank.specs.Entries.{entry_at}
 use Rattle.asg_rank.specs.Trees.{NamesHall}
 use Rattle.asg_rank.proofs.trees.root_hall.Goals as goal

@@ -1,8 +1,6 @@
-use Rattle.std.proofs.Common.{◌≡◌, ℕ, ◌+◌, ◌*◌, ◌<◌, ◌≤◌, cond, List, [], ◌∷◌, ◌++◌, length, refl, sym, ◌∙◌, ap, subst, arith}
-use Rattle.std.specs.Prelude.{All}
-use Rattle.std.proofs.lemmas.List.{length-append, length-map}
-use Rattle.std.proofs.lemmas.List.Elements.{All-push}
-use Rattle.asg_rank.specs.HallPools.{HallSets, IsPool, piece, pieces}
+use Rattle.std.proofs.Common.{◌≡◌, ◌<◌, cond, [], ◌∷◌, ◌++◌, length, sym, ◌∙◌, ap, arith}
+use Rattle.std.proofs.lemmas.List.{length-map}
+use Rattle.asg_rank.specs.HallPools.{HallSets, piece, pieces}
 use Rattle.asg_rank.proofs.PoolLemmas.{pieces_more, room_for, IsPool-more}
 use Rattle.asg_rank.proofs.hall_pools.HallPool.push.Goals as goal
 

@@ -1,4 +1,4 @@
-use Rattle.std.proofs.Common.{◌≡◌, Bool, true, false, sym, ◌∙◌, ap, is_some}
+use Rattle.std.proofs.Common.{◌≡◌, true, false, sym, ◌∙◌, ap, is_some}
 use Rattle.std.proofs.lemmas.Bool.{false≢true}
 use Rattle.asg_square.specs.Masked.{keeps}
 use Rattle.asg_square.specs.laws.Masks.{some_kept, kept_some}

@@ -1,4 +1,4 @@
-use Rattle.std.proofs.Common.{sym, ◌∙◌, ap, subst}
+use Rattle.std.proofs.Common.{sym, subst}
 use Rattle.asg_rank.specs.Expansions.{GivesLeast}
 use Rattle.asg_rank.specs.Rankings.{Ranking, Gives}
 use Rattle.asg_rank.specs.Rooms.{answer_room}

@@ -18,7 +18,7 @@ use Rattle.asg_proof.specs.declared.nodes.Mark.{Mark}
 use Rattle.asg_proof.specs.declared.nodes.Mark.TheVariants.{Answered, Open, Empty}
 use Rattle.asg_proof.specs.laws.PhaseLists.{after_phases-append}
 use Rattle.asg_admit.specs.declared.reduced.Reduced.{Reduced}
-use Rattle.asg_admit.specs.Reduced.{IsReduced, KeepsLabels}
+use Rattle.asg_admit.specs.Reduced.{KeepsLabels}
 use Rattle.asg_replays.specs.Replays.{AreAdmittedFrom, AreReplayed, IsBadFrom, IsStart, LeadOn}
 use Rattle.asg_replays.specs.laws.PhaseWords.{admitted-take}
 use Rattle.asg_replays.specs.laws.Replaying.{replayed-none}
@@ -130,30 +130,15 @@ module _ {V : Type 0} (T : TreeOf V) (laws : IsOrderedMonoid T.monoid) (value_of
       labels.side labels.rows labels.row_labels labels.column_labels (fun_ext (λ r. fun_ext (λ k. cells r k)))
 
   -- the own phases of an answered node are admitted from it
-  own_admitted : (R : Grid V) (index : V) → IsTrailSquare T (instance_at T n) (node_trail T.nodes (node_at T.nodes n).parent) R index → is_answered (node_at T.nodes n).mark ≡ true → AreAdmittedFrom T.monoid T.difference T.word_of R.side (cell_at R) (node_at T.nodes n).own
+  pub own_admitted : (R : Grid V) (index : V) → IsTrailSquare T (instance_at T n) (node_trail T.nodes (node_at T.nodes n).parent) R index → is_answered (node_at T.nodes n).mark ≡ true → AreAdmittedFrom T.monoid T.difference T.word_of R.side (cell_at R) (node_at T.nodes n).own
   own_admitted R index s answered =
       let trail = trail_from T n (node_at T.nodes n).mark (sound n (omega (arith, below)) (omega arith)).marked answered in
       own_of T (instance_at T n) (node_trail T.nodes (node_at T.nodes n).parent) (node_at T.nodes n).own R index s value_of spelled
       (subst (λ words. AreAdmittedWords T.monoid T.difference T.word_of T.enter (instance_at T n) words) (trail_is T n below places_of) trail)
 
-  -- so replaying them leads to the square of the node
-  pub gone_down : (before after : Reduced V) (found : Option ℕ) (own : List (PhaseOf Word)) → own ≡ (node_at T.nodes n).own → IsTrailSquare T (instance_at T n) (node_trail T.nodes (node_at T.nodes n).parent) before.now before.index → is_answered (node_at T.nodes n).mark ≡ true
-      → IfSome found (IsBadFrom T.monoid T.difference T.word_of own 0 before) → (found ≡ None → LeadOn T.monoid T.difference T.word_of (take 0 own) own before after) → StandsAt T n after.now after.index
-  gone_down before after found own same s answered bad none = by found refl bad
-    where
-      reduced : IsReduced T.monoid before
-      reduced = record { cells = s.values; index = s.is_value }
-
-      start : AreReplayed T.monoid T.difference T.word_of [] before before
-      start = replayed-none T.monoid laws T.difference T.word_of before reduced
-
-      by : (o : Option ℕ) → found ≡ o → IfSome o (IsBadFrom T.monoid T.difference T.word_of own 0 before) → StandsAt T n after.now after.index
-      by None e b =
-          stands_at T n below places_of laws before after s
-          (subst (λ words. AreReplayed T.monoid T.difference T.word_of words before after) same (none e before reduced start))
-      by (Some place) e b =
-          let all = subst (AreAdmittedFrom T.monoid T.difference T.word_of before.now.side (cell_at before.now)) (sym same) (own_admitted before.now before.index s answered) in
-          absurd ((b before reduced start).bad (admitted-take T.monoid T.difference T.word_of before.now.side (cell_at before.now) (suc place) own all))
+  -- so they lead to the square of the node
+  pub gone_down : (before after : Reduced V) → IsTrailSquare T (instance_at T n) (node_trail T.nodes (node_at T.nodes n).parent) before.now before.index → AreReplayed T.monoid T.difference T.word_of (node_at T.nodes n).own before after → StandsAt T n after.now after.index
+  gone_down before after s led = stands_at T n below places_of laws before after s led
 
 -- ---- the root
 

@@ -5,6 +5,7 @@ pub mod NodeFacts
 pub mod CellLemmas
 pub mod CopyLemmas
 pub mod KeptRows
+pub mod LeadLemmas
 pub mod MaskLemmas
 pub mod HallLemmas
 pub mod MetColumns

@@ -22,6 +22,7 @@ mod conclusions;
 mod copies;
 mod groups;
 mod hall_tests;
+mod leading;
 mod marks;
 mod masks;
 mod node_parts;

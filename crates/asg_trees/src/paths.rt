@@ -10,6 +10,7 @@ ghost use Rattle.asg_trees.specs.Trails.{IsPath, StandsAt};
 ghost use Rattle.asg_trees.specs.Trees.{IsTree, tree_of};
 
 use crate::NoMemory;
+use crate::leading::lead_by;
 use crate::masks::make_mask;
 use crate::node_parts::{answer_of, branch_of, own_of, parent_of};
 use crate::taking_out::take_out;
@@ -17,7 +18,6 @@ use asg_admit::Reduced;
 use asg_model::{Choice, Instance};
 use asg_order::{Kind, Ordered};
 use asg_proof::Node;
-use asg_replays::first_bad;
 use asg_square::BitRows;
 use std::alloc::Global;
 
@@ -83,13 +83,13 @@ fn go_down<K: Kind>(
     let choice = answer_at(answers, nodes, parent_of(nodes, n));
     make_mask(kept, inst, &reduced.now, choice, branch_of(nodes, n));
     take_out(&mut reduced.now, kept);
-    let _bad = first_bad(alloc, kind.monoid(), reduced, own_of(nodes, n), 0)?;
+    lead_by(alloc, kind.monoid(), reduced, own_of(nodes, n))?;
     Ok(())
 }
 
 /// Makes a square that of an answered node after its trail, with the trail's index: it takes over
 /// that of the root, and then the nodes on the way from there take cells out, and their own phases
-/// are replayed. The error is want of memory.
+/// are applied. The error is want of memory.
 pub(crate) fn lead_to<K: Kind>(
     alloc: Global,
     kind: &K,

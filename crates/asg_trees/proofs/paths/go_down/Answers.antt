@@ -1,13 +1,12 @@
-use Rattle.std.proofs.Common.{◌≡◌, sym, ap, subst, ◌∙◌}
-use Rattle.std.specs.Prelude.{IfSome, None}
+use Rattle.std.proofs.Common.{sym, ap, subst, ◌∙◌}
 use Rattle.asg_admit.specs.declared.reduced.Reduced.{Reduced}
 use Rattle.asg_admit.specs.Reduced.{IsReduced}
 use Rattle.asg_proof.specs.Nodes.{node_answer, node_at}
-use Rattle.asg_replays.specs.Replays.{IsBadFrom, LeadOn}
-use Rattle.std.proofs.Common.{take}
+use Rattle.asg_square.specs.Grid.{cell_at}
+use Rattle.asg_replays.specs.Replays.{AreAdmittedFrom, AreReplayed}
 use Rattle.asg_trees.specs.Kept.{HasSize, IsMaskOf}
 use Rattle.asg_trees.specs.Trees.{tree_of}
-use Rattle.asg_trees.proofs.DownLemmas.{gone_down, taken_square}
+use Rattle.asg_trees.proofs.DownLemmas.{gone_down, own_admitted, taken_square}
 use Rattle.asg_trees.proofs.NodeFacts.{labels-from_node}
 use Rattle.asg_trees.proofs.paths.go_down.Goals as goal
 
@@ -20,8 +19,8 @@ take_out-requires g c =
     let labels = labels-from_node c.args.inst.now c.args.answers.now c.args.nodes.now (node_at c.args.nodes.now c.args.n).parent c.args.reduced.now.now c.requires.stands.labels in
     subst (λ n. HasSize n c.make_mask.new.kept) (sym labels.side) c.make_mask.ensures.mask.size
 
-pub first_bad-requires-clause-reduced : goal.first_bad-requires-clause-reduced
-first_bad-requires-clause-reduced g c =
+pub lead_by-requires-clause-reduced : goal.lead_by-requires-clause-reduced
+lead_by-requires-clause-reduced g c =
     let kind = c.args.kind.now in
     let m = g.K.Kind.monoid kind in
     let T = tree_of (g.K.M.Ordered.monoid_of (g.K.Kind.monoid kind)) (g.K.M.DMonoid.difference (g.K.Kind.monoid kind)) (g.K.M.Written.word_of (g.K.Kind.monoid kind)) (g.K.Kind.entered kind) c.args.inst.now c.args.answers.now c.args.nodes.now in
@@ -32,6 +31,21 @@ first_bad-requires-clause-reduced g c =
     let t = taken_square T (g.met.K.M.Ordered.laws m) (g.K.M.Written.value_of m) (g.met.K.M.Written.word_laws m) c.args.n c.requires.from c.requires.sound Q c.take_out.new.square c.args.reduced.now.index c.make_mask.new.kept s mask c.take_out.ensures.labels c.take_out.ensures.cells in
     subst (λ n. IsReduced (g.K.M.Ordered.monoid_of n) (record { now = c.take_out.new.square; index = c.args.reduced.now.index })) (sym c.monoid.ensures)
     (record { cells = t.values; index = t.is_value })
+
+pub lead_by-requires-clause-admitted : goal.lead_by-requires-clause-admitted
+lead_by-requires-clause-admitted g c =
+    let kind = c.args.kind.now in
+    let m = g.K.Kind.monoid kind in
+    let T = tree_of (g.K.M.Ordered.monoid_of (g.K.Kind.monoid kind)) (g.K.M.DMonoid.difference (g.K.Kind.monoid kind)) (g.K.M.Written.word_of (g.K.Kind.monoid kind)) (g.K.Kind.entered kind) c.args.inst.now c.args.answers.now c.args.nodes.now in
+    let s = c.requires.stands in
+    let Q = c.args.reduced.now.now in
+    let mask = subst (λ f. IsMaskOf c.args.inst.now f (node_at c.args.nodes.now c.args.n).branch c.make_mask.new.kept) (c.answer_at-choice.ensures ∙ ap (node_answer c.args.answers.now c.args.nodes.now) c.parent_of.ensures)
+    (subst (λ i. IsMaskOf c.args.inst.now c.answer_at-choice.result.now i c.make_mask.new.kept) c.branch_of.ensures c.make_mask.ensures.mask) in
+    let t = taken_square T (g.met.K.M.Ordered.laws m) (g.K.M.Written.value_of m) (g.met.K.M.Written.word_laws m) c.args.n c.requires.from c.requires.sound Q c.take_out.new.square c.args.reduced.now.index c.make_mask.new.kept s mask c.take_out.ensures.labels c.take_out.ensures.cells in
+    let R = c.take_out.new.square in
+    let all = own_admitted T (g.met.K.M.Ordered.laws m) (g.K.M.Written.value_of m) (g.met.K.M.Written.word_laws m) c.args.n c.requires.from c.requires.sound R c.args.reduced.now.index t c.requires.answered in
+    subst (λ o. AreAdmittedFrom (g.K.M.Ordered.monoid_of o) (g.K.M.DMonoid.difference o) (g.K.M.Written.word_of o) R.side (cell_at R) c.own_of.result.now) (sym c.monoid.ensures)
+    (subst (AreAdmittedFrom T.monoid T.difference T.word_of R.side (cell_at R)) (sym c.own_of.ensures) all)
 
 pub returns-clause-stands : goal.returns-clause-stands
 returns-clause-stands g c =
@@ -44,9 +58,7 @@ returns-clause-stands g c =
     (subst (λ i. IsMaskOf c.args.inst.now c.answer_at-choice.result.now i c.make_mask.new.kept) c.branch_of.ensures c.make_mask.ensures.mask) in
     let t = taken_square T (g.met.K.M.Ordered.laws m) (g.K.M.Written.value_of m) (g.met.K.M.Written.word_laws m) c.args.n c.requires.from c.requires.sound Q c.take_out.new.square c.args.reduced.now.index c.make_mask.new.kept s mask c.take_out.ensures.labels c.take_out.ensures.cells in
     let before : Reduced _ = record { now = c.take_out.new.square; index = c.args.reduced.now.index } in
-    let found = c.in_ok-_bad._bad in
-    let after = c.first_bad.new.reduced in
-    let own = c.own_of.result.now in
-    let bad = subst (λ n. IfSome found (IsBadFrom (g.K.M.Ordered.monoid_of n) (g.K.M.DMonoid.difference n) (g.K.M.Written.word_of n) own 0 before)) c.monoid.ensures c.in_ok-_bad.ensures.bad in
-    let none = subst (λ n. found ≡ None → LeadOn (g.K.M.Ordered.monoid_of n) (g.K.M.DMonoid.difference n) (g.K.M.Written.word_of n) (take 0 own) own before after) c.monoid.ensures c.in_ok-_bad.ensures.none in
-    gone_down T (g.met.K.M.Ordered.laws m) (g.K.M.Written.value_of m) (g.met.K.M.Written.word_laws m) c.args.n c.requires.from c.requires.sound before after found own c.own_of.ensures t c.requires.answered bad none
+    let after = c.lead_by.new.reduced in
+    let led = subst (λ own. AreReplayed T.monoid T.difference T.word_of own before after) c.own_of.ensures
+    (subst (λ o. AreReplayed (g.K.M.Ordered.monoid_of o) (g.K.M.DMonoid.difference o) (g.K.M.Written.word_of o) c.own_of.result.now before after) c.monoid.ensures c.in_ok-lead_by.ensures) in
+    gone_down T (g.met.K.M.Ordered.laws m) (g.K.M.Written.value_of m) (g.met.K.M.Written.word_laws m) c.args.n c.requires.from c.requires.sound before after t led

@@ -1,6 +1,5 @@
 -- From the square of a node's parent to that of the node.
-use Rattle.std.proofs.Common.{◌≡◌, ℕ, suc, ◌+◌, ◌<◌, ◌≤◌, true, List, [], ◌++◌, take, Option, Some, None, refl, sym, ap, subst, ◌∙◌, arith}
-use Rattle.std.specs.Prelude.{IfSome}
+use Rattle.std.proofs.Common.{◌≡◌, ℕ, ◌+◌, ◌<◌, ◌≤◌, true, List, [], ◌++◌, Option, refl, sym, ap, subst, ◌∙◌, arith}
 use Rattle.asg_model.specs.Problem.{Problem}
 use Rattle.asg_model.specs.Shapes.{square_side}
 use Rattle.asg_order.specs.declared.words.Word.{Word}
@@ -19,9 +18,7 @@ use Rattle.asg_proof.specs.declared.nodes.Mark.TheVariants.{Answered, Open, Empt
 use Rattle.asg_proof.specs.laws.PhaseLists.{after_phases-append}
 use Rattle.asg_admit.specs.declared.reduced.Reduced.{Reduced}
 use Rattle.asg_admit.specs.Reduced.{KeepsLabels}
-use Rattle.asg_replays.specs.Replays.{AreAdmittedFrom, AreReplayed, IsBadFrom, IsStart, LeadOn}
-use Rattle.asg_replays.specs.laws.PhaseWords.{admitted-take}
-use Rattle.asg_replays.specs.laws.Replaying.{replayed-none}
+use Rattle.asg_replays.specs.Replays.{AreAdmittedFrom, AreReplayed, IsStart}
 use Rattle.asg_order.specs.Words.{HasWords}
 use Rattle.asg_trees.specs.Kept.{HasSize, IsMaskOf, KeepsAll}
 use Rattle.asg_trees.specs.Tallies.{AreSoundUpto, HavePlaces}
@@ -156,7 +153,7 @@ module _ {V : Type 0} (T : TreeOf V) (laws : IsOrderedMonoid T.monoid) (value_of
       (masked_by start.now bits (λ r k. true) size each (trail_side T T.problem [] start.now start.index begun))
 
   -- the own phases of a sound root are admitted
-  root_admitted : IsSound T 1 → AreAdmittedFrom T.monoid T.difference T.word_of start.now.side (cell_at start.now) (node_at T.nodes 1).own
+  pub root_admitted : IsSound T 1 → AreAdmittedFrom T.monoid T.difference T.word_of start.now.side (cell_at start.now) (node_at T.nodes 1).own
   root_admitted sound = by (node_at T.nodes 1).mark sound.marked
     where
       from_trail : AreAdmittedWords T.monoid T.difference T.word_of T.enter T.problem (node_at T.nodes 1).own → AreAdmittedFrom T.monoid T.difference T.word_of start.now.side (cell_at start.now) (node_at T.nodes 1).own
@@ -167,18 +164,6 @@ module _ {V : Type 0} (T : TreeOf V) (laws : IsOrderedMonoid T.monoid) (value_of
       by Open marked = from_trail marked
       by (Empty rows) marked = record { phases = []; written = sym marked.1; admitted = tt }
 
-  -- so replaying them leads to its square
-  pub root_down : IsSound T 1 → (after : Reduced V) (found : Option ℕ) (own : List (PhaseOf Word)) → own ≡ (node_at T.nodes 1).own → IfSome found (IsBadFrom T.monoid T.difference T.word_of own 0 start)
-      → (found ≡ None → LeadOn T.monoid T.difference T.word_of (take 0 own) own start after) → StandsAt T 1 after.now after.index
-  root_down sound after found own same bad none = by found refl bad
-    where
-      from_start : AreReplayed T.monoid T.difference T.word_of [] start start
-      from_start = replayed-none T.monoid laws T.difference T.word_of start at.reduced
-
-      by : (o : Option ℕ) → found ≡ o → IfSome o (IsBadFrom T.monoid T.difference T.word_of own 0 start) → StandsAt T 1 after.now after.index
-      by None e b =
-          led_square T laws T.problem [] (node_at T.nodes 1).own start after begun
-          (subst (λ words. AreReplayed T.monoid T.difference T.word_of words start after) same (none e start at.reduced from_start))
-      by (Some place) e b =
-          let all = subst (AreAdmittedFrom T.monoid T.difference T.word_of start.now.side (cell_at start.now)) (sym same) (root_admitted sound) in
-          absurd ((b start at.reduced from_start).bad (admitted-take T.monoid T.difference T.word_of start.now.side (cell_at start.now) (suc place) own all))
+  -- so they lead to its square
+  pub root_down : (after : Reduced V) → AreReplayed T.monoid T.difference T.word_of (node_at T.nodes 1).own start after → StandsAt T 1 after.now after.index
+  root_down after led = led_square T laws T.problem [] (node_at T.nodes 1).own start after begun led

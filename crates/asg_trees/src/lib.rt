@@ -31,6 +31,7 @@ mod own_answers;
 mod own_phases;
 mod paths;
 mod places;
+mod roots;
 mod siblings;
 mod taking_out;
 mod trees;

@@ -1,17 +1,15 @@
-use Rattle.std.proofs.Common.{◌≡◌, ◌<◌, [], inl, refl, sym, subst, arith, take}
-use Rattle.std.specs.Prelude.{IfSome, None}
+use Rattle.std.proofs.Common.{◌<◌, [], inl, refl, sym, subst, arith}
 use Rattle.asg_proof.specs.Nodes.{node_at}
-use Rattle.asg_replays.specs.Replays.{IsBadFrom, LeadOn}
 use Rattle.asg_trees.specs.Marks.{JudgesMark}
 use Rattle.asg_trees.specs.Tallies.{IsJudged, IsTallied}
 use Rattle.asg_trees.specs.Trees.{tree_of}
-use Rattle.asg_trees.proofs.DownLemmas.{root_above, root_down}
+use Rattle.asg_trees.proofs.DownLemmas.{root_above}
 use Rattle.asg_trees.proofs.MarkLemmas.{judged}
 use Rattle.asg_trees.proofs.TallyLemmas.{root_alone, tally_more, tally_none}
-use Rattle.asg_trees.proofs.trees.judge_root.Goals as goal
+use Rattle.asg_trees.proofs.roots.tally_root.Goals as goal
 
-pub returns-clause-tallied : goal.returns-clause-tallied
-returns-clause-tallied g c =
+pub returns : goal.returns
+returns g c =
     let kind = c.args.kind.now in
     let m = g.K.Kind.monoid kind in
     let T = tree_of (g.K.M.Ordered.monoid_of (g.K.Kind.monoid kind)) (g.K.M.DMonoid.difference (g.K.Kind.monoid kind)) (g.K.M.Written.word_of (g.K.Kind.monoid kind)) (g.K.Kind.entered kind) c.args.inst.now c.args.answers.now c.args.nodes.now in
@@ -29,18 +27,3 @@ returns-clause-tallied g c =
     subst (IsTallied T c.args.count 1 0) (sym c.tallied.ensures)
     (tally_more T c.args.count (λ n. ⊥) (IsJudged nodes 1 0) so_far (tally_none T c.args.count so_far c.requires.from c.requires.upto c.requires.places c.requires.fault c.requires.left)
     1 (omega arith) below (λ n low high j. inl (root_alone T c.args.count so_far.fault c.requires.places n low high j)) c.in_ok-judgement.judgement judges)
-
-pub returns-clause-stands : goal.returns-clause-stands
-returns-clause-stands g c = λ more.
-    let kind = c.args.kind.now in
-    let m = g.K.Kind.monoid kind in
-    let T = tree_of (g.K.M.Ordered.monoid_of (g.K.Kind.monoid kind)) (g.K.M.DMonoid.difference (g.K.Kind.monoid kind)) (g.K.M.Written.word_of (g.K.Kind.monoid kind)) (g.K.Kind.entered kind) c.args.inst.now c.args.answers.now c.args.nodes.now in
-    let tally = returns-clause-tallied g c in
-    let sound = tally.sound 1 (omega arith) more (inl refl) in
-    let start = c.args.root.now in
-    let after = c.first_bad.new.reduced in
-    let found = c.in_ok-_bad._bad in
-    let own = c.own_of.result.now in
-    let bad = subst (λ n. IfSome found (IsBadFrom (g.K.M.Ordered.monoid_of n) (g.K.M.DMonoid.difference n) (g.K.M.Written.word_of n) own 0 start)) c.monoid-2.ensures c.in_ok-_bad.ensures.bad in
-    let none = subst (λ n. found ≡ None → LeadOn (g.K.M.Ordered.monoid_of n) (g.K.M.DMonoid.difference n) (g.K.M.Written.word_of n) (take 0 own) own start after) c.monoid-2.ensures c.in_ok-_bad.ensures.none in
-    root_down T (g.met.K.M.Ordered.laws m) (g.K.M.Written.value_of m) (g.met.K.M.Written.word_laws m) start c.requires.start sound after found own c.own_of.ensures bad none

@@ -1,0 +1,35 @@
+use Rattle.std.proofs.Common.{inl, refl, sym, subst, arith}
+use Rattle.asg_admit.specs.Reduced.{IsReduced}
+use Rattle.asg_replays.specs.Replays.{AreAdmittedFrom, AreReplayed}
+use Rattle.asg_square.specs.Grid.{cell_at}
+use Rattle.asg_trees.specs.Trees.{tree_of}
+use Rattle.asg_trees.proofs.DownLemmas.{root_admitted, root_down}
+use Rattle.asg_trees.proofs.roots.judge_root.Goals as goal
+
+pub own_of-requires-clause-upto : goal.own_of-requires-clause-upto
+own_of-requires-clause-upto g c = omega (arith, c.if-tally-le1.false, c.in_ok-tally.ensures.upto)
+
+pub lead_by-requires-clause-reduced : goal.lead_by-requires-clause-reduced
+lead_by-requires-clause-reduced g c = subst (λ o. IsReduced (g.K.M.Ordered.monoid_of o) c.args.root.now) (sym c.monoid.ensures) c.requires.start.reduced
+
+pub lead_by-requires-clause-admitted : goal.lead_by-requires-clause-admitted
+lead_by-requires-clause-admitted g c =
+    let kind = c.args.kind.now in
+    let m = g.K.Kind.monoid kind in
+    let T = tree_of (g.K.M.Ordered.monoid_of (g.K.Kind.monoid kind)) (g.K.M.DMonoid.difference (g.K.Kind.monoid kind)) (g.K.M.Written.word_of (g.K.Kind.monoid kind)) (g.K.Kind.entered kind) c.args.inst.now c.args.answers.now c.args.nodes.now in
+    let start = c.args.root.now in
+    let sound = c.in_ok-tally.ensures.sound 1 (omega arith) c.if-tally-le1.false (inl refl) in
+    let all = root_admitted T (g.met.K.M.Ordered.laws m) (g.K.M.Written.value_of m) (g.met.K.M.Written.word_laws m) start c.requires.start sound in
+    subst (λ o. AreAdmittedFrom (g.K.M.Ordered.monoid_of o) (g.K.M.DMonoid.difference o) (g.K.M.Written.word_of o) start.now.side (cell_at start.now) c.own_of.result.now) (sym c.monoid.ensures)
+    (subst (AreAdmittedFrom T.monoid T.difference T.word_of start.now.side (cell_at start.now)) (sym c.own_of.ensures) all)
+
+pub returns-clause-stands : goal.returns-clause-stands
+returns-clause-stands g c = λ more.
+    let kind = c.args.kind.now in
+    let m = g.K.Kind.monoid kind in
+    let T = tree_of (g.K.M.Ordered.monoid_of (g.K.Kind.monoid kind)) (g.K.M.DMonoid.difference (g.K.Kind.monoid kind)) (g.K.M.Written.word_of (g.K.Kind.monoid kind)) (g.K.Kind.entered kind) c.args.inst.now c.args.answers.now c.args.nodes.now in
+    let start = c.args.root.now in
+    let after = c.lead_by.new.reduced in
+    let led = subst (λ own. AreReplayed T.monoid T.difference T.word_of own start after) c.own_of.ensures
+    (subst (λ o. AreReplayed (g.K.M.Ordered.monoid_of o) (g.K.M.DMonoid.difference o) (g.K.M.Written.word_of o) c.own_of.result.now start after) c.monoid.ensures c.in_ok-lead_by.ensures) in
+    root_down T (g.met.K.M.Ordered.laws m) (g.K.M.Written.value_of m) (g.met.K.M.Written.word_laws m) start c.requires.start after led

@@ -15,7 +15,7 @@ use Rattle.asg_admit.specs.declared.reduced.Reduced.{Reduced}
 use Rattle.asg_admit.specs.Reduced.{IsReduced}
 use Rattle.asg_proof.specs.Phases.{PhaseOf, AreAdmittedPhases, index_of}
 use Rattle.asg_replays.specs.Replays.{IsStart}
-use Rattle.asg_check.specs.WholeLists.{HaveIndex}
+use Rattle.asg_replays.specs.WholeLists.{HaveIndex}
 
 -- what holds where sums stop at a top holds where they stop at one that is no less
 module _ (low top : ℕ) (wide : low ≤ top) where

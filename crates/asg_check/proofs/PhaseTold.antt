@@ -29,7 +29,7 @@ use Rattle.asg_check.specs.PhaseReasons.{HaveIndexBut}
 use Rattle.asg_check.specs.Reasons.{Tells, phase_reasons}
 use Rattle.asg_replays.specs.Replays.{AreReplayed, IsFirstBad, IsStart}
 use Rattle.asg_check.specs.Replays.{StandsFor, StandsFrom, StandsOver}
-use Rattle.asg_check.specs.WholeLists.{HaveIndex}
+use Rattle.asg_replays.specs.WholeLists.{HaveIndex}
 use Rattle.asg_check.proofs.ByObjective.{no_other_from}
 use Rattle.asg_replays.specs.laws.PhaseWords.{admitted-take, take-take}
 use Rattle.asg_check.proofs.ToldReasons.{bad_told, none_bad, nowhere, overall}

@@ -8,17 +8,17 @@ ghost use Rattle.asg_order.specs.Monoid.{IsValue};
 ghost use Rattle.asg_square.specs.Grid.{cell_at};
 ghost use Rattle.asg_check.specs.Reasons.{Tells, phase_reasons};
 ghost use Rattle.asg_check.specs.Replays.{StandsFrom};
-ghost use Rattle.asg_check.specs.WholeLists.{HaveIndex};
+ghost use Rattle.asg_replays.specs.WholeLists.{HaveIndex};
 
 use crate::NoMemory;
 use crate::square_verdicts::index_verdict;
 use crate::sum_replays::{Stop, first_stop};
 use crate::verdicts::Verdict;
-use crate::whole_lists::list_index;
 use asg_admit::{NarrowSquare, Reduced};
 use asg_monoids::Bounded;
 use asg_proof::WrittenPhase;
 use asg_proof::laws::lesser_tops_law;
+use asg_replays::list_index;
 use std::alloc::Global;
 
 // The verdict on phases by sums that stop at a cap below 2^62, from the square in 64 bits, where

@@ -32,7 +32,6 @@ mod sum_replays;
 mod sum_squares;
 mod sum_verdicts;
 mod verdicts;
-mod whole_lists;
 mod window_gaps;
 mod window_verdicts;
 mod written_choices;

@@ -13,11 +13,10 @@ use crate::NoMemory;
 use crate::square_verdicts::{index_verdict, square_verdict};
 use crate::sum_replays::{Stop, first_stop};
 use crate::verdicts::{Reason, Verdict};
-use crate::whole_lists::list_index;
 use asg_admit::{DualSquare, NarrowSquare, Reduced};
 use asg_monoids::Bounded;
 use asg_proof::WrittenPhase;
-use asg_replays::has_long;
+use asg_replays::{has_long, list_index};
 use std::alloc::Global;
 
 // The verdict on phases that are to be admitted in turn from the square, of which no step was taken

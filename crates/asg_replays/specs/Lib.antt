@@ -1,3 +1,4 @@
 pub mod PhaseParts
 pub mod Replays
+pub mod WholeLists
 pub mod laws

@@ -4,7 +4,7 @@ use Rattle.asg_monoids.specs.laws.Bounded.{bounded_laws}
 use Rattle.asg_square.specs.Grid.{cell_at}
 use Rattle.asg_replays.specs.Replays.{AreReplayed}
 use Rattle.asg_check.specs.SumReplays.{StopsAt}
-use Rattle.asg_check.specs.WholeLists.{HaveIndex}
+use Rattle.asg_replays.specs.WholeLists.{HaveIndex}
 use Rattle.asg_check.proofs.PhaseTold.{replayed_index}
 use Rattle.asg_check.proofs.capped_verdicts.replayed_index.Goals as goal
 

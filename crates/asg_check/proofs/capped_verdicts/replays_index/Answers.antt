@@ -4,7 +4,7 @@ use Rattle.asg_admit.specs.Reduced.{IsReduced}
 use Rattle.asg_admit.specs.declared.reduced.Reduced.{Reduced}
 use Rattle.asg_monoids.specs.BoundedSums.{bounded_sums, bounded_difference, narrow_top, plain_word}
 use Rattle.asg_square.specs.Grid.{cell_at}
-use Rattle.asg_check.specs.WholeLists.{HaveIndex}
+use Rattle.asg_replays.specs.WholeLists.{HaveIndex}
 use Rattle.asg_check.proofs.capped_verdicts.replays_index.Goals as goal
 
 pub replayed_index-requires-clause-reduced : goal.replayed_index-requires-clause-reduced

@@ -5,13 +5,13 @@ ghost use Rattle.asg_admit.specs.PhaseTotals.{AreTotals};
 ghost use Rattle.asg_monoids.specs.BoundedSums.{bounded_sums, bounded_difference, plain_word};
 ghost use Rattle.asg_monoids.specs.BoundedSums.{narrow_top};
 ghost use Rattle.asg_square.specs.Grid.{cell_at};
-ghost use Rattle.asg_check.specs.WholeLists.{AreTotalsOf, HaveIndex, TakesIn};
+ghost use Rattle.asg_replays.specs.WholeLists.{AreTotalsOf, HaveIndex, TakesIn};
 
 use crate::NoMemory;
+use crate::replays::{make_room, read_steps};
 use asg_admit::PhaseTotals;
 use asg_monoids::NarrowSums;
 use asg_proof::WrittenPhase;
-use asg_replays::{make_room, read_steps};
 use asg_square::Square;
 use std::alloc::Global;
 
@@ -61,11 +61,11 @@ fn take_all(
     Ok(true)
 }
 
-// The index of phases that are admitted in turn from a square, by sums that stop at any top from
-// 2^62 on, where one pass over the cells tells that they are. That is so where no cell ends below 0
-// after all, and those after each phase raise no row by more than a column, as those do that lead
-// to an assignment of least sum. Otherwise nothing is told. The error is want of memory.
-pub(crate) fn list_index(
+/// The index of phases that are admitted in turn from a square, by sums that stop at any top from
+/// 2^62 on, where one pass over the cells tells that they are. That is so where no cell ends below 0
+/// after all, and those after each phase raise no row by more than a column, as those do that lead
+/// to an assignment of least sum. Otherwise nothing is told. The error is want of memory.
+pub fn list_index(
     alloc: Global,
     square: &Square<u64>,
     phases: &[WrittenPhase],

@@ -2,7 +2,7 @@ use Rattle.std.proofs.Common.{◌≡◌, ◌∷◌, map, ap, ◌∙◌}
 use Rattle.asg_monoids.specs.BoundedSums.{plain_word}
 use Rattle.asg_proof.specs.Phases.{phase_of, worded}
 use Rattle.asg_replays.specs.laws.Replaying.{phase-words}
-use Rattle.asg_check.proofs.whole_lists.take_in.Goals as goal
+use Rattle.asg_replays.proofs.whole_lists.take_in.Goals as goal
 
 pub returns-clause-taken : goal.returns-clause-taken
 returns-clause-taken c = λ yes rest are.

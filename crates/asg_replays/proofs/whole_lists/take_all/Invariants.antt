@@ -1,6 +1,6 @@
 use Rattle.std.proofs.Common.{◌≡◌, ◌-◌, drop, length}
-use Rattle.asg_check.specs.WholeLists.{AreTotalsOf}
-use Rattle.asg_check.proofs.whole_lists.take_all.Given as goal
+use Rattle.asg_replays.specs.WholeLists.{AreTotalsOf}
+use Rattle.asg_replays.proofs.whole_lists.take_all.Given as goal
 
 -- the totals are those of the phases from here on
 abbrev pub invariant-phases : goal.invariant-phases

@@ -2,8 +2,8 @@ use Rattle.std.proofs.Common.{◌≡◌, ℕ, ◌+◌, ◌-◌, ◌<◌, [], ◌
 use Rattle.std.proofs.lemmas.List.{drop_all, drop_more}
 use Rattle.asg_order.specs.declared.words.Word.{Word}
 use Rattle.asg_proof.specs.Phases.{PhaseOf}
-use Rattle.asg_check.specs.WholeLists.{AreTotalsOf}
-use Rattle.asg_check.proofs.whole_lists.take_all.Goals as goal
+use Rattle.asg_replays.specs.WholeLists.{AreTotalsOf}
+use Rattle.asg_replays.proofs.whole_lists.take_all.Goals as goal
 
 pub phases-init : goal.phases-init
 phases-init c =

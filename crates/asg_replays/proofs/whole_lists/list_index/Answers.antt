@@ -1,5 +1,5 @@
 use Rattle.std.proofs.Common.{sym, ◌∙◌, arith}
-use Rattle.asg_check.proofs.whole_lists.list_index.Goals as goal
+use Rattle.asg_replays.proofs.whole_lists.list_index.Goals as goal
 
 pub none-requires : goal.none-requires
 none-requires c =

@@ -3,7 +3,7 @@ use Rattle.std.proofs.Common.{◌≡◌, ℕ, ◌+◌, ◌<◌, ◌≤◌, true,
 use Rattle.asg_model.specs.Problem.{Problem}
 use Rattle.asg_model.specs.Shapes.{square_side}
 use Rattle.asg_order.specs.declared.words.Word.{Word}
-use Rattle.asg_order.specs.Monoid.{IsOrderedMonoid}
+use Rattle.asg_order.specs.Monoid.{IsOrderedMonoid, IsValue}
 use Rattle.asg_square.specs.BitTable.{BitTable, has_bit}
 use Rattle.asg_square.specs.Cells.{square_cell}
 use Rattle.asg_square.specs.Grid.{Grid, cell_at}
@@ -11,16 +11,18 @@ use Rattle.asg_square.specs.Masked.{masked_grid}
 use Rattle.std.proofs.Math.Path.{fun_ext}
 use Rattle.asg_proof.specs.Masks.{keeps_cell}
 use Rattle.asg_proof.specs.Nodes.{node_answer, node_at, node_trail}
-use Rattle.asg_proof.specs.Phases.{PhaseOf, after_phases}
+use Rattle.asg_proof.specs.Phases.{PhaseOf, AreAdmittedPhases, after_phases, index_of}
 use Rattle.asg_proof.specs.SearchTrees.{AreAdmittedWords, HasTrail, IsMarked, is_answered}
 use Rattle.asg_proof.specs.declared.nodes.Mark.{Mark}
 use Rattle.asg_proof.specs.declared.nodes.Mark.TheVariants.{Answered, Open, Empty}
-use Rattle.asg_proof.specs.laws.PhaseLists.{after_phases-append}
+use Rattle.asg_proof.specs.laws.PhaseLists.{after_phases-append, index_is_value}
 use Rattle.asg_admit.specs.declared.reduced.Reduced.{Reduced}
 use Rattle.asg_admit.specs.Reduced.{KeepsLabels}
 use Rattle.asg_replays.specs.Replays.{AreAdmittedFrom, AreReplayed, IsStart}
 use Rattle.asg_order.specs.Words.{HasWords}
 use Rattle.asg_trees.specs.Kept.{HasSize, IsMaskOf, KeepsAll}
+use Rattle.asg_replays.specs.WholeLists.{HaveIndex}
+use Rattle.asg_trees.specs.Marks.{HaveIndexAfter}
 use Rattle.asg_trees.specs.Tallies.{AreSoundUpto, HavePlaces}
 use Rattle.asg_trees.specs.Trails.{IsTrailSquare, StandsAbove, StandsAt}
 use Rattle.asg_trees.specs.Trees.{IsSound, TreeOf, instance_at}
@@ -167,3 +169,23 @@ module _ {V : Type 0} (T : TreeOf V) (laws : IsOrderedMonoid T.monoid) (value_of
   -- so they lead to its square
   pub root_down : (after : Reduced V) → AreReplayed T.monoid T.difference T.word_of (node_at T.nodes 1).own start after → StandsAt T 1 after.now after.index
   root_down after led = led_square T laws T.problem [] (node_at T.nodes 1).own start after begun led
+
+  -- where bits keep all cells, the index of phases from the square before any step is that after it
+  pub known_after : (bits : BitTable) → KeepsAll T.problem bits → (words : List (PhaseOf Word)) (index : V) → HaveIndex T.monoid T.difference T.word_of start.now.side (cell_at start.now) index words
+      → HaveIndexAfter T.monoid T.difference T.word_of start.now bits start.index words index
+  known_after bits all words index have =
+      let side = begun.labels.side in
+      let phases = have.admitted.phases in
+      let size : HasSize start.now.side bits = subst (λ n. HasSize n bits) (sym side) all.size in
+      let each : (r k : ℕ) → r < start.now.side → k < start.now.side → has_bit bits r k ≡ true = λ r k hr hk. all.each r k (subst (λ n. r < n) side hr) (subst (λ n. k < n) side hk) in
+      let cells : cell_at (masked_grid start.now bits.words) ≡ cell_at start.now = masked_by start.now bits (λ r k. true) size each (trail_side T T.problem [] start.now start.index begun) in
+      let value = index_is_value T.monoid laws T.difference start.now.side phases (cell_at start.now) have.admitted.admitted in
+      record {
+        admitted = record {
+          phases = phases;
+          written = have.admitted.written;
+          admitted = subst (AreAdmittedPhases T.monoid T.difference start.now.side phases) (sym cells) have.admitted.admitted;
+        };
+        product = sym have.same ∙ sym (laws.unit_neutral (index_of T.monoid phases) value) ∙ ap (λ z. T.monoid.product z (index_of T.monoid phases)) (sym at.index);
+        is_value = subst (IsValue T.monoid) have.same value;
+      }

@@ -1,9 +1,9 @@
 //! Phases that are known to be admitted, applied to a square without a test.
 
+ghost use Rattle.std.specs.Prelude.{IfOk};
 ghost use Rattle.asg_admit.specs.Reduced.{IsReduced};
 ghost use Rattle.asg_replays.specs.Replays.{AreAdmittedFrom, AreReplayed, IsAdmittedFrom, IsReplayed};
 ghost use Rattle.asg_square.specs.Grid.{cell_at};
-ghost use Rattle.std.specs.Prelude.{IfOk};
 
 use crate::NoMemory;
 use asg_admit::{Reduced, settle};

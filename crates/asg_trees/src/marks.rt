@@ -12,7 +12,7 @@ ghost use Rattle.asg_square.specs.Grid.{cell_at};
 ghost use Rattle.asg_square.specs.HallColumns.{OutnumberColumns};
 ghost use Rattle.asg_trees.specs.Groups.{AreGroups, answer_keys, parent_keys};
 ghost use Rattle.asg_trees.specs.Kept.{HasSize};
-ghost use Rattle.asg_trees.specs.Marks.{JudgesMark, JudgesOpen, MarkHolds, kept_cells};
+ghost use Rattle.asg_trees.specs.Marks.{HaveIndexAfter, JudgesMark, JudgesOpen, MarkHolds, kept_cells};
 
 use crate::NoMemory;
 use crate::chosen_cells::chooses_kept;
@@ -20,7 +20,7 @@ use crate::groups::Groups;
 use crate::hall_tests::outnumber;
 use crate::node_parts::{mark_of, own_of};
 use crate::own_answers::has_own_answer;
-use crate::own_phases::own_index;
+use crate::own_phases::told_index;
 use crate::verdicts::Judgement;
 use asg_model::{Choice, Instance};
 use asg_order::{Ordered, Written};
@@ -53,6 +53,7 @@ fn answered_holds<M: Written>(
     square: &Square<M::Value>,
     kept: &BitRows,
     before: M::Value,
+    known: Option<M::Value>,
     n: usize,
     answer: u32,
 ) -> Result<bool, NoMemory>
@@ -64,6 +65,8 @@ fn answered_holds<M: Written>(
     requires values { HasValues (M.monoid_of m.now) square.now.side (cell_at square.now) }
     requires size { HasSize square.now.side kept.now }
     requires before { IsValue (M.monoid_of m.now) before }
+    requires known { IfSome known (HaveIndexAfter (M.monoid_of m.now) (M.difference m.now)
+        (M.word_of m.now) square.now kept.now before (node_at nodes.now n).own) }
     requires from { 1 ≤ n }
     requires upto { n ≤ length nodes.now }
     requires mark { (node_at nodes.now n).mark ≡ Answered answer }
@@ -78,7 +81,7 @@ fn answered_holds<M: Written>(
     if !chooses_kept(square, kept, &answers[answer as usize - 1]) {
         return Ok(false);
     }
-    let found = own_index(alloc, m, square, kept, before, own_of(nodes, n))?;
+    let found = told_index(alloc, m, square, kept, before, own_of(nodes, n), known)?;
     Ok(found.is_some())
 }
 
@@ -91,16 +94,19 @@ fn judge_open<M: Written>(
     kept: &BitRows,
     before: M::Value,
     own: &[WrittenPhase],
+    known: Option<M::Value>,
 ) -> Result<Judgement, NoMemory>
     requires few { square.now.side ≤ most_side }
     requires last { IfSome last (IsValue (M.monoid_of m.now)) }
     requires values { HasValues (M.monoid_of m.now) square.now.side (cell_at square.now) }
     requires size { HasSize square.now.side kept.now }
     requires before { IsValue (M.monoid_of m.now) before }
+    requires known { IfSome known (HaveIndexAfter (M.monoid_of m.now) (M.difference m.now)
+        (M.word_of m.now) square.now kept.now before own.now) }
     ensures { IfOk result (JudgesOpen (M.monoid_of m.now) (M.difference m.now) (M.word_of m.now)
         last square.now kept.now before own.now) }
 {
-    match own_index(alloc, m, square, kept, before, own)? {
+    match told_index(alloc, m, square, kept, before, own, known)? {
         Some(index) => Ok(open_judgement(is_at_most(m, last, index))),
         None => Ok(Judgement::AtFault),
     }
@@ -155,7 +161,7 @@ fn empty_holds<V: Copy>(
 }
 
 /// Judges a node by its mark, on the cells of a square that are kept, which has the index so far.
-/// The error is want of memory.
+/// The index after its own phases may be known. The error is want of memory.
 pub(crate) fn judge_mark<M: Written>(
     alloc: Global,
     m: &M,
@@ -168,6 +174,7 @@ pub(crate) fn judge_mark<M: Written>(
     square: &Square<M::Value>,
     kept: &BitRows,
     before: M::Value,
+    known: Option<M::Value>,
     n: usize,
 ) -> Result<Judgement, NoMemory>
     requires place { inst.now.place ≡ PlaceAll }
@@ -180,6 +187,8 @@ pub(crate) fn judge_mark<M: Written>(
     requires values { HasValues (M.monoid_of m.now) square.now.side (cell_at square.now) }
     requires size { HasSize square.now.side kept.now }
     requires before { IsValue (M.monoid_of m.now) before }
+    requires known { IfSome known (HaveIndexAfter (M.monoid_of m.now) (M.difference m.now)
+        (M.word_of m.now) square.now kept.now before (node_at nodes.now n).own) }
     requires from { 1 ≤ n }
     requires upto { n ≤ length nodes.now }
     ensures { IfOk result (JudgesMark (M.monoid_of m.now) (M.difference m.now) (M.word_of m.now)
@@ -188,11 +197,21 @@ pub(crate) fn judge_mark<M: Written>(
     match mark_of(nodes, n) {
         Mark::Answered(answer) => {
             let holds = answered_holds(
-                alloc, m, inst, answers, nodes, members, given, square, kept, before, n, *answer,
+                alloc, m, inst, answers, nodes, members, given, square, kept, before, known, n,
+                *answer,
             )?;
             Ok(other_judgement(holds))
         }
-        Mark::Open => judge_open(alloc, m, last, square, kept, before, own_of(nodes, n)),
+        Mark::Open => judge_open(
+            alloc,
+            m,
+            last,
+            square,
+            kept,
+            before,
+            own_of(nodes, n),
+            known,
+        ),
         Mark::Empty(rows) => {
             let holds = empty_holds(alloc, inst, nodes, square, kept, n, rows.as_slice())?;
             Ok(other_judgement(holds))

@@ -1,6 +1,6 @@
 //! Search trees, judged by objective.
 
-ghost use Rattle.std.specs.Prelude.{◌≡◌, ◌≤◌, IsTrue, IfOk, All, length};
+ghost use Rattle.std.specs.Prelude.{◌≡◌, ◌≤◌, IsTrue, IfOk, IfSome, All, length};
 ghost use Rattle.asg_model.specs.declared.objectives.Objective.TheVariants.{TimeCost};
 ghost use Rattle.asg_model.specs.declared.parts.Place.TheVariants.{All as PlaceAll};
 ghost use Rattle.asg_model.specs.Limits.{most_side};
@@ -8,12 +8,18 @@ ghost use Rattle.asg_model.specs.Objectives.{is_algebraic, is_bottleneck};
 ghost use Rattle.asg_model.specs.Refused.{PassesNegative};
 ghost use Rattle.asg_model.specs.Shapes.{square_side};
 ghost use Rattle.asg_model.specs.ValidChoice.{IsValid};
+ghost use Rattle.asg_monoids.specs.BoundedSums.{bounded_sums, bounded_difference, plain_word};
+ghost use Rattle.asg_monoids.specs.BoundedSums.{narrow_top};
 ghost use Rattle.asg_monoids.specs.Entered.{is_sum_objective};
 ghost use Rattle.asg_monoids.specs.NarrowObjectives.{is_narrow_objective};
+ghost use Rattle.asg_proof.specs.Nodes.{node_at};
+ghost use Rattle.asg_replays.specs.WholeLists.{HaveIndex};
+ghost use Rattle.asg_square.specs.Grid.{cell_at};
 ghost use Rattle.asg_trees.specs.Judged.{TellsRanking};
 
 use crate::NoMemory;
-use crate::trees::judge_tree;
+use crate::node_parts::own_of;
+use crate::trees::{judge_from, judge_tree};
 use crate::verdicts::TreeVerdict;
 use asg_model::{Choice, Instance, Objective};
 use asg_monoids::laws::narrow_sums;
@@ -21,6 +27,8 @@ use asg_monoids::{PeakKind, SumKind, TimeKind};
 use asg_narrow_kinds::NarrowKind;
 use asg_proof::Node;
 use asg_proof::ranking_laws::tree_tops_law;
+use asg_replays::{has_long, list_index, start};
+use asg_square::Square;
 use std::alloc::Global;
 
 // The verdict by an objective of sums.
@@ -45,6 +53,23 @@ fn judge_sums(
     Ok(verdict)
 }
 
+// The index of the own phases of the root in 64 bits, where none is long and one pass over the cells
+// tells that they are admitted from the square before any step. The error is want of memory.
+fn root_index(alloc: Global, square: &Square<u64>, nodes: &[Node]) -> Result<Option<u64>, NoMemory>
+    ensures { IfOk result (λ found. IfSome found (λ index. HaveIndex (bounded_sums narrow_top)
+        bounded_difference plain_word square.now.side (cell_at square.now) index
+        (node_at nodes.now 1).own)) }
+{
+    if nodes.is_empty() {
+        return Ok(None);
+    }
+    let own = own_of(nodes, 1);
+    if has_long(own, square.side()) {
+        return Ok(None);
+    }
+    list_index(alloc, square, own)
+}
+
 // The verdict by `sum` or `sum-max`: first by sums in 64 bits, and where these don't tell that the
 // nodes are a search tree, by those in 128 bits, which are the sums of the contract.
 fn judge_narrow(
@@ -67,7 +92,9 @@ fn judge_narrow(
     tree_tops_law();
     let _rows = inst.rows();
     let kind = NarrowKind::of(objective);
-    let verdict = judge_tree(alloc, &kind, inst, count, answers, nodes)?;
+    let mut root = start(alloc, &kind, inst)?;
+    let known = root_index(alloc, &root.now, nodes)?;
+    let verdict = judge_from(alloc, &kind, inst, count, answers, nodes, &mut root, known)?;
     match verdict {
         TreeVerdict::Tree => Ok(TreeVerdict::Tree),
         _ => judge_sums(alloc, objective, inst, count, answers, nodes),

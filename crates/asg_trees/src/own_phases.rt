@@ -84,9 +84,9 @@ fn index_of_all<M: Written>(
     }
 }
 
-/// The index of phases after another, where they are admitted in turn from the kept cells of a
-/// square, which isn't touched. The error is want of memory.
-pub(crate) fn own_index<M: Written>(
+// The index of phases after another, where they are admitted in turn from the kept cells of a
+// square, which isn't touched. The error is want of memory.
+fn own_index<M: Written>(
     alloc: Global,
     m: &M,
     square: &Square<M::Value>,
@@ -109,5 +109,32 @@ pub(crate) fn own_index<M: Written>(
         index_of_one(alloc, m, square, kept, before, &own[0])
     } else {
         index_of_all(alloc, m, square, kept, before, own)
+    }
+}
+
+/// The index of phases after another, where they are admitted in turn from the kept cells of a
+/// square, which isn't touched. Where the index is known it is taken. The error is want of memory.
+pub(crate) fn told_index<M: Written>(
+    alloc: Global,
+    m: &M,
+    square: &Square<M::Value>,
+    kept: &BitRows,
+    before: M::Value,
+    own: &[WrittenPhase],
+    known: Option<M::Value>,
+) -> Result<Option<M::Value>, NoMemory>
+    requires values { HasValues (M.monoid_of m.now) square.now.side (cell_at square.now) }
+    requires size { HasSize square.now.side kept.now }
+    requires before { IsValue (M.monoid_of m.now) before }
+    requires known { IfSome known (HaveIndexAfter (M.monoid_of m.now) (M.difference m.now)
+        (M.word_of m.now) square.now kept.now before own.now) }
+    ensures some { IfOk result (λ found. IfSome found (HaveIndexAfter (M.monoid_of m.now)
+        (M.difference m.now) (M.word_of m.now) square.now kept.now before own.now)) }
+    ensures none { IfOk result (λ found. found ≡ None → AreAdmittedWithin (M.monoid_of m.now)
+        (M.difference m.now) (M.word_of m.now) square.now kept.now own.now → ⊥) }
+{
+    match known {
+        Some(index) => Ok(Some(index)),
+        None => own_index(alloc, m, square, kept, before, own),
     }
 }

@@ -1,7 +1,10 @@
 //! The root of a search tree, judged on the square of the instance.
 
-ghost use Rattle.std.specs.Prelude.{◌≡◌, ◌+◌, ◌<◌, ◌≤◌, IfOk, length};
+ghost use Rattle.std.specs.Prelude.{◌≡◌, ◌+◌, ◌<◌, ◌≤◌, IfOk, IfSome, length};
+ghost use Rattle.asg_proof.specs.Nodes.{node_at};
 ghost use Rattle.asg_replays.specs.Replays.{IsStart};
+ghost use Rattle.asg_replays.specs.WholeLists.{HaveIndex};
+ghost use Rattle.asg_square.specs.Grid.{cell_at};
 ghost use Rattle.asg_trees.specs.Groups.{AreGroups, answer_keys, parent_keys};
 ghost use Rattle.asg_trees.specs.Kept.{KeepsAll};
 ghost use Rattle.asg_trees.specs.Marks.{IsLastProduct};
@@ -24,8 +27,8 @@ use asg_square::BitRows;
 use asg_square::laws::square_law;
 use std::alloc::Global;
 
-// Judges the root, where it has its place, on the square before any step. The error is want of
-// memory.
+// Judges the root, where it has its place, on the square before any step. The index after its own
+// phases may be known. The error is want of memory.
 fn tally_root<K: Kind>(
     alloc: Global,
     kind: &K,
@@ -38,6 +41,7 @@ fn tally_root<K: Kind>(
     last: Option<<<K as Kind>::M as Ordered>::Value>,
     root: &Reduced<<<K as Kind>::M as Ordered>::Value>,
     kept: &BitRows,
+    known: Option<<<K as Kind>::M as Ordered>::Value>,
     so_far: Tally,
 ) -> Result<Tally, NoMemory>
     requires tree { let T = tree_of (K.M.monoid_of (K.monoid kind.now))
@@ -51,6 +55,9 @@ fn tally_root<K: Kind>(
     requires start { IsStart (K.M.monoid_of (K.monoid kind.now)) (K.entered kind.now) inst.now
         root.now }
     requires kept { KeepsAll inst.now kept.now }
+    requires known { IfSome known (λ index. HaveIndex (K.M.monoid_of (K.monoid kind.now))
+        (K.M.difference (K.monoid kind.now)) (K.M.word_of (K.monoid kind.now)) root.now.now.side
+        (cell_at root.now.now) index (node_at nodes.now 1).own) }
     requires from { 1 ≤ so_far.fault }
     requires upto { so_far.fault ≤ length nodes.now + 1 }
     requires places { let T = tree_of (K.M.monoid_of (K.monoid kind.now))
@@ -83,13 +90,15 @@ fn tally_root<K: Kind>(
         &root.now,
         kept,
         root.index,
+        known,
         1,
     )?;
     Ok(tallied(so_far, 1, judgement))
 }
 
 /// Judges the root, where it has its place, on the square before any step, and where it is sound
-/// leads the square over its trail. The error is want of memory.
+/// leads the square over its trail. The index after its own phases may be known. The error is want
+/// of memory.
 pub(crate) fn judge_root<K: Kind>(
     alloc: Global,
     kind: &K,
@@ -102,6 +111,7 @@ pub(crate) fn judge_root<K: Kind>(
     last: Option<<<K as Kind>::M as Ordered>::Value>,
     root: &mut Reduced<<<K as Kind>::M as Ordered>::Value>,
     kept: &BitRows,
+    known: Option<<<K as Kind>::M as Ordered>::Value>,
     so_far: Tally,
 ) -> Result<Tally, NoMemory>
     requires tree { let T = tree_of (K.M.monoid_of (K.monoid kind.now))
@@ -115,6 +125,9 @@ pub(crate) fn judge_root<K: Kind>(
     requires start { IsStart (K.M.monoid_of (K.monoid kind.now)) (K.entered kind.now) inst.now
         root.old }
     requires kept { KeepsAll inst.now kept.now }
+    requires known { IfSome known (λ index. HaveIndex (K.M.monoid_of (K.monoid kind.now))
+        (K.M.difference (K.monoid kind.now)) (K.M.word_of (K.monoid kind.now)) root.old.now.side
+        (cell_at root.old.now) index (node_at nodes.now 1).own) }
     requires from { 1 ≤ so_far.fault }
     requires upto { so_far.fault ≤ length nodes.now + 1 }
     requires places { let T = tree_of (K.M.monoid_of (K.monoid kind.now))
@@ -135,7 +148,7 @@ pub(crate) fn judge_root<K: Kind>(
         IfOk result (λ tally. 1 < tally.fault → StandsAt T 1 root.new.now root.new.index) }
 {
     let tally = tally_root(
-        alloc, kind, inst, answers, nodes, members, given, count, last, root, kept, so_far,
+        alloc, kind, inst, answers, nodes, members, given, count, last, root, kept, known, so_far,
     )?;
     if tally.fault <= 1 {
         return Ok(tally);

@@ -80,6 +80,7 @@ fn judge_child<K: Kind>(
         square,
         kept,
         before,
+        None,
         n,
     )?;
     Ok(judgement)

@@ -1,13 +1,17 @@
 //! Search trees, judged over the monoid of a kind.
 
-ghost use Rattle.std.specs.Prelude.{◌≡◌, ◌+◌, ◌<◌, ◌≤◌, List, None, IfOk, All, length};
+ghost use Rattle.std.specs.Prelude.{◌≡◌, ◌+◌, ◌<◌, ◌≤◌, List, None, IfOk, IfSome, All, length};
 ghost use Rattle.asg_model.specs.declared.parts.Place.TheVariants.{All as PlaceAll};
 ghost use Rattle.asg_model.specs.Limits.{most_cost, most_side};
 ghost use Rattle.asg_model.specs.Refused.{PassesNegative};
 ghost use Rattle.asg_model.specs.Shapes.{square_side};
 ghost use Rattle.asg_model.specs.ValidChoice.{IsValid};
 ghost use Rattle.asg_order.specs.Entering.{LiesWithin};
+ghost use Rattle.asg_proof.specs.Nodes.{node_at};
 ghost use Rattle.asg_proof.specs.declared.nodes.Node.{Node as N};
+ghost use Rattle.asg_replays.specs.Replays.{IsStart};
+ghost use Rattle.asg_replays.specs.WholeLists.{HaveIndex};
+ghost use Rattle.asg_square.specs.Grid.{cell_at};
 ghost use Rattle.asg_trees.specs.Groups.{AreGroups, answer_keys, parent_keys};
 ghost use Rattle.asg_trees.specs.Judged.{TellsTree};
 ghost use Rattle.asg_trees.specs.Kept.{KeepsOtherRows};
@@ -181,6 +185,53 @@ fn last_product<K: Kind>(
     Some(chosen_fold(kind, inst, &answers[answers.len() - 1]))
 }
 
+/// Judges nodes as [`judge_tree`] does, from the square before any step. The index after the own
+/// phases of the root may be known. The error is want of memory.
+pub(crate) fn judge_from<K: Kind>(
+    alloc: Global,
+    kind: &K,
+    inst: &Instance,
+    count: usize,
+    answers: &[Choice],
+    nodes: &[Node],
+    root: &mut Reduced<<<K as Kind>::M as Ordered>::Value>,
+    known: Option<<<K as Kind>::M as Ordered>::Value>,
+) -> Result<TreeVerdict, NoMemory>
+    requires place { inst.now.place ≡ PlaceAll }
+    requires side { square_side inst.now ≤ most_side }
+    requires passes { PassesNegative (K.objective kind.now) inst.now }
+    requires reach { most_cost ≤ K.reach kind.now }
+    requires some { 1 ≤ length answers.now }
+    requires valid { All (IsValid inst.now) answers.now }
+    requires start { IsStart (K.M.monoid_of (K.monoid kind.now)) (K.entered kind.now) inst.now
+        root.old }
+    requires known { IfSome known (λ index. HaveIndex (K.M.monoid_of (K.monoid kind.now))
+        (K.M.difference (K.monoid kind.now)) (K.M.word_of (K.monoid kind.now)) root.old.now.side
+        (cell_at root.old.now) index (node_at nodes.now 1).own) }
+    ensures { IfOk result (TellsTree (K.M.monoid_of (K.monoid kind.now))
+        (K.M.difference (K.monoid kind.now)) (K.M.word_of (K.monoid kind.now))
+        (K.entered kind.now) inst.now count answers.now nodes.now) }
+{
+    // What each instance keeps is told by a reader.
+    let _ = inst.rows();
+    let members = by_parent(alloc, nodes)?;
+    let given = by_answer(alloc, nodes, answers.len())?;
+    let last = last_product(kind, inst, count, answers);
+    let mut kept = whole_mask(alloc, inst)?;
+    let first = Tally {
+        fault: first_misplaced(nodes, inst.placed()),
+        left: nodes.len() + 1,
+    };
+    let at_root = judge_root(
+        alloc, kind, inst, answers, nodes, &members, &given, count, last, root, &kept, known, first,
+    )?;
+    let tally = judge_parents(
+        alloc, kind, inst, answers, nodes, &members, &given, count, last, root, &mut kept, at_root,
+    )?;
+    let lacking = first_lacking(&given, nodes, answers);
+    Ok(concluded(tally, nodes.len(), lacking))
+}
+
 /// Judges whether nodes are a search tree of answers that are valid, of which so many were asked
 /// for, over the monoid of a kind: the verdict tells the first node at fault; where none is,
 /// whether some answer has no node; where each has one, the first node that is open and may not be;
@@ -205,21 +256,6 @@ pub fn judge_tree<K: Kind>(
 {
     // What each instance keeps is told by a reader.
     let _ = inst.rows();
-    let members = by_parent(alloc, nodes)?;
-    let given = by_answer(alloc, nodes, answers.len())?;
-    let last = last_product(kind, inst, count, answers);
     let mut root = start(alloc, kind, inst)?;
-    let mut kept = whole_mask(alloc, inst)?;
-    let first = Tally {
-        fault: first_misplaced(nodes, inst.placed()),
-        left: nodes.len() + 1,
-    };
-    let at_root = judge_root(
-        alloc, kind, inst, answers, nodes, &members, &given, count, last, &mut root, &kept, first,
-    )?;
-    let tally = judge_parents(
-        alloc, kind, inst, answers, nodes, &members, &given, count, last, &root, &mut kept, at_root,
-    )?;
-    let lacking = first_lacking(&given, nodes, answers);
-    Ok(concluded(tally, nodes.len(), lacking))
+    judge_from(alloc, kind, inst, count, answers, nodes, &mut root, None)
 }

@@ -1,6 +1,7 @@
-use Rattle.std.proofs.Common.{subst}
+use Rattle.std.proofs.Common.{subst, arith}
 use Rattle.asg_monoids.specs.BoundedSums.{bounded_sums, bounded_difference, plain_word, narrow_top}
-use Rattle.asg_monoids.specs.Entered.{sum_entered}
+use Rattle.asg_monoids.specs.Entered.{cost_reach, sum_entered}
+use Rattle.asg_proof.specs.laws.LiveCosts.{lies_within}
 use Rattle.asg_trees.specs.Judged.{TellsTree}
 use Rattle.asg_trees.proofs.NarrowTrees.{is_sum-narrow, told_narrow}
 use Rattle.asg_trees.proofs.objectives.judge_narrow.Goals as goal
@@ -17,3 +18,6 @@ returns-in-Tree c =
 
 pub judge_sums-requires-clause-sums : goal.judge_sums-requires-clause-sums
 judge_sums-requires-clause-sums c = is_sum-narrow c.args.objective c.requires.narrow
+
+pub start-requires-clause-near : goal.start-requires-clause-near
+start-requires-clause-near c = lies_within cost_reach c.args.inst.now (omega arith) c.rows-rows.ensures.instance

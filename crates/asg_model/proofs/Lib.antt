@@ -18,3 +18,5 @@ pub mod Positions
 pub mod Slots
 pub mod RetainedStores
 pub mod Decisions
+mod EditedTables
+mod EditedInstances

@@ -127,7 +127,7 @@ keys_front : (P : ℕ × ℕ → Type 0) (place : ℕ × ℕ) (o : Option Cost) 
 keys_front P place None rest here all = all
 keys_front P place (Some cost) rest here all = (here, all)
 
-later_keys : (n : ℕ) (seconds : List ℤ) (i start : ℕ) (firsts : List ℤ) → 0 < n → i < start → AllByRecursion (λ y. by_places (i / n, i % n) y ≡ Less) (keys_of (cells_from n seconds start firsts))
+pub later_keys : (n : ℕ) (seconds : List ℤ) (i start : ℕ) (firsts : List ℤ) → 0 < n → i < start → AllByRecursion (λ y. by_places (i / n, i % n) y ≡ Less) (keys_of (cells_from n seconds start firsts))
 later_keys n seconds i start [] some before = tt
 later_keys n seconds i start (a ∷ firsts) some before =
     keys_front (λ y. by_places (i / n, i % n) y ≡ Less) (start / n, start % n) (table_cost seconds start a) (cells_from n seconds (start + 1) firsts)

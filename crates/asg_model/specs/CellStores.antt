@@ -1,4 +1,4 @@
-use Rattle.std.specs.Prelude.{◌≡◌, ℕ, List, length}
+use Rattle.std.specs.Prelude.{◌≡◌, ◌≢◌, ℕ, ℤ, pos, List, length, Option, Some, None, All, IfSome, slice_set, slice_index_or}
 use Rattle.std.specs.List.Sorted.{IsStrictlySortedBy}
 use Rattle.std.specs.Map.{keys_of}
 use Rattle.asg_model.specs.declared.parts.Cost.{Cost}
@@ -9,7 +9,8 @@ use Rattle.asg_model.specs.declared.cell_store.CellStore.{CellStore}
 use Rattle.asg_model.specs.declared.cell_store.CellStore.TheVariants.{Map, Table}
 use Rattle.asg_model.specs.Problem.{Problem, problem_of}
 use Rattle.asg_model.specs.Instances.{IsInstance, AreCellsOf, by_places}
-use Rattle.asg_model.specs.Table.{table_cells, IsTable}
+use Rattle.asg_model.specs.Table.{absent, table_cells, IsTable}
+use Rattle.asg_model.specs.ValueRange.{IsPartInRange}
 
 -- the cells that stand in a map, or in a table with so many columns
 abbrev pub cells_in : ℕ → CellStore → List ((ℕ × ℕ) × Cost)
@@ -43,3 +44,17 @@ pub record IsCellStore (rows columns : ℕ) (store : CellStore) : Type 0 where
   pub whole : IsStoreOf rows columns store
   pub cells : AreCellsOf rows columns (cells_in columns store)
   pub ascend : IsStrictlySortedBy by_places (keys_of (cells_in columns store))
+
+-- what stands in a table for a cell that has this cost, or none
+abbrev pub slot_of : Option Cost → ℤ
+slot_of None = absent
+slot_of (Some cost) = cost.a
+
+-- the cell at an index of a table has this cost, or none, and all other cells are as before
+pub record PutsInTable (k : ℕ) (cell : Option Cost)
+    (firsts seconds firsts_after seconds_after : List ℤ) : Type 0 where
+  pub firsts_are : firsts_after ≡ slice_set firsts k (slot_of cell)
+  pub second : IfSome cell (λ cost. slice_index_or seconds_after k (pos 0) ≡ cost.b)
+  pub others : (i : ℕ) → i ≢ k
+      → slice_index_or seconds_after i (pos 0) ≡ slice_index_or seconds i (pos 0)
+  pub in_range : All IsPartInRange seconds → All IsPartInRange seconds_after

@@ -146,7 +146,7 @@ impl Instance {
     }
 
     // The number of active rows.
-    fn active_count(&self) -> u32
+    pub(crate) fn active_count(&self) -> u32
         ensures { result ≡ active_count self.now }
     {
         self.rows.iter().filter(|row| row.active).count() as u32
@@ -173,7 +173,7 @@ impl Instance {
     }
 
     // Whether there is a column at this place, and it is open.
-    fn is_open(&self, col: u32) -> bool
+    pub(crate) fn is_open(&self, col: u32) -> bool
         ensures { result ≡ is_open self.now col }
     {
         match self.columns.get(col as usize) {

@@ -52,7 +52,7 @@ fn is_refused_at(objective: Objective, inst: &Instance, row: u32, col: u32) -> b
 }
 
 // Whether the objective refuses the cost.
-fn is_refused(objective: Objective, cost: Cost) -> bool
+pub(crate) fn is_refused(objective: Objective, cost: Cost) -> bool
     ensures { result ≡ is_refused objective cost }
 {
     match objective {

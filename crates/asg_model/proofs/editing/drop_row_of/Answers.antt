@@ -1,0 +1,14 @@
+use Rattle.std.proofs.Common.{◌<◌, length, get_or, set, ◌∙◌, ap, arith}
+use Rattle.std.proofs.lemmas.List.{get_or_default}
+use Rattle.std.proofs.lemmas.List.Edits.{map_over_more}
+use Rattle.asg_model.specs.Edits.{dropped}
+use Rattle.asg_model.specs.laws.Rows.{no_row}
+use Rattle.asg_model.proofs.editing.drop_row_of.Goals as goal
+
+pub loop-row-preserved : goal.loop-row-preserved
+loop-row-preserved c =
+    let l = c.loop-row in
+    let x = get_or l.rows l.row-index no_row in
+    let within : l.row-index < length l.rows = omega (arith, c.loop-row-test.true, l.auto.rows) in
+    ap (set l.rows l.row-index) c.dropped.ensures
+    ∙ map_over_more (dropped c.args.id) c.args.rows.now l.rows l.row-index x c.loop-row-test.true l.invariant (get_or_default l.rows l.row-index no_row x within)

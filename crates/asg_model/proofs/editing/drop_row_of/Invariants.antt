@@ -1,0 +1,7 @@
+use Rattle.std.proofs.Common.{◌≡◌, ◌++◌, take, drop, map}
+use Rattle.asg_model.specs.Edits.{dropped}
+use Rattle.asg_model.proofs.editing.drop_row_of.Given as goal
+
+-- those so far are done
+abbrev pub invariant-loop-row : goal.invariant-loop-row
+invariant-loop-row l = l.rows ≡ map (dropped l.id) (take l.row-index l.fn.rows) ++ drop l.row-index l.fn.rows

@@ -23,3 +23,6 @@ pub mod TableFills
 pub mod LayoutLemmas
 pub mod PlaceLemmas
 pub mod PairLemmas
+pub mod ScriptLineLemmas
+pub mod ScriptLemmas
+pub mod ScriptLaw

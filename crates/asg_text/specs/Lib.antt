@@ -13,3 +13,8 @@ pub mod Networks
 pub mod SameCells
 pub mod Texts
 pub mod Layouts
+pub mod ScriptFaults
+pub mod ScriptLines
+pub mod Scripts
+pub mod ScriptSteps
+pub mod ScriptRanges

@@ -1,9 +1,10 @@
 //! What the lines of an asn file say.
 
-ghost use Rattle.std.specs.Prelude.{◌≡◌, ◌==◌, bytes_eq, length};
+ghost use Rattle.std.specs.Prelude.{◌≡◌};
 ghost use Rattle.asg_text.specs.AsnLines.{sizes_of, node_of, arc_of, line_of, IsLineInRange};
 ghost use Rattle.asg_text.specs.Pieces.{fields};
 
+use crate::line_fields::{is_at_end, is_word};
 use crate::numbers::{integer, size};
 use crate::pieces::{Separators, first_piece};
 
@@ -59,13 +60,6 @@ pub(crate) fn read_line(text: &[u8]) -> Line
     }
 }
 
-// Whether the field is the word.
-fn is_word(field: &[u8], word: &[u8]) -> bool
-    ensures { result ≡ bytes_eq field.now word.now }
-{
-    field == word
-}
-
 // The sizes of a problem line, from its second field on.
 fn read_sizes(text: &[u8]) -> Option<Sizes>
     ensures { result ≡ sizes_of (fields text.now) }
@@ -114,11 +108,4 @@ fn read_arc(text: &[u8]) -> Option<Arc>
         target,
         cost,
     })
-}
-
-// Whether no field is left.
-fn is_at_end(text: &[u8]) -> bool
-    ensures { result ≡ (length (fields text.now) == 0) }
-{
-    first_piece(text, Separators::Blanks).is_none()
 }

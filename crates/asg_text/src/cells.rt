@@ -163,9 +163,9 @@ fn is_absent(token: &[u8]) -> bool
     token == b"-".as_slice()
 }
 
-// The cost that a token spells, or `Some(None)` where a part is out of range; `None` where it
-// spells none.
-fn cost(token: &[u8]) -> Option<Option<Cost>>
+/// The cost that a token spells, or `Some(None)` where a part is out of range; `None` where it
+/// spells none.
+pub(crate) fn cost(token: &[u8]) -> Option<Option<Cost>>
     ensures { result ≡ option_map cost_in_range (cost_of token.now) }
 {
     match numbers::integer(token) {

@@ -2,6 +2,9 @@
 //! a law.
 
 ghost use Rattle.std.specs.Prelude.{◌≡◌, ◌↔◌, ℕ, List};
+ghost use Rattle.asg_text.specs.ScriptRanges.{AreLinesOfScript};
+ghost use Rattle.asg_text.specs.Scripts.{SpellsLines, reading_of_script};
+ghost use Rattle.asg_text.specs.declared.script_lines.Line.{Line};
 ghost use Rattle.asg_model.specs.Instances.{IsInstance};
 ghost use Rattle.asg_model.specs.Problem.{Problem};
 ghost use Rattle.asg_text.specs.Readings.{Spells};
@@ -24,3 +27,9 @@ pub fn instance_law()
 {
     whole_table_law();
 }
+
+/// What a script spells, however long it is, has at most 10,000 lines, and each cost is in range.
+pub fn script_law()
+    ensures { (bytes : List ℕ) (script : List (ℕ × Line)) →
+        reading_of_script bytes ≡ SpellsLines script → AreLinesOfScript script }
+{}

@@ -1,9 +1,11 @@
-//! Input files: from bytes to an instance, or to the fault for which they are refused.
+//! Input files: from bytes to an instance or to the lines of a script, or to the fault for which
+//! they are refused.
 //!
-//! A file is in one of three formats: asn, as DIMACS has it, square and rect. Contracts see what a
-//! text is read as, `reading_of`: a function of the lines and fields, or the tokens, of the whole
-//! text, which spells an instance or refuses the text for its earliest fault. The program's
-//! commands read by it.
+//! The file of an instance is in one of three formats: asn, as DIMACS has it, square and rect.
+//! Contracts see what a text is read as, `reading_of`: a function of the lines and fields, or the
+//! tokens, of the whole text, which spells an instance or refuses the text for its earliest fault.
+//! A script has a line for each edit of an instance and for each answer that is due; what it is
+//! read as is `reading_of_script`. The program's commands read by them.
 #![tactic(auto)]
 
 mod asn;
@@ -13,6 +15,7 @@ mod files;
 mod formats;
 pub mod laws;
 mod layouts;
+mod line_fields;
 mod lines;
 mod links;
 mod network;
@@ -21,6 +24,9 @@ mod node_sets;
 mod numbers;
 mod pieces;
 mod refusals;
+mod script_lines;
+mod script_refusals;
+mod scripts;
 mod short_integers;
 mod slots;
 mod tables;
@@ -28,3 +34,6 @@ mod tables;
 pub use files::read;
 pub use formats::Format;
 pub use refusals::TextRefusal;
+pub use script_lines::Line;
+pub use script_refusals::ScriptRefusal;
+pub use scripts::{MOST_SCRIPT_LINES, read_script};

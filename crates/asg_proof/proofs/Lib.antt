@@ -23,3 +23,4 @@ mod Rankings
 mod TreesAreRankings
 pub mod WorkedTree
 mod TreeTops
+mod KeptTops

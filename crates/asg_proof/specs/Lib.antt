@@ -11,6 +11,9 @@ pub mod StepWords
 pub mod WrittenPhases
 pub mod GradeAmounts
 pub mod PhaseProofs
+pub mod KeptPhases
+pub mod KeptTops
+pub mod KeptWords
 pub mod FoldProofs
 pub mod Proves
 pub mod Outcomes

@@ -40,7 +40,7 @@ use asg_order::DMonoid;
 use asg_order::laws::differences;
 use asg_square::laws::square_law;
 pub use grades::grade_law;
-pub use sums::{cut_law, lesser_tops_law};
+pub use sums::{cut_law, kept_tops_law, lesser_tops_law};
 
 /// A valid choice of an instance that a proof proves is best, where the objective refuses no cost
 /// of the instance: `capped` and `time-cost` refuse negative parts, the others nothing.

@@ -8,8 +8,12 @@ ghost use Rattle.asg_monoids.specs.BoundedSums.{bounded_sums, bounded_difference
 ghost use Rattle.asg_order.specs.declared.words.Word.{Word};
 ghost use Rattle.asg_order.specs.Bridge.{choice_fold};
 ghost use Rattle.asg_proof.specs.FoldProofs.{ProvesFold};
+ghost use Rattle.asg_proof.specs.KeptPhases.{AreKept};
+ghost use Rattle.asg_proof.specs.KeptTops.{total_of, StaysBelow};
 ghost use Rattle.asg_proof.specs.Phases.{PhaseOf, AreAdmittedPhases, cut_phase, index_of, worded};
 ghost use Rattle.asg_square.specs.Cells.{square_cell};
+
+use crate::laws::tops_law;
 
 /// The lesser tops law: phases that are admitted in turn where sums stop at a top, and whose index
 /// is at most a lesser top, are admitted where sums stop at the lesser one, from the same square;
@@ -47,3 +51,15 @@ pub fn cut_law()
         → AreAdmittedPhases (bounded_sums top) bounded_difference side
         (before ++ cut_phase phase n c ∷ []) square }
 {}
+
+/// The kept-tops law: where all steps together, and each cell with them, stay below the lesser of two
+/// tops, as many phases are kept by the greater top as by the lesser one.
+pub fn kept_tops_law()
+    ensures { (low high side : ℕ) (phases : List (PhaseOf ℕ)) (square : ℕ → ℕ → Option ℕ) (n : ℕ)
+        → low ≤ high
+        → StaysBelow low square (total_of phases)
+        → AreKept (bounded_sums low) bounded_difference side phases square n
+        → AreKept (bounded_sums high) bounded_difference side phases square n }
+{
+    tops_law();
+}

@@ -5,6 +5,7 @@ mod SettledRows
 mod ReplayLemmas
 mod AdmissionLemmas
 mod RowCells
+mod AllowingLemmas
 mod GreatestLemmas
 mod SumLemmas
 mod DualLemmas

@@ -1,4 +1,5 @@
 pub mod Settled
+pub mod KeptCells
 pub mod Admission
 pub mod Settling
 pub mod LeftColumns

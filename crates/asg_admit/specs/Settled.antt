@@ -43,6 +43,10 @@ AllowsSteps M difference steps enter leave x =
     (t : ℕ) → t < length steps → enter ≤ t → t < leave
     → IsLe M (step_of M steps t) (cell_after M difference (step_of M steps) enter leave x t)
 
+-- the cell does so wherever its column leaves
+abbrev pub AllowsAll : {V : Type 0} → Monoid V → (V → V → V) → List V → ℕ → V → Type 0
+AllowsAll M difference steps enter x = (leave : ℕ) → AllowsSteps M difference steps enter leave x
+
 -- some step at which the row of the cell has entered and its column stays is greater than the cell
 -- as it is by then
 abbrev pub RefusesStep : {V : Type 0} → Monoid V → (V → V → V) → List V → ℕ → ℕ → V → Type 0

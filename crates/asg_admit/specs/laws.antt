@@ -1,2 +1,3 @@
 -- What follows from the definitions, for crates above.
+pub mod KeptPhases
 pub mod SettledCells

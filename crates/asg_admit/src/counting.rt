@@ -10,6 +10,9 @@ ghost use Rattle.asg_model.specs.Limits.{most_side};
 // How many steps are counted at a time.
 const WINDOW: usize = 2_000;
 
+// How many steps are few: their counts are kept in less room.
+const FEW: usize = 128;
+
 // Whether at each step the rows that have entered and the columns that stay are one more than the
 // side. After the first step that is so where as many rows enter as columns leave.
 pub(crate) fn are_counted(enters: &[u32], leaves: &[u32], end: usize) -> bool
@@ -76,10 +79,46 @@ fn is_window_balanced(enters: &[u32], leaves: &[u32], first: usize, count: usize
     requires window { count ≤ 2000 }
     ensures { IsTrue result ↔ AreBalanced enters.now leaves.now first count }
 {
-    let mut entering = [0; WINDOW];
-    let mut leaving = [0; WINDOW];
-    count_marks(enters, first, &mut entering);
-    count_marks(leaves, first, &mut leaving);
+    if count <= FEW {
+        are_few_balanced(enters, leaves, first, count)
+    } else {
+        let mut entering = [0; WINDOW];
+        let mut leaving = [0; WINDOW];
+        are_counts_equal(enters, leaves, first, count, &mut entering, &mut leaving)
+    }
+}
+
+// The same of few steps, for which less room is cleared.
+fn are_few_balanced(enters: &[u32], leaves: &[u32], first: usize, count: usize) -> bool
+    requires few_rows { length enters.now ≤ most_side }
+    requires few_columns { length leaves.now ≤ most_side }
+    requires window { count ≤ 128 }
+    ensures { IsTrue result ↔ AreBalanced enters.now leaves.now first count }
+{
+    let mut entering = [0; FEW];
+    let mut leaving = [0; FEW];
+    are_counts_equal(enters, leaves, first, count, &mut entering, &mut leaving)
+}
+
+// The same, by counts in two lists of zeros that have a place for each step.
+fn are_counts_equal(
+    enters: &[u32],
+    leaves: &[u32],
+    first: usize,
+    count: usize,
+    entering: &mut [u32],
+    leaving: &mut [u32],
+) -> bool
+    requires few_rows { length enters.now ≤ most_side }
+    requires few_columns { length leaves.now ≤ most_side }
+    requires entering { count ≤ length entering.old }
+    requires leaving { count ≤ length leaving.old }
+    requires clear_rows { (i : ℕ) → i < length entering.old → slice_index entering.old i ≡ 0 }
+    requires clear_columns { (i : ℕ) → i < length leaving.old → slice_index leaving.old i ≡ 0 }
+    ensures { IsTrue result ↔ AreBalanced enters.now leaves.now first count }
+{
+    count_marks(enters, first, entering);
+    count_marks(leaves, first, leaving);
     for i in 0..count {
         if entering[i] != leaving[i] {
             return false;

@@ -32,6 +32,7 @@ mod joined_steps;
 pub mod laws;
 mod left_columns;
 mod left_words;
+mod lesser_cells;
 mod list_tests;
 mod low_cells;
 mod marked_cells;

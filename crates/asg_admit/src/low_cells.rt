@@ -86,7 +86,7 @@ fn low_word(values: &[(u64, u128)], first: usize, word: u64, grade: u64) -> u64
 
 // The word, without a bit that isn't to be kept.
 #[inline]
-fn kept(word: u64, bit: u32, is_kept: bool) -> u64
+pub(crate) fn kept(word: u64, bit: u32, is_kept: bool) -> u64
     requires { bit < 64 }
     ensures inside { (k : ℕ) → bit_at result k ≡ 1 → bit_at word k ≡ 1 }
     ensures others { (k : ℕ) → bit_at word k ≡ 1 → (k ≡ bit → IsTrue is_kept)

@@ -8,11 +8,14 @@ ghost use Rattle.asg_model.specs.Limits.{most_side};
 ghost use Rattle.asg_order.specs.Monoid.{IsValue};
 ghost use Rattle.asg_square.specs.BitTable.{word_count};
 
+use crate::lesser_cells::{allowing, bits_to_test};
 use crate::replayed_cells::replay_cell;
 use asg_order::DMonoid;
+use asg_order::laws::differences;
 
 // Whether the cells of a row that enters at this step allow the steps, by their values and the
-// words that say which of them are present.
+// words that say which of them are present. Those that are at least a value which allows all steps
+// take one comparison each.
 pub(crate) fn cells_allow<M: DMonoid>(
     m: &M,
     values: &[M::Value],
@@ -33,8 +36,12 @@ pub(crate) fn cells_allow<M: DMonoid>(
         → AllowsAt (M.monoid_of m.now) (M.difference m.now) steps.now enter
         (slice_index leaves.now k) (cell_in_row values.now words.now k)) }
 {
+    differences(m);
+    let least = allowing(m, steps, enter);
     for number in 0..words.len() {
-        if !bits_allow(m, values, 64 * number, words[number], steps, leaves, enter) {
+        let first = 64 * number;
+        let word = bits_to_test(m, values, first, words[number], least);
+        if !bits_allow(m, values, first, word, steps, leaves, enter) {
             return false;
         }
     }

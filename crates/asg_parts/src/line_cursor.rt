@@ -19,6 +19,8 @@ use std::marker::Model;
 #[derive(Drop)]
 pub struct Lines<'a> {
     rest: &'a [u8],
+    // How many numbers the list that was read last has: the next one is given room for so many.
+    room: usize,
 }
 
 impl<'a> Model for Lines<'a> {
@@ -35,7 +37,10 @@ impl<'a> Lines<'a> {
     pub fn of(file: &'a [u8]) -> Lines<'a>
         ensures { result ≡ whole_lines file.now }
     {
-        Lines { rest: file }
+        Lines {
+            rest: file,
+            room: 0,
+        }
     }
 
     // The next line, and the lines after it.
@@ -44,7 +49,8 @@ impl<'a> Lines<'a> {
     {
         let (line, rest) = cut(b'\n', self.rest);
         let rest = after(b"\n", rest)?;
-        Some((line, Lines { rest }))
+        let room = self.room;
+        Some((line, Lines { rest, room }))
     }
 
     /// Whether no line is left.
@@ -140,21 +146,22 @@ impl<'a> Lines<'a> {
         ensures { Reads (one_line pair_spelling) self.old self.new result }
     {
         if let Some((pair, rest)) = leading_pair(self.rest) {
-            *self = Lines { rest };
+            self.rest = rest;
             return Ok(pair);
         }
         self.read(b"", pair)
     }
 
     /// The numbers that the next line lists behind its front, in which no LF stands, and goes past
-    /// it. They alone take memory.
+    /// it. They alone take memory: at first room for as many as the list read before them has.
     pub fn numbers(&mut self, alloc: Global, front: &[u8]) -> Result<Numbers, Fault>
         requires { line_ends front.now ≡ 0 }
         ensures { ReadsOrFails (one_line (behind front.now list_spelling))
             self.old self.new result }
     {
-        if let Some((listed, rest)) = leading_list(alloc, front, self.rest)? {
-            *self = Lines { rest };
+        if let Some((listed, rest)) = leading_list(alloc, self.room, front, self.rest)? {
+            let room = listed.len();
+            *self = Lines { rest, room };
             return Ok(listed);
         }
         let (text, left) = self.next_behind(front)?;

@@ -54,10 +54,12 @@ fn next_number(bytes: &[u8]) -> Option<(u32, &[u8])>
 }
 
 // The numbers that come first behind a front, each after a space, and what follows the LF behind
-// them: some only where the front, numbers and LF do. They are read in one pass. The error is want
-// of memory.
+// them: some only where the front, numbers and LF do. They are read in one pass, into room for so
+// many, which grows where they are more and is given back where they are fewer. The error is want of
+// memory.
 pub(crate) fn leading_list<'a>(
     alloc: Global,
+    room: usize,
     front: &[u8],
     bytes: &'a [u8],
 ) -> Result<Option<(Numbers, &'a [u8])>, AllocError>
@@ -67,12 +69,13 @@ pub(crate) fn leading_list<'a>(
     let Some(text) = after(front, bytes) else {
         return Ok(None);
     };
-    let mut numbers = Vec::new(alloc);
+    let mut numbers = Vec::with_capacity(alloc, room)?;
     let mut rest = text;
     'listed: while let Some((number, left)) = next_number(rest) {
         numbers.push(number)?;
         rest = left;
     }
+    numbers.shrink_to_fit();
     match rest {
         [b'\n', rest @ ..] if !numbers.is_empty() => Ok(Some((Numbers::from_vec(numbers), rest))),
         _ => Ok(None),

@@ -1,6 +1,6 @@
 //! Lists of numbers as they were read.
 
-ghost use Rattle.std.specs.Prelude.{◌≡◌};
+ghost use Rattle.std.specs.Prelude.{◌≡◌, length};
 ghost use Rattle.asg_parts.specs.NumberLists.{AreNumbers};
 
 use std::marker::Model;
@@ -29,6 +29,13 @@ impl Numbers {
         ensures within { AreNumbers result }
     {
         Numbers { items }
+    }
+
+    // How many they are.
+    pub(crate) fn len(&self) -> usize
+        ensures { result ≡ length self.now }
+    {
+        self.items.len()
     }
 
     /// The numbers as a `Vec`. It takes no memory.

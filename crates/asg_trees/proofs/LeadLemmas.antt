@@ -1,16 +1,18 @@
 -- Phases that are known to be admitted.
 use Rattle.std.proofs.Common.{◌≡◌, ◌≢◌, ℕ, zero, suc, ◌<◌, Bool, true, false, List, [], ◌∷◌, length, take, drop, map, get_or, Option, None, Some, refl, sym, ap, subst, ◌∙◌, arith}
 use Rattle.std.specs.Prelude.{All, IfSome}
+use Rattle.std.specs.Option.{option_map}
 use Rattle.std.proofs.lemmas.List.{length-map, take-append-drop, take-map}
 use Rattle.asg_order.specs.declared.words.Word.{Word}
 use Rattle.asg_order.specs.Monoid.{Monoid, IsValue, IsOrderedMonoid}
 use Rattle.asg_order.specs.Words.{HasWords}
 use Rattle.asg_square.specs.Grid.{cell_at}
-use Rattle.asg_proof.specs.Phases.{PhaseOf, phase_of, worded, after_phase, after_phases, AreAdmittedPhases, IsAdmittedPhase}
-use Rattle.asg_proof.specs.laws.PhaseLists.{AreAdmittedPhases-front}
+use Rattle.asg_proof.specs.Phases.{PhaseOf, phase_of, worded, after_phase, after_phases, AreAdmittedPhases, IsAdmittedPhase, index_of}
+use Rattle.asg_proof.specs.laws.PhaseLists.{AreAdmittedPhases-front, index_is_value}
 use Rattle.asg_admit.specs.declared.reduced.Reduced.{Reduced}
 use Rattle.asg_admit.specs.Reduced.{IsReduced}
 use Rattle.asg_replays.specs.Replays.{AreAdmittedFrom, AreReplayed, IsAdmittedFrom, IsBadFrom, LeadOn}
+use Rattle.asg_replays.specs.WholeLists.{HaveIndex}
 use Rattle.asg_replays.specs.laws.PhaseWords.{admitted-take, phase-once, phases-once}
 use Rattle.asg_replays.specs.laws.Replaying.{phase-words, replayed-none, unread-words}
 
@@ -62,3 +64,14 @@ none_bad {V} M laws difference word_of words before after found reduced all bad 
     by : (o : Option ℕ) → found ≡ o → IfSome o (IsBadFrom M difference word_of words 0 before) → AreReplayed M difference word_of words before after
     by None e b = none e before reduced start
     by (Some place) e b = absurd ((b before reduced start).bad (admitted-take M difference word_of before.now.side (cell_at before.now) (suc place) words all))
+
+-- where the index before phases is the unit, that after them is theirs
+pub led_known : {V : Type 0} (M : Monoid V) (laws : IsOrderedMonoid M) (difference : V → V → V) (word_of : V → Word) (words : List (PhaseOf Word)) (start : Reduced V) → start.index ≡ M.unit → (led : Option (Reduced V)) → IfSome led (AreReplayed M difference word_of words start)
+    → IfSome (option_map (λ l. l.index) led) (λ index. HaveIndex M difference word_of start.now.side (cell_at start.now) index words)
+led_known M laws difference word_of words start begun None known = tt
+led_known M laws difference word_of words start begun (Some after) a =
+    let value = index_is_value M laws difference start.now.side a.phases (cell_at start.now) a.admitted in
+    record {
+      admitted = record { phases = a.phases; written = a.written; admitted = a.admitted };
+      same = sym (a.index ∙ ap (λ z. M.product z (index_of M a.phases)) begun ∙ laws.unit_neutral (index_of M a.phases) value);
+    }

@@ -1,6 +1,7 @@
 //! Phases that are known to be admitted, applied to a square without a test.
 
-ghost use Rattle.std.specs.Prelude.{IfOk};
+ghost use Rattle.std.specs.Prelude.{◌≡◌, IfOk, IfSome};
+ghost use Rattle.std.specs.Option.{option_map};
 ghost use Rattle.asg_admit.specs.Reduced.{IsReduced};
 ghost use Rattle.asg_replays.specs.Replays.{AreAdmittedFrom, AreReplayed, IsAdmittedFrom, IsReplayed};
 ghost use Rattle.asg_square.specs.Grid.{cell_at};
@@ -97,5 +98,41 @@ pub(crate) fn lead_by<M: Written>(
         replay_phases(alloc, m, reduced, phases)
     } else {
         settle_phases(alloc, m, reduced, phases)
+    }
+}
+
+/// Leads a square over phases that are known to be admitted in turn; where it is known what they
+/// make of it, that is taken. The error is want of memory.
+pub(crate) fn stand_after<M: Written>(
+    alloc: Global,
+    m: &M,
+    reduced: &mut Reduced<M::Value>,
+    led: Option<Reduced<M::Value>>,
+    phases: &[WrittenPhase],
+) -> Result<(), NoMemory>
+    requires reduced { IsReduced (M.monoid_of m.now) reduced.old }
+    requires admitted { AreAdmittedFrom (M.monoid_of m.now) (M.difference m.now) (M.word_of m.now)
+        reduced.old.now.side (cell_at reduced.old.now) phases.now }
+    requires led { IfSome led (AreReplayed (M.monoid_of m.now) (M.difference m.now)
+        (M.word_of m.now) phases.now reduced.old) }
+    ensures { IfOk result (λ _. AreReplayed (M.monoid_of m.now) (M.difference m.now)
+        (M.word_of m.now) phases.now reduced.old reduced.new) }
+{
+    match led {
+        Some(after) => {
+            *reduced = after;
+            Ok(())
+        }
+        None => lead_by(alloc, m, reduced, phases),
+    }
+}
+
+/// The index of a square, if it is known.
+pub(crate) fn led_index<V: Copy>(led: &Option<Reduced<V>>) -> Option<V>
+    ensures { result ≡ option_map (λ l. l.index) led.now }
+{
+    match led {
+        Some(reduced) => Some(reduced.index),
+        None => None,
     }
 }

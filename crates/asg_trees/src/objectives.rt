@@ -1,6 +1,7 @@
 //! Search trees, judged by objective.
 
 ghost use Rattle.std.specs.Prelude.{◌≡◌, ◌≤◌, IsTrue, IfOk, IfSome, All, length};
+ghost use Rattle.asg_admit.specs.Reduced.{IsReduced};
 ghost use Rattle.asg_model.specs.declared.objectives.Objective.TheVariants.{TimeCost};
 ghost use Rattle.asg_model.specs.declared.parts.Place.TheVariants.{All as PlaceAll};
 ghost use Rattle.asg_model.specs.Limits.{most_side};
@@ -13,22 +14,21 @@ ghost use Rattle.asg_monoids.specs.BoundedSums.{narrow_top};
 ghost use Rattle.asg_monoids.specs.Entered.{is_sum_objective};
 ghost use Rattle.asg_monoids.specs.NarrowObjectives.{is_narrow_objective};
 ghost use Rattle.asg_proof.specs.Nodes.{node_at};
-ghost use Rattle.asg_replays.specs.WholeLists.{HaveIndex};
-ghost use Rattle.asg_square.specs.Grid.{cell_at};
+ghost use Rattle.asg_replays.specs.Replays.{AreReplayed};
 ghost use Rattle.asg_trees.specs.Judged.{TellsRanking};
 
 use crate::NoMemory;
 use crate::node_parts::own_of;
 use crate::trees::{judge_from, judge_tree};
 use crate::verdicts::TreeVerdict;
+use asg_admit::Reduced;
 use asg_model::{Choice, Instance, Objective};
 use asg_monoids::laws::narrow_sums;
 use asg_monoids::{PeakKind, SumKind, TimeKind};
 use asg_narrow_kinds::NarrowKind;
 use asg_proof::Node;
 use asg_proof::ranking_laws::tree_tops_law;
-use asg_replays::{has_long, list_index, start};
-use asg_square::Square;
+use asg_replays::{has_long, narrow_led, start};
 use std::alloc::Global;
 
 // The verdict by an objective of sums.
@@ -53,21 +53,25 @@ fn judge_sums(
     Ok(verdict)
 }
 
-// The index of the own phases of the root in 64 bits, where none is long and one pass over the cells
-// tells that they are admitted from the square before any step. The error is want of memory.
-fn root_index(alloc: Global, square: &Square<u64>, nodes: &[Node]) -> Result<Option<u64>, NoMemory>
-    ensures { IfOk result (λ found. IfSome found (λ index. HaveIndex (bounded_sums narrow_top)
-        bounded_difference plain_word square.now.side (cell_at square.now) index
-        (node_at nodes.now 1).own)) }
+// What the own phases of the root make of the square before any step in 64 bits, where none is long,
+// they are admitted in turn, and no sum comes near 2^62. The error is want of memory.
+fn root_led(
+    alloc: Global,
+    root: &Reduced<u64>,
+    nodes: &[Node],
+) -> Result<Option<Reduced<u64>>, NoMemory>
+    requires { IsReduced (bounded_sums narrow_top) root.now }
+    ensures { IfOk result (λ led. IfSome led (AreReplayed (bounded_sums narrow_top)
+        bounded_difference plain_word (node_at nodes.now 1).own root.entry.now)) }
 {
     if nodes.is_empty() {
         return Ok(None);
     }
     let own = own_of(nodes, 1);
-    if has_long(own, square.side()) {
+    if has_long(own, root.now.side()) {
         return Ok(None);
     }
-    list_index(alloc, square, own)
+    narrow_led(alloc, root, own)
 }
 
 // The verdict by `sum` or `sum-max`: first by sums in 64 bits, and where these don't tell that the
@@ -93,8 +97,8 @@ fn judge_narrow(
     let _rows = inst.rows();
     let kind = NarrowKind::of(objective);
     let mut root = start(alloc, &kind, inst)?;
-    let known = root_index(alloc, &root.now, nodes)?;
-    let verdict = judge_from(alloc, &kind, inst, count, answers, nodes, &mut root, known)?;
+    let led = root_led(alloc, &root, nodes)?;
+    let verdict = judge_from(alloc, &kind, inst, count, answers, nodes, &mut root, led)?;
     match verdict {
         TreeVerdict::Tree => Ok(TreeVerdict::Tree),
         _ => judge_sums(alloc, objective, inst, count, answers, nodes),

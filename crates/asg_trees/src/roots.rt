@@ -2,7 +2,7 @@
 
 ghost use Rattle.std.specs.Prelude.{◌≡◌, ◌+◌, ◌<◌, ◌≤◌, IfOk, IfSome, length};
 ghost use Rattle.asg_proof.specs.Nodes.{node_at};
-ghost use Rattle.asg_replays.specs.Replays.{IsStart};
+ghost use Rattle.asg_replays.specs.Replays.{AreReplayed, IsStart};
 ghost use Rattle.asg_replays.specs.WholeLists.{HaveIndex};
 ghost use Rattle.asg_square.specs.Grid.{cell_at};
 ghost use Rattle.asg_trees.specs.Groups.{AreGroups, answer_keys, parent_keys};
@@ -14,7 +14,7 @@ ghost use Rattle.asg_trees.specs.Trees.{IsSound, IsTree, tree_of};
 
 use crate::NoMemory;
 use crate::groups::Groups;
-use crate::leading::lead_by;
+use crate::leading::{led_index, stand_after};
 use crate::marks::judge_mark;
 use crate::node_parts::own_of;
 use crate::siblings::tallied;
@@ -97,8 +97,8 @@ fn tally_root<K: Kind>(
 }
 
 /// Judges the root, where it has its place, on the square before any step, and where it is sound
-/// leads the square over its trail. The index after its own phases may be known. The error is want
-/// of memory.
+/// leads the square over its trail. What its own phases make of the square may be known. The error
+/// is want of memory.
 pub(crate) fn judge_root<K: Kind>(
     alloc: Global,
     kind: &K,
@@ -111,7 +111,7 @@ pub(crate) fn judge_root<K: Kind>(
     last: Option<<<K as Kind>::M as Ordered>::Value>,
     root: &mut Reduced<<<K as Kind>::M as Ordered>::Value>,
     kept: &BitRows,
-    known: Option<<<K as Kind>::M as Ordered>::Value>,
+    led: Option<Reduced<<<K as Kind>::M as Ordered>::Value>>,
     so_far: Tally,
 ) -> Result<Tally, NoMemory>
     requires tree { let T = tree_of (K.M.monoid_of (K.monoid kind.now))
@@ -125,9 +125,9 @@ pub(crate) fn judge_root<K: Kind>(
     requires start { IsStart (K.M.monoid_of (K.monoid kind.now)) (K.entered kind.now) inst.now
         root.old }
     requires kept { KeepsAll inst.now kept.now }
-    requires known { IfSome known (λ index. HaveIndex (K.M.monoid_of (K.monoid kind.now))
-        (K.M.difference (K.monoid kind.now)) (K.M.word_of (K.monoid kind.now)) root.old.now.side
-        (cell_at root.old.now) index (node_at nodes.now 1).own) }
+    requires led { IfSome led (AreReplayed (K.M.monoid_of (K.monoid kind.now))
+        (K.M.difference (K.monoid kind.now)) (K.M.word_of (K.monoid kind.now))
+        (node_at nodes.now 1).own root.old) }
     requires from { 1 ≤ so_far.fault }
     requires upto { so_far.fault ≤ length nodes.now + 1 }
     requires places { let T = tree_of (K.M.monoid_of (K.monoid kind.now))
@@ -147,12 +147,13 @@ pub(crate) fn judge_root<K: Kind>(
         (K.entered kind.now) inst.now answers.now nodes.now in
         IfOk result (λ tally. 1 < tally.fault → StandsAt T 1 root.new.now root.new.index) }
 {
+    let known = led_index(&led);
     let tally = tally_root(
         alloc, kind, inst, answers, nodes, members, given, count, last, root, kept, known, so_far,
     )?;
     if tally.fault <= 1 {
         return Ok(tally);
     }
-    lead_by(alloc, kind.monoid(), root, own_of(nodes, 1))?;
+    stand_after(alloc, kind.monoid(), root, led, own_of(nodes, 1))?;
     Ok(tally)
 }

@@ -9,9 +9,7 @@ ghost use Rattle.asg_model.specs.ValidChoice.{IsValid};
 ghost use Rattle.asg_order.specs.Entering.{LiesWithin};
 ghost use Rattle.asg_proof.specs.Nodes.{node_at};
 ghost use Rattle.asg_proof.specs.declared.nodes.Node.{Node as N};
-ghost use Rattle.asg_replays.specs.Replays.{IsStart};
-ghost use Rattle.asg_replays.specs.WholeLists.{HaveIndex};
-ghost use Rattle.asg_square.specs.Grid.{cell_at};
+ghost use Rattle.asg_replays.specs.Replays.{AreReplayed, IsStart};
 ghost use Rattle.asg_trees.specs.Groups.{AreGroups, answer_keys, parent_keys};
 ghost use Rattle.asg_trees.specs.Judged.{TellsTree};
 ghost use Rattle.asg_trees.specs.Kept.{KeepsOtherRows};
@@ -185,8 +183,8 @@ fn last_product<K: Kind>(
     Some(chosen_fold(kind, inst, &answers[answers.len() - 1]))
 }
 
-/// Judges nodes as [`judge_tree`] does, from the square before any step. The index after the own
-/// phases of the root may be known. The error is want of memory.
+/// Judges nodes as [`judge_tree`] does, from the square before any step. What the own phases of the
+/// root make of it may be known. The error is want of memory.
 pub(crate) fn judge_from<K: Kind>(
     alloc: Global,
     kind: &K,
@@ -195,7 +193,7 @@ pub(crate) fn judge_from<K: Kind>(
     answers: &[Choice],
     nodes: &[Node],
     root: &mut Reduced<<<K as Kind>::M as Ordered>::Value>,
-    known: Option<<<K as Kind>::M as Ordered>::Value>,
+    led: Option<Reduced<<<K as Kind>::M as Ordered>::Value>>,
 ) -> Result<TreeVerdict, NoMemory>
     requires place { inst.now.place ≡ PlaceAll }
     requires side { square_side inst.now ≤ most_side }
@@ -205,9 +203,9 @@ pub(crate) fn judge_from<K: Kind>(
     requires valid { All (IsValid inst.now) answers.now }
     requires start { IsStart (K.M.monoid_of (K.monoid kind.now)) (K.entered kind.now) inst.now
         root.old }
-    requires known { IfSome known (λ index. HaveIndex (K.M.monoid_of (K.monoid kind.now))
-        (K.M.difference (K.monoid kind.now)) (K.M.word_of (K.monoid kind.now)) root.old.now.side
-        (cell_at root.old.now) index (node_at nodes.now 1).own) }
+    requires led { IfSome led (AreReplayed (K.M.monoid_of (K.monoid kind.now))
+        (K.M.difference (K.monoid kind.now)) (K.M.word_of (K.monoid kind.now))
+        (node_at nodes.now 1).own root.old) }
     ensures { IfOk result (TellsTree (K.M.monoid_of (K.monoid kind.now))
         (K.M.difference (K.monoid kind.now)) (K.M.word_of (K.monoid kind.now))
         (K.entered kind.now) inst.now count answers.now nodes.now) }
@@ -223,7 +221,7 @@ pub(crate) fn judge_from<K: Kind>(
         left: nodes.len() + 1,
     };
     let at_root = judge_root(
-        alloc, kind, inst, answers, nodes, &members, &given, count, last, root, &kept, known, first,
+        alloc, kind, inst, answers, nodes, &members, &given, count, last, root, &kept, led, first,
     )?;
     let tally = judge_parents(
         alloc, kind, inst, answers, nodes, &members, &given, count, last, root, &mut kept, at_root,

@@ -1,0 +1,24 @@
+use Rattle.std.proofs.Common.{ℕ, sym, ap, subst, ◌∙◌}
+use Rattle.asg_admit.specs.Reduced.{IsReduced}
+use Rattle.asg_monoids.specs.BoundedSums.{bounded_sums, bounded_difference, plain_word, narrow_top}
+use Rattle.asg_replays.specs.Replays.{AreReplayed}
+use Rattle.asg_square.specs.Grid.{Grid}
+use Rattle.asg_replays.proofs.narrow_lists.narrow_led.Goals as goal
+
+pub make-requires : goal.make-requires
+make-requires c =
+    let start = c.args.start.now in
+    subst (λ (Q : Grid ℕ). IsReduced (bounded_sums narrow_top) (record { now = Q; index = start.index })) (sym c.in_ok-now.ensures) c.requires
+
+pub replay_all-requires : goal.replay_all-requires
+replay_all-requires c =
+    let start = c.args.start.now in
+    subst (IsReduced (bounded_sums narrow_top)) (sym (c.in_ok-square.ensures ∙ ap (λ (Q : Grid ℕ). record { now = Q; index = start.index }) c.in_ok-now.ensures)) c.requires
+
+pub returns : goal.returns
+returns c =
+    let start = c.args.start.now in
+    let same = c.in_ok-square.ensures ∙ ap (λ (Q : Grid ℕ). record { now = Q; index = start.index }) c.in_ok-now.ensures in
+    subst (AreReplayed (bounded_sums narrow_top) bounded_difference plain_word c.args.phases.now start) (sym c.reduce.ensures)
+    (subst (λ before. AreReplayed (bounded_sums narrow_top) bounded_difference plain_word c.args.phases.now before c.replay_all.new.square) same
+    (c.in_ok-replay_all.ensures c.if-not-branch.false))

@@ -1,5 +1,5 @@
 -- How much a ranking takes, by its work.
-use Rattle.std.proofs.Common.{ℕ, ◌+◌, ◌-◌, ◌*◌, ◌≤◌, length, arith}
+use Rattle.std.proofs.Common.{◌≡◌, ℕ, ◌+◌, ◌-◌, ◌*◌, ◌^◌, ◌<◌, ◌≤◌, length, sym, ap, subst, arith}
 use Rattle.std.proofs.Math.Nat.{mul-le-mul_left, mul-le-mul_right}
 use Rattle.std.proofs.lemmas.List.Sums.{count_by-le-length}
 use Rattle.asg_model.specs.declared.parts.Place.{Place}
@@ -44,6 +44,13 @@ module _ (X : Problem) (instance : IsInstance X) where
         let by_side = mul-le-mul_left (room * length X.rows) side in
         omega (arith, by_rows, by_side, fits)
 
+    -- and one more
+    pub few_children : (children : ℕ) → children ≡ placed X → room * children + 1 < 2 ^ 32
+    few_children children is =
+        let times : room * children ≡ room * placed X = ap (λ n. room * n) is in
+        let fit = children_fit in
+        omega (arith, times, fit)
+
     -- and their Hall sets
     pub halls_fit : (room * placed X + 1) * length X.rows ≤ 4000000 + length X.rows
     halls_fit =
@@ -51,6 +58,15 @@ module _ (X : Problem) (instance : IsInstance X) where
         let by_side = mul-le-mul_left (room * length X.rows) rows_few in
         let times = add_one_times (room * placed X) (length X.rows) in
         omega (arith, by_rows, by_side, times, fits)
+
+    -- and the ids of those
+    pub few_nodes : (nodes rows : ℕ) → nodes ≡ room * placed X + 1 → rows ≡ length X.rows → nodes * rows < 2 ^ 32
+    few_nodes nodes rows is are =
+        let same : nodes * rows ≡ (room * placed X + 1) * length X.rows = (λ i. is i * are i) in
+        let fit = halls_fit in
+        let few = instance.well_formed.few_rows in
+        let ids : (room * placed X + 1) * length X.rows < 2 ^ 32 = omega (arith, fit, few) in
+        subst (λ n. n < 2 ^ 32) (sym same) ids
 
 -- less is asked for by fewer
 pub work_upto : (X : Problem) (room count : ℕ) → room ≤ count → ranking_work X room ≤ ranking_work X count

@@ -10,7 +10,6 @@ pub mod Settled
 pub mod Rooms
 pub mod Chosen
 pub mod Searches
-pub mod Roots
 pub mod Opening
 pub mod Written
 pub mod Expansions

@@ -1,5 +1,5 @@
 -- A search before its root is made.
-use Rattle.std.specs.Prelude.{◌≡◌, ℕ, ◌+◌, ◌-◌, ◌*◌, ◌≤◌, true, List, [], length, All, Option, vec_len, vec_capacity}
+use Rattle.std.specs.Prelude.{◌≡◌, ℕ, ◌+◌, ◌-◌, ◌*◌, ◌^◌, ◌<◌, ◌≤◌, true, List, [], length, All, Option, vec_len, vec_capacity}
 use Rattle.asg_algebra.specs.declared.solving.Solved.{Solved}
 use Rattle.asg_algebra.specs.declared.solving.Solved.TheVariants.{Perfect, Short}
 use Rattle.asg_match.specs.Deficient.{IsDeficient}
@@ -7,14 +7,17 @@ use Rattle.asg_match.specs.HallSets.{AllowsCells}
 use Rattle.asg_model.specs.declared.bands.Band.TheVariants.{Whole}
 use Rattle.asg_model.specs.Counts.{placed}
 use Rattle.asg_model.specs.Problem.{Problem}
+use Rattle.asg_model.specs.Shapes.{square_side}
 use Rattle.asg_square.specs.Cells.{IsPresent}
 use Rattle.asg_square.specs.Grid.{cell_at, HasLabelsOf}
 use Rattle.asg_square.specs.Masked.{masked_grid}
 use Rattle.asg_rank.specs.declared.searches.Search.{Search}
+use Rattle.asg_rank.specs.declared.trees.Tree.{Tree}
 use Rattle.asg_rank.specs.Cuts.{AreBitsFor}
 use Rattle.asg_rank.specs.Rooms.{answer_room}
 use Rattle.asg_rank.specs.Rules.{Rules, Leads, IsSolved, IsReducedTo}
 use Rattle.asg_rank.specs.Searches.{IsRankable, HasMemory}
+use Rattle.asg_rank.specs.Slots.{SlotList}
 
 -- nothing was given and there is no node, with the memory for so many answers
 pub record IsBlank {V : Type 0} (X : Problem) (room : ℕ) (S : Search V) : Type 0 where
@@ -31,6 +34,17 @@ pub record IsBlank {V : Type 0} (X : Problem) (room : ℕ) (S : Search V) : Type
   pub work : S.desk.work.now ≡ S.base.now
   pub no_square : S.desk.node ≡ 0
   pub bits : AreBitsFor S.base.now.side (λ _ _. true) S.desk.bits
+
+-- a tree without a node yet, free slots and choices, with the memory for so many answers
+pub record HasAnswerRoom {V : Type 0} (X : Problem) (room : ℕ) (tree : Tree V) (slots : SlotList V)
+    (count : ℕ) (choices : List (List (Option ℕ))) : Type 0 where
+  pub small : room * placed X + 1 < 2 ^ 32
+  pub no_node : tree.entries.items ≡ []
+  pub entries_fit : room * placed X + 1 ≤ vec_capacity tree.entries
+  pub halls_are : tree.halls ≡ record { most = room * placed X + 1; width = length X.rows; sets = [] }
+  pub slots_are : slots ≡ record { side = square_side X; room = room; used = [] }
+  pub choices_fit : count ≡ room
+  pub choices_over : All (λ f. length f ≡ length X.rows) choices
 
 -- what solving the square of the instance came to: a best choice, or rows with too few columns
 abbrev pub IsRootOf : {V : Type 0} → Rules V → Problem → Search V → List (Option ℕ) → Solved → Type 0

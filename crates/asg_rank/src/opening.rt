@@ -1,41 +1,36 @@
 //! The memory of a search, and its root.
 
-ghost use Rattle.std.specs.Prelude.{◌≡◌, ℕ, ◌*◌, ◌≤◌, [], true, IfOk, All, length, vec_len};
+ghost use Rattle.std.specs.Prelude.{◌≡◌, ℕ, ◌*◌, ◌≤◌, [], IfOk, All, length, vec_len};
 ghost use Rattle.asg_model.specs.declared.parts.Place.TheVariants.{All as PlaceAll};
 ghost use Rattle.asg_model.specs.Limits.{most_cost, most_side};
+ghost use Rattle.asg_model.specs.Problem.{Problem};
 ghost use Rattle.asg_model.specs.Refused.{PassesNegative};
 ghost use Rattle.asg_model.specs.Shapes.{square_side};
 ghost use Rattle.asg_model.specs.declared.parts.Cost.{Cost};
-ghost use Rattle.asg_rank.specs.Cuts.{AreBitsFor};
-ghost use Rattle.asg_rank.specs.Opening.{IsBlank, IsPlantable};
+ghost use Rattle.asg_rank.specs.Opening.{IsBlank, HasAnswerRoom, IsPlantable};
 ghost use Rattle.asg_rank.specs.Rankings.{ranking_work};
 ghost use Rattle.asg_rank.specs.Rooms.{most_work};
 ghost use Rattle.asg_rank.specs.Rules.{rules_of};
-ghost use Rattle.asg_rank.specs.Searches.{IsDesk, HasMemory, IsReady, given_of};
+ghost use Rattle.asg_rank.specs.Searches.{HasMemory, IsReady, given_of};
 
 use crate::NoMemory;
 use crate::child_nodes::{close_child, push_child};
-use crate::desks::Desk;
+use crate::desks::{Desk, desk_for};
 use crate::entries::State;
-use crate::guesses::RootGuess;
-use crate::hall_pools::HallPool;
 use crate::rooms::answer_room;
-use crate::roots::{Root, instance_root};
 use crate::searches::Search;
 use crate::slots::{Slots, offer};
-use crate::trees::Tree;
+use crate::trees::{Tree, blank_tree};
 use asg_admit::Reduced;
 use asg_algebra::{Bench, Solved};
 use asg_match::Matching;
 use asg_model::laws::infeasible_law;
 use asg_model::{Choice, Instance};
 use asg_order::{DMonoid, Kind, Ordered};
+use asg_pool::Region;
+use asg_roots::{Root, RootGuess, instance_root};
 use asg_square::laws::square_law;
-use asg_square::{BitRows, Square};
 use std::alloc::Global;
-
-// Places for the ids of a Hall set, one more than an instance may have rows.
-const IDS: usize = 1001;
 
 // So many choices over so many rows.
 fn choices_for(alloc: Global, room: u32, rows: u32) -> Result<Vec<Choice>, NoMemory>
@@ -49,100 +44,83 @@ fn choices_for(alloc: Global, room: u32, rows: u32) -> Result<Vec<Choice>, NoMem
     Ok(choices)
 }
 
-// Rows of bits over a side, all set.
-fn all_bits(alloc: Global, side: u32) -> Result<BitRows, NoMemory>
-    requires { side ≤ most_side }
-    ensures all { IfOk result (AreBitsFor side (λ _ _. true)) }
-{
-    let mut bits = BitRows::make(alloc, side, side)?;
-    bits.set_all();
-    Ok(bits)
-}
-
-// What children are grown on, with a square that will be rebuilt.
-fn desk_for<V: Copy>(
-    alloc: Global,
-    square: &Square<V>,
-    bench: Bench<V>,
-    unit: V,
-) -> Result<Desk<V>, NoMemory>
-    requires small { square.now.side ≤ most_side }
-    requires bench { bench.side ≡ square.now.side }
-    ensures desk { IfOk result (IsDesk square.now.side) }
-    ensures work { IfOk result (λ d. d.work.now ≡ square.now) }
-    ensures node { IfOk result (λ d. d.node ≡ 0) }
-    ensures bits { IfOk result (λ d. AreBitsFor square.now.side (λ _ _. true) d.bits) }
-    ensures bench { IfOk result (λ d. d.bench ≡ bench) }
-{
-    let side = square.side();
-    let work = Reduced {
-        now: square.copy(alloc)?,
-        index: unit,
-    };
-    let bits = all_bits(alloc, side)?;
-    let trial = Matching::make(alloc, side)?;
-    let room = vec![in alloc; unit; side as usize + 1]?;
-    let columns = vec![in alloc; 0; side as usize]?;
-    let ids = vec![in alloc; 0; IDS]?;
-    Ok(Desk {
-        work,
-        node: 0,
-        bits,
-        bench,
-        trial,
-        room,
-        columns,
-        ids,
-    })
-}
-
-// A search without a node yet, over a root that was solved.
-fn blank_search<V: Copy>(
+// The memory for so many answers: their choices, and slots that are free.
+fn answer_memory<V: Copy>(
     alloc: Global,
     inst: &Instance,
-    root: Root<V>,
     room: u32,
     unit: V,
-) -> Result<(Search<V>, Solved, Matching), NoMemory>
-    requires root { root.bench.side ≡ root.reduced.now.side }
-    requires small { root.reduced.now.side ≤ most_side }
-    requires side { root.reduced.now.side ≡ square_side inst.now }
-    requires work { ranking_work inst.now room ≤ most_work }
-    requires some { 1 ≤ room }
-    ensures blank { IfOk result (λ parts. IsBlank inst.now room parts.0) }
-    ensures memory { root.reduced.now.side ≡ square_side inst.now
-        → root.region.side ≡ square_side inst.now → IfOk result (λ parts. HasMemory inst.now parts.0) }
-    ensures base { IfOk result (λ parts. parts.0.base ≡ root.reduced) }
-    ensures region { IfOk result (λ parts. parts.0.tree.region ≡ root.region) }
-    ensures bench { IfOk result (λ parts. parts.0.desk.bench ≡ root.bench) }
-    ensures ended { IfOk result (λ parts. parts.1 ≡ root.ended) }
-    ensures matching { IfOk result (λ parts. parts.2 ≡ root.matching) }
+) -> Result<(Vec<Choice>, Slots<V>), NoMemory>
+    ensures count { IfOk result (λ memory. vec_len memory.0 ≡ room) }
+    ensures over { IfOk result (λ memory.
+        All (λ f. length f ≡ length inst.now.rows) memory.0.items) }
+    ensures slots { IfOk result (λ memory. memory.1
+        ≡ record { side = square_side inst.now; room = room; used = [] }) }
 {
-    let rows = inst.rows().len() as u32;
-    let children = room * inst.placed();
-    let Root {
-        reduced: base,
-        ended,
-        matching,
-        bench,
-        region,
-    } = root;
-    let side = base.now.side();
+    let choices = choices_for(alloc, room, inst.rows().len() as u32)?;
+    let slots = Slots::make(alloc, inst.side(), room, unit)?;
+    Ok((choices, slots))
+}
+
+// A search without a node yet, in a tree and with the memory for answers, over a square with the
+// bench that solved it.
+fn search_in_tree<V: Copy>(
+    alloc: Global,
+    base: Reduced<V>,
+    bench: Bench<V>,
+    tree: Tree<V>,
+    choices: Vec<Choice>,
+    slots: Slots<V>,
+    unit: V,
+) -> Result<Search<V>, NoMemory>
+    requires bench { bench.side ≡ base.now.side }
+    requires small { base.now.side ≤ most_side }
+    ensures blank { (X : Problem) (room : ℕ)
+        → HasAnswerRoom X room tree slots (vec_len choices) choices.items
+        → IfOk result (IsBlank X room) }
+    ensures memory { (X : Problem) (room : ℕ)
+        → HasAnswerRoom X room tree slots (vec_len choices) choices.items
+        → base.now.side ≡ square_side X → tree.region.side ≡ square_side X
+        → IfOk result (HasMemory X) }
+    ensures base { IfOk result (λ s. s.base ≡ base) }
+    ensures region { IfOk result (λ s. s.tree.region ≡ tree.region) }
+    ensures bench { IfOk result (λ s. s.desk.bench ≡ bench) }
+{
     let desk = desk_for(alloc, &base.now, bench, unit)?;
-    let tree = Tree {
-        entries: Vec::with_capacity(alloc, children as usize + 1)?,
-        region,
-        halls: HallPool::make(alloc, children + 1, rows)?,
-    };
-    let search = Search {
+    Ok(Search {
         given: 0,
-        choices: choices_for(alloc, room, rows)?,
-        slots: Slots::make(alloc, side, room, unit)?,
+        choices,
+        slots,
         tree,
         base,
         desk,
-    };
-    Ok((search, ended, matching))
+    })
+}
+
+// A search without a node yet, over the square of a root that was solved, with the bench that
+// solved it, the region of its phases, and the memory for so many answers.
+fn blank_search<V: Copy>(
+    alloc: Global,
+    inst: &Instance,
+    base: Reduced<V>,
+    bench: Bench<V>,
+    region: Region<V>,
+    room: u32,
+    unit: V,
+) -> Result<Search<V>, NoMemory>
+    requires bench { bench.side ≡ base.now.side }
+    requires small { base.now.side ≤ most_side }
+    requires side { base.now.side ≡ square_side inst.now }
+    requires work { ranking_work inst.now room ≤ most_work }
+    ensures blank { IfOk result (IsBlank inst.now room) }
+    ensures memory { region.side ≡ square_side inst.now → IfOk result (HasMemory inst.now) }
+    ensures base { IfOk result (λ s. s.base ≡ base) }
+    ensures region { IfOk result (λ s. s.tree.region ≡ region) }
+    ensures bench { IfOk result (λ s. s.desk.bench ≡ bench) }
+{
+    let tree = blank_tree(alloc, inst, region, room)?;
+    let memory = answer_memory(alloc, inst, room, unit)?;
+    search_in_tree(alloc, base, bench, tree, memory.0, memory.1, unit)
 }
 
 // Makes the root: with its best choice, which is kept, or empty, with its Hall set.
@@ -202,9 +180,14 @@ where
     let room = answer_room(inst, count);
     let records = inst.side() + (room - 1) * inst.placed();
     let root = instance_root(alloc, kind, inst, records)?;
-    let parts = blank_search(alloc, inst, root, room, m.unit())?;
-    let (search, ended, matching) = parts;
-    let mut search = search;
+    let Root {
+        reduced: base,
+        ended,
+        matching,
+        bench,
+        region,
+    } = root;
+    let mut search = blank_search(alloc, inst, base, bench, region, room, m.unit())?;
     plant(m, inst, &mut search, ended, &matching);
     Ok(search)
 }

@@ -15,7 +15,6 @@ ghost use Rattle.asg_rank.specs.Rankings.{AreCountable, HaveFewPhases, LeaveLast
 ghost use Rattle.asg_rank.specs.Rooms.{most_work};
 
 use crate::NoMemory;
-use crate::guesses::RootGuess;
 use crate::opening::open_search;
 use crate::rooms::counting_law;
 use crate::searches::{Search, advance};
@@ -24,6 +23,7 @@ use crate::written_nodes::written_nodes;
 use asg_model::{Choice, Instance};
 use asg_order::{Kind, Ordered};
 use asg_proof::Nodes;
+use asg_roots::RootGuess;
 use asg_square::laws::square_law;
 use std::alloc::Global;
 use std::marker::Model;

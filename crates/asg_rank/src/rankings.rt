@@ -13,7 +13,6 @@ ghost use Rattle.asg_rank.specs.Rooms.{most_work};
 
 use crate::NoMemory;
 use crate::choice_lists::Choices;
-use crate::guesses::RootGuess;
 use crate::ranker::{Next, RankRefusal, Ranker};
 use asg_model::{Choice, Instance, Objective};
 use asg_monoids::{PeakKind, SumKind, TimeKind};
@@ -21,6 +20,7 @@ use asg_narrow_kinds::NarrowKind;
 use asg_order::Kind;
 use asg_proof::ranking_laws::tree_tops_law;
 use asg_proof::{Ids, Nodes};
+use asg_roots::RootGuess;
 use std::alloc::Global;
 
 /// What a ranking gives.

@@ -1,12 +1,19 @@
 //! Search trees as they grow.
 
-ghost use Rattle.std.specs.Prelude.{◌≡◌, ◌≤◌, length};
+ghost use Rattle.std.specs.Prelude.{◌≡◌, ◌+◌, ◌*◌, ◌^◌, ◌<◌, ◌≤◌, [], IfOk, length, vec_capacity};
+ghost use Rattle.asg_model.specs.Counts.{placed};
+ghost use Rattle.asg_model.specs.Instances.{IsInstance};
+ghost use Rattle.asg_rank.specs.Rankings.{ranking_work};
+ghost use Rattle.asg_rank.specs.Rooms.{most_work};
 ghost use Rattle.asg_rank.specs.Entries.{entry_at, with_state};
 ghost use Rattle.asg_rank.specs.Trees.{NamesHall, hall_in};
 
+use crate::NoMemory;
 use crate::entries::{Entry, State};
 use crate::hall_pools::HallPool;
+use asg_model::Instance;
 use asg_pool::Region;
+use std::alloc::Global;
 
 /// The nodes of a search tree in order, the phases of their trails, and the Hall sets of those that
 /// are empty.
@@ -15,6 +22,68 @@ pub(crate) struct Tree<V: Copy> {
     pub(crate) entries: Vec<Entry<V>>,
     pub(crate) region: Region<V>,
     pub(crate) halls: HallPool,
+}
+
+// A tree without a node yet, over a region, with the memory for so many nodes and for as many Hall
+// sets of so many ids at most.
+fn tree_with<V: Copy>(
+    alloc: Global,
+    region: Region<V>,
+    nodes: u32,
+    rows: u32,
+) -> Result<Tree<V>, NoMemory>
+    requires { nodes * rows < 2 ^ 32 }
+    ensures none { IfOk result (λ t. t.entries.items ≡ []) }
+    ensures fit { IfOk result (λ t. nodes ≤ vec_capacity t.entries) }
+    ensures region { IfOk result (λ t. t.region ≡ region) }
+    ensures halls { IfOk result (λ t. t.halls
+        ≡ record { most = nodes; width = rows; sets = [] }) }
+{
+    let entries = Vec::with_capacity(alloc, nodes as usize)?;
+    let halls = HallPool::make(alloc, nodes, rows)?;
+    Ok(Tree {
+        entries,
+        region,
+        halls,
+    })
+}
+
+// How many the root and the children of so many answers are.
+fn most_nodes(inst: &Instance, room: u32) -> u32
+    requires work { ranking_work inst.now room ≤ most_work }
+    ensures nodes { result ≡ room * placed inst.now + 1 }
+    ensures instance { IsInstance inst.now }
+{
+    let _rows = inst.rows();
+    room * inst.placed() + 1
+}
+
+// How many rows an instance has.
+fn row_count(inst: &Instance) -> u32
+    ensures { result ≡ length inst.now.rows }
+{
+    inst.rows().len() as u32
+}
+
+/// A tree without a node yet, over a region, with the memory for the children of so many answers and
+/// their Hall sets. The error is want of memory.
+pub(crate) fn blank_tree<V: Copy>(
+    alloc: Global,
+    inst: &Instance,
+    region: Region<V>,
+    room: u32,
+) -> Result<Tree<V>, NoMemory>
+    requires work { ranking_work inst.now room ≤ most_work }
+    ensures small { room * placed inst.now + 1 < 2 ^ 32 }
+    ensures none { IfOk result (λ t. t.entries.items ≡ []) }
+    ensures fit { IfOk result (λ t. room * placed inst.now + 1 ≤ vec_capacity t.entries) }
+    ensures region { IfOk result (λ t. t.region ≡ region) }
+    ensures halls { IfOk result (λ t. t.halls
+        ≡ record { most = room * placed inst.now + 1; width = length inst.now.rows; sets = [] }) }
+{
+    let nodes = most_nodes(inst, room);
+    let rows = row_count(inst);
+    tree_with(alloc, region, nodes, rows)
 }
 
 /// Node number n, which count from 1.

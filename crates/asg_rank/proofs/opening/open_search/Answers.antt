@@ -1,10 +1,11 @@
-use Rattle.std.proofs.Common.{◌≡◌, ◌+◌, ◌-◌, ◌*◌, ◌≤◌, take, sym, ◌∙◌, ap, subst, arith}
+use Rattle.std.proofs.Common.{◌≡◌, ◌+◌, ◌-◌, ◌*◌, ◌≤◌, take, refl, sym, ◌∙◌, ap, subst, arith}
 use Rattle.asg_model.specs.Counts.{placed}
 use Rattle.asg_proof.specs.PhaseProofs.{EntersValues}
 use Rattle.asg_rank.specs.Opening.{IsBlank}
 use Rattle.asg_rank.specs.Rules.{rules_of}
 use Rattle.asg_rank.specs.Searches.{IsRankable, IsReady}
-use Rattle.asg_rank.proofs.RootSteps.{enters_values, equal_root, instance_side, plantable}
+use Rattle.asg_roots.specs.laws.InstanceRoots.{enters_values, equal_root, instance_side}
+use Rattle.asg_rank.proofs.RootSteps.{plantable}
 use Rattle.asg_rank.proofs.Sizes.{children_fit, work_upto, rest_few}
 use Rattle.asg_rank.proofs.opening.open_search.Goals as goal
 
@@ -23,8 +24,8 @@ overflow_add-records g c =
     let small = c.requires.side in
     omega (arith, times, rest, fit, side, small)
 
-pub blank_search-requires-clause-root : goal.blank_search-requires-clause-root
-blank_search-requires-clause-root g c =
+pub blank_search-requires-clause-bench : goal.blank_search-requires-clause-bench
+blank_search-requires-clause-bench g c =
     let is = c.in_ok-root.ensures in
     is.solved.bench_side ∙ is.of_instance.labels.side ∙ sym (instance_side is)
 
@@ -54,7 +55,7 @@ plant-requires g c =
     let X = c.args.inst.now in
     let enter = g.K.Kind.entered kind in
     let R = rules_of (g.K.M.Ordered.monoid_of n) (g.K.M.DMonoid.difference n) enter in
-    let blank = c.in_ok-parts.ensures in
+    let blank = c.in_ok-search.ensures in
     let root = c.in_ok-root.root in
     let is = equal_root (g.K.M.Ordered.monoid_of) (g.K.M.DMonoid.difference) enter X root k n (sym c.monoid-m.ensures) c.in_ok-root.ensures in
     let side = is.of_instance.labels.side in
@@ -63,8 +64,8 @@ plant-requires g c =
     (enters_values (g.K.M.Ordered.monoid_of k) enter (g.K.Kind.objective kind) (g.K.Kind.reach kind) X c.requires.reach c.rows-rows.ensures.instance c.requires.passes (g.met.K.Kind.enters_value kind)) in
     let rankable : IsRankable R X = record { place = c.requires.place; small = c.requires.side; enters = live } in
     let planted = plantable R (g.met.K.M.Ordered.laws n) X c.args.count c.requires.some rankable is.square is.of_instance (c.square_law.ensures.presence X) _ root is.solved
-    c.in_ok-parts.parts.0 c.in_ok-parts.parts.1 c.in_ok-parts.parts.2 blank.base blank.ended blank.matching blank.bench blank.region
-    (subst (λ room. IsBlank X room c.in_ok-parts.parts.0) c.answer_room-room.ensures blank.blank) (blank.memory (instance_side is) region_side)
+    c.in_ok-search.search root.ended root.matching blank.base refl refl blank.bench blank.region
+    (subst (λ room. IsBlank X room c.in_ok-search.search) c.answer_room-room.ensures blank.blank) (blank.memory region_side)
     (λ i. (c.side.ensures.side ∙ sym side) i + (c.answer_room-room.ensures i - 1) * c.placed.ensures i) in
     record { planted = (enter, c.args.count, planted) }
 
@@ -76,7 +77,7 @@ returns-clause-ready g c =
     let X = c.args.inst.now in
     let enter = g.K.Kind.entered kind in
     let R = rules_of (g.K.M.Ordered.monoid_of n) (g.K.M.DMonoid.difference n) enter in
-    let blank = c.in_ok-parts.ensures in
+    let blank = c.in_ok-search.ensures in
     let root = c.in_ok-root.root in
     let is = equal_root (g.K.M.Ordered.monoid_of) (g.K.M.DMonoid.difference) enter X root k n (sym c.monoid-m.ensures) c.in_ok-root.ensures in
     let side = is.of_instance.labels.side in
@@ -85,10 +86,10 @@ returns-clause-ready g c =
     (enters_values (g.K.M.Ordered.monoid_of k) enter (g.K.Kind.objective kind) (g.K.Kind.reach kind) X c.requires.reach c.rows-rows.ensures.instance c.requires.passes (g.met.K.Kind.enters_value kind)) in
     let rankable : IsRankable R X = record { place = c.requires.place; small = c.requires.side; enters = live } in
     let planted = plantable R (g.met.K.M.Ordered.laws n) X c.args.count c.requires.some rankable is.square is.of_instance (c.square_law.ensures.presence X) _ root is.solved
-    c.in_ok-parts.parts.0 c.in_ok-parts.parts.1 c.in_ok-parts.parts.2 blank.base blank.ended blank.matching blank.bench blank.region
-    (subst (λ room. IsBlank X room c.in_ok-parts.parts.0) c.answer_room-room.ensures blank.blank) (blank.memory (instance_side is) region_side)
+    c.in_ok-search.search root.ended root.matching blank.base refl refl blank.bench blank.region
+    (subst (λ room. IsBlank X room c.in_ok-search.search) c.answer_room-room.ensures blank.blank) (blank.memory region_side)
     (λ i. (c.side.ensures.side ∙ sym side) i + (c.answer_room-room.ensures i - 1) * c.placed.ensures i) in
     subst (λ z. IsReady (rules_of (g.K.M.Ordered.monoid_of z) (g.K.M.DMonoid.difference z) enter) X c.args.count c.plant.new.search) c.monoid-m.ensures (c.plant.ensures.ready enter c.args.count planted)
 
 pub returns-clause-none : goal.returns-clause-none
-returns-clause-none g c = ap (λ n. take n c.plant.new.search.choices.items) (c.plant.ensures.given ∙ c.in_ok-parts.ensures.blank.none_given)
+returns-clause-none g c = ap (λ n. take n c.plant.new.search.choices.items) (c.plant.ensures.given ∙ c.in_ok-search.ensures.blank.none_given)

@@ -2,9 +2,10 @@ use Rattle.std.proofs.Common.{sym, subst, arith}
 use Rattle.std.specs.Prelude.{IfOk, IfSome}
 use Rattle.asg_proof.specs.Steps.{HasValues}
 use Rattle.asg_square.specs.Grid.{cell_at}
-use Rattle.asg_rank.specs.Roots.{IsInstanceRoot, IsSolvedRoot}
-use Rattle.asg_rank.proofs.RootSteps.{IfOk-weaker_some, enters_values, square_values, root_of_instance}
-use Rattle.asg_rank.proofs.roots.hinted_entered_root.Goals as goal
+use Rattle.asg_roots.specs.Roots.{IsInstanceRoot, IsSolvedRoot}
+use Rattle.asg_roots.specs.laws.InstanceRoots.{enters_values, square_values}
+use Rattle.asg_roots.proofs.RootSteps.{IfOk-weaker_some, root_of_instance}
+use Rattle.asg_roots.proofs.roots.hinted_entered_root.Goals as goal
 
 pub hinted_root-requires-clause-values : goal.hinted_root-requires-clause-values
 hinted_root-requires-clause-values g c =

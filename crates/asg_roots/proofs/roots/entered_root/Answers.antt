@@ -3,9 +3,10 @@ use Rattle.std.specs.Prelude.{IfOk}
 use Rattle.std.proofs.lemmas.Result.{IfOk-weaker}
 use Rattle.asg_proof.specs.Steps.{HasValues}
 use Rattle.asg_square.specs.Grid.{cell_at}
-use Rattle.asg_rank.specs.Roots.{IsInstanceRoot, IsSolvedRoot}
-use Rattle.asg_rank.proofs.RootSteps.{enters_values, square_values, root_of_instance}
-use Rattle.asg_rank.proofs.roots.entered_root.Goals as goal
+use Rattle.asg_roots.specs.Roots.{IsInstanceRoot, IsSolvedRoot}
+use Rattle.asg_roots.specs.laws.InstanceRoots.{enters_values, square_values}
+use Rattle.asg_roots.proofs.RootSteps.{root_of_instance}
+use Rattle.asg_roots.proofs.roots.entered_root.Goals as goal
 
 pub solve_root-requires-clause-values : goal.solve_root-requires-clause-values
 solve_root-requires-clause-values g c =

@@ -1,8 +1,8 @@
 use Rattle.std.proofs.Common.{◌≡◌, ℕ, List, None, Option, length, ◌∙◌, ap, arith}
 use Rattle.std.proofs.lemmas.List.{length-replicate}
 use Rattle.asg_pool.specs.Forest.{Forest}
-use Rattle.asg_rank.proofs.RootSteps.{solved_root}
-use Rattle.asg_rank.proofs.roots.solve_root.Goals as goal
+use Rattle.asg_roots.proofs.RootSteps.{solved_root}
+use Rattle.asg_roots.proofs.roots.solve_root.Goals as goal
 
 pub returns : goal.returns
 returns g c =
@@ -17,6 +17,7 @@ returns g c =
     c.in_ok-solved.ensures.solved c.args.records c.unit.ensures.unit
     (ap (λ (xs : List (Option ℕ)). length xs) c.in_ok-matching.ensures.empty ∙ length-replicate c.side-side.result none ∙ side)
     (ap (λ (f : Forest _). f.side) made ∙ side)
+    (ap (λ (f : Forest _). f.trails) made)
     (omega (arith, spare))
     (c.in_ok-solved.ensures.bench_side ∙ c.in_ok-bench.ensures.side ∙ side)
     c.in_ok-solved.ensures.ends

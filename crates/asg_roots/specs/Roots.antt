@@ -1,5 +1,5 @@
--- The root of a search: the square of the instance, solved.
-use Rattle.std.specs.Prelude.{◌≡◌, ℕ, ◌+◌, ◌≤◌, length, None, IfSome}
+-- The square of an instance, solved.
+use Rattle.std.specs.Prelude.{◌≡◌, ℕ, ◌+◌, ◌≤◌, [], length, None, IfSome}
 use Rattle.asg_admit.specs.declared.reduced.Reduced.{Reduced}
 use Rattle.asg_algebra.specs.Ended.{EndsIn, last_of}
 use Rattle.asg_algebra.specs.Solved.{LeadTo}
@@ -8,13 +8,14 @@ use Rattle.asg_model.specs.Problem.{Problem}
 use Rattle.asg_order.specs.Monoid.{Monoid}
 use Rattle.asg_pool.specs.Forest.{Forest, IsLive, phases_to}
 use Rattle.asg_square.specs.Grid.{Grid, IsSquareOf}
-use Rattle.asg_rank.specs.declared.roots.Root.{Root}
+use Rattle.asg_roots.specs.declared.roots.Root.{Root}
 
 -- a square was solved from the unit on, in a region without trails that had so many records
 pub record IsSolvedRoot {V : Type 0} (M : Monoid V) (difference : V → V → V) (Q : Grid V) (records : ℕ)
     (root : Root V) : Type 0 where
   pub before : Reduced V
   pub forest : Forest V
+  pub fresh : forest.trails ≡ []
   pub start : before.now ≡ Q
   pub at_unit : before.index ≡ M.unit
   pub lead : LeadTo M difference (phases_to root.region (last_of root.ended)) before root.reduced forest

@@ -3,8 +3,8 @@ use Rattle.std.proofs.lemmas.List.{length-replicate}
 use Rattle.asg_algebra.specs.Ended.{EndsIn, last_of}
 use Rattle.asg_algebra.specs.Solved.{HasSolved}
 use Rattle.asg_pool.specs.Forest.{Forest}
-use Rattle.asg_rank.proofs.RootSteps.{at_some, solved_root}
-use Rattle.asg_rank.proofs.roots.given_root.Goals as goal
+use Rattle.asg_roots.proofs.RootSteps.{at_some, solved_root}
+use Rattle.asg_roots.proofs.roots.given_root.Goals as goal
 
 pub returns-in-Some : goal.returns-in-Some
 returns-in-Some g c =
@@ -24,6 +24,7 @@ returns-in-Some g c =
     c.args.records c.unit.ensures.unit
     (ap (λ (xs : List (Option ℕ)). length xs) c.in_ok-matching.ensures.empty ∙ length-replicate c.side-side.result none ∙ side)
     (ap (λ (f : Forest _). f.side) made ∙ side)
+    (ap (λ (f : Forest _). f.trails) made)
     (omega (arith, spare))
     (c.in_ok-bench.ensures.side ∙ side)
     (at_some c.in_ok-found.found c.in-Some.solved c.in-Some.is (λ s. EndsIn M s.reduced new.matching rows s.ended) (c.in_ok-found.ensures.ends rows))

@@ -1,4 +1,4 @@
-//! The root of a search: the square of the instance, solved.
+//! The square of an instance, solved.
 
 ghost use Rattle.std.specs.Prelude.{◌≡◌, ◌≤◌, [], None, IfOk, IfSome, length};
 ghost use Rattle.asg_model.specs.Limits.{most_cost, most_side};
@@ -6,7 +6,7 @@ ghost use Rattle.asg_model.specs.Refused.{PassesNegative};
 ghost use Rattle.asg_model.specs.Shapes.{square_side};
 ghost use Rattle.asg_proof.specs.Steps.{HasValues};
 ghost use Rattle.asg_square.specs.Grid.{cell_at, IsSquareOf};
-ghost use Rattle.asg_rank.specs.Roots.{IsSolvedRoot, IsInstanceRoot};
+ghost use Rattle.asg_roots.specs.Roots.{IsSolvedRoot, IsInstanceRoot};
 
 use crate::NoMemory;
 use crate::guesses::{Hint, RootGuess};
@@ -20,15 +20,20 @@ use asg_proof::Phase;
 use asg_square::Square;
 use std::alloc::Global;
 
-/// A square that was solved: as its phases led to it, what it came to, and the memory of the
-/// solver.
+/// A square that was solved from the unit on: as its phases led to it, a perfect assignment by
+/// absorbed cells or rows with too few columns, the phases, and the memory of the solver.
 #[derive(Drop)]
-pub(crate) struct Root<V: Copy> {
-    pub(crate) reduced: Reduced<V>,
-    pub(crate) ended: Solved,
-    pub(crate) matching: Matching,
-    pub(crate) bench: Bench<V>,
-    pub(crate) region: Region<V>,
+pub struct Root<V: Copy> {
+    /// The square as its phases led to it, with the product of their steps.
+    pub reduced: Reduced<V>,
+    /// What the solver came to, with the trail of the last phase.
+    pub ended: Solved,
+    /// The column of each row that has one.
+    pub matching: Matching,
+    /// The memory of the solver, which names the rows with too few columns.
+    pub bench: Bench<V>,
+    /// The phases, with room for more.
+    pub region: Region<V>,
 }
 
 // A region without trails, with so many records spare.
@@ -180,11 +185,15 @@ where
 }
 
 /// Solves the square of an instance, its live costs entered into the monoid of a kind, from the
-/// unit on, in a region with so many records: by phases that are guessed, and where these don't
-/// pass the tests by those of the engine, over a square that is made anew. Where nothing is
-/// guessed, the engine solves the square that was made. The error is want of memory. The time grows
-/// with the cube of the side at most.
-pub(crate) fn instance_root<K: Kind>(
+/// unit on, in a region with so many records for phases, at least one for each row of the square.
+/// The side of the square is at most 2,000, the objective refuses no live cost
+/// (`asg_model::negative`), and the kind's reach is at least the cost limit. The error is want of
+/// memory.
+///
+/// Few phases are guessed first and tested; where these don't pass, the engine solves the square
+/// anew. Where nothing is guessed, the engine solves it at once, by shortest augmenting paths. The
+/// time grows with the cube of the side at most.
+pub fn instance_root<K: Kind>(
     alloc: Global,
     kind: &K,
     inst: &Instance,

@@ -1,4 +1,4 @@
-//! What is guessed of the root of a search.
+//! Few phases that may solve the square of an instance, guessed.
 
 use crate::NoMemory;
 use asg_algebra::SquareSolver;
@@ -11,7 +11,8 @@ use asg_proof::Phase;
 use asg_square::Square;
 use std::alloc::Global;
 
-/// Phases and a column for each row that may solve a square. No clause says that they do.
+/// Phases and a column for each row that may solve a square. No clause says that they do: whoever
+/// takes them tests them.
 #[derive(Drop)]
 pub enum Hint<V: Copy> {
     /// Phases from dual variables, and these with their assignment.
@@ -21,16 +22,16 @@ pub enum Hint<V: Copy> {
 }
 
 impl<V: Copy> Hint<V> {
-    /// The phases in order.
-    pub fn phases(&self) -> &[Phase<V>] {
+    // The phases in order.
+    pub(crate) fn phases(&self) -> &[Phase<V>] {
         match self {
             Hint::FromDuals(phases, _duals) => phases.as_slice(),
             Hint::Guessed(guess) => guess.phases(),
         }
     }
 
-    /// The column of each row.
-    pub fn columns(&self) -> &[u32] {
+    // The column of each row.
+    pub(crate) fn columns(&self) -> &[u32] {
         match self {
             Hint::FromDuals(_phases, duals) => duals.columns(),
             Hint::Guessed(guess) => guess.columns(),
@@ -48,8 +49,9 @@ fn guessed<V: Copy>(guess: Option<Guess<V>>) -> Option<Hint<V>> {
 
 /// The monoids of the objectives, each with the way to guess few phases that solve its squares.
 pub trait RootGuess: SquareSolver {
-    /// Phases and a column for each row for the square of an instance whose live costs entered for
-    /// the objective; `None` where none are guessed. The error is want of memory.
+    /// Phases and a column for each row that may solve the square of an instance whose live costs
+    /// entered for the objective; `None` where none are guessed. No clause says that they solve it.
+    /// The error is want of memory.
     fn guess(
         &self,
         alloc: Global,

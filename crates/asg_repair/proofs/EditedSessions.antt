@@ -1,0 +1,145 @@
+-- What a session keeps is kept by an edit.
+use Rattle.std.proofs.Common.{◌≡◌, ℕ, ◌<◌, ◌≤◌, Bool, true, false, ◌||◌, List, length, take, Option, None, refl, sym, ap, subst, ◌∙◌, arith}
+use Rattle.std.specs.Prelude.{nat_lt}
+use Rattle.std.proofs.lemmas.Bool.{false≢true}
+use Rattle.asg_match.specs.Matching.{column_at, IsMatching}
+use Rattle.asg_model.specs.declared.edits.Edit.{Edit}
+use Rattle.asg_model.specs.declared.objectives.Objective.{Objective}
+use Rattle.asg_model.specs.declared.parts.Cost.{Cost}
+use Rattle.asg_model.specs.Edits.{edited, refusal_of}
+use Rattle.asg_model.specs.Instances.{IsInstance}
+use Rattle.asg_model.specs.Problem.{Problem}
+use Rattle.asg_model.specs.Shapes.{square_side}
+use Rattle.asg_order.specs.Entering.{MayEnter}
+use Rattle.asg_order.specs.Monoid.{Monoid, IsValue}
+use Rattle.asg_proof.specs.KeptPhases.{AreKept}
+use Rattle.asg_proof.specs.Phases.{PhaseOf, AreAdmittedPhases}
+use Rattle.asg_square.specs.Cells.{square_cell}
+use Rattle.asg_repair.specs.declared.answers.AnswerRoom.{AnswerRoom}
+use Rattle.asg_repair.specs.declared.answers.Given.TheVariants.{Open}
+use Rattle.asg_repair.specs.declared.named_places.NamedPlaces.{NamedPlaces}
+use Rattle.asg_repair.specs.declared.phase_chains.PhaseChain.{PhaseChain}
+use Rattle.asg_repair.specs.declared.works.Work.{Work}
+use Rattle.asg_repair.specs.Edited.{Touches, NamesPlaces}
+use Rattle.asg_repair.specs.NamedPlaces.{places_of}
+use Rattle.asg_repair.specs.PhaseChains.{phases_in, IsPhaseChain}
+use Rattle.asg_repair.specs.Sessions.{AreAbsorbedAfter, AreTogether, IsGiven, IsLed, IsSession, IsSized, ids_in, sure_columns}
+use Rattle.asg_repair.proofs.EditSteps.{HasColumnsOf-edited, IsClearedOf, MaySolve-edited, absorbed_edited, column_kept, still_whole, sure_kept, uncut}
+use Rattle.asg_repair.proofs.EditedShapes.{edited_rows, edited_side}
+use Rattle.asg_repair.proofs.NamedLemmas.{NamesPlaces-passed}
+
+-- records are spare and the way is told, and the phases are the same
+pub record IsPrepared {V : Type 0} (before after : PhaseChain V) : Type 0 where
+  pub chain : IsPhaseChain after
+  pub phases : phases_in after ≡ phases_in before
+  pub side : after.region.side ≡ before.region.side
+  pub more : before.region.spare ≤ after.region.spare
+  pub kept : before.is_told ≡ true → after.is_told ≡ true
+
+-- so many phases are left
+pub record IsCutTo {V : Type 0} (kept : ℕ) (before after : PhaseChain V) : Type 0 where
+  pub chain : IsPhaseChain after
+  pub told : after.is_told ≡ true
+  pub phases : phases_in after ≡ take kept (phases_in before)
+  pub side : after.region.side ≡ before.region.side
+  pub spare : before.region.spare ≤ after.region.spare
+
+module _ {V : Type 0} (M : Monoid V) (difference : V → V → V) (enter : Cost → V) (objective : Objective) (reach : ℕ) (X : Problem) (work : Work V) (phases : PhaseChain V) (led cut : Bool) (room : AnswerRoom)
+    (session : IsSession M difference enter objective reach X work phases led cut room)
+  where
+    -- the phases are prepared
+    pub IsSession-prepared : (after : PhaseChain V) → IsPrepared phases after → IsSession M difference enter objective reach X work after led cut room
+    IsSession-prepared after is =
+        let same = sym is.phases in
+        let columns = sure_columns cut work.matching in
+        let together = session.together in
+        record {
+          may_solve = session.may_solve;
+          sized = session.sized;
+          chain = is.chain;
+          region_side = is.side ∙ session.region_side;
+          together = record {
+            admitted = subst (λ list. AreAdmittedPhases M difference (square_side X) list (square_cell X M.unit enter)) same together.admitted;
+            is_led = λ h. subst (λ list. IsLed M difference enter X list work.reduced) same (together.is_led h);
+            is_told = λ h. is.kept (together.is_told h);
+            is_whole = together.is_whole;
+            absorbed = λ h. subst (λ list. AreAbsorbedAfter M difference enter X list work.matching) same (together.absorbed h);
+          };
+          spare = λ h. let few = session.spare h in let more = is.more in omega (arith, few, more);
+          answer_room = session.answer_room;
+          given_is = subst (λ list. IsGiven M difference enter X list columns room.given room.choice (ids_in room)) same session.given_is;
+        }
+
+    module _ (edit : Edit) (passes : refusal_of objective X edit ≡ None) (prepared after : PhaseChain V) (is : IsPrepared phases prepared) (count kept : ℕ) (size : count ≡ length (phases_in prepared))
+        (are_kept : AreKept M difference (square_side X) (phases_in prepared) (square_cell (edited X edit) M.unit enter) kept) (is_cut : IsCutTo kept prepared after)
+        (places : NamedPlaces) (places_are : places ≡ places_of X edit) (matching : List (Option ℕ)) (long : length matching ≡ length work.matching)
+        (cleared : IsClearedOf places work.reduced.now work.matching matching) (now_cut : Bool) (now_cut_is : now_cut ≡ (cut || nat_lt kept count))
+      where
+        abbrev Y : Problem
+        Y = edited X edit
+
+        instance : IsInstance X
+        instance = session.may_solve.instance
+
+        names : NamesPlaces X edit
+        names = NamesPlaces-passed objective X edit passes
+
+        phases_are : phases_in after ≡ take kept (phases_in phases)
+        phases_are = is_cut.phases ∙ ap (take kept) is.phases
+
+        side_same : square_side Y ≡ square_side X
+        side_same = edited_side X instance edit
+
+        kept_of : AreKept M difference (square_side Y) (phases_in phases) (square_cell Y M.unit enter) kept
+        kept_of =
+            subst (λ n. AreKept M difference n (phases_in phases) (square_cell Y M.unit enter) kept) (sym side_same)
+            (subst (λ list. AreKept M difference (square_side X) list (square_cell Y M.unit enter) kept) is.phases are_kept)
+
+        -- a prefix is kept, the longest that is admitted
+        pub kept_phases : (n : ℕ) × (phases_in after ≡ take n (phases_in phases)) × AreKept M difference (square_side Y) (phases_in phases) (square_cell Y M.unit enter) n
+        kept_phases = (kept, phases_are, kept_of)
+
+        -- where all are, each row that isn't touched keeps its column
+        pub kept_columns : phases_in after ≡ phases_in phases → (r : ℕ) → ((k : ℕ) → Touches X edit r k → ⊥) → column_at (sure_columns now_cut matching) r ≡ column_at (sure_columns cut work.matching) r
+        kept_columns all r apart =
+            let whole = still_whole (phases_in prepared) cut kept count size (let few = are_kept.within in omega (arith, few, size)) (sym is_cut.phases ∙ all ∙ sym is.phases) in
+            ap (λ b. column_at (sure_columns b matching) r) (now_cut_is ∙ whole)
+            ∙ sure_kept cut work.matching matching r long
+            (column_kept X edit names work.reduced.now session.sized.square places places_are work.matching matching session.sized.matching_side session.sized.is_matching cleared r apart)
+
+        still_absorbed : now_cut ≡ false → AreAbsorbedAfter M difference enter Y (phases_in after) matching
+        still_absorbed h =
+            let whole = uncut (phases_in prepared) cut kept count size (sym now_cut_is ∙ h) in
+            subst (λ list. AreAbsorbedAfter M difference enter Y list matching) (sym (is_cut.phases ∙ whole.1 ∙ is.phases))
+            (absorbed_edited X edit names work.reduced.now session.sized.square places places_are work.matching matching session.sized.matching_side session.sized.is_matching cleared
+            M difference enter (phases_in phases) instance (session.together.absorbed whole.0))
+
+        -- what a session keeps
+        pub IsSession-edited : ((cost : Cost) → MayEnter objective reach cost → IsValue M (enter cost)) → IsInstance Y → IsMatching matching → square_side X ≤ prepared.region.spare → IsSession M difference enter objective reach Y (record work { matching = matching }) after false now_cut (record room { given = Open })
+        IsSession-edited values now is_matching spare = record {
+          may_solve = MaySolve-edited M enter objective reach X edit session.may_solve passes values now;
+          sized = record {
+            square = HasColumnsOf-edited X instance edit work.reduced.now session.sized.square;
+            matching_side = long ∙ session.sized.matching_side ∙ sym side_same;
+            is_matching = is_matching;
+            bench_side = session.sized.bench_side ∙ sym side_same;
+            columns_side = session.sized.columns_side ∙ sym side_same;
+            steps_room = let few = session.sized.steps_room in omega (arith, few, side_same);
+          };
+          chain = is_cut.chain;
+          region_side = is_cut.side ∙ is.side ∙ session.region_side ∙ sym side_same;
+          together = record {
+            admitted =
+                subst (λ list. AreAdmittedPhases M difference (square_side Y) list (square_cell Y M.unit enter)) (sym phases_are) kept_of.admitted;
+            is_led = λ h. absurd (false≢true h);
+            is_told = λ h. is_cut.told;
+            is_whole = λ h. absurd (false≢true h);
+            absorbed = still_absorbed;
+          };
+          spare = λ h. let more = is_cut.spare in omega (arith, spare, more, side_same);
+          answer_room = record {
+            choice_rows = session.answer_room.choice_rows ∙ sym (edited_rows X edit);
+            ids_room = session.answer_room.ids_room;
+          };
+          given_is = tt;
+        }

@@ -1,0 +1,104 @@
+-- What phases lead to where more were added.
+use Rattle.std.proofs.Common.{◌≡◌, ℕ, ◌+◌, ◌<◌, ◌≤◌, List, [], ◌∷◌, ◌++◌, length, Option, Some, None, is_some, refl, sym, ◌∙◌, ap, subst}
+use Rattle.std.specs.Prelude.{IsSome}
+use Rattle.asg_admit.specs.declared.reduced.Reduced.{Reduced}
+use Rattle.asg_algebra.specs.Solved.{LeadTo, ArePushed, unmatched}
+use Rattle.asg_model.specs.declared.parts.Cost.{Cost}
+use Rattle.asg_model.specs.Problem.{Problem}
+use Rattle.asg_model.specs.Shapes.{square_side}
+use Rattle.asg_order.specs.Monoid.{Monoid, IsValue, IsOrderedMonoid}
+use Rattle.asg_proof.specs.PhaseProofs.{EntersValues}
+use Rattle.asg_proof.specs.laws.Squares.{HasValues-square_cell}
+use Rattle.asg_pool.specs.Forest.{Forest}
+use Rattle.asg_proof.specs.Phases.{PhaseOf, AreAdmittedPhases, after_phases, index_of}
+use Rattle.asg_proof.specs.laws.PhaseLists.{after_phases-append, AreAdmittedPhases-append, index_of-append}
+use Rattle.asg_square.specs.Cells.{square_cell}
+use Rattle.asg_square.specs.Grid.{Grid, cell_at, IsSquareOf}
+use Rattle.asg_match.specs.Matching.{column_at, Matches, IsMatching, AllAllowed}
+use Rattle.asg_algebra.specs.Growing.{IsAbsorbed}
+use Rattle.asg_repair.specs.Sessions.{IsLed, AreAbsorbed, AreAbsorbedAfter}
+use Rattle.asg_repair.proofs.UnmatchedLemmas.{unmatched-kept}
+
+-- pushes keep the side
+pub pushed_side : {V : Type 0} (phases : List (PhaseOf V)) (before after : Forest V) (trail last : Option ℕ) → ArePushed phases before after trail last → after.side ≡ before.side
+pushed_side [] before after trail last pushed = ap (λ (F : Forest _). F.side) pushed.0
+pushed_side (phase ∷ rest) before after trail last pushed =
+    pushed_side rest pushed.0 after _ last pushed.3 ∙ pushed.2.side
+
+module _ {V : Type 0} (M : Monoid V) (laws : IsOrderedMonoid M) (difference : V → V → V) (enter : Cost → V) (X : Problem) where
+  -- phases that lead on
+  pub IsLed-more : (phases more : List (PhaseOf V)) (before after : Reduced V) (forest forest_after : Forest V) (trail last : Option ℕ) → IsLed M difference enter X phases before → LeadTo M difference more before after forest forest_after trail last → IsLed M difference enter X (phases ++ more) after
+  IsLed-more phases more before after forest forest_after trail last led lead =
+      let start = square_cell X M.unit enter in
+      let cells_are : cell_at before.now ≡ after_phases M difference phases start = λ i r k. led.cells r k i in
+      let next : AreAdmittedPhases M difference (square_side X) more (after_phases M difference phases start) =
+      subst (λ n. AreAdmittedPhases M difference n more (after_phases M difference phases start)) led.labels.side
+      (subst (AreAdmittedPhases M difference before.now.side more) cells_are lead.admitted) in
+      record {
+        labels = record {
+          side = lead.labels.side ∙ led.labels.side;
+          rows = lead.labels.rows ∙ led.labels.rows;
+          row_labels = lead.labels.row_labels ∙ led.labels.row_labels;
+          column_labels = lead.labels.column_labels ∙ led.labels.column_labels;
+        };
+        admitted = AreAdmittedPhases-append M difference (square_side X) phases more start led.admitted next;
+        cells = λ r k.
+            lead.outcome r k
+            ∙ ap (λ q. after_phases M difference more q r k) cells_are
+            ∙ ap (λ q. q r k) (sym (after_phases-append M difference phases more start));
+        index =
+            lead.index
+            ∙ ap (λ z. M.product z (index_of M more)) led.index
+            ∙ sym (index_of-append M laws difference (square_side X) phases more start led.admitted next);
+        is_reduced = lead.reduced;
+      }
+
+-- the square of an instance, which no phase has changed
+pub IsLed-filled : {V : Type 0} (M : Monoid V) → IsOrderedMonoid M → (difference : V → V → V) (enter : Cost → V) (X : Problem) (Q : Grid V) (index : V) → index ≡ M.unit → IsSquareOf X M.unit enter Q → EntersValues M enter X → IsLed M difference enter X [] (record { now = Q; index = index })
+IsLed-filled M laws difference enter X Q index unit square live = record {
+  labels = square.labels;
+  admitted = tt;
+  cells = square.cells;
+  index = unit;
+  is_reduced = record {
+    cells = λ r k x hr hk e.
+        HasValues-square_cell M laws enter X live r k x
+        (subst (λ n. r < n) square.labels.side hr) (subst (λ n. k < n) square.labels.side hk) (sym (square.cells r k) ∙ e);
+    index = subst (IsValue M) (sym unit) laws.unit_is_value;
+  };
+}
+
+-- cells are absorbed on a square that phases led to exactly where they are on the square after them
+module _ {V : Type 0} (M : Monoid V) (difference : V → V → V) (enter : Cost → V) (X : Problem) (phases : List (PhaseOf V)) (reduced : Reduced V) (led : IsLed M difference enter X phases reduced) (matching : List (Option ℕ)) where
+  cells_led : cell_at reduced.now ≡ after_phases M difference phases (square_cell X M.unit enter)
+  cells_led = λ i r k. led.cells r k i
+
+  pub AreAbsorbedAfter-led : AllAllowed (IsAbsorbed M reduced.index (cell_at reduced.now)) matching → AreAbsorbedAfter M difference enter X phases matching
+  AreAbsorbedAfter-led all =
+      subst (λ q. AllAllowed (IsAbsorbed M (index_of M phases) q) matching) cells_led
+      (subst (λ z. AllAllowed (IsAbsorbed M z (cell_at reduced.now)) matching) led.index all)
+
+  pub absorbed-led : AreAbsorbedAfter M difference enter X phases matching → AllAllowed (IsAbsorbed M reduced.index (cell_at reduced.now)) matching
+  absorbed-led all =
+      subst (λ z. AllAllowed (IsAbsorbed M z (cell_at reduced.now)) matching) (sym led.index)
+      (subst (λ q. AllAllowed (IsAbsorbed M (index_of M phases) q) matching) (sym cells_led) all)
+
+-- a row keeps its column where its cell is absorbed, so where all are no row loses one
+pub pruned_fewer : (allows : ℕ → ℕ → Type 0) (before after : List (Option ℕ)) → length after ≡ length before → ((r k : ℕ) → Matches before r k → allows r k → Matches after r k) → AllAllowed allows before → unmatched after ≤ unmatched before
+pruned_fewer allows before after size kept all =
+    unmatched-kept before after size (λ r. matched_by r (column_at before r) refl)
+  where
+    matched_by : (r : ℕ) (o : Option ℕ) → column_at before r ≡ o → IsSome (column_at before r) → IsSome (column_at after r)
+    matched_by r None e has = absurd (let none = sym has ∙ ap is_some e in cc)
+    matched_by r (Some k) e has = ap is_some (kept r k e (all r k e))
+
+-- a matching over the square that phases led to
+pub AreAbsorbed-pruned : {V : Type 0} (M : Monoid V) (reduced : Reduced V) (matching : List (Option ℕ)) → length matching ≡ reduced.now.side → IsMatching matching → AllAllowed (IsAbsorbed M reduced.index (cell_at reduced.now)) matching → AreAbsorbed M reduced matching
+AreAbsorbed-pruned M reduced matching size is all = record { side = size; columns = is; absorbed = all }
+
+-- fewer cells are a matching too
+pub IsMatching-fewer : (before after : List (Option ℕ)) → length after ≡ length before → ((r k : ℕ) → Matches after r k → Matches before r k) → IsMatching before → IsMatching after
+IsMatching-fewer before after size only is = record {
+  below = λ r k h. subst (λ n. k < n) (sym size) (is.below r k (only r k h));
+  apart = λ r s k h i. is.apart r s k (only r k h) (only s k i);
+}

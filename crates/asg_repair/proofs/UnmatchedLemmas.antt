@@ -1,0 +1,27 @@
+-- How many rows have no column.
+use Rattle.std.proofs.Common.{◌≡◌, ℕ, suc, ◌+◌, ◌≤◌, List, [], ◌∷◌, length, Option, Some, None, cond, refl, arith}
+use Rattle.std.specs.Prelude.{IsSome, is_none}
+use Rattle.std.proofs.lemmas.Bool.{false≢true}
+use Rattle.std.proofs.lemmas.List.Sums.{sum_by-append, count_by-le-length}
+use Rattle.asg_algebra.specs.Solved.{unmatched}
+use Rattle.asg_match.specs.Matching.{IsMatched}
+
+-- at most all rows
+pub unmatched-le : (m : List (Option ℕ)) → unmatched m ≤ length m
+unmatched-le m = count_by-le-length is_none m
+
+fewer : (o p : Option ℕ) → (IsSome o → IsSome p) → unmatched (p ∷ []) ≤ unmatched (o ∷ [])
+fewer None p keeps = count_by-le-length is_none (p ∷ [])
+fewer (Some x) None keeps = absurd (false≢true (keeps refl))
+fewer (Some x) (Some y) keeps = omega arith
+
+unmatched-both : (o : Option ℕ) (m : List (Option ℕ)) → unmatched (o ∷ m) ≡ unmatched (o ∷ []) + unmatched m
+unmatched-both o m = sum_by-append (λ o. cond (is_none o) 1 0) (o ∷ []) m
+
+-- where every row that had a column has one
+pub unmatched-kept : (m n : List (Option ℕ)) → length n ≡ length m → ((r : ℕ) → IsMatched m r → IsMatched n r) → unmatched n ≤ unmatched m
+unmatched-kept [] [] e keeps = omega arith
+unmatched-kept [] (p ∷ n) e keeps = absurd (omega (arith, e))
+unmatched-kept (o ∷ m) [] e keeps = omega arith
+unmatched-kept (o ∷ m) (p ∷ n) e keeps =
+    omega (arith, unmatched-both o m, unmatched-both p n, fewer o p (keeps 0), unmatched-kept m n (omega (arith, e)) (λ r. keeps (suc r)))

@@ -1,0 +1,6 @@
+use Rattle.std.proofs.Common.{◌≡◌, take}
+use Rattle.asg_algebra.specs.Solved.{unmatched}
+use Rattle.asg_repair.proofs.free_rows.free_rows.Given as goal
+
+abbrev pub invariant-loop-r : goal.invariant-loop-r
+invariant-loop-r l = l.count ≡ unmatched (take l.r l.matching)

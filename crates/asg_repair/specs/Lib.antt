@@ -1,0 +1,12 @@
+pub mod Answers
+pub mod Chains
+pub mod Edited
+pub mod EditedCells
+pub mod Leads
+pub mod LeftPhases
+pub mod NamedPlaces
+pub mod Opening
+pub mod PhaseChains
+pub mod PhasesAlong
+pub mod Sessions
+pub mod laws

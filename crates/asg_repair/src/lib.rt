@@ -1,0 +1,38 @@
+//! Sessions: an instance that is edited and answered again and again.
+//!
+//! What an answer leaves is kept through an edit as far as it can be: the phases are admitted from
+//! the edited square exactly as far as the cells that changed allow them, one cell at a time, so
+//! that only these are replayed. Where cells were raised or removed all phases are kept, and every
+//! row whose cell wasn't touched keeps its column; then one more tree serves the row that lost its
+//! own. Else a prefix is kept: it is applied anew at the next answer, and each column is kept whose
+//! cell is absorbed then. Edits between two answers don't touch the square. A session is opened by
+//! few phases that are guessed (`asg_roots`), and goes on by those of the engine (`asg_algebra`).
+//! Contracts see a session as its kind, its instance, its phases, the columns that rows are sure to
+//! keep, and what was answered last.
+#![tactic(auto)]
+
+mod absorbed_cells;
+mod answers;
+mod changed_cells;
+mod edited_cells;
+mod free_rows;
+mod kept_cells;
+pub mod laws;
+mod named_places;
+mod opening;
+mod phase_chains;
+mod present_cells;
+mod refilled_squares;
+mod released_trails;
+mod session_answers;
+mod sessions;
+mod settled_trails;
+mod trail_lists;
+mod works;
+mod written_chains;
+
+pub use answers::{Answered, Given};
+pub use sessions::Session;
+
+/// There was not enough memory.
+pub type NoMemory = std::alloc::AllocError;

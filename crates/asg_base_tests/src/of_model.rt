@@ -1,5 +1,6 @@
 //! Tests of `asg_model`.
 
+mod edits;
 mod halls;
 mod kept_cells;
 mod negatives;

@@ -1,6 +1,0 @@
-use Rattle.asg_admit.specs.Admission.{AreBalanced}
-use Rattle.asg_admit.proofs.counting.is_window_balanced.Given as goal
-
--- the steps so far are balanced
-abbrev pub invariant-loop-i : goal.invariant-loop-i
-invariant-loop-i l = AreBalanced l.enters l.leaves l.first l.i

@@ -1,0 +1,7 @@
+//! Tests of `asg_repair`.
+
+mod kept_phases;
+mod refused_edits;
+mod samples;
+mod sessions;
+mod tests;

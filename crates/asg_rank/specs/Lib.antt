@@ -10,6 +10,7 @@ pub mod Settled
 pub mod Rooms
 pub mod Chosen
 pub mod Searches
+pub mod Desks
 pub mod Opening
 pub mod Written
 pub mod Expansions

@@ -9,15 +9,15 @@ use Rattle.asg_model.specs.Counts.{placed}
 use Rattle.asg_model.specs.Problem.{Problem}
 use Rattle.asg_model.specs.Shapes.{square_side}
 use Rattle.asg_square.specs.Cells.{IsPresent}
-use Rattle.asg_square.specs.Grid.{cell_at, HasLabelsOf}
+use Rattle.asg_square.specs.Grid.{Grid, cell_at, HasLabelsOf}
 use Rattle.asg_square.specs.Masked.{masked_grid}
 use Rattle.asg_rank.specs.declared.searches.Search.{Search}
-use Rattle.asg_rank.specs.declared.trees.Tree.{Tree}
+use Rattle.asg_rank.specs.declared.opening.Memory.{Memory}
 use Rattle.asg_rank.specs.Cuts.{AreBitsFor}
 use Rattle.asg_rank.specs.Rooms.{answer_room}
 use Rattle.asg_rank.specs.Rules.{Rules, Leads, IsSolved, IsReducedTo}
+use Rattle.asg_rank.specs.Desks.{IsDeskMemory}
 use Rattle.asg_rank.specs.Searches.{IsRankable, HasMemory}
-use Rattle.asg_rank.specs.Slots.{SlotList}
 
 -- nothing was given and there is no node, with the memory for so many answers
 pub record IsBlank {V : Type 0} (X : Problem) (room : ℕ) (S : Search V) : Type 0 where
@@ -35,16 +35,17 @@ pub record IsBlank {V : Type 0} (X : Problem) (room : ℕ) (S : Search V) : Type
   pub no_square : S.desk.node ≡ 0
   pub bits : AreBitsFor S.base.now.side (λ _ _. true) S.desk.bits
 
--- a tree without a node yet, free slots and choices, with the memory for so many answers
-pub record HasAnswerRoom {V : Type 0} (X : Problem) (room : ℕ) (tree : Tree V) (slots : SlotList V)
-    (count : ℕ) (choices : List (List (Option ℕ))) : Type 0 where
+-- the memory of a search for so many answers: no node yet, free slots and choices, and a desk but for a bench, over
+-- a copy of a square
+pub record IsMemory {V : Type 0} (X : Problem) (room : ℕ) (Q : Grid V) (memory : Memory V) : Type 0 where
   pub small : room * placed X + 1 < 2 ^ 32
-  pub no_node : tree.entries.items ≡ []
-  pub entries_fit : room * placed X + 1 ≤ vec_capacity tree.entries
-  pub halls_are : tree.halls ≡ record { most = room * placed X + 1; width = length X.rows; sets = [] }
-  pub slots_are : slots ≡ record { side = square_side X; room = room; used = [] }
-  pub choices_fit : count ≡ room
-  pub choices_over : All (λ f. length f ≡ length X.rows) choices
+  pub no_node : memory.tree.0.items ≡ []
+  pub entries_fit : room * placed X + 1 ≤ vec_capacity memory.tree.0
+  pub halls_are : memory.tree.1 ≡ record { most = room * placed X + 1; width = length X.rows; sets = [] }
+  pub slots_are : memory.answers.1 ≡ record { side = square_side X; room = room; used = [] }
+  pub choices_fit : vec_len memory.answers.0 ≡ room
+  pub choices_over : All (λ f. length f ≡ length X.rows) memory.answers.0.items
+  pub desk : IsDeskMemory Q memory.desk
 
 -- what solving the square of the instance came to: a best choice, or rows with too few columns
 abbrev pub IsRootOf : {V : Type 0} → Rules V → Problem → Search V → List (Option ℕ) → Solved → Type 0

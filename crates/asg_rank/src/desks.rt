@@ -3,7 +3,9 @@
 ghost use Rattle.std.specs.Prelude.{◌≡◌, ◌<◌, ◌≤◌, true, IfOk, length, vec_len};
 ghost use Rattle.asg_model.specs.Limits.{most_side};
 ghost use Rattle.asg_rank.specs.Cuts.{AreBitsFor};
+ghost use Rattle.asg_rank.specs.Desks.{IsDeskMemory};
 ghost use Rattle.asg_rank.specs.Searches.{IsDesk};
+ghost use Rattle.asg_square.specs.Grid.{Grid};
 
 use crate::NoMemory;
 use asg_admit::Reduced;
@@ -28,6 +30,15 @@ pub(crate) struct Desk<V: Copy> {
     pub(crate) room: Vec<V>,
     pub(crate) columns: Vec<u32>,
     pub(crate) ids: Vec<u32>,
+}
+
+/// The memory of a desk: a copy of a square, with bits that keep all cells of it; a matching, and
+/// places for the steps of a phase; columns of rows, and ids.
+#[derive(Drop)]
+pub(crate) struct DeskMemory<V: Copy> {
+    copy: (Reduced<V>, BitRows),
+    trial: (Matching, Vec<V>),
+    columns: (Vec<u32>, Vec<u32>),
 }
 
 // Rows of bits over a side, all set.
@@ -55,46 +66,60 @@ fn copied_square<V: Copy>(
     Ok((Reduced { now, index: unit }, bits))
 }
 
-// The memory of a solver over a side: a matching, places for the steps of a phase, columns of rows,
-// and ids.
-fn solver_memory<V: Copy>(
-    alloc: Global,
-    side: u32,
-    unit: V,
-) -> Result<(Matching, Vec<V>, Vec<u32>, Vec<u32>), NoMemory>
+// A matching, and places for the steps of a phase.
+fn trial_memory<V: Copy>(alloc: Global, side: u32, unit: V) -> Result<(Matching, Vec<V>), NoMemory>
     ensures trial { IfOk result (λ memory. length memory.0 ≡ side) }
     ensures steps { IfOk result (λ memory. side < vec_len memory.1) }
-    ensures columns { IfOk result (λ memory. vec_len memory.2 ≡ side) }
-    ensures ids { IfOk result (λ memory. 1001 ≤ vec_len memory.3) }
 {
     let trial = Matching::make(alloc, side)?;
     let room = vec![in alloc; unit; side as usize + 1]?;
-    let columns = vec![in alloc; 0; side as usize]?;
-    let ids = vec![in alloc; 0; IDS]?;
-    Ok((trial, room, columns, ids))
+    Ok((trial, room))
 }
 
-/// What children are grown on, over a copy of a square, with a bench for it. The error is want of
-/// memory.
-pub(crate) fn desk_for<V: Copy>(
+// Columns of rows, and ids.
+fn column_memory(alloc: Global, side: u32) -> Result<(Vec<u32>, Vec<u32>), NoMemory>
+    ensures columns { IfOk result (λ memory. vec_len memory.0 ≡ side) }
+    ensures ids { IfOk result (λ memory. 1001 ≤ vec_len memory.1) }
+{
+    let columns = vec![in alloc; 0; side as usize]?;
+    let ids = vec![in alloc; 0; IDS]?;
+    Ok((columns, ids))
+}
+
+/// The memory of a desk over a copy of a square: all of it but a bench. The error is want of memory.
+pub(crate) fn desk_memory<V: Copy>(
     alloc: Global,
     square: &Square<V>,
-    bench: Bench<V>,
     unit: V,
-) -> Result<Desk<V>, NoMemory>
-    requires small { square.now.side ≤ most_side }
-    requires bench { bench.side ≡ square.now.side }
-    ensures desk { IfOk result (IsDesk square.now.side) }
-    ensures work { IfOk result (λ d. d.work.now ≡ square.now) }
-    ensures node { IfOk result (λ d. d.node ≡ 0) }
-    ensures bits { IfOk result (λ d. AreBitsFor square.now.side (λ _ _. true) d.bits) }
-    ensures bench { IfOk result (λ d. d.bench ≡ bench) }
+) -> Result<DeskMemory<V>, NoMemory>
+    requires { square.now.side ≤ most_side }
+    ensures { IfOk result (IsDeskMemory square.now) }
 {
     let copy = copied_square(alloc, square, unit)?;
-    let memory = solver_memory(alloc, square.side(), unit)?;
-    let (work, bits) = copy;
-    let (trial, room, columns, ids) = memory;
-    Ok(Desk {
+    let trial = trial_memory(alloc, square.side(), unit)?;
+    let columns = column_memory(alloc, square.side())?;
+    Ok(DeskMemory {
+        copy,
+        trial,
+        columns,
+    })
+}
+
+/// What children are grown on, with a bench for it.
+pub(crate) fn desk_with<V: Copy>(memory: DeskMemory<V>, bench: Bench<V>) -> Desk<V>
+    ensures desk { (Q : Grid V) → IsDeskMemory Q memory → bench.side ≡ Q.side
+        → IsDesk Q.side result }
+    ensures work { result.work.now ≡ memory.copy.0.now }
+    ensures node { result.node ≡ 0 }
+    ensures bits { result.bits ≡ memory.copy.1 }
+    ensures bench { result.bench ≡ bench }
+{
+    let DeskMemory {
+        copy: (work, bits),
+        trial: (trial, room),
+        columns: (columns, ids),
+    } = memory;
+    Desk {
         work,
         node: 0,
         bits,
@@ -103,5 +128,5 @@ pub(crate) fn desk_for<V: Copy>(
         room,
         columns,
         ids,
-    })
+    }
 }

@@ -7,20 +7,22 @@ ghost use Rattle.asg_model.specs.Problem.{Problem};
 ghost use Rattle.asg_model.specs.Refused.{PassesNegative};
 ghost use Rattle.asg_model.specs.Shapes.{square_side};
 ghost use Rattle.asg_model.specs.declared.parts.Cost.{Cost};
-ghost use Rattle.asg_rank.specs.Opening.{IsBlank, HasAnswerRoom, IsPlantable};
+ghost use Rattle.asg_rank.specs.Opening.{IsBlank, IsMemory, IsPlantable};
 ghost use Rattle.asg_rank.specs.Rankings.{ranking_work};
 ghost use Rattle.asg_rank.specs.Rooms.{most_work};
 ghost use Rattle.asg_rank.specs.Rules.{rules_of};
 ghost use Rattle.asg_rank.specs.Searches.{HasMemory, IsReady, given_of};
+ghost use Rattle.asg_roots.specs.Roots.{IsInstanceRoot};
 
 use crate::NoMemory;
 use crate::child_nodes::{close_child, push_child};
-use crate::desks::{Desk, desk_for};
-use crate::entries::State;
+use crate::desks::{DeskMemory, desk_memory, desk_with};
+use crate::entries::{Entry, State};
+use crate::hall_pools::HallPool;
 use crate::rooms::answer_room;
 use crate::searches::Search;
 use crate::slots::{Slots, offer};
-use crate::trees::{Tree, blank_tree};
+use crate::trees::{Tree, tree_memory};
 use asg_admit::Reduced;
 use asg_algebra::{Bench, Solved};
 use asg_match::Matching;
@@ -29,8 +31,18 @@ use asg_model::{Choice, Instance};
 use asg_order::{DMonoid, Kind, Ordered};
 use asg_pool::Region;
 use asg_roots::{Root, RootGuess, instance_root};
+use asg_square::Square;
 use asg_square::laws::square_law;
 use std::alloc::Global;
+
+/// The memory of a search: the nodes of its tree and their Hall sets, the choices of answers and
+/// slots, and what children are grown on, but for what the root leaves.
+#[derive(Drop)]
+struct Memory<V: Copy> {
+    tree: (Vec<Entry<V>>, HallPool),
+    answers: (Vec<Choice>, Slots<V>),
+    desk: DeskMemory<V>,
+}
 
 // So many choices over so many rows.
 fn choices_for(alloc: Global, room: u32, rows: u32) -> Result<Vec<Choice>, NoMemory>
@@ -62,65 +74,69 @@ fn answer_memory<V: Copy>(
     Ok((choices, slots))
 }
 
-// A search without a node yet, in a tree and with the memory for answers, over a square with the
-// bench that solved it.
-fn search_in_tree<V: Copy>(
+// The memory of a search for so many answers, over a copy of a square.
+fn search_memory<V: Copy>(
     alloc: Global,
-    base: Reduced<V>,
-    bench: Bench<V>,
-    tree: Tree<V>,
-    choices: Vec<Choice>,
-    slots: Slots<V>,
+    inst: &Instance,
+    square: &Square<V>,
+    room: u32,
     unit: V,
-) -> Result<Search<V>, NoMemory>
-    requires bench { bench.side ≡ base.now.side }
-    requires small { base.now.side ≤ most_side }
-    ensures blank { (X : Problem) (room : ℕ)
-        → HasAnswerRoom X room tree slots (vec_len choices) choices.items
-        → IfOk result (IsBlank X room) }
-    ensures memory { (X : Problem) (room : ℕ)
-        → HasAnswerRoom X room tree slots (vec_len choices) choices.items
-        → base.now.side ≡ square_side X → tree.region.side ≡ square_side X
-        → IfOk result (HasMemory X) }
-    ensures base { IfOk result (λ s. s.base ≡ base) }
-    ensures region { IfOk result (λ s. s.tree.region ≡ tree.region) }
-    ensures bench { IfOk result (λ s. s.desk.bench ≡ bench) }
+) -> Result<Memory<V>, NoMemory>
+    requires small { square.now.side ≤ most_side }
+    requires work { ranking_work inst.now room ≤ most_work }
+    ensures { IfOk result (IsMemory inst.now room square.now) }
 {
-    let desk = desk_for(alloc, &base.now, bench, unit)?;
-    Ok(Search {
-        given: 0,
-        choices,
-        slots,
+    let tree = tree_memory(alloc, inst, room)?;
+    let answers = answer_memory(alloc, inst, room, unit)?;
+    let desk = desk_memory(alloc, square, unit)?;
+    Ok(Memory {
         tree,
-        base,
+        answers,
         desk,
     })
 }
 
 // A search without a node yet, over the square of a root that was solved, with the bench that
-// solved it, the region of its phases, and the memory for so many answers.
-fn blank_search<V: Copy>(
-    alloc: Global,
-    inst: &Instance,
-    base: Reduced<V>,
-    bench: Bench<V>,
-    region: Region<V>,
-    room: u32,
-    unit: V,
-) -> Result<Search<V>, NoMemory>
-    requires bench { bench.side ≡ base.now.side }
-    requires small { base.now.side ≤ most_side }
-    requires side { base.now.side ≡ square_side inst.now }
-    requires work { ranking_work inst.now room ≤ most_work }
-    ensures blank { IfOk result (IsBlank inst.now room) }
-    ensures memory { region.side ≡ square_side inst.now → IfOk result (HasMemory inst.now) }
-    ensures base { IfOk result (λ s. s.base ≡ base) }
-    ensures region { IfOk result (λ s. s.tree.region ≡ region) }
-    ensures bench { IfOk result (λ s. s.desk.bench ≡ bench) }
+// solved it, the region of its phases, and the memory for answers; and what solving it came to.
+fn blank_search<V: Copy>(root: Root<V>, memory: Memory<V>) -> (Search<V>, Solved, Matching)
+    requires { root.bench.side ≡ root.reduced.now.side }
+    ensures blank { (X : Problem) (room : ℕ) → IsMemory X room root.reduced.now memory
+        → IsBlank X room result.0 }
+    ensures memory { (X : Problem) (room : ℕ) → IsMemory X room root.reduced.now memory
+        → root.reduced.now.side ≡ square_side X → root.region.side ≡ square_side X
+        → HasMemory X result.0 }
+    ensures base { result.0.base ≡ root.reduced }
+    ensures region { result.0.tree.region ≡ root.region }
+    ensures bench { result.0.desk.bench ≡ root.bench }
+    ensures ended { result.1 ≡ root.ended }
+    ensures matching { result.2 ≡ root.matching }
 {
-    let tree = blank_tree(alloc, inst, region, room)?;
-    let memory = answer_memory(alloc, inst, room, unit)?;
-    search_in_tree(alloc, base, bench, tree, memory.0, memory.1, unit)
+    let Root {
+        reduced: base,
+        ended,
+        matching,
+        bench,
+        region,
+    } = root;
+    let Memory {
+        tree: (entries, halls),
+        answers: (choices, slots),
+        desk,
+    } = memory;
+    let tree = Tree {
+        entries,
+        region,
+        halls,
+    };
+    let search = Search {
+        given: 0,
+        choices,
+        slots,
+        tree,
+        base,
+        desk: desk_with(desk, bench),
+    };
+    (search, ended, matching)
 }
 
 // Makes the root: with its best choice, which is kept, or empty, with its Hall set.
@@ -154,6 +170,38 @@ fn plant<M: DMonoid>(
     }
 }
 
+// The solved square of an instance, and the memory of a search over it for so many answers. The
+// error is want of memory.
+fn root_and_memory<K: Kind>(
+    alloc: Global,
+    kind: &K,
+    inst: &Instance,
+    room: u32,
+    records: u32,
+) -> Result<
+    (
+        Root<<K::M as Ordered>::Value>,
+        Memory<<K::M as Ordered>::Value>,
+    ),
+    NoMemory,
+>
+where
+    K::M: RootGuess,
+    requires side { square_side inst.now ≤ most_side }
+    requires passes { PassesNegative (K.objective kind.now) inst.now }
+    requires reach { most_cost ≤ K.reach kind.now }
+    requires records { square_side inst.now ≤ records }
+    requires work { ranking_work inst.now room ≤ most_work }
+    ensures root { let m = K.monoid kind.now in
+        IfOk result (λ both. IsInstanceRoot (K.M.monoid_of m) (K.M.difference m)
+        (K.entered kind.now) inst.now records both.0) }
+    ensures memory { IfOk result (λ both. IsMemory inst.now room both.0.reduced.now both.1) }
+{
+    let root = instance_root(alloc, kind, inst, records)?;
+    let memory = search_memory(alloc, inst, &root.reduced.now, room, kind.monoid().unit())?;
+    Ok((root, memory))
+}
+
 /// A search with its root alone, and the memory for so many answers. The error is want of memory.
 pub(crate) fn open_search<K: Kind>(
     alloc: Global,
@@ -179,15 +227,9 @@ where
     let m = kind.monoid();
     let room = answer_room(inst, count);
     let records = inst.side() + (room - 1) * inst.placed();
-    let root = instance_root(alloc, kind, inst, records)?;
-    let Root {
-        reduced: base,
-        ended,
-        matching,
-        bench,
-        region,
-    } = root;
-    let mut search = blank_search(alloc, inst, base, bench, region, room, m.unit())?;
-    plant(m, inst, &mut search, ended, &matching);
+    let both = root_and_memory(alloc, kind, inst, room, records)?;
+    let begun = blank_search(both.0, both.1);
+    let mut search = begun.0;
+    plant(m, inst, &mut search, begun.1, &begun.2);
     Ok(search)
 }

@@ -141,6 +141,20 @@ where
     }
 }
 
+// The outcome of a ranker that is open and gave nothing yet, and is used up. The error is want of
+// memory.
+fn final_outcome<K: Kind + Drop>(alloc: Global, ranker: Ranker<K>) -> Result<RankOutcome, NoMemory>
+where
+    K::M: RootGuess,
+    requires { ranker.given ≡ [] }
+    ensures { let m = K.monoid ranker.kind in
+        IfOk result (IsOutcomeIn (K.M.monoid_of m) (K.M.difference m) (K.M.word_of m)
+        (K.entered ranker.kind) (K.objective ranker.kind) ranker.problem ranker.count) }
+{
+    let mut spent = ranker;
+    outcome_of(alloc, &mut spent)
+}
+
 // The ranking by a kind.
 fn ranking_by<K: Kind + Drop>(
     alloc: Global,
@@ -161,8 +175,8 @@ where
     ensures within { IfOk result (λ _. ranking_work inst.now count ≤ most_work) }
     ensures refusal { IfErr result (IsRefusal inst.now count) }
 {
-    let mut ranker = Ranker::open(alloc, kind, inst, count)?;
-    Ok(outcome_of(alloc, &mut ranker)?)
+    let ranker = Ranker::open(alloc, kind, inst, count)?;
+    Ok(final_outcome(alloc, ranker)?)
 }
 
 /// The first `count` choices of an instance for an algebraic objective, from the best on, or all

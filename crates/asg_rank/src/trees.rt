@@ -24,28 +24,21 @@ pub(crate) struct Tree<V: Copy> {
     pub(crate) halls: HallPool,
 }
 
-// A tree without a node yet, over a region, with the memory for so many nodes and for as many Hall
-// sets of so many ids at most.
-fn tree_with<V: Copy>(
+// The memory for so many nodes and for as many Hall sets of so many ids at most.
+fn node_memory<V: Copy>(
     alloc: Global,
-    region: Region<V>,
     nodes: u32,
     rows: u32,
-) -> Result<Tree<V>, NoMemory>
+) -> Result<(Vec<Entry<V>>, HallPool), NoMemory>
     requires { nodes * rows < 2 ^ 32 }
-    ensures none { IfOk result (λ t. t.entries.items ≡ []) }
-    ensures fit { IfOk result (λ t. nodes ≤ vec_capacity t.entries) }
-    ensures region { IfOk result (λ t. t.region ≡ region) }
-    ensures halls { IfOk result (λ t. t.halls
+    ensures none { IfOk result (λ memory. memory.0.items ≡ []) }
+    ensures fit { IfOk result (λ memory. nodes ≤ vec_capacity memory.0) }
+    ensures halls { IfOk result (λ memory. memory.1
         ≡ record { most = nodes; width = rows; sets = [] }) }
 {
     let entries = Vec::with_capacity(alloc, nodes as usize)?;
     let halls = HallPool::make(alloc, nodes, rows)?;
-    Ok(Tree {
-        entries,
-        region,
-        halls,
-    })
+    Ok((entries, halls))
 }
 
 // How many the root and the children of so many answers are.
@@ -65,25 +58,24 @@ fn row_count(inst: &Instance) -> u32
     inst.rows().len() as u32
 }
 
-/// A tree without a node yet, over a region, with the memory for the children of so many answers and
-/// their Hall sets. The error is want of memory.
-pub(crate) fn blank_tree<V: Copy>(
+/// The memory of a tree without a node yet: for the children of so many answers and their Hall sets.
+/// The error is want of memory.
+pub(crate) fn tree_memory<V: Copy>(
     alloc: Global,
     inst: &Instance,
-    region: Region<V>,
     room: u32,
-) -> Result<Tree<V>, NoMemory>
+) -> Result<(Vec<Entry<V>>, HallPool), NoMemory>
     requires work { ranking_work inst.now room ≤ most_work }
     ensures small { room * placed inst.now + 1 < 2 ^ 32 }
-    ensures none { IfOk result (λ t. t.entries.items ≡ []) }
-    ensures fit { IfOk result (λ t. room * placed inst.now + 1 ≤ vec_capacity t.entries) }
-    ensures region { IfOk result (λ t. t.region ≡ region) }
-    ensures halls { IfOk result (λ t. t.halls
+    ensures none { IfOk result (λ memory. memory.0.items ≡ []) }
+    ensures fit { IfOk result (λ memory.
+        room * placed inst.now + 1 ≤ vec_capacity memory.0) }
+    ensures halls { IfOk result (λ memory. memory.1
         ≡ record { most = room * placed inst.now + 1; width = length inst.now.rows; sets = [] }) }
 {
     let nodes = most_nodes(inst, room);
     let rows = row_count(inst);
-    tree_with(alloc, region, nodes, rows)
+    node_memory(alloc, nodes, rows)
 }
 
 /// Node number n, which count from 1.

@@ -1,40 +1,48 @@
-use Rattle.std.proofs.Common.{◌≡◌, ◌∙◌, ap}
-use Rattle.std.proofs.lemmas.Result.{IfOk-weaker}
-use Rattle.asg_pool.specs.Forest.{Forest}
+use Rattle.std.proofs.Common.{◌≡◌, ◌*◌, true, length, refl, sym, ◌∙◌, ap, subst, arith}
+use Rattle.asg_model.specs.Counts.{placed}
+use Rattle.asg_rank.specs.Cuts.{AreBitsFor}
+use Rattle.asg_rank.specs.HallPools.{HallSets}
+use Rattle.asg_rank.specs.Searches.{IsDesk}
+use Rattle.asg_rank.specs.Slots.{SlotList}
 use Rattle.asg_rank.proofs.opening.blank_search.Goals as goal
 
 pub returns-clause-blank : goal.returns-clause-blank
-returns-clause-blank g c =
-    let tree = c.in_ok-tree.ensures in
-    let memory = c.in_ok-memory.ensures in
-    c.search_in_tree.ensures.blank c.args.inst.now c.args.room
-    (record {
-      small = tree.small;
-      no_node = tree.none;
-      entries_fit = tree.fit;
-      halls_are = tree.halls;
-      slots_are = memory.slots;
-      choices_fit = memory.count;
-      choices_over = memory.over;
-    })
+returns-clause-blank g c X room has =
+    let desk = c.desk_with.ensures in
+    record {
+      none_given = refl;
+      no_slot = ap (λ (s : SlotList _). s.used) has.slots_are;
+      room_is = ap (λ (s : SlotList _). s.room) has.slots_are;
+      no_node = has.no_node;
+      no_hall = ap (λ (h : HallSets). h.sets) has.halls_are;
+      entries_fit = has.entries_fit;
+      halls_fit = ap (λ (h : HallSets). h.most) has.halls_are;
+      halls_width = ap (λ (h : HallSets). h.width) has.halls_are;
+      choices_fit = has.choices_fit;
+      choices_over = has.choices_over;
+      work = desk.work ∙ has.desk.copy;
+      no_square = desk.node;
+      bits = subst (AreBitsFor c.args.root.reduced.now.side (λ _ _. true)) (sym desk.bits) has.desk.bits;
+    }
 
 pub returns-clause-memory : goal.returns-clause-memory
-returns-clause-memory g c region =
-    let tree = c.in_ok-tree.ensures in
-    let memory = c.in_ok-memory.ensures in
-    c.search_in_tree.ensures.memory c.args.inst.now c.args.room
-    (record {
-      small = tree.small;
-      no_node = tree.none;
-      entries_fit = tree.fit;
-      halls_are = tree.halls;
-      slots_are = memory.slots;
-      choices_fit = memory.count;
-      choices_over = memory.over;
-    })
-    c.requires.side (ap (λ (f : Forest _). f.side) tree.region ∙ region)
-
-pub returns-clause-region : goal.returns-clause-region
-returns-clause-region g c =
-    IfOk-weaker c.search_in_tree.result (λ S. S.tree.region ≡ c.in_ok-tree.tree.region) (λ S. S.tree.region ≡ c.args.region)
-    (λ S kept. kept ∙ c.in_ok-tree.ensures.region) c.search_in_tree.ensures.region
+returns-clause-memory g c X room has side region =
+    let slots = c.args.memory.answers.1 in
+    let room_is : slots.room ≡ room = ap (λ (s : SlotList _). s.room) has.slots_are in
+    let used : length slots.used ≡ 0 = ap (λ (s : SlotList _). length s.used) has.slots_are in
+    let times : slots.room * placed X ≡ room * placed X = ap (λ n. n * placed X) room_is in
+    let width : c.args.memory.tree.1.width ≡ length X.rows = ap (λ (h : HallSets). h.width) has.halls_are in
+    let small = has.small in
+    record {
+      given_fit = omega arith;
+      used_fit = omega (arith, used);
+      small = omega (arith, times, small);
+      choices_fit = has.choices_fit ∙ sym room_is;
+      choices_over = has.choices_over;
+      slots_side = ap (λ (s : SlotList _). s.side) has.slots_are;
+      region_side = region;
+      base_side = side;
+      halls_width = omega (arith, width);
+      desk = subst (λ n. IsDesk n c.desk_with.result) side
+          (c.desk_with.ensures.desk c.args.root.reduced.now has.desk c.requires);
+    }

@@ -1,4 +1,4 @@
-use Rattle.std.proofs.Common.{◌≡◌, ◌+◌, ◌-◌, ◌*◌, ◌≤◌, take, refl, sym, ◌∙◌, ap, subst, arith}
+use Rattle.std.proofs.Common.{◌≡◌, ◌+◌, ◌-◌, ◌*◌, ◌≤◌, take, sym, ◌∙◌, ap, subst, arith}
 use Rattle.asg_model.specs.Counts.{placed}
 use Rattle.asg_proof.specs.PhaseProofs.{EntersValues}
 use Rattle.asg_rank.specs.Opening.{IsBlank}
@@ -24,22 +24,13 @@ overflow_add-records g c =
     let small = c.requires.side in
     omega (arith, times, rest, fit, side, small)
 
-pub blank_search-requires-clause-bench : goal.blank_search-requires-clause-bench
-blank_search-requires-clause-bench g c =
-    let is = c.in_ok-root.ensures in
+pub blank_search-begun-requires : goal.blank_search-begun-requires
+blank_search-begun-requires g c =
+    let is = c.in_ok-both.ensures.root in
     is.solved.bench_side ∙ is.of_instance.labels.side ∙ sym (instance_side is)
 
-pub blank_search-requires-clause-small : goal.blank_search-requires-clause-small
-blank_search-requires-clause-small g c =
-    let side = instance_side c.in_ok-root.ensures in
-    let small = c.requires.side in
-    omega (arith, side, small)
-
-pub blank_search-requires-clause-side : goal.blank_search-requires-clause-side
-blank_search-requires-clause-side g c = instance_side c.in_ok-root.ensures
-
-pub blank_search-requires-clause-work : goal.blank_search-requires-clause-work
-blank_search-requires-clause-work g c =
+pub root_and_memory-requires-clause-work : goal.root_and_memory-requires-clause-work
+root_and_memory-requires-clause-work g c =
     let X = c.args.inst.now in
     let room = c.answer_room-room.ensures in
     let upto : c.answer_room-room.result ≤ c.args.count = omega (arith, room) in
@@ -55,17 +46,20 @@ plant-requires g c =
     let X = c.args.inst.now in
     let enter = g.K.Kind.entered kind in
     let R = rules_of (g.K.M.Ordered.monoid_of n) (g.K.M.DMonoid.difference n) enter in
-    let blank = c.in_ok-search.ensures in
-    let root = c.in_ok-root.root in
-    let is = equal_root (g.K.M.Ordered.monoid_of) (g.K.M.DMonoid.difference) enter X root k n (sym c.monoid-m.ensures) c.in_ok-root.ensures in
+    let begun = c.blank_search-begun.result in
+    let blank = c.blank_search-begun.ensures in
+    let root = c.in_ok-both.both.0 in
+    let memory = c.in_ok-both.ensures.memory in
+    let is = equal_root (g.K.M.Ordered.monoid_of) (g.K.M.DMonoid.difference) enter X root k n (sym c.monoid-m.ensures) c.in_ok-both.ensures.root in
     let side = is.of_instance.labels.side in
     let region_side = is.solved.region_side ∙ side in
     let live = subst (λ z. EntersValues (g.K.M.Ordered.monoid_of z) enter X) (sym c.monoid-m.ensures)
     (enters_values (g.K.M.Ordered.monoid_of k) enter (g.K.Kind.objective kind) (g.K.Kind.reach kind) X c.requires.reach c.rows-rows.ensures.instance c.requires.passes (g.met.K.Kind.enters_value kind)) in
     let rankable : IsRankable R X = record { place = c.requires.place; small = c.requires.side; enters = live } in
     let planted = plantable R (g.met.K.M.Ordered.laws n) X c.args.count c.requires.some rankable is.square is.of_instance (c.square_law.ensures.presence X) _ root is.solved
-    c.in_ok-search.search root.ended root.matching blank.base refl refl blank.bench blank.region
-    (subst (λ room. IsBlank X room c.in_ok-search.search) c.answer_room-room.ensures blank.blank) (blank.memory region_side)
+    begun.0 begun.1 begun.2 blank.base blank.ended blank.matching blank.bench blank.region
+    (subst (λ room. IsBlank X room begun.0) c.answer_room-room.ensures (blank.blank X _ memory))
+    (blank.memory X _ memory (instance_side c.in_ok-both.ensures.root) region_side)
     (λ i. (c.side.ensures.side ∙ sym side) i + (c.answer_room-room.ensures i - 1) * c.placed.ensures i) in
     record { planted = (enter, c.args.count, planted) }
 
@@ -77,19 +71,22 @@ returns-clause-ready g c =
     let X = c.args.inst.now in
     let enter = g.K.Kind.entered kind in
     let R = rules_of (g.K.M.Ordered.monoid_of n) (g.K.M.DMonoid.difference n) enter in
-    let blank = c.in_ok-search.ensures in
-    let root = c.in_ok-root.root in
-    let is = equal_root (g.K.M.Ordered.monoid_of) (g.K.M.DMonoid.difference) enter X root k n (sym c.monoid-m.ensures) c.in_ok-root.ensures in
+    let begun = c.blank_search-begun.result in
+    let blank = c.blank_search-begun.ensures in
+    let root = c.in_ok-both.both.0 in
+    let memory = c.in_ok-both.ensures.memory in
+    let is = equal_root (g.K.M.Ordered.monoid_of) (g.K.M.DMonoid.difference) enter X root k n (sym c.monoid-m.ensures) c.in_ok-both.ensures.root in
     let side = is.of_instance.labels.side in
     let region_side = is.solved.region_side ∙ side in
     let live = subst (λ z. EntersValues (g.K.M.Ordered.monoid_of z) enter X) (sym c.monoid-m.ensures)
     (enters_values (g.K.M.Ordered.monoid_of k) enter (g.K.Kind.objective kind) (g.K.Kind.reach kind) X c.requires.reach c.rows-rows.ensures.instance c.requires.passes (g.met.K.Kind.enters_value kind)) in
     let rankable : IsRankable R X = record { place = c.requires.place; small = c.requires.side; enters = live } in
     let planted = plantable R (g.met.K.M.Ordered.laws n) X c.args.count c.requires.some rankable is.square is.of_instance (c.square_law.ensures.presence X) _ root is.solved
-    c.in_ok-search.search root.ended root.matching blank.base refl refl blank.bench blank.region
-    (subst (λ room. IsBlank X room c.in_ok-search.search) c.answer_room-room.ensures blank.blank) (blank.memory region_side)
+    begun.0 begun.1 begun.2 blank.base blank.ended blank.matching blank.bench blank.region
+    (subst (λ room. IsBlank X room begun.0) c.answer_room-room.ensures (blank.blank X _ memory))
+    (blank.memory X _ memory (instance_side c.in_ok-both.ensures.root) region_side)
     (λ i. (c.side.ensures.side ∙ sym side) i + (c.answer_room-room.ensures i - 1) * c.placed.ensures i) in
     subst (λ z. IsReady (rules_of (g.K.M.Ordered.monoid_of z) (g.K.M.DMonoid.difference z) enter) X c.args.count c.plant.new.search) c.monoid-m.ensures (c.plant.ensures.ready enter c.args.count planted)
 
 pub returns-clause-none : goal.returns-clause-none
-returns-clause-none g c = ap (λ n. take n c.plant.new.search.choices.items) (c.plant.ensures.given ∙ c.in_ok-search.ensures.blank.none_given)
+returns-clause-none g c = ap (λ n. take n c.plant.new.search.choices.items) (c.plant.ensures.given ∙ (c.blank_search-begun.ensures.blank c.args.inst.now c.answer_room-room.result c.in_ok-both.ensures.memory).none_given)

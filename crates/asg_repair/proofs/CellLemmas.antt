@@ -1,7 +1,7 @@
 -- A cell that goes through phases, one after the other.
-use Rattle.std.proofs.Common.{◌≡◌, ℕ, suc, ◌<◌, ◌≤◌, ◌+◌, List, [], ◌∷◌, ◌++◌, length, take, get_or, Option, Some, refl, sym, ◌∙◌, ap, subst, arith}
+use Rattle.std.proofs.Common.{◌≡◌, ℕ, suc, ◌<◌, ◌+◌, List, [], ◌∷◌, ◌++◌, length, take, get_or, Option, Some, refl, sym, ◌∙◌, ap, subst, arith}
 use Rattle.std.specs.Prelude.{slice_index}
-use Rattle.asg_order.specs.Monoid.{Monoid, IsValue, IsLe}
+use Rattle.asg_order.specs.Monoid.{Monoid, IsValue}
 use Rattle.asg_proof.specs.Phases.{PhaseOf}
 use Rattle.asg_proof.specs.laws.PhaseSteps.{take-step}
 use Rattle.asg_admit.specs.Settled.{AllowsSteps, RefusesStep, settled}

@@ -1,13 +1,12 @@
 -- What a session keeps through an edit.
-use Rattle.std.proofs.Common.{◌≡◌, ◌⊎◌, ℕ, ◌<◌, ◌≤◌, Bool, true, false, ◌||◌, List, length, take, Option, Some, None, refl, sym, ap, subst, ◌∙◌, ⊎_elim, arith}
+use Rattle.std.proofs.Common.{◌≡◌, ℕ, ◌<◌, ◌≤◌, Bool, true, false, ◌||◌, List, length, take, Option, Some, None, refl, sym, ap, subst, ◌∙◌, ⊎_elim, arith}
 use Rattle.std.specs.Prelude.{nat_lt, replicate}
 use Rattle.std.proofs.lemmas.Bool.{cases_lt, false≢true, lt-ltb}
 use Rattle.std.proofs.lemmas.Bool.Decides.{nat_tests}
 use Rattle.std.proofs.lemmas.List.{take_all, length-take-le, length-replicate}
 use Rattle.asg_admit.specs.KeptCells.{cell_after_phases}
 use Rattle.asg_admit.specs.laws.KeptPhases.{after_phases-cell}
-use Rattle.asg_algebra.specs.Growing.{IsAbsorbed}
-use Rattle.asg_match.specs.Matching.{column_at, Matches, IsMatching, AllAllowed}
+use Rattle.asg_match.specs.Matching.{column_at, Matches, IsMatching}
 use Rattle.asg_model.specs.declared.edits.Edit.{Edit}
 use Rattle.asg_model.specs.declared.objectives.Objective.{Objective}
 use Rattle.asg_model.specs.declared.parts.Cost.{Cost}
@@ -17,8 +16,7 @@ use Rattle.asg_model.specs.Problem.{Problem}
 use Rattle.asg_model.specs.Shapes.{square_side}
 use Rattle.asg_order.specs.Entering.{MayEnter}
 use Rattle.asg_order.specs.Monoid.{Monoid, IsValue}
-use Rattle.asg_proof.specs.KeptPhases.{AreKept}
-use Rattle.asg_proof.specs.Phases.{PhaseOf, AreAdmittedPhases, after_phases, index_of}
+use Rattle.asg_proof.specs.Phases.{PhaseOf}
 use Rattle.asg_square.specs.Cells.{square_cell}
 use Rattle.asg_square.specs.Grid.{Grid}
 use Rattle.asg_square.specs.Labels.{column_label}
@@ -28,7 +26,7 @@ use Rattle.asg_repair.specs.NamedPlaces.{places_of, IsNamed, label_at, HasColumn
 use Rattle.asg_repair.specs.Sessions.{AreAbsorbedAfter, MaySolve, sure_columns}
 use Rattle.asg_repair.proofs.EditedCosts.{EntersValues-edited, PassesNegative-edited}
 use Rattle.asg_repair.proofs.EditedShapes.{edited_label, edited_side}
-use Rattle.asg_repair.proofs.NamedLemmas.{NamesPlaces-passed, label_of_column, named_touched, touched_named, untouched_same}
+use Rattle.asg_repair.proofs.NamedLemmas.{label_of_column, named_touched, touched_named, untouched_same}
 use Rattle.std.specs.List.{range_with_len}
 use Rattle.std.specs.Prelude.{map}
 

@@ -1,5 +1,5 @@
 -- Each live cost of an edited instance was live, or is given by the edit.
-use Rattle.std.proofs.Common.{◌≡◌, ◌⊎◌, ◌≤◌, ℕ, Bool, true, false, cond, ◌&&◌, ◌==◌, eqb, List, [], ◌∷◌, map, Option, Some, None, refl, sym, ap, subst, ◌∙◌, ⊎_elim, inl, inr, arith, unwrap_or}
+use Rattle.std.proofs.Common.{◌≡◌, ◌⊎◌, ◌≤◌, ℕ, Bool, true, false, cond, ◌&&◌, ◌==◌, eqb, List, [], ◌∷◌, map, Option, Some, None, refl, sym, ap, subst, ◌∙◌, ⊎_elim, inl, inr, arith}
 use Rattle.std.specs.Prelude.{IfSome, not, nat_le, unsigned_abs, slice_get}
 use Rattle.std.specs.BTreeMap.{insert_entry, is_at}
 use Rattle.std.specs.List.{find, AllByRecursion}
@@ -20,7 +20,7 @@ use Rattle.asg_model.specs.declared.objectives.Objective.{Objective}
 use Rattle.asg_model.specs.declared.parts.Column.{Column}
 use Rattle.asg_model.specs.declared.parts.Cost.{Cost}
 use Rattle.asg_model.specs.declared.parts.Row.{Row}
-use Rattle.asg_model.specs.Edits.{applies, closed, dropped, edited, given_cost, is_cost_in_range, place_of, refusal_of, with_cell, with_cell_of}
+use Rattle.asg_model.specs.Edits.{applies, closed, dropped, edited, given_cost, is_cost_in_range, place_of, refusal_of, with_cell}
 use Rattle.asg_model.specs.Instances.{IsInstance, by_places}
 use Rattle.asg_model.specs.Limits.{most_cost}
 use Rattle.asg_model.specs.Live.{cost_at, is_active, is_open, live_at}

@@ -1,7 +1,9 @@
 -- What a session keeps is kept by an edit.
-use Rattle.std.proofs.Common.{◌≡◌, ℕ, ◌<◌, ◌≤◌, Bool, true, false, ◌||◌, List, length, take, Option, None, refl, sym, ap, subst, ◌∙◌, arith}
-use Rattle.std.specs.Prelude.{nat_lt}
-use Rattle.std.proofs.lemmas.Bool.{false≢true}
+use Rattle.std.proofs.Common.{◌≡◌, ℕ, ◌≤◌, Bool, true, false, ◌||◌, ◌&&◌, List, length, take, Option, Some, None, sym, ap, subst, ◌∙◌, arith}
+use Rattle.std.specs.Prelude.{nat_eq, nat_lt}
+use Rattle.std.proofs.lemmas.Bool.{and_parts, eqb-true}
+use Rattle.std.proofs.lemmas.List.{take_all}
+use Rattle.asg_admit.specs.declared.reduced.Reduced.{Reduced}
 use Rattle.asg_match.specs.Matching.{column_at, IsMatching}
 use Rattle.asg_model.specs.declared.edits.Edit.{Edit}
 use Rattle.asg_model.specs.declared.objectives.Objective.{Objective}
@@ -13,7 +15,7 @@ use Rattle.asg_model.specs.Shapes.{square_side}
 use Rattle.asg_order.specs.Entering.{MayEnter}
 use Rattle.asg_order.specs.Monoid.{Monoid, IsValue}
 use Rattle.asg_proof.specs.KeptPhases.{AreKept}
-use Rattle.asg_proof.specs.Phases.{PhaseOf, AreAdmittedPhases}
+use Rattle.asg_proof.specs.Phases.{AreAdmittedPhases}
 use Rattle.asg_square.specs.Cells.{square_cell}
 use Rattle.asg_repair.specs.declared.answers.AnswerRoom.{AnswerRoom}
 use Rattle.asg_repair.specs.declared.answers.Given.TheVariants.{Open}
@@ -21,11 +23,13 @@ use Rattle.asg_repair.specs.declared.named_places.NamedPlaces.{NamedPlaces}
 use Rattle.asg_repair.specs.declared.phase_chains.PhaseChain.{PhaseChain}
 use Rattle.asg_repair.specs.declared.works.Work.{Work}
 use Rattle.asg_repair.specs.Edited.{Touches, NamesPlaces}
-use Rattle.asg_repair.specs.NamedPlaces.{places_of}
+use Rattle.asg_repair.specs.Mended.{IsLedBut}
+use Rattle.asg_repair.specs.NamedPlaces.{places_of, HasColumnsOf}
 use Rattle.asg_repair.specs.PhaseChains.{phases_in, IsPhaseChain}
-use Rattle.asg_repair.specs.Sessions.{AreAbsorbedAfter, AreTogether, IsGiven, IsLed, IsSession, IsSized, ids_in, sure_columns}
-use Rattle.asg_repair.proofs.EditSteps.{HasColumnsOf-edited, IsClearedOf, MaySolve-edited, absorbed_edited, column_kept, still_whole, sure_kept, uncut}
+use Rattle.asg_repair.specs.Sessions.{AreAbsorbedAfter, IsGiven, IsLed, IsSession, ids_in, sure_columns}
+use Rattle.asg_repair.proofs.EditSteps.{IsClearedOf, MaySolve-edited, absorbed_edited, column_kept, still_whole, sure_kept, uncut}
 use Rattle.asg_repair.proofs.EditedShapes.{edited_rows, edited_side}
+use Rattle.asg_repair.proofs.LedSquares.{IsLedBut-edited}
 use Rattle.asg_repair.proofs.NamedLemmas.{NamesPlaces-passed}
 
 -- records are spare and the way is told, and the phases are the same
@@ -70,10 +74,9 @@ module _ {V : Type 0} (M : Monoid V) (difference : V → V → V) (enter : Cost 
           given_is = subst (λ list. IsGiven M difference enter X list columns room.given room.choice (ids_in room)) same session.given_is;
         }
 
+    -- an edit is applied, and so many of the phases are kept
     module _ (edit : Edit) (passes : refusal_of objective X edit ≡ None) (prepared after : PhaseChain V) (is : IsPrepared phases prepared) (count kept : ℕ) (size : count ≡ length (phases_in prepared))
         (are_kept : AreKept M difference (square_side X) (phases_in prepared) (square_cell (edited X edit) M.unit enter) kept) (is_cut : IsCutTo kept prepared after)
-        (places : NamedPlaces) (places_are : places ≡ places_of X edit) (matching : List (Option ℕ)) (long : length matching ≡ length work.matching)
-        (cleared : IsClearedOf places work.reduced.now work.matching matching) (now_cut : Bool) (now_cut_is : now_cut ≡ (cut || nat_lt kept count))
       where
         abbrev Y : Problem
         Y = edited X edit
@@ -99,47 +102,84 @@ module _ {V : Type 0} (M : Monoid V) (difference : V → V → V) (enter : Cost 
         pub kept_phases : (n : ℕ) × (phases_in after ≡ take n (phases_in phases)) × AreKept M difference (square_side Y) (phases_in phases) (square_cell Y M.unit enter) n
         kept_phases = (kept, phases_are, kept_of)
 
-        -- where all are, each row that isn't touched keeps its column
-        pub kept_columns : phases_in after ≡ phases_in phases → (r : ℕ) → ((k : ℕ) → Touches X edit r k → ⊥) → column_at (sure_columns now_cut matching) r ≡ column_at (sure_columns cut work.matching) r
-        kept_columns all r apart =
-            let whole = still_whole (phases_in prepared) cut kept count size (let few = are_kept.within in omega (arith, few, size)) (sym is_cut.phases ∙ all ∙ sym is.phases) in
-            ap (λ b. column_at (sure_columns b matching) r) (now_cut_is ∙ whole)
-            ∙ sure_kept cut work.matching matching r long
-            (column_kept X edit names work.reduced.now session.sized.square places places_are work.matching matching session.sized.matching_side session.sized.is_matching cleared r apart)
+        pub region_same : after.region.side ≡ square_side Y
+        region_same = is_cut.side ∙ is.side ∙ session.region_side ∙ sym side_same
 
-        still_absorbed : now_cut ≡ false → AreAbsorbedAfter M difference enter Y (phases_in after) matching
-        still_absorbed h =
-            let whole = uncut (phases_in prepared) cut kept count size (sym now_cut_is ∙ h) in
-            subst (λ list. AreAbsorbedAfter M difference enter Y list matching) (sym (is_cut.phases ∙ whole.1 ∙ is.phases))
-            (absorbed_edited X edit names work.reduced.now session.sized.square places places_are work.matching matching session.sized.matching_side session.sized.is_matching cleared
-            M difference enter (phases_in phases) instance (session.together.absorbed whole.0))
+        -- ---- the square was led, and all phases are kept
 
-        -- what a session keeps
-        pub IsSession-edited : ((cost : Cost) → MayEnter objective reach cost → IsValue M (enter cost)) → IsInstance Y → IsMatching matching → square_side X ≤ prepared.region.spare → IsSession M difference enter objective reach Y (record work { matching = matching }) after false now_cut (record room { given = Open })
-        IsSession-edited values now is_matching spare = record {
-          may_solve = MaySolve-edited M enter objective reach X edit session.may_solve passes values now;
-          sized = record {
-            square = HasColumnsOf-edited X instance edit work.reduced.now session.sized.square;
-            matching_side = long ∙ session.sized.matching_side ∙ sym side_same;
-            is_matching = is_matching;
-            bench_side = session.sized.bench_side ∙ sym side_same;
-            columns_side = session.sized.columns_side ∙ sym side_same;
-            steps_room = let few = session.sized.steps_room in omega (arith, few, side_same);
-          };
-          chain = is_cut.chain;
-          region_side = is_cut.side ∙ is.side ∙ session.region_side ∙ sym side_same;
-          together = record {
-            admitted =
-                subst (λ list. AreAdmittedPhases M difference (square_side Y) list (square_cell Y M.unit enter)) (sym phases_are) kept_of.admitted;
-            is_led = λ h. absurd (false≢true h);
-            is_told = λ h. is_cut.told;
-            is_whole = λ h. absurd (false≢true h);
-            absorbed = still_absorbed;
-          };
-          spare = λ h. let more = is_cut.spare in omega (arith, spare, more, side_same);
-          answer_room = record {
-            choice_rows = session.answer_room.choice_rows ∙ sym (edited_rows X edit);
-            ids_room = session.answer_room.ids_room;
-          };
-          given_is = tt;
-        }
+        module _ (stays : Bool) (stays_is : stays ≡ (led && nat_eq kept count)) (h : stays ≡ true) where
+          both : (led ≡ true) × (nat_eq kept count ≡ true)
+          both = and_parts led (nat_eq kept count) (sym stays_is ∙ h)
+
+          count_is : count ≡ length (phases_in phases)
+          count_is = size ∙ ap length is.phases
+
+          every : kept ≡ length (phases_in phases)
+          every = eqb-true kept count both.1 ∙ count_is
+
+          all_taken : take kept (phases_in phases) ≡ phases_in phases
+          all_taken = take_all kept (phases_in phases) (let e = every in omega (arith, e))
+
+          -- only the cells that the edit names may differ
+          pub IsLedBut-kept : (places : NamedPlaces) → places ≡ places_of X edit → (q : ℕ) → places.column ≡ Some q → IsLedBut M difference enter Y (phases_in after) places.row q work.reduced
+          IsLedBut-kept places places_are q at =
+              subst (λ list. IsLedBut M difference enter Y list places.row q work.reduced) (sym (phases_are ∙ all_taken))
+              (IsLedBut-edited M difference enter X instance edit names places places_are (phases_in phases) work.reduced (session.together.is_led both.0)
+              (subst (λ list. AreAdmittedPhases M difference (square_side Y) list (square_cell Y M.unit enter)) all_taken kept_of.admitted)
+              q at)
+
+          -- no phase was cut
+          uncut_still : (cut || nat_lt kept count) ≡ false
+          uncut_still =
+              still_whole (phases_in phases) cut kept count count_is (let e = every in let f = count_is in omega (arith, e, f)) all_taken
+              ∙ session.together.is_whole both.0
+
+        -- ---- rows whose cells the edit names lose their columns
+
+        module _ (places : NamedPlaces) (places_are : places ≡ places_of X edit) (matching : List (Option ℕ)) (long : length matching ≡ length work.matching)
+            (cleared : IsClearedOf places work.reduced.now work.matching matching) (now_cut : Bool) (now_cut_is : now_cut ≡ (cut || nat_lt kept count))
+          where
+            -- where all phases are kept, each row that isn't touched keeps its column
+            pub kept_columns : phases_in after ≡ phases_in phases → (r : ℕ) → ((k : ℕ) → Touches X edit r k → ⊥) → column_at (sure_columns now_cut matching) r ≡ column_at (sure_columns cut work.matching) r
+            kept_columns all r apart =
+                let whole = still_whole (phases_in prepared) cut kept count size (let few = are_kept.within in omega (arith, few, size)) (sym is_cut.phases ∙ all ∙ sym is.phases) in
+                ap (λ b. column_at (sure_columns b matching) r) (now_cut_is ∙ whole)
+                ∙ sure_kept cut work.matching matching r long
+                (column_kept X edit names work.reduced.now session.sized.square places places_are work.matching matching session.sized.matching_side session.sized.is_matching cleared r apart)
+
+            still_absorbed : now_cut ≡ false → AreAbsorbedAfter M difference enter Y (phases_in after) matching
+            still_absorbed h =
+                let whole = uncut (phases_in prepared) cut kept count size (sym now_cut_is ∙ h) in
+                subst (λ list. AreAbsorbedAfter M difference enter Y list matching) (sym (is_cut.phases ∙ whole.1 ∙ is.phases))
+                (absorbed_edited X edit names work.reduced.now session.sized.square places places_are work.matching matching session.sized.matching_side session.sized.is_matching cleared
+                M difference enter (phases_in phases) instance (session.together.absorbed whole.0))
+
+            -- what a session keeps
+            pub IsSession-edited : ((cost : Cost) → MayEnter objective reach cost → IsValue M (enter cost)) → IsInstance Y → IsMatching matching → square_side X ≤ prepared.region.spare → (stays now_led : Bool) → stays ≡ (led && nat_eq kept count) → (now_led ≡ true → stays ≡ true) → (reduced : Reduced V) → HasColumnsOf Y reduced.now → (now_led ≡ true → IsLed M difference enter Y (phases_in after) reduced) → IsSession M difference enter objective reach Y (record work { matching = matching; reduced = reduced }) after now_led now_cut (record room { given = Open })
+            IsSession-edited values now is_matching spare stays now_led stays_is only reduced columns led_is = record {
+              may_solve = MaySolve-edited M enter objective reach X edit session.may_solve passes values now;
+              sized = record {
+                square = columns;
+                matching_side = long ∙ session.sized.matching_side ∙ sym side_same;
+                is_matching = is_matching;
+                bench_side = session.sized.bench_side ∙ sym side_same;
+                columns_side = session.sized.columns_side ∙ sym side_same;
+                steps_room = let few = session.sized.steps_room in omega (arith, few, side_same);
+              };
+              chain = is_cut.chain;
+              region_side = region_same;
+              together = record {
+                admitted =
+                    subst (λ list. AreAdmittedPhases M difference (square_side Y) list (square_cell Y M.unit enter)) (sym phases_are) kept_of.admitted;
+                is_led = led_is;
+                is_told = λ h. is_cut.told;
+                is_whole = λ h. now_cut_is ∙ uncut_still stays stays_is (only h);
+                absorbed = still_absorbed;
+              };
+              spare = λ h. let more = is_cut.spare in omega (arith, spare, more, side_same);
+              answer_room = record {
+                choice_rows = session.answer_room.choice_rows ∙ sym (edited_rows X edit);
+                ids_room = session.answer_room.ids_room;
+              };
+              given_is = tt;
+            }

@@ -1,5 +1,5 @@
 -- The cells of the square that an edit doesn't touch stay.
-use Rattle.std.proofs.Common.{◌≡◌, ◌≢◌, ◌⊎◌, ℕ, zero, suc, ◌+◌, ◌<◌, ◌≤◌, Bool, true, false, cond, ◌&&◌, eqb, List, [], ◌∷◌, ◌++◌, length, get_or, map, Option, Some, None, refl, sym, ap, subst, ◌∙◌, ⊎_elim, arith, unwrap_or}
+use Rattle.std.proofs.Common.{◌≡◌, ◌≢◌, ℕ, ◌+◌, ◌<◌, ◌≤◌, Bool, true, false, cond, ◌&&◌, eqb, List, [], ◌∷◌, ◌++◌, length, get_or, map, Option, Some, None, refl, sym, ap, ◌∙◌, ⊎_elim, arith, unwrap_or}
 use Rattle.std.specs.Prelude.{AllPairs, nat_lt, position, slice_get, replicate, sum_by, ◌==◌}
 use Rattle.std.specs.BTreeMap.{insert_entry, is_at}
 use Rattle.std.specs.List.{enumerate_from, flat_map}
@@ -8,14 +8,12 @@ use Rattle.std.specs.Option.{option_map, option_map_or}
 use Rattle.std.specs.Ordering.{nat_cmp, ordering_then, match_ordering, is_eq}
 use Rattle.std.specs.declared.cmp.Ordering.{Ordering}
 use Rattle.std.specs.declared.cmp.Ordering.TheVariants.{Less, Equal, Greater}
-use Rattle.std.proofs.lemmas.Bool.{cases_Bool, cases_lt, cases_order, cond-true, cond-false, eqb-true, eq-eqb, false≢true, and_parts}
+use Rattle.std.proofs.lemmas.Bool.{cases_Bool, cases_lt, cases_order, cond-true, cond-false, eqb-true, and_parts}
 use Rattle.std.proofs.lemmas.Bool.Decides.{nat_tests}
 use Rattle.std.proofs.lemmas.List.{length-map}
 use Rattle.std.proofs.lemmas.List.Quantifiers.{position-Some}
 use Rattle.std.proofs.lemmas.List.Sums.{sum_by-cons}
 use Rattle.std.proofs.lemmas.Option.{slice_get-get_or, slice_get_past, slice_get-map}
-use Rattle.asg_model.specs.declared.edits.Edit.{Edit}
-use Rattle.asg_model.specs.declared.edits.Edit.TheVariants.{Cost as SetCost, Forbid, DropRow, DropColumn}
 use Rattle.asg_model.specs.declared.parts.Column.{Column}
 use Rattle.asg_model.specs.declared.parts.Cost.{Cost}
 use Rattle.asg_model.specs.declared.parts.Place.{Place}
@@ -23,13 +21,12 @@ use Rattle.asg_model.specs.declared.parts.Row.{Row}
 use Rattle.asg_model.specs.Counts.{is_counted, is_counted_by, total_capacity}
 use Rattle.asg_model.specs.HallSet.{row_place_of, column_place_of}
 use Rattle.asg_model.specs.Instances.{IsInstance, by_places}
-use Rattle.asg_model.specs.Live.{cost_at, is_active, is_open, live_at}
+use Rattle.asg_model.specs.Live.{cost_at, is_active, is_open}
 use Rattle.asg_model.specs.Problem.{Problem, problem_of}
 use Rattle.asg_model.specs.Shapes.{square_side, side_by}
-use Rattle.asg_square.specs.Cells.{labelled_cell, square_cell, extra_column_cell, corner_cell}
-use Rattle.asg_square.specs.Labels.{copies_of, copies, row_label, column_label}
-use Rattle.asg_model.specs.Edits.{dropped, closed, with_cell, place_of, with_cell_of, edited}
-use Rattle.asg_repair.specs.Edited.{Touches, NamesPlaces}
+use Rattle.asg_square.specs.Cells.{labelled_cell, square_cell}
+use Rattle.asg_square.specs.Labels.{copies_of, row_label, column_label}
+use Rattle.asg_model.specs.Edits.{dropped, closed, with_cell, place_of, with_cell_of}
 
 abbrev Cells : Type 0
 Cells = List ((ℕ × ℕ) × Cost)

@@ -34,7 +34,7 @@ admitted_values M difference side (phase ∷ rest) square all =
     (phase_has_values M difference side phase square all.0)
     (admitted_values M difference side rest (after_phase M difference phase square) all.1)
 
-none_by : {V : Type 0} (o : Option V) → (IsSome o → ⊥) → o ≡ None
+pub none_by : {V : Type 0} (o : Option V) → (IsSome o → ⊥) → o ≡ None
 none_by None not = refl
 none_by (Some x) not = absurd (not refl)
 

@@ -24,3 +24,5 @@ mod TouchedCells
 mod OpenedLemmas
 mod KeptThrough
 mod OpenedSessions
+mod MendLemmas
+mod LedSquares

@@ -11,7 +11,7 @@ use Rattle.asg_proof.specs.laws.PhaseLists.{index_is_value}
 use Rattle.asg_square.specs.Cells.{square_cell}
 use Rattle.asg_square.specs.Grid.{cell_at}
 use Rattle.asg_proof.specs.KeptPhases.{AreKept}
-use Rattle.asg_repair.specs.LeftPhases.{AreLeft, AllowsOrStaysAt}
+use Rattle.asg_repair.specs.LeftPhases.{AreLeft}
 use Rattle.asg_repair.specs.Leads.{LeadsTo}
 use Rattle.asg_repair.specs.Sessions.{IsLed}
 use Rattle.std.proofs.lemmas.List.{length-map}

@@ -1,5 +1,5 @@
 -- The trails on the way to a trail.
-use Rattle.std.proofs.Common.{◌≡◌, ℕ, ◌+◌, ◌<◌, List, [], ◌∷◌, ◌++◌, length, Option, Some, None, refl, sym, ◌∙◌, ap, subst, arith, reverse, length-append}
+use Rattle.std.proofs.Common.{◌≡◌, ℕ, ◌<◌, List, [], ◌∷◌, ◌++◌, length, Option, Some, None, refl, sym, ◌∙◌, ap, subst, arith, reverse, length-append}
 use Rattle.std.specs.Prelude.{IfSome, All, unwrap_or, option_map, option_and_then}
 use Rattle.std.proofs.lemmas.List.Elements.{All-cons}
 use Rattle.asg_proof.specs.Phases.{PhaseOf}

@@ -4,6 +4,7 @@ pub mod Edited
 pub mod EditedCells
 pub mod Leads
 pub mod LeftPhases
+pub mod Mended
 pub mod NamedPlaces
 pub mod Opening
 pub mod PhaseChains

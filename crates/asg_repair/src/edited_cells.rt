@@ -71,8 +71,8 @@ impl<K: Kind> ChangedCells<<K::M as Ordered>::Value> for EditedCells<'_, K> {
     }
 }
 
-// Whether the row at a place is counted.
-fn is_counted(inst: &Instance, r: u32) -> bool
+/// Whether the row at a place is counted.
+pub(crate) fn is_counted(inst: &Instance, r: u32) -> bool
     ensures { result ≡ is_counted inst.now r }
 {
     match inst.place() {

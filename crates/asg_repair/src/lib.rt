@@ -5,8 +5,10 @@
 //! that only these are replayed. Where cells were raised or removed all phases are kept, and every
 //! row whose cell wasn't touched keeps its column; then one more tree serves the row that lost its
 //! own. Else a prefix is kept: it is applied anew at the next answer, and each column is kept whose
-//! cell is absorbed then. Edits between two answers don't touch the square. A session is opened by
-//! few phases that are guessed (`asg_roots`), and goes on by those of the engine (`asg_algebra`).
+//! cell is absorbed then. Where all phases are kept through an edit that names a column, the cells
+//! that it touches are written into the reduced square at once, so that the next answer begins with
+//! it; after other edits that square is made anew then. A session is opened by few phases that are
+//! guessed (`asg_roots`), and goes on by those of the engine (`asg_algebra`).
 //! Contracts see a session as its kind, its instance, its phases, the columns that rows are sure to
 //! keep, and what was answered last.
 #![tactic(auto)]
@@ -18,6 +20,8 @@ mod edited_cells;
 mod free_rows;
 mod kept_cells;
 pub mod laws;
+mod led_squares;
+mod mended_cells;
 mod named_places;
 mod opening;
 mod phase_chains;

@@ -45,8 +45,8 @@ fn is_at_row(place: Option<u32>, r: u32) -> bool
     }
 }
 
-// Whether a column of the square is a copy of that of a place, where there is one.
-fn is_at_column(place: Option<u32>, label: Option<u32>) -> bool
+/// Whether a column of the square is a copy of that of a place, where there is one.
+pub(crate) fn is_at_column(place: Option<u32>, label: Option<u32>) -> bool
     ensures { IsTrue result ↔ IsAtColumn place label }
 {
     match place {

@@ -16,6 +16,7 @@ ghost use Rattle.asg_square.specs.Cells.{square_cell};
 use crate::NoMemory;
 use crate::answers::{AnswerRoom, Given};
 use crate::edited_cells::kept_through;
+use crate::led_squares::{follow, stays_led};
 use crate::named_places::{clear_named, named_places};
 use crate::opening::{Opened, solve_first};
 use crate::phase_chains::PhaseChain;
@@ -159,8 +160,16 @@ impl<K: Kind + Drop> Session<K> {
         clear_named(places, &self.work.reduced.now, &mut self.work.matching);
         let count = self.phases.len();
         self.is_cut = is_cut_by(self.is_cut, kept, count);
+        let stays = stays_led(self.is_led, kept, count);
         self.phases.cut(kept);
-        self.is_led = false;
+        self.is_led = follow(
+            &self.kind,
+            &self.inst,
+            &mut self.work.reduced,
+            &self.phases,
+            places,
+            stays,
+        );
         self.room.given = Given::Open;
         Ok(())
     }

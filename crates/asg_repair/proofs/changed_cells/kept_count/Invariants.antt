@@ -1,4 +1,4 @@
-use Rattle.std.proofs.Common.{◌≡◌, ◌<◌, ◌≤◌, length}
+use Rattle.std.proofs.Common.{◌<◌, ◌≤◌, length}
 use Rattle.asg_repair.specs.LeftPhases.{AreLeft}
 use Rattle.asg_repair.specs.PhasesAlong.{phases_along}
 use Rattle.asg_repair.proofs.changed_cells.kept_count.Given as goal

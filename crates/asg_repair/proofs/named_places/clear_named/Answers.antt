@@ -1,4 +1,3 @@
-use Rattle.std.proofs.Common.{◌∙◌, ◌<◌, arith, subst, sym}
 use Rattle.asg_repair.specs.NamedPlaces.{IsNamed, label_at}
 use Rattle.asg_repair.proofs.ClearedLemmas.{IsCleared-none, IsCleared-more}
 use Rattle.asg_repair.proofs.named_places.clear_named.Goals as goal

@@ -1,5 +1,3 @@
-use Rattle.std.proofs.Common.{◌≡◌, ◌<◌, ℕ, length}
-use Rattle.asg_match.specs.Matching.{Matches}
 use Rattle.asg_repair.specs.NamedPlaces.{IsNamed, label_at}
 use Rattle.asg_repair.proofs.ClearedLemmas.{IsCleared}
 use Rattle.asg_repair.proofs.named_places.clear_named.Given as goal

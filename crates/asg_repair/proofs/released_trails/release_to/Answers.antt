@@ -1,4 +1,4 @@
-use Rattle.std.proofs.Common.{◌≡◌, ◌∙◌, ◌+◌, ◌-◌, ◌≤◌, ℕ, List, ap, sym, arith, length, take, refl}
+use Rattle.std.proofs.Common.{◌≡◌, ◌∙◌, ◌+◌, ◌-◌, ◌≤◌, ℕ, ap, sym, arith, length, take, refl}
 use Rattle.std.proofs.lemmas.List.{length-take-le, take_all}
 use Rattle.asg_pool.specs.Forest.{phases_to}
 use Rattle.asg_repair.proofs.LeftLemmas.{take_twice}

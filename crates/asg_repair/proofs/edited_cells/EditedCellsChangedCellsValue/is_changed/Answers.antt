@@ -1,4 +1,4 @@
-use Rattle.std.proofs.Common.{◌≡◌, ◌∙◌, sym, subst, ap, true, false}
+use Rattle.std.proofs.Common.{◌∙◌, sym, subst}
 use Rattle.std.proofs.lemmas.Bool.{false≢true}
 use Rattle.asg_repair.specs.NamedPlaces.{IsNamed, label_at}
 use Rattle.asg_repair.proofs.NamedLemmas.{NamesPlaces-passed, touched_named, named_touched, untouched_same, label_of_column}

@@ -1,0 +1,4 @@
+pub mod Laws
+pub mod ScriptRefusals
+pub mod Scripts
+pub mod SolveLines

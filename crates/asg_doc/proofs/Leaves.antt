@@ -19,7 +19,7 @@ use Rattle.asg_parts.specs.laws.ListLaws.{IsWord, IsLegible-listed}
 use Rattle.asg_parts.specs.laws.LineLaws.{IsReadable-line, IsReadable-this}
 use Rattle.asg_parts.specs.laws.SpellingLaws.{IsLegible, IsLegible-behind, IsLegible-decoded, IsLegible-number, IsLegible-wide, IsLegible-positive, IsLegible-signed, IsLegible-pair, IsLegible-list, is_plain, Lacks-literal, Lacks-decimal, Lacks-signed, decimal_same}
 use Rattle.asg_doc.specs.declared.documents.Command.{Command}
-use Rattle.asg_doc.specs.declared.documents.Command.TheVariants.{Solve, Rank}
+use Rattle.asg_doc.specs.declared.documents.Command.TheVariants.{Solve, Rank, Edit}
 use Rattle.asg_doc.specs.declared.documents.ProofHead.{ProofHead}
 use Rattle.asg_doc.specs.declared.documents.ProofHead.TheVariants as heads
 use Rattle.asg_doc.specs.declared.documents.Status.{Status}
@@ -42,14 +42,16 @@ named word values bytes = find (λ a. bytes_eq (word a) bytes) values
 
 pub command_legible : IsLegible command_spelling
 unfolding named
-command_legible = IsLegible-decoded (named command_word (Solve ∷ Rank ∷ [])) Solve tt inverse plain where
-  inverse : (c : Command) → Unit {0} → named command_word (Solve ∷ Rank ∷ []) (command_word c) ≡ Some c
+command_legible = IsLegible-decoded (named command_word (Solve ∷ Rank ∷ Edit ∷ [])) Solve tt inverse plain where
+  inverse : (c : Command) → Unit {0} → named command_word (Solve ∷ Rank ∷ Edit ∷ []) (command_word c) ≡ Some c
   inverse Solve has = refl
   inverse Rank has = refl
+  inverse Edit has = refl
 
   plain : (c : Command) → Unit {0} → is_plain (command_word c) ≡ true
   plain Solve has = refl
   plain Rank has = refl
+  plain Edit has = refl
 
 pub command_law : IsReadable command_part
 command_law = IsReadable-line (IsLegible-behind (codes "command ") refl command_legible)

@@ -10,8 +10,12 @@ use std::marker::Model;
 /// The command that a document answers.
 #[derive(Clone, Copy, Debug, PartialEq, Eq)]
 pub enum Command {
+    /// One best choice of an instance.
     Solve,
+    /// So many best choices of an instance, in order.
     Rank,
+    /// One best choice of an instance as edits have left it.
+    Edit,
 }
 
 /// Chosen cells: the ids of their row and of their column, in the order of the rows.

@@ -19,6 +19,7 @@ pub(crate) fn word_of_command(command: Command) -> &'static [u8]
     match command {
         Command::Solve => b"solve",
         Command::Rank => b"rank",
+        Command::Edit => b"edit",
     }
 }
 
@@ -31,6 +32,9 @@ pub(crate) fn command_of(word: &[u8]) -> Option<Command>
     }
     if word == word_of_command(Command::Rank) {
         return Some(Command::Rank);
+    }
+    if word == word_of_command(Command::Edit) {
+        return Some(Command::Edit);
     }
     None
 }

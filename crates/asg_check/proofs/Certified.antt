@@ -438,6 +438,7 @@ module _ (decided : record { valid : (X : Problem) (f : List (Option ℕ)) → D
     claimed form (Nothing rows) fits none = hall_set (Nothing rows) (none NotHall)
     claimed form (Best answer proof) fits none = claimed_best answer proof (right_of (answers_form form (Best answer proof)) (takes objective proof) fits) none
     claimed forms.Solve (Ranked count answers nodes) fits none = absurd (cc)
+    claimed forms.Edit (Ranked count answers nodes) fits none = absurd (cc)
     claimed (forms.Rank asked) (Ranked count answers nodes) fits none =
         let claim = Ranked count answers nodes in
         let counts = left_of (answers_form (forms.Rank asked) claim) (is_algebraic objective) fits in

@@ -56,10 +56,12 @@ module _ (Against : Reason → Spot → Type 0) (Fails : ℕ → Type 0) (reason
 -- has an answer
 pub all_placed : (form : Form) (objective : Objective) (X : Problem) (count : ℕ) (answers : List Answer) (nodes : List Node) → MayBeAsked form objective X → IsTrue (answers_form form (Ranked count answers nodes)) → X.place ≡ PlaceAll
 all_placed forms.Solve objective X count answers nodes may is = absurd (cc)
+all_placed forms.Edit objective X count answers nodes may is = absurd (cc)
 all_placed (forms.Rank asked) objective X count answers nodes may is = may.1
 
 pub some_answer : (form : Form) (count : ℕ) (answers : List Answer) (nodes : List Node) → IsTrue (answers_form form (Ranked count answers nodes)) → 1 ≤ length answers
 some_answer forms.Solve count answers nodes is = absurd (cc)
+some_answer forms.Edit count answers nodes is = absurd (cc)
 some_answer (forms.Rank asked) count answers nodes is = (counted count (length answers) (right_of (count == asked) (is_answer_count count (length answers)) is)).0
 
 -- ---- choices that were read

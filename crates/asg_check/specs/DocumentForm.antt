@@ -17,13 +17,14 @@ use Rattle.asg_check.specs.declared.verdicts.Form.TheVariants as forms
 abbrev pub MayBeAsked : Form → Objective → Problem → Type 0
 MayBeAsked forms.Solve objective X = Unit {0}
 MayBeAsked (forms.Rank count) objective X = IsTrue (is_algebraic objective) × (X.place ≡ All)
+MayBeAsked forms.Edit objective X = Unit {0}
 
 -- documents of the asked form have this command
 abbrev pub is_command_of : Form → Command → Bool
 is_command_of forms.Solve commands.Solve = true
-is_command_of forms.Solve commands.Rank = false
-is_command_of (forms.Rank count) commands.Solve = false
 is_command_of (forms.Rank count) commands.Rank = true
+is_command_of forms.Edit commands.Edit = true
+is_command_of form command = false
 
 -- so many answers are at least one and at most as many as were asked for
 abbrev pub is_answer_count : ℕ → ℕ → Bool
@@ -35,6 +36,8 @@ abbrev pub answers_form : Form → Claim → Bool
 answers_form form (Nothing rows) = true
 answers_form forms.Solve (Best answer proof) = true
 answers_form forms.Solve (Ranked count answers nodes) = false
+answers_form forms.Edit (Best answer proof) = true
+answers_form forms.Edit (Ranked count answers nodes) = false
 answers_form (forms.Rank asked) (Best answer proof) = false
 answers_form (forms.Rank asked) (Ranked count answers nodes) =
     (count == asked) && is_answer_count count (length answers)

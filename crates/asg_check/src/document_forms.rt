@@ -25,11 +25,10 @@ pub(crate) fn has_form(objective: Objective, form: Form, doc: &Document) -> bool
 fn is_command_of(form: Form, command: Command) -> bool
     ensures { result ≡ is_command_of form command }
 {
-    match (form, command) {
-        (Form::Solve, Command::Solve) => true,
-        (Form::Solve, Command::Rank) => false,
-        (Form::Rank(_), Command::Solve) => false,
-        (Form::Rank(_), Command::Rank) => true,
+    match form {
+        Form::Solve => matches!(command, Command::Solve),
+        Form::Rank(_) => matches!(command, Command::Rank),
+        Form::Edit => matches!(command, Command::Edit),
     }
 }
 
@@ -41,6 +40,8 @@ fn answers_form(form: Form, claim: &Claim) -> bool
         (_, Claim::Nothing { .. }) => true,
         (Form::Solve, Claim::Best { .. }) => true,
         (Form::Solve, Claim::Ranked { .. }) => false,
+        (Form::Edit, Claim::Best { .. }) => true,
+        (Form::Edit, Claim::Ranked { .. }) => false,
         (Form::Rank(_), Claim::Best { .. }) => false,
         (Form::Rank(asked), Claim::Ranked { count, answers, .. }) => {
             *count == asked && is_answer_count(*count, answers)

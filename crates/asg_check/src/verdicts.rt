@@ -12,6 +12,8 @@ pub enum Form {
     Solve,
     /// So many best choices in order, or all where fewer are valid, or that no choice is valid.
     Rank(u32),
+    /// One best choice of an instance as edits have left it, or that no choice is valid.
+    Edit,
 }
 
 /// Why a document doesn't certify, in the order in which the reasons are tested.

@@ -1,0 +1,80 @@
+-- What the session of each kind does, as an editor sees it.
+use Rattle.std.proofs.Common.{◌≡◌, ℕ, ◌≤◌, ◌++◌, List, length, map, Result, Ok, Err, refl, ap}
+use Rattle.std.specs.Prelude.{OnOk}
+use Rattle.asg_algebra.specs.Solved.{unmatched}
+use Rattle.asg_model.specs.declared.edits.Edit.{Edit}
+use Rattle.asg_model.specs.declared.objectives.Objective.TheVariants.{TimeCost}
+use Rattle.asg_model.specs.Edits.{edited}
+use Rattle.asg_monoids.specs.declared.peak_kinds.PeakKind.{PeakKind}
+use Rattle.asg_monoids.specs.declared.sum_kinds.SumKind.{SumKind}
+use Rattle.asg_monoids.specs.declared.time_kinds.TimeKind.{TimeKind}
+use Rattle.asg_monoids.specs.BoundedSums.{bounded_sums, bounded_difference, plain_word}
+use Rattle.asg_monoids.specs.Entered.{peak_entered, sum_entered, time_entered}
+use Rattle.asg_monoids.specs.Grades.{graded, graded_difference, graded_word}
+use Rattle.asg_monoids.specs.Maxima.{maxima, maxima_difference}
+use Rattle.asg_order.specs.declared.words.Word.{Word}
+use Rattle.asg_proof.specs.Phases.{PhaseOf, worded}
+use Rattle.asg_repair.specs.Sessions.{SessionOf}
+use Rattle.asg_edits.specs.declared.sessions.Sessions.{Sessions}
+use Rattle.asg_edits.specs.declared.sessions.Sessions.TheVariants.{Sums, Peaks, Times}
+use Rattle.asg_edits.specs.Edited.{EditFact, KeepsIn}
+use Rattle.asg_edits.specs.Editors.{EditorOf, Edits, GoesTo, editor_of}
+use Rattle.asg_edits.specs.EditOutcomes.{IsAnswerAt, IsAnswerIn}
+use Rattle.asg_proof.specs.declared.outcomes.Outcome.{Outcome}
+use Rattle.asg_edits.proofs.MonoidFacts.{edit_parts, peak_answer, peak_fact, sum_answer, sum_fact, time_answer, time_fact}
+
+-- two facts on an answer give a third
+pub on_ok : {T E : Type 0} (result : Result T E) (A B C : Type 0) → (A → B → C) → OnOk result A → OnOk result B → OnOk result C
+on_ok (Ok x) A B C both a b = both a b
+on_ok (Err e) A B C both a b = tt
+
+-- ---- edits
+
+pub sums_edited : (s t : SessionOf SumKind ℕ) (edit : Edit) → t.kind ≡ s.kind → t.instance ≡ edited s.instance edit
+    → KeepsIn (bounded_sums s.kind.monoid.top) bounded_difference plain_word (sum_entered s.kind.objective) s.instance t.instance (map (worded plain_word) s.phases) (map (worded plain_word) t.phases) (unmatched s.columns) (unmatched t.columns)
+    → Edits (editor_of (Sums s)) edit (editor_of (Sums t))
+sums_edited s t edit kind is keeps =
+    let fact = EditFact s.instance t.instance (map (worded plain_word) s.phases) (map (worded plain_word) t.phases) (unmatched s.columns) (unmatched t.columns) in
+    let parts = edit_parts s.kind.objective s.instance t.instance (map (worded plain_word) s.phases) (map (worded plain_word) t.phases) (unmatched s.columns) (unmatched t.columns) (sum_fact s.kind.objective s.kind.is_sum s.kind.monoid.top s.kind.stops fact keeps) in
+    record { objective = ap (λ (k : SumKind). k.objective) kind; instance = is; kept = parts.kept; few = parts.few }
+
+pub peaks_edited : (s t : SessionOf PeakKind ℕ) (edit : Edit) → t.kind ≡ s.kind → t.instance ≡ edited s.instance edit
+    → KeepsIn maxima maxima_difference plain_word (peak_entered s.kind.objective) s.instance t.instance (map (worded plain_word) s.phases) (map (worded plain_word) t.phases) (unmatched s.columns) (unmatched t.columns)
+    → Edits (editor_of (Peaks s)) edit (editor_of (Peaks t))
+peaks_edited s t edit kind is keeps =
+    let fact = EditFact s.instance t.instance (map (worded plain_word) s.phases) (map (worded plain_word) t.phases) (unmatched s.columns) (unmatched t.columns) in
+    let parts = edit_parts s.kind.objective s.instance t.instance (map (worded plain_word) s.phases) (map (worded plain_word) t.phases) (unmatched s.columns) (unmatched t.columns) (peak_fact s.kind.objective s.kind.is_peak fact keeps) in
+    record { objective = ap (λ (k : PeakKind). k.objective) kind; instance = is; kept = parts.kept; few = parts.few }
+
+pub times_edited : (s t : SessionOf TimeKind (ℕ × ℕ)) (edit : Edit) → t.instance ≡ edited s.instance edit
+    → KeepsIn (graded (bounded_sums s.kind.monoid.inner.top)) (graded_difference (bounded_sums s.kind.monoid.inner.top) bounded_difference) graded_word time_entered s.instance t.instance (map (worded graded_word) s.phases) (map (worded graded_word) t.phases) (unmatched s.columns) (unmatched t.columns)
+    → Edits (editor_of (Times s)) edit (editor_of (Times t))
+times_edited s t edit is keeps =
+    let fact = EditFact s.instance t.instance (map (worded graded_word) s.phases) (map (worded graded_word) t.phases) (unmatched s.columns) (unmatched t.columns) in
+    let parts = edit_parts TimeCost s.instance t.instance (map (worded graded_word) s.phases) (map (worded graded_word) t.phases) (unmatched s.columns) (unmatched t.columns) (time_fact s.kind.monoid.inner.top s.kind.stops fact keeps) in
+    record { objective = refl; instance = is; kept = parts.kept; few = parts.few }
+
+-- ---- answers
+
+-- what holds of the session that answered, in the words of its editor
+abbrev pub IsAnsweredBy : Sessions → Outcome → Type 0
+IsAnsweredBy sessions outcome = IsAnswerAt (editor_of sessions).objective (editor_of sessions).instance (editor_of sessions).phases (editor_of sessions).unsure outcome
+
+pub sums_answered : (s : SessionOf SumKind ℕ) (outcome : Outcome)
+    → IsAnswerIn (bounded_sums s.kind.monoid.top) bounded_difference plain_word (sum_entered s.kind.objective) s.instance (map (worded plain_word) s.phases) (unmatched s.columns) outcome
+    → IsAnsweredBy (Sums s) outcome
+sums_answered s outcome is = sum_answer s.kind.objective s.kind.is_sum s.kind.monoid.top s.kind.stops s.instance (map (worded plain_word) s.phases) (unmatched s.columns) outcome is
+
+pub peaks_answered : (s : SessionOf PeakKind ℕ) (outcome : Outcome)
+    → IsAnswerIn maxima maxima_difference plain_word (peak_entered s.kind.objective) s.instance (map (worded plain_word) s.phases) (unmatched s.columns) outcome
+    → IsAnsweredBy (Peaks s) outcome
+peaks_answered s outcome is = peak_answer s.kind.objective s.kind.is_peak s.instance (map (worded plain_word) s.phases) (unmatched s.columns) outcome is
+
+pub times_answered : (s : SessionOf TimeKind (ℕ × ℕ)) (outcome : Outcome)
+    → IsAnswerIn (graded (bounded_sums s.kind.monoid.inner.top)) (graded_difference (bounded_sums s.kind.monoid.inner.top) bounded_difference) graded_word time_entered s.instance (map (worded graded_word) s.phases) (unmatched s.columns) outcome
+    → IsAnsweredBy (Times s) outcome
+times_answered s outcome is = time_answer s.kind.monoid.inner.top s.kind.stops s.instance (map (worded graded_word) s.phases) (unmatched s.columns) outcome is
+
+-- where the session stands after it answered
+pub goes_to : (old new : EditorOf) → new.objective ≡ old.objective → new.instance ≡ old.instance → (more : List (PhaseOf Word)) × (new.phases ≡ old.phases ++ more) × (length more ≤ old.unsure) → GoesTo old new
+goes_to old new objective instance (more, phases, few) = record { objective = objective; instance = instance; more = more; phases = phases; few = few }

@@ -1,0 +1,5 @@
+mod CopySteps
+mod EditorFacts
+mod MonoidFacts
+mod SessionFacts
+mod SureRows

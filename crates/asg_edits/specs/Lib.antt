@@ -1,0 +1,3 @@
+pub mod EditOutcomes
+pub mod Edited
+pub mod Editors

@@ -1,0 +1,221 @@
+-- Documents of edited instances, line by line.
+use Rattle.std.proofs.Common.{◌≡◌, ℕ, ◌+◌, ◌≤◌, ◌<◌, List, [], ◌∷◌, ◌++◌, length, take, drop, get_or, Option, Some, None, refl, sym, ap, ◌∙◌, subst, append_assoc, arith, inl, inr}
+use Rattle.std.proofs.lemmas.List.{append-nil, take_all, take-append-drop, take_more}
+use Rattle.std.proofs.lemmas.Grind.{flat_map-append}
+use Rattle.asg_model.specs.declared.edits.Edit.{Edit}
+use Rattle.asg_model.specs.declared.objectives.Objective.{Objective}
+use Rattle.asg_model.specs.Edits.{edited}
+use Rattle.asg_model.specs.Problem.{Problem}
+use Rattle.asg_order.specs.declared.words.Word.{Word}
+use Rattle.asg_proof.specs.KeptWords.{AddsFew, GoesOnFrom, IsRaisedFor, KeepsOn, KeepsPhases, Standing}
+use Rattle.asg_proof.specs.Phases.{PhaseOf}
+use Rattle.asg_proof.specs.declared.outcomes.Proof.TheVariants.{Below, Levels, Phases, Windows}
+use Rattle.asg_doc.specs.declared.documents.Claim.{Claim}
+use Rattle.asg_doc.specs.declared.documents.Claim.TheVariants.{Best, Nothing, Ranked}
+use Rattle.asg_doc.specs.declared.documents.Document.{Document}
+use Rattle.asg_doc.specs.Text.{text_of, texts_of}
+use Rattle.asg_edits.specs.Editors.{EditorOf, Edits, GoesTo}
+use Rattle.asg_io.specs.Laws.{Puts-append, PutsPrefix-append}
+use Rattle.asg_io.specs.Shelf.{Rose}
+use Rattle.asg_io.specs.Sink.{Puts, PutsPrefix}
+use Rattle.asg_scripts.specs.Scripts.{after_line}
+use Rattle.asg_text.specs.declared.script_lines.Line.{Line}
+use Rattle.asg_text.specs.declared.script_lines.Line.TheVariants.{Edit as Edits_line, Solve}
+use Rattle.asg_answers.specs.declared.edited.Halt.{Halt}
+use Rattle.asg_answers.specs.declared.edited.Halt.TheVariants.{WriteFault, NoMemory}
+use Rattle.asg_answers.specs.EditDocuments.{AreEditDocuments, ClaimGoesOn, at_first, claimed_phases, edited_standing, standing_of}
+use Rattle.asg_answers.specs.WrittenLines.{HaltsIn, WritesAll, WritesFront, WritesLine}
+use Rattle.asg_check.specs.declared.verdicts.Form.TheVariants as forms
+use Rattle.asg_answers.specs.WrittenDocument.{IsWritten}
+use Rattle.asg_answers.specs.Standings.{AreSure, ClaimsBy, GoesOnTo, IsEditDocument, IsFollowed, KeepsStanding, Stands}
+
+-- ---- an edit
+
+sure_edited : (objective : Objective) (edits : List (Problem × Problem)) (X Y : Problem) (n m : ℕ) → AreSure objective edits n → (IsRaisedFor objective X Y → n ≡ 0 → m ≤ 1) → AreSure objective (edits ++ (X, Y) ∷ []) m
+sure_edited objective [] X Y n m sure few = λ raised. few raised sure
+sure_edited objective (step ∷ []) X Y n m sure few = tt
+sure_edited objective (step ∷ other ∷ rest) X Y n m sure few = tt
+
+-- what an edit leaves of what was kept
+record IsLeft (objective : Objective) (edits : List (Problem × Problem)) (kept : Option (List (PhaseOf Word))) (old new : EditorOf) : Type 0 where
+  left : Option (List (PhaseOf Word))
+  keeps : KeepsOn objective new.instance kept left
+  stands : KeepsStanding objective (edits ++ (old.instance, new.instance) ∷ []) left new
+
+IsLeft-edited : (objective : Objective) (old new : EditorOf) (edit : Edit) → old.objective ≡ objective → Edits old edit new → (edits : List (Problem × Problem)) (kept : Option (List (PhaseOf Word))) → KeepsStanding objective edits kept old → IsLeft objective edits kept old new
+IsLeft-edited objective old new edit same did edits None stands = record { left = None; keeps = refl; stands = tt }
+IsLeft-edited objective old new edit same did edits (Some words) stands =
+    let keeps : KeepsPhases objective new.instance words new.phases = subst (λ ps. KeepsPhases objective new.instance ps new.phases) stands.0 (subst (λ o. KeepsPhases o new.instance old.phases new.phases) same did.kept) in
+    record {
+      left = Some new.phases;
+      keeps = (new.phases, keeps, refl);
+      stands = (refl, sure_edited objective edits old.instance new.instance old.unsure new.unsure stands.1 (subst (λ o. IsRaisedFor o old.instance new.instance → old.unsure ≡ 0 → new.unsure ≤ 1) same did.few));
+    }
+
+-- an edit is followed
+pub WritesLine-edit : (objective : Objective) (standing : Standing) (old new : EditorOf) (edit : Edit) (before : Option (List ℕ)) → old.objective ≡ objective → Edits old edit new → Stands objective standing old → Puts before before []
+    → WritesLine objective old.instance standing (Edits_line edit) new before before
+WritesLine-edit objective standing old new edit before same did stands puts =
+    let is = IsLeft-edited objective old new edit same did standing.edits standing.kept stands in
+    record {
+      documents = [];
+      after = edited_standing standing old.instance new.instance is.left;
+      followed = (refl, is.left, is.keeps, refl, is.stands);
+      stands = is.stands;
+      puts = puts;
+    }
+
+-- ---- a document
+
+adds_few : (objective : Objective) (edits : List (Problem × Problem)) (unsure : ℕ) (more : List (PhaseOf Word)) → length more ≤ unsure → AreSure objective edits unsure → AddsFew objective edits more
+adds_few objective [] unsure more few sure = omega (arith, few, sure)
+adds_few objective (step ∷ []) unsure more few sure = λ raised. let one = sure raised in omega (arith, few, one)
+adds_few objective (step ∷ other ∷ rest) unsure more few sure = tt
+
+goes_on : (objective : Objective) (old new : EditorOf) (words : List (PhaseOf Word)) → GoesTo old new → words ≡ new.phases → (edits : List (Problem × Problem)) (kept : Option (List (PhaseOf Word))) → KeepsStanding objective edits kept old → GoesOnFrom objective edits kept words
+goes_on objective old new words go is edits None stands = tt
+goes_on objective old new words go is edits (Some kept) stands =
+    (go.more, is ∙ go.phases ∙ ap (λ ps. ps ++ go.more) stands.0, adds_few objective edits old.unsure go.more go.few stands.1)
+
+claim_goes : (objective : Objective) (standing : Standing) (old new : EditorOf) (claim : Claim) → GoesTo old new → ClaimsBy new claim → Stands objective standing old → ClaimGoesOn objective standing claim
+claim_goes objective standing old new (Best answer (Phases words)) go claims stands = goes_on objective old new words go claims.0 standing.edits standing.kept stands
+claim_goes objective standing old new (Best answer (Below rows)) go claims stands = absurd claims.0
+claim_goes objective standing old new (Best answer (Windows windows)) go claims stands = absurd claims.0
+claim_goes objective standing old new (Best answer (Levels perm levels)) go claims stands = absurd claims.0
+claim_goes objective standing old new (Nothing rows) go claims stands = tt
+claim_goes objective standing old new (Ranked count answers nodes) go claims stands = absurd claims
+
+claim_stands : (objective : Objective) (editor : EditorOf) (claim : Claim) → ClaimsBy editor claim → KeepsStanding objective [] (claimed_phases claim) editor
+claim_stands objective editor (Best answer (Phases words)) claims = (sym claims.0, claims.1)
+claim_stands objective editor (Best answer (Below rows)) claims = tt
+claim_stands objective editor (Best answer (Windows windows)) claims = tt
+claim_stands objective editor (Best answer (Levels perm levels)) claims = tt
+claim_stands objective editor (Nothing rows) claims = tt
+claim_stands objective editor (Ranked count answers nodes) claims = tt
+
+-- the document of an editor's answer goes on from what was kept
+pub GoesOnTo-answered : (objective : Objective) (standing : Standing) (old new : EditorOf) (document : Document) → GoesTo old new → IsEditDocument objective new document → Stands objective standing old → GoesOnTo objective standing new document
+GoesOnTo-answered objective standing old new document go is stands = record {
+  written = is.written;
+  goes = claim_goes objective standing old new document.claim go is.claims stands;
+  stands = claim_stands objective new document.claim is.claims;
+}
+
+-- the text of one document
+pub one_text : (document : Document) → text_of document ≡ texts_of (document ∷ [])
+one_text document = sym (append-nil (text_of document))
+
+-- a document is written
+pub WritesLine-solve : (objective : Objective) (standing : Standing) (X : Problem) (new : EditorOf) (before now : Option (List ℕ)) → (document : Document) × GoesOnTo objective standing new document × Puts before now (text_of document)
+    → WritesLine objective X standing Solve new before now
+WritesLine-solve objective standing X new before now (document, goes, puts) = record {
+  documents = document ∷ [];
+  after = standing_of document;
+  followed = (document, refl, refl, goes);
+  stands = goes.stands;
+  puts = subst (Puts before now) (one_text document) puts;
+}
+
+-- or a part of it
+pub HaltsIn-solve : (objective : Objective) (standing : Standing) (X : Problem) (new : EditorOf) (before now : Option (List ℕ)) (halt : Halt) → new.instance ≡ X → (halt ≡ WriteFault → (document : Document) × GoesOnTo objective standing new document × PutsPrefix before now (text_of document)) → (halt ≡ NoMemory → now ≡ before)
+    → HaltsIn objective X standing Solve before now halt
+HaltsIn-solve objective standing X new before now WriteFault same put unwritten =
+    let (document, goes, puts) = put refl in
+    (document ∷ [], standing_of document, new, same, (document, refl, refl, goes), subst (PutsPrefix before now) (one_text document) puts)
+HaltsIn-solve objective standing X new before now NoMemory same put unwritten = unwritten refl
+
+-- ---- lines
+
+-- the first lines were followed
+pub record AreFollowed (objective : Objective) (X : Problem) (lines : List (ℕ × Line)) (place : ℕ) (editor : EditorOf) (before now : Option (List ℕ)) : Type 0 where
+  pub documents : List Document
+  pub standing : Standing
+  pub stands : Stands objective standing editor
+  pub puts : Puts before now (texts_of documents)
+  pub rest : (later : List (ℕ × Line)) (others : List Document) → AreEditDocuments objective editor.instance standing later others → AreEditDocuments objective X at_first (take place lines ++ later) (documents ++ others)
+
+pub AreFollowed-none : (objective : Objective) (lines : List (ℕ × Line)) (editor : EditorOf) (before : Option (List ℕ)) → Puts before before [] → AreFollowed objective editor.instance lines 0 editor before before
+AreFollowed-none objective lines editor before puts = record { documents = []; standing = at_first; stands = tt; puts = puts; rest = λ later others are. are }
+
+-- one line more, in the words of documents
+line_rest : (objective : Objective) (X : Problem) (standing after : Standing) (number : ℕ) (line : Line) (documents : List Document) (editor : EditorOf) → editor.instance ≡ after_line X line → IsFollowed objective X standing line documents after editor
+    → (later : List (ℕ × Line)) (others : List Document) → AreEditDocuments objective editor.instance after later others → AreEditDocuments objective X standing ((number, line) ∷ later) (documents ++ others)
+line_rest objective X standing after number (Edits_line edit) documents editor is (none, left, keeps, leaves, stands) later others are =
+    let keeps' : KeepsOn objective (edited X edit) standing.kept left = subst (λ Z. KeepsOn objective Z standing.kept left) is keeps in
+    let are' = subst (λ s. AreEditDocuments objective editor.instance s later others) leaves are in
+    let are'' : AreEditDocuments objective (edited X edit) (edited_standing standing X (edited X edit) left) later others = subst (λ Z. AreEditDocuments objective Z (edited_standing standing X Z left) later others) is are' in
+    subst (λ ds. AreEditDocuments objective X standing ((number, Edits_line edit) ∷ later) (ds ++ others)) (sym none) (left, keeps', are'')
+line_rest objective X standing after number Solve documents editor is (document, one, leaves, goes) later others are =
+    let are' = subst (λ s. AreEditDocuments objective editor.instance s later others) leaves are in
+    subst (λ ds. AreEditDocuments objective X standing ((number, Solve) ∷ later) (ds ++ others)) (sym one)
+    (subst (λ Z. IsWritten objective Z forms.Edit document) is goes.written, goes.goes, subst (λ Z. AreEditDocuments objective Z (standing_of document) later others) is are')
+
+texts_more : (documents others : List Document) → texts_of documents ++ texts_of others ≡ texts_of (documents ++ others)
+texts_more documents others = sym (flat_map-append text_of documents others)
+
+firsts_more : (lines : List (ℕ × Line)) (place : ℕ) (d : ℕ × Line) → place < length lines → (later : List (ℕ × Line)) → take (place + 1) lines ++ later ≡ take place lines ++ get_or lines place d ∷ later
+firsts_more lines place d within later = ap (λ ls. ls ++ later) (take_more lines place d within) ∙ append_assoc (take place lines) (get_or lines place d ∷ []) later
+
+pub AreFollowed-more : (objective : Objective) (X : Problem) (lines : List (ℕ × Line)) (place : ℕ) (d : ℕ × Line) (old new : EditorOf) (before now after : Option (List ℕ)) → place < length lines
+    → (so_far : AreFollowed objective X lines place old before now) → WritesLine objective old.instance so_far.standing (get_or lines place d).1 new now after → new.instance ≡ after_line old.instance (get_or lines place d).1
+    → AreFollowed objective X lines (place + 1) new before after
+AreFollowed-more objective X lines place d old new before now after within so_far writes follows =
+    let next = get_or lines place d in
+    record {
+      documents = so_far.documents ++ writes.documents;
+      standing = writes.after;
+      stands = writes.stands;
+      puts = subst (Puts before after) (texts_more so_far.documents writes.documents) (Puts-append so_far.puts writes.puts);
+      rest = λ later others are.
+          let all = so_far.rest (next ∷ later) (writes.documents ++ others) (line_rest objective old.instance so_far.standing writes.after next.0 next.1 writes.documents new follows writes.followed later others are) in
+          subst (λ ls. AreEditDocuments objective X at_first ls ((so_far.documents ++ writes.documents) ++ others)) (sym (firsts_more lines place d within later))
+          (subst (AreEditDocuments objective X at_first (take place lines ++ next ∷ later)) (sym (append_assoc so_far.documents writes.documents others)) all);
+    }
+
+-- all lines
+pub WritesAll-followed : (objective : Objective) (X : Problem) (lines : List (ℕ × Line)) (place : ℕ) (editor : EditorOf) (before now : Option (List ℕ)) → length lines ≤ place → AreFollowed objective X lines place editor before now → WritesAll objective X lines before now
+WritesAll-followed objective X lines place editor before now past so_far =
+    let are = so_far.rest [] [] tt in
+    let lines_are : take place lines ++ [] ≡ lines = append-nil (take place lines) ∙ take_all place lines past in
+    let documents_are : so_far.documents ++ [] ≡ so_far.documents = append-nil so_far.documents in
+    (so_far.documents, subst (λ ls. AreEditDocuments objective X at_first ls so_far.documents) lines_are (subst (AreEditDocuments objective X at_first (take place lines ++ [])) documents_are are), so_far.puts)
+
+-- what is put whole is put in part
+pub PutsPrefix-whole : (before now : Option (List ℕ)) (text : List ℕ) → Puts before now text → PutsPrefix before now text
+PutsPrefix-whole before now text puts = record {
+  taken = length text;
+  within = omega arith;
+  put = subst (Puts before now) (sym (take_all (length text) text (omega arith))) puts;
+}
+
+-- the first lines, where the next one halts
+pub WritesFront-halted : (objective : Objective) (X : Problem) (lines : List (ℕ × Line)) (place : ℕ) (d : ℕ × Line) (old : EditorOf) (before now after : Option (List ℕ)) (halt : Halt) → place < length lines
+    → (so_far : AreFollowed objective X lines place old before now) → HaltsIn objective old.instance so_far.standing (get_or lines place d).1 now after halt
+    → WritesFront objective X lines before after
+WritesFront-halted objective X lines place d old before now after NoMemory within so_far halts =
+    let are = so_far.rest [] [] tt in
+    let documents_are : so_far.documents ++ [] ≡ so_far.documents = append-nil so_far.documents in (
+      take place lines,
+      drop place lines,
+      sym (take-append-drop place lines),
+      so_far.documents,
+      subst (λ ls. AreEditDocuments objective X at_first ls so_far.documents) (append-nil (take place lines)) (subst (AreEditDocuments objective X at_first (take place lines ++ [])) documents_are are),
+      subst (λ w. PutsPrefix before w (texts_of so_far.documents)) (sym halts) (PutsPrefix-whole before now (texts_of so_far.documents) so_far.puts),
+    )
+WritesFront-halted objective X lines place d old before now after WriteFault within so_far (documents, standing, editor, follows, followed, puts) =
+    let next = get_or lines place d in
+    let one = subst (AreEditDocuments objective old.instance so_far.standing (next ∷ [])) (append-nil documents) (line_rest objective old.instance so_far.standing standing next.0 next.1 documents editor follows followed [] [] tt) in
+    let all = so_far.rest (next ∷ []) documents one in
+    let firsts : take place lines ++ next ∷ [] ≡ take (place + 1) lines = sym (take_more lines place d within) in (
+      take (place + 1) lines,
+      drop (place + 1) lines,
+      sym (take-append-drop (place + 1) lines),
+      so_far.documents ++ documents,
+      subst (λ ls. AreEditDocuments objective X at_first ls (so_far.documents ++ documents)) firsts all,
+      subst (PutsPrefix before after) (texts_more so_far.documents documents) (PutsPrefix-append so_far.puts puts),
+    )
+
+-- a count of faults that rose in a line rose over all lines
+pub Rose-over : (before now after : ℕ) → before ≤ now → Rose now after → Rose before after
+Rose-over before now after kept (inl more) = inl (omega (arith, kept, more))
+Rose-over before now after kept (inr top) = inr top

@@ -1,0 +1,10 @@
+pub mod CellIds
+pub mod ChosenCells
+pub mod DocumentLemmas
+pub mod EditLines
+pub mod HallRows
+pub mod LevelTexts
+pub mod Outcomes
+pub mod PhaseTexts
+pub mod RankedAnswers
+pub mod RankingTexts

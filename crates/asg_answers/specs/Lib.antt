@@ -1,0 +1,11 @@
+pub mod DocumentParts
+pub mod EditDocuments
+pub mod Laws
+pub mod Replies
+pub mod SolverLimits
+pub mod SolverRefusals
+pub mod Standings
+pub mod Statuses
+pub mod Texts
+pub mod WrittenDocument
+pub mod WrittenLines

@@ -12,9 +12,9 @@ use Rattle.asg_check.specs.Certifies.{Certifies}
 use Rattle.asg_check.specs.TrueClaim.{ClaimsTruly}
 use Rattle.asg_requests.specs.declared.requests.Job.{Job}
 use Rattle.asg_requests.specs.declared.requests.Task.TheVariants.{Solve, Rank, Check}
-use Rattle.asg_app.specs.declared.status.Status.{Status}
-use Rattle.asg_app.specs.declared.status.Status.TheVariants.{Done}
-use Rattle.asg_app.specs.declared.status.Status.TheVariants.{Nothing as NothingValid}
+use Rattle.asg_answers.specs.declared.status.Status.{Status}
+use Rattle.asg_answers.specs.declared.status.Status.TheVariants.{Done}
+use Rattle.asg_answers.specs.declared.status.Status.TheVariants.{Nothing as NothingValid}
 use Rattle.asg_app.specs.AnswerStage.{UnlessUnread, Read}
 use Rattle.asg_app.specs.Due.{Due, DueForAsked, DueForJob, DueForTask, Held}
 use Rattle.asg_app.specs.DueToCheck.{DueToCheck, Certified, form_asked}
@@ -25,8 +25,8 @@ use Rattle.asg_requests.specs.Requests.{files_of_task}
 use Rattle.asg_app.specs.Promised.{AskAlike, HasShortProofs, IsNeverLong, IsRanked, IsSolved, IsUnsolvable, IsCertified}
 use Rattle.asg_app.specs.Sources.{AreShort, content_at}
 use Rattle.asg_app.specs.InstanceFile.{Holds, held_by, instance_in}
-use Rattle.asg_app.specs.Texts.{yes_text}
-use Rattle.asg_app.specs.WrittenDocument.{IsWritten}
+use Rattle.asg_answers.specs.Texts.{yes_text}
+use Rattle.asg_answers.specs.WrittenDocument.{IsWritten}
 use Rattle.asg_text.specs.Texts.{reading_of}
 use Rattle.asg_app.proofs.HeldInstances.{HoldsInstances}
 use Rattle.asg_app.proofs.RankLaws.{ranked_only, unrankable_only}

@@ -5,7 +5,7 @@ use Rattle.asg_doc.specs.declared.documents.Document.{Document}
 use Rattle.asg_doc.specs.HasText.{HasText}
 use Rattle.asg_doc.specs.RefusedLine.{AllHaveText}
 use Rattle.asg_doc.specs.Text.{text_of, texts_of}
-use Rattle.asg_app.specs.declared.status.Status.{Status}
+use Rattle.asg_answers.specs.declared.status.Status.{Status}
 use Rattle.asg_app.specs.AnswerStage.{UnlessUnread, Read}
 
 pub one_has_text : (documents : List Document) (document : Document) → AllHaveText documents → 1 ≤ length documents → document ≡ get_or documents 0 document → HasText document

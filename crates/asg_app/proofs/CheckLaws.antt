@@ -13,8 +13,8 @@ use Rattle.asg_check.specs.declared.verdicts.Form.{Form}
 use Rattle.asg_check.specs.TrueClaim.{ClaimsTruly}
 use Rattle.asg_requests.specs.declared.requests.Job.{Job}
 use Rattle.asg_requests.specs.declared.requests.Task.TheVariants.{Check}
-use Rattle.asg_app.specs.declared.status.Status.{Status}
-use Rattle.asg_app.specs.declared.status.Status.TheVariants.{Done, Instance, Document as Unread, No, TooLong}
+use Rattle.asg_answers.specs.declared.status.Status.{Status}
+use Rattle.asg_answers.specs.declared.status.Status.TheVariants.{Done, Instance, Document as Unread, No, TooLong}
 use Rattle.asg_app.specs.AnswerStage.{UnlessUnread, NotRead, Miscounted, Read}
 use Rattle.asg_app.specs.Due.{DueForJob, DueForTask, Long, Refused, Held}
 use Rattle.asg_app.specs.DueToCheck.{DueToCheck, Certified, Denied, form_asked}
@@ -24,7 +24,7 @@ use Rattle.asg_requests.specs.Requests.{files_of_task}
 use Rattle.asg_app.specs.Promised.{IsCertified, IsDenied, IsNotOne, IsUnread, IsVerdict}
 use Rattle.asg_app.specs.Sources.{content_at}
 use Rattle.asg_app.specs.InstanceFile.{Holds, instance_in}
-use Rattle.asg_app.specs.Texts.{yes_text}
+use Rattle.asg_answers.specs.Texts.{yes_text}
 use Rattle.asg_app.proofs.DueLaws.{ReadsOnce, one_text, one_has_text}
 use Rattle.asg_app.proofs.HeldInstances.{HoldsInstances, IsTaken-held}
 use Rattle.asg_app.proofs.StageLaws.{AllShort, first_held, reached}

@@ -32,14 +32,14 @@ use Rattle.asg_proof.specs.declared.outcomes.Proof.{Proof}
 use Rattle.asg_proof.specs.declared.outcomes.Proof.TheVariants.{Below, Levels, Phases, Windows}
 use Rattle.asg_proof.specs.Threshold.{ProvesBelow}
 use Rattle.asg_check.specs.declared.verdicts.Form.{Form}
-use Rattle.asg_check.specs.declared.verdicts.Form.TheVariants.{Solve}
+use Rattle.asg_check.specs.declared.verdicts.Form.TheVariants.{Solve as SolveForm}
 use Rattle.asg_check.specs.Certifies.{CertifiesClaim}
 use Rattle.asg_check.specs.TrueClaim.{IsTrueClaim}
 use Rattle.asg_model.specs.Objectives.{IsBottleneck, objective_word}
 use Rattle.asg_requests.specs.declared.requests.Job.{Job}
 use Rattle.asg_app.specs.Promised.{HasShortProofs, IsSolved, IsUnsolvable}
-use Rattle.asg_app.specs.WrittenDocument.{IsBestDocument, IsNoneDocument, IsPromisedClaim, IsPromisedProof}
-use Rattle.asg_app.proofs.CellCounts.{length-cells_by_id-le}
+use Rattle.asg_answers.specs.WrittenDocument.{IsBestDocument, IsNoneDocument, IsPromisedClaim, IsPromisedProof}
+use Rattle.asg_answers.specs.Laws.{length-cells_by_id-le}
 use Rattle.asg_app.proofs.Counting.{length-le-within}
 use Rattle.asg_app.proofs.LineLengths.{digits_of_id, length-behind, length-cell_lines, length-command, length-line, length-objective, length-spaced, length-value}
 use Rattle.asg_app.proofs.ListedCosts.{few_listed, listed_costs}
@@ -136,26 +136,26 @@ length-refuted command objective rows word are_rows =
     )
 
 -- the text of a best document for a bottleneck objective
-length-best : HallLaws → (objective : Objective) (X : Problem) (form : Form) (document : Document) → IsBottleneck objective → length X.rows ≤ 1000 → IsBestDocument objective X form document → length (text_of document) ≤ longest_file
-length-best laws objective X form document bottleneck few best = by_proof best.answer best.proof best.claims
+length-best : HallLaws → (objective : Objective) (X : Problem) (document : Document) → IsBottleneck objective → length X.rows ≤ 1000 → IsBestDocument objective X SolveForm document → length (text_of document) ≤ longest_file
+length-best laws objective X document bottleneck few best = by_proof best.answer best.proof best.claims
   where
     by_proof : (answer : Answer) (proof : Proof) → document.claim ≡ Best answer proof → length (text_of document) ≤ longest_file
     by_proof answer (Phases words) claims =
-        by_objective objective bottleneck (subst (IsPromisedClaim objective X) claims best.written.promised)
+        by_objective objective bottleneck (subst (IsPromisedClaim SolveForm objective X) claims best.written.promised)
       where
         by_objective : (o : Objective) → IsBottleneck o → IsPromisedProof o X (Phases words) → length (text_of document) ≤ longest_file
         by_objective Bottleneck is promised = absurd promised
         by_objective BottleneckMax is promised = absurd promised
         by_objective _ is promised = absurd (cc)
     by_proof answer (Windows windows) claims =
-        by_objective objective bottleneck (subst (IsPromisedClaim objective X) claims best.written.promised)
+        by_objective objective bottleneck (subst (IsPromisedClaim SolveForm objective X) claims best.written.promised)
       where
         by_objective : (o : Objective) → IsBottleneck o → IsPromisedProof o X (Windows windows) → length (text_of document) ≤ longest_file
         by_objective Bottleneck is promised = absurd promised
         by_objective BottleneckMax is promised = absurd promised
         by_objective _ is promised = absurd (cc)
     by_proof answer (Levels perm levels) claims =
-        by_objective objective bottleneck (subst (IsPromisedClaim objective X) claims best.written.promised)
+        by_objective objective bottleneck (subst (IsPromisedClaim SolveForm objective X) claims best.written.promised)
       where
         by_objective : (o : Objective) → IsBottleneck o → IsPromisedProof o X (Levels perm levels) → length (text_of document) ≤ longest_file
         by_objective Bottleneck is promised = absurd promised
@@ -189,10 +189,10 @@ length-none laws objective X form document few none =
     omega (arith, few, ap length same, length-refuted document.command document.objective rows none.written.has_text.objective has_text, hall_within laws X Whole rows hall)
 
 -- what is due for a request to solve is so no longer than the longest file that is read
-length-short : HallLaws → (objective : Objective) (X : Problem) (document : Document) → HasShortProofs objective → length X.rows ≤ 1000 → square_side X ≤ most_side → IsBestDocument objective X Solve document → length (text_of document) ≤ longest_file
-length-short laws Lex X document short few within best = length-lex X Solve document few within best
-length-short laws Bottleneck X document short few within best = length-best laws Bottleneck X Solve document short few best
-length-short laws BottleneckMax X document short few within best = length-best laws BottleneckMax X Solve document short few best
+length-short : HallLaws → (objective : Objective) (X : Problem) (document : Document) → HasShortProofs objective → length X.rows ≤ 1000 → square_side X ≤ most_side → IsBestDocument objective X SolveForm document → length (text_of document) ≤ longest_file
+length-short laws Lex X document short few within best = length-lex X document few within best
+length-short laws Bottleneck X document short few within best = length-best laws Bottleneck X document short few best
+length-short laws BottleneckMax X document short few within best = length-best laws BottleneckMax X document short few best
 length-short laws _ X document short few within best = absurd (cc)
 
 pub length-solved : HallLaws → (job : Job) (bytes text : List ℕ) → HasShortProofs job.objective → IsSolved job bytes text → length text ≤ longest_file

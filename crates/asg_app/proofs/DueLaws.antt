@@ -1,5 +1,5 @@
 -- What is due has one status, and one text where no document is written.
-use Rattle.std.proofs.Common.{◌≡◌, ℕ, ◌<◌, List, [], ◌∷◌, length, Option, Some, None, IsSome, All, sym, ap, ◌∙◌, subst, arith}
+use Rattle.std.proofs.Common.{◌≡◌, ℕ, ◌+◌, ◌<◌, inl, inr, List, [], ◌∷◌, length, Option, Some, None, IsSome, All, sym, ap, ◌∙◌, subst, arith}
 use Rattle.std.specs.Prelude.{ℤ}
 use Rattle.std.proofs.lemmas.List.{append-nil}
 use Rattle.std.proofs.lemmas.List.Elements.{All-nil, All-cons}
@@ -16,23 +16,29 @@ use Rattle.asg_check.specs.Reasons.{IsFirstReason}
 use Rattle.asg_requests.specs.declared.requests.Job.{Job}
 use Rattle.asg_requests.specs.declared.requests.Task.{Task}
 use Rattle.asg_requests.specs.declared.requests.Task.TheVariants.{Solve, Rank, Edit, Check}
-use Rattle.asg_app.specs.declared.status.Status.{Status}
-use Rattle.asg_app.specs.declared.status.Status.TheVariants.{Done, Usage, Document as Unread, TooLong}
+use Rattle.asg_answers.specs.declared.status.Status.{Status}
+use Rattle.asg_answers.specs.declared.status.Status.TheVariants.{Done, Usage, Script, Document as Unread, TooLong}
 use Rattle.asg_app.specs.AnswerStage.{UnlessUnread, NotRead, Miscounted, Read}
 use Rattle.asg_app.specs.Due.{DueForAsked, DueForJob, DueForTask, Long, Refused, Held}
 use Rattle.asg_app.specs.DueToCheck.{DueToCheck, Certified, Denied, form_asked}
+use Rattle.asg_scripts.specs.Scripts.{ScriptFile, HoldsLines, RefusesLines, script_in, solved_instances}
+use Rattle.asg_text.specs.declared.script_lines.Line.{Line}
+use Rattle.asg_app.specs.AnswersStage.{UnlessMiscounted, Unreadable, OtherCount, AllRead}
+use Rattle.asg_app.specs.DueToEdit.{DueToEdit, Followed}
+use Rattle.asg_app.specs.DueToJudge.{DueToJudge}
+use Rattle.asg_app.specs.ScriptStage.{DueForScript}
 use Rattle.asg_app.specs.DueToRank.{DueToRank, Ranked, TooMuch, Unrankable}
 use Rattle.asg_app.specs.DueToSolve.{DueToSolve, Solved, TooLarge, Unsolvable}
 use Rattle.asg_app.specs.InstanceFile.{InstanceFile, Holds, Refuses}
-use Rattle.asg_app.specs.WrittenDocument.{IsBestDocument, IsNoneDocument, IsRankedDocument}
+use Rattle.asg_answers.specs.WrittenDocument.{IsBestDocument, IsNoneDocument, IsRankedDocument}
 use Rattle.asg_check.specs.TrueClaim.{IsTrueClaim}
 use Rattle.asg_model.specs.Limits.{longest_file}
 use Rattle.asg_app.specs.Fetches.{MayHoldAll}
 use Rattle.asg_app.specs.Requests.{files_of}
 use Rattle.asg_app.specs.Sources.{AreShort, content_at}
-use Rattle.asg_app.specs.Statuses.{HasOneText}
-use Rattle.asg_app.specs.Texts.{refused_document_text, refused_instance_text, no_text}
-use Rattle.asg_app.specs.SolverLimits.{limit_number}
+use Rattle.asg_answers.specs.Statuses.{HasOneText}
+use Rattle.asg_answers.specs.Texts.{refused_document_text, refused_instance_text, refused_script_text, no_text, yes_text}
+use Rattle.asg_answers.specs.SolverLimits.{limit_number}
 use Rattle.asg_app.proofs.SolverLimits.{refused_once, taken_apart}
 use Rattle.asg_app.proofs.ToldFiles.{held_once}
 
@@ -148,6 +154,50 @@ unread_once known bytes Owed status other text more once (Read document has_text
     let same : document ≡ document' = cc in
     once document owed (subst (λ d. Owed d other more) (sym same) owed')
 
+-- the same where several documents are due
+miscounted_once : Known → (bytes : List ℕ) (due : ℕ) (Owed : List Document → Status → List ℕ → Type 0) (status other : Status) (text more : List ℕ)
+    → ((documents : List Document) → Owed documents status text → Owed documents other more → AreOne status text other more)
+    → UnlessMiscounted bytes due Owed status text → UnlessMiscounted bytes due Owed other more → AreOne status text other more
+miscounted_once known bytes due Owed status other text more once (Unreadable line none at is told) (Unreadable line' none' at' also told') =
+    (is ∙ sym also, λ one. told ∙ ap refused_document_text (known.refuses bytes line line' at at') ∙ sym told')
+miscounted_once known bytes due Owed status other text more once (Unreadable line none at is told) (OtherCount documents have_text read count also told') = absurd (none documents have_text read)
+miscounted_once known bytes due Owed status other text more once (Unreadable line none at is told) (AllRead documents have_text read count owed) = absurd (none documents have_text read)
+miscounted_once known bytes due Owed status other text more once (OtherCount documents have_text read count is told) (Unreadable line none at also told') = absurd (none documents have_text read)
+miscounted_once known bytes due Owed status other text more once (OtherCount documents have_text read count is told) (OtherCount others have_text' read' count' also told') =
+    fixed Unread status other text more _ is also told told'
+miscounted_once known bytes due Owed status other text more once (OtherCount documents have_text read count is told) (AllRead others have_text' read' count' owed) =
+    absurd (count (ap length (known.reads documents others have_text have_text' (sym read ∙ read')) ∙ count'))
+miscounted_once known bytes due Owed status other text more once (AllRead documents have_text read count owed) (Unreadable line none at also told') = absurd (none documents have_text read)
+miscounted_once known bytes due Owed status other text more once (AllRead documents have_text read count owed) (OtherCount others have_text' read' count' also told') =
+    absurd (count' (ap length (known.reads others documents have_text' have_text (sym read' ∙ read)) ∙ count))
+miscounted_once known bytes due Owed status other text more once (AllRead documents have_text read count owed) (AllRead others have_text' read' count' owed') =
+    once documents owed (subst (λ ds. Owed ds other more) (sym (known.reads documents others have_text have_text' (sym read ∙ read'))) owed')
+
+-- documents that are judged in turn
+judge_once : DeniesOnce → (objective : Objective) (count : ℕ) (instances : List Problem) (documents : List Document) (status other : Status) (text more : List ℕ)
+    → DueToJudge objective count instances documents status text → DueToJudge objective count instances documents other more → AreOne status text other more
+judge_once once objective count [] [] status other text more first second = fixed Done status other text more (yes_text count) first.0 second.0 first.1 second.1
+judge_once once objective count [] (document ∷ documents) status other text more first second = absurd first
+judge_once once objective count (X ∷ instances) [] status other text more first second = absurd first
+judge_once once objective count (X ∷ instances) (document ∷ documents) status other text more (inl first) (inl second) =
+    judge_once once objective (count + 1) instances documents status other text more first.2 second.2
+judge_once once objective count (X ∷ instances) (document ∷ documents) status other text more (inl first) (inr denied) = absurd (denied.fails first.0)
+judge_once once objective count (X ∷ instances) (document ∷ documents) status other text more (inr denied) (inl second) = absurd (denied.fails second.0)
+judge_once once objective count (X ∷ instances) (document ∷ documents) status other text more (inr denied) (inr also) =
+    let same = once objective X forms.Edit document denied.number also.number denied.place also.place denied.reason also.reason in
+    (denied.ended ∙ sym also.ended, λ one. denied.told ∙ (λ k. no_text (count + 1) (same.0 k) (same.1 k)) ∙ sym also.told)
+
+-- the stage of the script
+script_once : (file : ScriptFile) (Owed : List (ℕ × Line) → Status → List ℕ → Type 0) (status other : Status) (text more : List ℕ)
+    → ((lines : List (ℕ × Line)) → Owed lines status text → Owed lines other more → AreOne status text other more)
+    → DueForScript file Owed status text → DueForScript file Owed other more → AreOne status text other more
+script_once (RefusesLines numbers) Owed status other text more once first second = fixed Script status other text more (refused_script_text numbers) first.0 second.0 first.1 second.1
+script_once (HoldsLines lines) Owed status other text more once first second = once lines first second
+
+-- a request to edit
+edit_once : (job : Job) (X : Problem) (lines : List (ℕ × Line)) (status other : Status) (text more : List ℕ) → DueToEdit job X lines status text → DueToEdit job X lines other more → AreOne status text other more
+edit_once job X lines status other text more (Followed documents are is told) (Followed documents' are' also told') = (is ∙ sym also, λ one. absurd (subst HasOneText is one))
+
 -- each command
 task_once : Known → (task : Task) (job : Job) (contents : List (List ℕ)) (X : Problem) (status other : Status) (text more : List ℕ)
     → DueForTask task job contents X status text → DueForTask task job contents X other more → AreOne status text other more
@@ -156,9 +206,16 @@ task_once known (Check answer None count) job contents X status other text more 
     unread_once known (content_at contents 1) (DueToCheck job (form_asked count) X) status other text more
     (λ document. check_once known.denies job (form_asked count) X document status other text more)
     first second
-task_once known (Check answer (Some script) count) job contents X status other text more first second = absurd first
+task_once known (Check answer (Some script) None) job contents X status other text more first second =
+    script_once (script_in job.objective X (content_at contents 1)) (λ lines. UnlessMiscounted (content_at contents 2) (length (solved_instances X lines)) (DueToJudge job.objective 0 (solved_instances X lines))) status other text more
+    (λ lines.
+    miscounted_once known (content_at contents 2) (length (solved_instances X lines)) (DueToJudge job.objective 0 (solved_instances X lines)) status other text more
+    (λ documents. judge_once known.denies job.objective 0 (solved_instances X lines) documents status other text more))
+    first second
+task_once known (Check answer (Some script) (Some count)) job contents X status other text more first second = absurd first
 task_once known (Rank count) job contents X status other text more first second = rank_once job count X status other text more first second
-task_once known (Edit script) job contents X status other text more first second = absurd first
+task_once known (Edit script) job contents X status other text more first second =
+    script_once (script_in job.objective X (content_at contents 1)) (DueToEdit job X) status other text more (λ lines. edit_once job X lines status other text more) first second
 
 -- no file of those is too long
 pub not_long : {P : Type 0} (contents : List (List ℕ)) (place : ℕ) → AreShort contents → place < length contents → longest_file < length (content_at contents place) → P

@@ -1,6 +1,6 @@
 -- What is due for what an instance's file holds.
-use Rattle.std.proofs.Common.{◌≡◌, ◌&&◌, ℕ, ◌<◌, true, false, cond, List, [], ◌∷◌, length, Option, Some, None, Result, Ok, Err, IsErr, refl, ap, sym, subst, arith}
-use Rattle.std.specs.Prelude.{◌⊎◌, IfSome, IfOk, MatchOption}
+use Rattle.std.proofs.Common.{◌≡◌, ◌&&◌, ℕ, ◌<◌, true, false, cond, List, [], ◌∷◌, length, Option, Some, None, Result, Ok, Err, IsErr, refl, ap, sym, subst, ◌∙◌, arith}
+use Rattle.std.specs.Prelude.{◌⊎◌, IfSome, IfOk, MatchOption, nat_lt}
 use Rattle.std.proofs.lemmas.Bool.{le-leb}
 use Rattle.std.proofs.lemmas.Bool.Decides.{nat_tests}
 use Rattle.asg_model.specs.declared.objectives.Objective.{Objective}
@@ -9,27 +9,21 @@ use Rattle.asg_model.specs.declared.parts.Place.TheVariants.{All as PlaceAll, Ex
 use Rattle.asg_model.specs.Counts.{total_capacity}
 use Rattle.asg_model.specs.Instances.{IsPlaceInRange}
 use Rattle.asg_model.specs.Problem.{Problem}
-use Rattle.asg_model.specs.Shapes.{IsPlaceOutOfRange, is_range_of, shaped}
+use Rattle.asg_model.specs.Limits.{most_side}
+use Rattle.asg_model.specs.Shapes.{IsPlaceOutOfRange, is_range_of, shaped, square_side}
 use Rattle.asg_text.specs.Readings.{Spells, Refuses as RefusesText}
 use Rattle.asg_text.specs.Texts.{reading_of}
 use Rattle.asg_text.specs.Faults.{Fault, refusal_numbers}
 use Rattle.asg_requests.specs.declared.requests.Job.{Job}
-use Rattle.asg_app.specs.declared.replies.Reply.{Reply}
-use Rattle.asg_app.specs.declared.status.Status.{Status}
-use Rattle.asg_app.specs.declared.status.Status.TheVariants.{Instance}
-use Rattle.asg_app.specs.Due.{DueForJob, Refused, Held}
-use Rattle.asg_app.specs.InstanceFile.{InstanceFile, Holds, Refuses, fitted, held_by, instance_in, passed, rows_asked}
-use Rattle.asg_app.specs.InstanceStage.{DueForFile}
-use Rattle.asg_app.specs.Replies.{Answers, IsReply}
-use Rattle.asg_app.specs.Texts.{refused_instance_text}
-use Rattle.asg_app.proofs.ReplyLemmas.{replied}
+use Rattle.asg_answers.specs.declared.replies.Reply.{Reply}
+use Rattle.asg_answers.specs.declared.status.Status.TheVariants.{Instance}
+use Rattle.asg_app.specs.Due.{DueForJob, Refused}
+use Rattle.asg_app.specs.InstanceFile.{InstanceFile, Holds, Refuses, fitted, held_by, instance_in, passed, rows_asked, sided}
+use Rattle.asg_answers.specs.Replies.{Answers, IsReply}
+use Rattle.asg_answers.specs.Texts.{refused_instance_text}
+use Rattle.asg_app.specs.Stops.{StopsInstance, stop_of}
+use Rattle.asg_app.specs.declared.stops.Stop.TheVariants.{Refused as Stopped}
 use Rattle.asg_app.specs.Sources.{AreShort, content_at}
-
--- what is due for what the job's file holds is due for the job
-pub due_for_job : (job : Job) (contents : List (List ℕ)) (file : InstanceFile) → AreShort contents → instance_in job (content_at contents 0) ≡ file
-    → (status : Status) (text : List ℕ) → DueForFile file job contents status text → DueForJob job contents status text
-due_for_job job contents (Refuses numbers) short is status text owed = Refused short numbers is owed.0 owed.1
-due_for_job job contents (Holds X) short is status text owed = Held short X is owed
 
 -- a text that spells an instance holds it with the job's options, and one that is refused its
 -- refusal
@@ -60,22 +54,27 @@ pub unfitted_file : (objective : Objective) (place : Place) (each : ℕ) (X : Pr
 unfitted_file objective place each X out =
     ap (λ test. cond test (passed objective (shaped X place each)) (Refuses (13 ∷ rows_asked place ∷ []))) (range_refuses (shaped X place each) place out)
 
--- the reply that refuses an instance with these numbers is due for its file
-pub refuses_file : {E : Type 0} (file : InstanceFile) (job : Job) (contents : List (List ℕ)) (numbers : List ℕ) (result : Result Reply E) → file ≡ Refuses numbers
-    → IfOk result (λ reply. IsReply reply Instance (refused_instance_text numbers)) → IfOk result (Answers (DueForFile file job contents))
-refuses_file file job contents numbers result is says =
-    replied (DueForFile file job contents) Instance (refused_instance_text numbers) result
-    (subst (λ held. DueForFile held job contents Instance (refused_instance_text numbers)) (sym is) (refl, refl))
-    says
+-- one whose square is too large is refused, with its side
+large_side : (most side : ℕ) → most < side → nat_lt most side ≡ true
+large_side most side over = grind (arith, nat_tests)
 
--- the reply that refuses an instance by its text
-pub refused_reply : {E : Type 0} (job : Job) (contents : List (List ℕ)) (fault : Option Fault) (result : Result Reply E) → AreShort contents
-    → IfSome fault (λ f. reading_of job.format (content_at contents 0) ≡ RefusesText f)
+pub large_file : (X : Problem) (side : ℕ) → side ≡ square_side X → most_side < side → sided X ≡ Refuses (15 ∷ side ∷ [])
+large_file X side is over =
+    ap (λ test. cond test (Refuses (15 ∷ square_side X ∷ [])) (Holds X)) (large_side most_side (square_side X) (subst (λ n. most_side < n) is over)) ∙ ap (λ n. Refuses (15 ∷ n ∷ [])) (sym is)
+
+-- the reply that refuses an instance with these numbers stops its job
+pub stops_file : {E : Type 0} (file : InstanceFile) (numbers : List ℕ) (result : Result Reply E) → file ≡ Refuses numbers → IfOk result (λ reply. IsReply reply Instance (refused_instance_text numbers)) → StopsInstance file (stop_of result)
+stops_file file numbers (Ok reply) is says = (numbers, is, says)
+stops_file file numbers (Err e) is says = tt
+
+-- so the one that refuses it by its text
+pub stops_text : {E : Type 0} (job : Job) (bytes : List ℕ) (fault : Option Fault) (result : Result Reply E) → IfSome fault (λ f. reading_of job.format bytes ≡ RefusesText f)
     → MatchOption fault (IsErr result) (λ f. IfOk result (λ reply. IsReply reply Instance (refused_instance_text (refusal_numbers f))))
-    → IfOk result (Answers (DueForJob job contents))
-refused_reply job contents (Some fault) result short refused says =
-    replied (DueForJob job contents) Instance (refused_instance_text (refusal_numbers fault)) result
-    (Refused short (refusal_numbers fault) (refused_file job (content_at contents 0) fault refused) refl refl)
-    says
-refused_reply job contents None (Ok reply) short refused is_err = cc
-refused_reply job contents None (Err e) short refused is_err = tt
+    → StopsInstance (instance_in job bytes) (stop_of result)
+stops_text job bytes (Some fault) result refused says = stops_file (instance_in job bytes) (refusal_numbers fault) result (refused_file job bytes fault refused) says
+stops_text job bytes None (Ok reply) refused is_err = cc
+stops_text job bytes None (Err e) refused is_err = tt
+
+-- the reply of a stop is due for the job
+pub stop_due : (job : Job) (contents : List (List ℕ)) (reply : Reply) → AreShort contents → StopsInstance (instance_in job (content_at contents 0)) (Stopped reply) → Answers (DueForJob job contents) reply
+stop_due job contents reply short (numbers, is, says) = Refused short numbers is (sym says.0) (sym says.1)

@@ -29,12 +29,12 @@ use Rattle.asg_doc.specs.Text.{spaced, spaced_columns, spaced_steps, step_text, 
 use Rattle.asg_doc.specs.Words.{HasWord, command_word, form_of}
 use Rattle.asg_proof.specs.declared.outcomes.Proof.{Proof}
 use Rattle.asg_proof.specs.declared.outcomes.Proof.TheVariants.{Below, Levels, Phases, Windows}
-use Rattle.asg_check.specs.declared.verdicts.Form.{Form}
 use Rattle.asg_check.specs.Certifies.{CertifiesClaim}
 use Rattle.asg_check.specs.TrueClaim.{IsTrueClaim}
 use Rattle.asg_model.specs.Objectives.{objective_word}
-use Rattle.asg_app.specs.WrittenDocument.{IsBestDocument, IsPromisedClaim}
-use Rattle.asg_app.proofs.CellCounts.{length-cells_by_id-le}
+use Rattle.asg_check.specs.declared.verdicts.Form.TheVariants.{Solve as SolveForm}
+use Rattle.asg_answers.specs.WrittenDocument.{IsBestDocument, IsPromisedClaim}
+use Rattle.asg_answers.specs.Laws.{length-cells_by_id-le}
 use Rattle.asg_app.proofs.LineLengths.{digits_of_cost, digits_of_id, length-behind, length-cell_lines, length-command, length-line, length-objective, length-spaced, length-value, pieces}
 use Rattle.asg_app.proofs.ListedCosts.{few_listed, listed_costs}
 
@@ -162,18 +162,18 @@ counts_some X perm before left [] all = All-nil (λ (level : Level). 1 ≤ level
 counts_some X perm before left (level ∷ rest) all = All-cons (λ (l : Level). 1 ≤ l.count) level rest all.0.proved.some (counts_some X perm _ (left_after X before left level) rest all.1)
 
 -- the text of a best document for `lex`
-pub length-lex : (X : Problem) (form : Form) (document : Document) → length X.rows ≤ 1000 → square_side X ≤ most_side → IsBestDocument Lex X form document → length (text_of document) ≤ longest_file
-length-lex X form document few within best = by_proof best.answer best.proof best.claims
+pub length-lex : (X : Problem) (document : Document) → length X.rows ≤ 1000 → square_side X ≤ most_side → IsBestDocument Lex X SolveForm document → length (text_of document) ≤ longest_file
+length-lex X document few within best = by_proof best.answer best.proof best.claims
   where
     by_proof : (answer : Answer) (proof : Proof) → document.claim ≡ Best answer proof → length (text_of document) ≤ longest_file
-    by_proof answer (Phases words) claims = absurd (subst (IsPromisedClaim Lex X) claims best.written.promised)
-    by_proof answer (Below rows) claims = absurd (subst (IsPromisedClaim Lex X) claims best.written.promised)
-    by_proof answer (Windows windows) claims = absurd (subst (IsPromisedClaim Lex X) claims best.written.promised)
+    by_proof answer (Phases words) claims = absurd (subst (IsPromisedClaim SolveForm Lex X) claims best.written.promised)
+    by_proof answer (Below rows) claims = absurd (subst (IsPromisedClaim SolveForm Lex X) claims best.written.promised)
+    by_proof answer (Windows windows) claims = absurd (subst (IsPromisedClaim SolveForm Lex X) claims best.written.promised)
     by_proof answer (Levels perm levels) claims =
         let has_text = subst (HasClaimText document.objective) claims best.written.has_text.claim in
         let truly = subst (IsTrueClaim Lex X) claims best.written.truly in
         let certifies = subst (CertifiesClaim Lex X) claims best.written.certifies.claim in
-        let promised = subst (IsPromisedClaim Lex X) claims best.written.promised in
+        let promised = subst (IsPromisedClaim SolveForm Lex X) claims best.written.promised in
         let same : text_of document ≡ text_of (record { command = document.command; objective = document.objective; claim = Best answer (Levels perm levels) }) =
         λ i. text_of (record { command = document.command; objective = document.objective; claim = claims i }) in
         omega (

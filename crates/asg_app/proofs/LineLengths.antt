@@ -15,7 +15,7 @@ use Rattle.asg_model.specs.declared.objectives.Objective.TheVariants.{Sum, SumMa
 use Rattle.asg_model.specs.declared.objectives.Value.{Value}
 use Rattle.asg_model.specs.declared.objectives.Value.TheVariants.{One, Two, Many}
 use Rattle.asg_doc.specs.declared.documents.Command.{Command}
-use Rattle.asg_doc.specs.declared.documents.Command.TheVariants.{Solve as SolveCommand, Rank as RankCommand}
+use Rattle.asg_doc.specs.declared.documents.Command.TheVariants.{Solve as SolveCommand, Rank as RankCommand, Edit as EditCommand}
 use Rattle.asg_doc.specs.HasText.{IsWrittenValue}
 use Rattle.asg_doc.specs.Text.{spaced, spaced_costs, cell_line, ended, value_line}
 use Rattle.asg_doc.specs.declared.documents.ValueForm.{ValueForm}
@@ -64,6 +64,7 @@ length-behind lines rest = ap length (flat_map-append (λ line. line ++ 10 ∷ [
 pub length-command : (command : Command) → length (command_word command) ≤ 5
 length-command SolveCommand = omega arith
 length-command RankCommand = omega arith
+length-command EditCommand = omega arith
 
 pub length-objective : (objective : Objective) → HasWord objective → length (objective_word objective) ≤ 20
 length-objective Sum word = omega arith

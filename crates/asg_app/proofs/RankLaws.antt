@@ -1,5 +1,5 @@
 -- What each due status says of a request to rank.
-use Rattle.std.proofs.Common.{◌≡◌, ◌∙◌, ◌<◌, ◌≤◌, ℕ, List, [], ◌∷◌, Option, Some, subst, inl, inr, arith}
+use Rattle.std.proofs.Common.{◌≡◌, ◌<◌, ◌≤◌, ℕ, List, [], ◌∷◌, Option, Some, subst, inl, inr, arith}
 use Rattle.std.specs.Prelude.{◌⊎◌}
 use Rattle.asg_model.specs.Problem.{Problem}
 use Rattle.asg_model.specs.ValidChoice.{IsValid}
@@ -10,8 +10,8 @@ use Rattle.asg_check.specs.declared.verdicts.Form.TheVariants as forms
 use Rattle.asg_check.specs.TrueClaim.{IsTrueClaim}
 use Rattle.asg_requests.specs.declared.requests.Job.{Job}
 use Rattle.asg_requests.specs.declared.requests.Task.TheVariants.{Rank}
-use Rattle.asg_app.specs.declared.status.Status.{Status}
-use Rattle.asg_app.specs.declared.status.Status.TheVariants.{Done, Nothing, Instance, TooLong}
+use Rattle.asg_answers.specs.declared.status.Status.{Status}
+use Rattle.asg_answers.specs.declared.status.Status.TheVariants.{Done, Nothing, Instance, TooLong}
 use Rattle.asg_app.specs.Due.{DueForJob, DueForTask, Long, Refused, Held}
 use Rattle.asg_app.specs.DueToRank.{DueToRank, Ranked, TooMuch, Unrankable}
 use Rattle.asg_app.specs.Fetches.{MayHold, MayHoldAll}
@@ -19,7 +19,7 @@ use Rattle.asg_app.specs.InstanceFile.{Holds, instance_in}
 use Rattle.asg_app.specs.Promised.{IsRanked, IsUnsolvable}
 use Rattle.asg_app.specs.Requests.{files_of}
 use Rattle.asg_app.specs.Sources.{AreShort, content_at}
-use Rattle.asg_app.specs.Texts.{refused_instance_text}
+use Rattle.asg_answers.specs.Texts.{refused_instance_text}
 use Rattle.asg_app.proofs.HeldInstances.{HoldsInstances}
 use Rattle.asg_app.proofs.StageLaws.{AllShort, first_held, reached}
 

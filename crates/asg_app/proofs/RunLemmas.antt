@@ -1,18 +1,19 @@
 -- How a run ends.
 use Rattle.std.proofs.Common.{◌≡◌, ℕ, ◌<◌, List, [], ◌∷◌, length, take, Option, Some, None, refl, subst, inl, inr, arith}
-use Rattle.std.specs.Prelude.{◌⊎◌, IfSome, slice_get}
+use Rattle.std.specs.Prelude.{◌⊎◌, IfSome, IsTrue, slice_get}
 use Rattle.asg_io.specs.Shelf.{Rose}
 use Rattle.asg_io.specs.declared.shelf.FetchFault.{FetchFault}
 use Rattle.asg_io.specs.declared.shelf.FetchFault.TheVariants as faults
 use Rattle.asg_requests.specs.declared.requests.Job.{Job}
-use Rattle.asg_app.specs.declared.status.Status.{Status}
-use Rattle.asg_app.specs.declared.status.Status.TheVariants.{Done, Usage, Instance, Script, Document, No, ReadFault, WriteFault, NoMemory, TooLong}
-use Rattle.asg_app.specs.declared.status.Status.TheVariants as statuses
-use Rattle.asg_app.specs.Due.{DueForAsked, Long}
+use Rattle.asg_answers.specs.declared.status.Status.{Status}
+use Rattle.asg_answers.specs.declared.status.Status.TheVariants.{Done, Usage, Instance, Script, Document, No, ReadFault, WriteFault, NoMemory, TooLong}
+use Rattle.asg_answers.specs.declared.status.Status.TheVariants as statuses
+use Rattle.asg_app.specs.Due.{DueForAsked, DueForPart, Long}
+use Rattle.asg_app.specs.Ends.{WritesInPart}
 use Rattle.asg_model.specs.Limits.{longest_file}
 use Rattle.asg_app.specs.Fetches.{MayHoldAll, StopsAt, status_of}
-use Rattle.asg_app.specs.Requests.{files_of}
-use Rattle.asg_app.specs.Statuses.{IsAnswer}
+use Rattle.asg_app.specs.Requests.{files_of, is_streamed}
+use Rattle.asg_answers.specs.Statuses.{IsAnswer}
 use Rattle.asg_app.proofs.Fetching.{AreLong, given_held, given_kept, long_all, stopped_rose}
 
 -- of no names no contents are too long
@@ -78,3 +79,17 @@ pub status_of_no_write : (fault : FetchFault) → status_of fault ≡ WriteFault
 status_of_no_write faults.Failed e = cc
 status_of_no_write faults.TooLong e = cc
 status_of_no_write faults.NoMemory e = cc
+
+-- what a command that writes as it goes wrote, said of the words
+pub written_in_part : (told : List ℕ → Option (List ℕ)) (asked job : Option Job) (contents : List (List ℕ)) (before after : Option (List ℕ)) → asked ≡ job → MayHoldAll told (files_of asked) contents
+    → WritesInPart (is_streamed asked) (DueForPart asked contents) before after
+    → WritesInPart (is_streamed job) (λ status text. (held : List (List ℕ)) × MayHoldAll told (files_of job) held × DueForPart job held status text) before after
+written_in_part told asked job contents before after same may (inl nothing) = inl nothing
+written_in_part told asked job contents before after same may (inr (streamed, due, text, owed, puts)) =
+    inr (
+      subst (λ j. IsTrue (is_streamed j)) same streamed,
+      due,
+      text,
+      (contents, subst (λ j. MayHoldAll told (files_of j) contents) same may, subst (λ j. DueForPart j contents due text) same owed),
+      puts,
+    )

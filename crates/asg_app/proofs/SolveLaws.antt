@@ -7,9 +7,9 @@ use Rattle.asg_check.specs.declared.verdicts.Form.TheVariants as forms
 use Rattle.asg_check.specs.TrueClaim.{IsTrueClaim}
 use Rattle.asg_requests.specs.declared.requests.Job.{Job}
 use Rattle.asg_requests.specs.declared.requests.Task.TheVariants.{Solve}
-use Rattle.asg_app.specs.declared.status.Status.{Status}
-use Rattle.asg_app.specs.declared.status.Status.TheVariants.{Done, Nothing, Instance, TooLong}
-use Rattle.asg_app.specs.SolverLimits.{SolverRefuses, SolverTakes, limit_number}
+use Rattle.asg_answers.specs.declared.status.Status.{Status}
+use Rattle.asg_answers.specs.declared.status.Status.TheVariants.{Done, Nothing, Instance, TooLong}
+use Rattle.asg_answers.specs.SolverLimits.{SolverRefuses, SolverTakes, limit_number}
 use Rattle.asg_app.specs.Due.{DueForJob, DueForTask, Long, Refused, Held}
 use Rattle.asg_app.specs.DueToSolve.{DueToSolve, Solved, TooLarge, Unsolvable}
 use Rattle.asg_app.specs.Fetches.{MayHold, MayHoldAll}
@@ -17,7 +17,7 @@ use Rattle.asg_app.specs.InstanceFile.{Holds, instance_in}
 use Rattle.asg_app.specs.Promised.{IsSolved, IsUnsolvable}
 use Rattle.asg_app.specs.Requests.{files_of}
 use Rattle.asg_app.specs.Sources.{AreShort, content_at}
-use Rattle.asg_app.specs.Texts.{refused_instance_text}
+use Rattle.asg_answers.specs.Texts.{refused_instance_text}
 use Rattle.asg_app.proofs.SolverLimits.{refused_once, taken_apart}
 use Rattle.asg_app.proofs.HeldInstances.{HoldsInstances}
 use Rattle.asg_app.proofs.StageLaws.{AllShort, first_held, reached}

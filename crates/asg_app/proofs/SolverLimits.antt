@@ -9,7 +9,7 @@ use Rattle.asg_model.specs.declared.objectives.Objective.{Objective}
 use Rattle.asg_model.specs.declared.objectives.Objective.TheVariants.{Balanced, Lex}
 use Rattle.asg_model.specs.Problem.{Problem}
 use Rattle.asg_model.specs.DifferentCosts.{AreLiveCosts, HasCosts}
-use Rattle.asg_app.specs.SolverLimits.{SolverRefuses, SolverTakes}
+use Rattle.asg_answers.specs.SolverLimits.{SolverRefuses, SolverTakes}
 
 -- different costs of live cells are no more than all of them
 no_more : (X : Problem) (costs others : List ℤ) → AreLiveCosts X costs → AreLiveCosts X others → length costs ≤ length others

@@ -1,5 +1,5 @@
 -- What each due status says of the words and the files, before the command of a request decides it.
-use Rattle.std.proofs.Common.{◌≡◌, ◌⊎◌, ℕ, zero, suc, ◌<◌, ◌≤◌, List, [], ◌∷◌, length, get_or, Option, Some, None, All, refl, sym, ap, ◌∙◌, subst, inl, inr, arith}
+use Rattle.std.proofs.Common.{◌≡◌, ◌⊎◌, ℕ, ◌+◌, zero, suc, ◌<◌, ◌≤◌, List, [], ◌∷◌, length, get_or, Option, Some, None, All, refl, sym, ap, ◌∙◌, subst, inl, inr, arith}
 use Rattle.std.specs.List.{Contains}
 use Rattle.std.proofs.lemmas.List.{get_or_default}
 use Rattle.asg_model.specs.Problem.{Problem}
@@ -8,14 +8,21 @@ use Rattle.asg_check.specs.declared.verdicts.Form.{Form}
 use Rattle.asg_requests.specs.declared.requests.Job.{Job}
 use Rattle.asg_requests.specs.declared.requests.Task.{Task}
 use Rattle.asg_requests.specs.declared.requests.Task.TheVariants.{Solve, Rank, Edit, Check}
-use Rattle.asg_app.specs.declared.status.Status.{Status}
-use Rattle.asg_app.specs.declared.status.Status.TheVariants.{Usage, Instance, TooLong}
-use Rattle.asg_app.specs.declared.status.Status.TheVariants as statuses
+use Rattle.asg_answers.specs.declared.status.Status.{Status}
+use Rattle.asg_answers.specs.declared.status.Status.TheVariants.{Usage, Instance, TooLong}
+use Rattle.asg_answers.specs.declared.status.Status.TheVariants as statuses
 use Rattle.asg_app.specs.AnswerStage.{UnlessUnread, NotRead, Miscounted, Read}
-use Rattle.asg_app.specs.SolverLimits.{limit_number}
+use Rattle.asg_answers.specs.SolverLimits.{limit_number}
 use Rattle.asg_rank.specs.Rankings.{ranking_work}
 use Rattle.asg_app.specs.Due.{DueForAsked, DueForJob, DueForTask, IsShort, Long, Refused, Held}
 use Rattle.asg_app.specs.DueToCheck.{DueToCheck, Certified, Denied, form_asked}
+use Rattle.asg_model.specs.declared.objectives.Objective.{Objective}
+use Rattle.asg_scripts.specs.Scripts.{ScriptFile, HoldsLines, RefusesLines, script_in, solved_instances}
+use Rattle.asg_text.specs.declared.script_lines.Line.{Line}
+use Rattle.asg_app.specs.AnswersStage.{UnlessMiscounted, Unreadable, OtherCount, AllRead}
+use Rattle.asg_app.specs.DueToEdit.{DueToEdit, Followed}
+use Rattle.asg_app.specs.DueToJudge.{DueToJudge}
+use Rattle.asg_app.specs.ScriptStage.{DueForScript}
 use Rattle.asg_app.specs.DueToRank.{DueToRank, Ranked, TooMuch, Unrankable}
 use Rattle.asg_app.specs.DueToSolve.{DueToSolve, Solved, TooLarge, Unsolvable}
 use Rattle.asg_app.specs.InstanceFile.{Holds, Refuses, instance_in}
@@ -24,8 +31,8 @@ use Rattle.asg_app.specs.Fetches.{MayHold, MayHoldAll}
 use Rattle.asg_app.specs.Promised.{IsRefusedInstance, IsTooLargeToSolve, IsTooMuchToRank}
 use Rattle.asg_app.specs.Requests.{files_of}
 use Rattle.asg_app.specs.Sources.{AreShort, content_at}
-use Rattle.asg_app.specs.Statuses.{IsAnswer}
-use Rattle.asg_app.specs.Texts.{usage_text, refused_instance_text}
+use Rattle.asg_answers.specs.Statuses.{IsAnswer}
+use Rattle.asg_answers.specs.Texts.{usage_text, refused_instance_text}
 use Rattle.asg_app.proofs.DueLaws.{not_long, refused_apart}
 use Rattle.asg_app.proofs.ToldFiles.{held, held_at, held_count}
 
@@ -62,14 +69,42 @@ rank_decides job count X status text (Ranked few document ranked is told) = deci
 rank_decides job count X status text (Unrankable few document none is told) = decided statuses.Nothing status is tt
 rank_decides job count X status text (TooMuch over is told) = decided statuses.Instance status is tt
 
+miscounted_decides : (bytes : List ℕ) (count : ℕ) (Owed : List Document → Status → List ℕ → Type 0) (status : Status) (text : List ℕ)
+    → ((documents : List Document) → Owed documents status text → IsDecided status) → UnlessMiscounted bytes count Owed status text → IsDecided status
+miscounted_decides bytes count Owed status text decides (Unreadable line none at is told) = decided statuses.Document status is tt
+miscounted_decides bytes count Owed status text decides (OtherCount documents have_text read other is told) = decided statuses.Document status is tt
+miscounted_decides bytes count Owed status text decides (AllRead documents have_text read same owed) = decides documents owed
+
+judge_decides : (objective : Objective) (count : ℕ) (instances : List Problem) (documents : List Document) (status : Status) (text : List ℕ) → DueToJudge objective count instances documents status text → IsDecided status
+judge_decides objective count [] [] status text due = decided statuses.Done status due.0 tt
+judge_decides objective count [] (document ∷ documents) status text due = absurd due
+judge_decides objective count (X ∷ instances) [] status text due = absurd due
+judge_decides objective count (X ∷ instances) (document ∷ documents) status text (inl due) = judge_decides objective (count + 1) instances documents status text due.2
+judge_decides objective count (X ∷ instances) (document ∷ documents) status text (inr denied) = decided statuses.No status denied.ended tt
+
+script_decides : (file : ScriptFile) (Owed : List (ℕ × Line) → Status → List ℕ → Type 0) (status : Status) (text : List ℕ) → ((lines : List (ℕ × Line)) → Owed lines status text → IsDecided status)
+    → DueForScript file Owed status text → IsDecided status
+script_decides (RefusesLines numbers) Owed status text decides due = decided statuses.Script status due.0 tt
+script_decides (HoldsLines lines) Owed status text decides due = decides lines due
+
+edit_decides : (job : Job) (X : Problem) (lines : List (ℕ × Line)) (status : Status) (text : List ℕ) → DueToEdit job X lines status text → IsDecided status
+edit_decides job X lines status text (Followed documents are is told) = decided statuses.Done status is tt
+
 -- what a command answers is a status of its own
 pub task_decides : (task : Task) (job : Job) (contents : List (List ℕ)) (X : Problem) (status : Status) (text : List ℕ) → DueForTask task job contents X status text → IsDecided status
 task_decides Solve job contents X status text due = solve_decides job X status text due
 task_decides (Check answer None count) job contents X status text due =
     unread_decides (content_at contents 1) (DueToCheck job (form_asked count) X) status text (λ document. check_decides job (form_asked count) X document status text) due
-task_decides (Check answer (Some script) count) job contents X status text due = absurd due
+task_decides (Check answer (Some script) None) job contents X status text due =
+    script_decides (script_in job.objective X (content_at contents 1)) (λ lines. UnlessMiscounted (content_at contents 2) (length (solved_instances X lines)) (DueToJudge job.objective 0 (solved_instances X lines))) status text
+    (λ lines.
+    miscounted_decides (content_at contents 2) (length (solved_instances X lines)) (DueToJudge job.objective 0 (solved_instances X lines)) status text
+    (λ documents. judge_decides job.objective 0 (solved_instances X lines) documents status text))
+    due
+task_decides (Check answer (Some script) (Some count)) job contents X status text due = absurd due
 task_decides (Rank count) job contents X status text due = rank_decides job count X status text due
-task_decides (Edit script) job contents X status text due = absurd due
+task_decides (Edit script) job contents X status text due =
+    script_decides (script_in job.objective X (content_at contents 1)) (DueToEdit job X) status text (λ lines. edit_decides job X lines status text) due
 
 -- a command refuses the instance that the bytes hold only where it is to solve, and the objective's
 -- solver refuses it, or where it is to rank, and so many choices are too much
@@ -105,14 +140,40 @@ unread_passes bytes Owed text passes (NotRead line none at is told) = cc
 unread_passes bytes Owed text passes (Miscounted documents have_text read count is told) = cc
 unread_passes bytes Owed text passes (Read document has_text read owed) = passes document owed
 
+miscounted_passes : (bytes : List ℕ) (count : ℕ) (Owed : List Document → Status → List ℕ → Type 0) (text : List ℕ) → ((documents : List Document) → Owed documents Instance text → ⊥) → UnlessMiscounted bytes count Owed Instance text → ⊥
+miscounted_passes bytes count Owed text passes (Unreadable line none at is told) = cc
+miscounted_passes bytes count Owed text passes (OtherCount documents have_text read other is told) = cc
+miscounted_passes bytes count Owed text passes (AllRead documents have_text read same owed) = passes documents owed
+
+judge_passes : (objective : Objective) (count : ℕ) (instances : List Problem) (documents : List Document) (text : List ℕ) → DueToJudge objective count instances documents Instance text → ⊥
+judge_passes objective count [] [] text due = let is = due.0 in cc
+judge_passes objective count [] (document ∷ documents) text due = due
+judge_passes objective count (X ∷ instances) [] text due = due
+judge_passes objective count (X ∷ instances) (document ∷ documents) text (inl due) = judge_passes objective (count + 1) instances documents text due.2
+judge_passes objective count (X ∷ instances) (document ∷ documents) text (inr denied) = let is = denied.ended in cc
+
+script_passes : (file : ScriptFile) (Owed : List (ℕ × Line) → Status → List ℕ → Type 0) (text : List ℕ) → ((lines : List (ℕ × Line)) → Owed lines Instance text → ⊥) → DueForScript file Owed Instance text → ⊥
+script_passes (RefusesLines numbers) Owed text passes due = let is = due.0 in cc
+script_passes (HoldsLines lines) Owed text passes due = passes lines due
+
+edit_passes : (job : Job) (X : Problem) (lines : List (ℕ × Line)) (text : List ℕ) → DueToEdit job X lines Instance text → ⊥
+edit_passes job X lines text (Followed documents are is told) = cc
+
 task_refuses : (task : Task) (job : Job) (contents : List (List ℕ)) (bytes : List ℕ) (X : Problem) (text : List ℕ) → instance_in job bytes ≡ Holds X → job.task ≡ task → DueForTask task job contents X Instance text
     → IsOverLimit job bytes text
 task_refuses Solve job contents bytes X text holds is due = solve_refuses job bytes X text holds is due
 task_refuses (Check answer None count) job contents bytes X text holds is due =
     absurd (unread_passes (content_at contents 1) (DueToCheck job (form_asked count) X) text (λ document. check_passes job (form_asked count) X document text) due)
-task_refuses (Check answer (Some script) count) job contents bytes X text holds is due = absurd due
+task_refuses (Check answer (Some script) None) job contents bytes X text holds is due =
+    absurd (script_passes (script_in job.objective X (content_at contents 1)) (λ lines. UnlessMiscounted (content_at contents 2) (length (solved_instances X lines)) (DueToJudge job.objective 0 (solved_instances X lines))) text
+    (λ lines.
+    miscounted_passes (content_at contents 2) (length (solved_instances X lines)) (DueToJudge job.objective 0 (solved_instances X lines)) text
+    (λ documents. judge_passes job.objective 0 (solved_instances X lines) documents text))
+    due)
+task_refuses (Check answer (Some script) (Some count)) job contents bytes X text holds is due = absurd due
 task_refuses (Rank count) job contents bytes X text holds is due = rank_refuses job bytes count X text holds is due
-task_refuses (Edit script) job contents bytes X text holds is due = absurd due
+task_refuses (Edit script) job contents bytes X text holds is due =
+    absurd (script_passes (script_in job.objective X (content_at contents 1)) (DueToEdit job X) text (λ lines. edit_passes job X lines text) due)
 
 -- so what is due is an answer
 decided_answer : (status : Status) → IsDecided status → IsAnswer status

@@ -1,10 +1,8 @@
 -- What is due by the command of a job that is built.
-use Rattle.std.proofs.Common.{◌≡◌, ◌∙◌, ap, ℕ, true, false, Bool, cond, refl, List, Option, Some, None, sym, subst, arith}
+use Rattle.std.proofs.Common.{◌≡◌, ◌∙◌, ap, ℕ, true, false, Bool, cond, refl, List, length, Option, Some, None, sym, subst, arith}
 use Rattle.std.specs.Prelude.{IfSome, IsSome, not}
 use Rattle.asg_check.specs.declared.verdicts.Form.TheVariants.{Rank as RankForm}
 use Rattle.asg_check.specs.DocumentForm.{MayBeAsked}
-use Rattle.asg_model.specs.declared.parts.Place.TheVariants.{All as PlaceAll}
-use Rattle.asg_model.specs.Objectives.{is_algebraic}
 use Rattle.asg_model.specs.Limits.{most_ranked}
 use Rattle.std.proofs.lemmas.Bool.{and_parts}
 use Rattle.asg_model.specs.Problem.{Problem}
@@ -18,11 +16,14 @@ use Rattle.asg_requests.specs.declared.requests.Request.{Request}
 use Rattle.asg_requests.specs.declared.requests.Request.TheVariants.{Work, Make}
 use Rattle.asg_requests.specs.declared.requests.Task.{Task}
 use Rattle.asg_requests.specs.declared.requests.Task.TheVariants.{Rank, Check}
-use Rattle.asg_app.specs.declared.status.Status.{Status}
-use Rattle.asg_app.specs.AnswerStage.{UnlessUnread}
+use Rattle.asg_scripts.specs.Scripts.{script_in, solved_instances}
+use Rattle.asg_answers.specs.declared.status.Status.{Status}
+use Rattle.asg_app.specs.AnswersStage.{UnlessMiscounted}
 use Rattle.asg_app.specs.Due.{DueForTask}
-use Rattle.asg_app.specs.DueToCheck.{DueToCheck, form_asked}
+use Rattle.asg_app.specs.DueToCheck.{form_asked}
+use Rattle.asg_app.specs.DueToJudge.{DueToJudge}
 use Rattle.asg_app.specs.Requests.{built_job, is_built, is_built_task}
+use Rattle.asg_app.specs.ScriptStage.{DueForScript}
 use Rattle.asg_app.specs.Sources.{content_at}
 
 -- the parts of a job that is built
@@ -54,16 +55,6 @@ asked_built (Some (Work work)) job is = by_test (is_built work) refl is
     by_test true built is = let same : work ≡ job = cc in subst (λ j. is_built j ≡ true) same built
     by_test false built is = absurd (cc)
 
--- what a request to check owes is what it is due
-pub checks : (task : Task) (answer : List ℕ) (script : Option (List ℕ)) (count : Option ℕ) (job : Job) (contents : List (List ℕ)) (X : Problem) (status : Status) (text : List ℕ)
-    → task ≡ Check answer script count → is_built_task task ≡ true → UnlessUnread (content_at contents 1) (DueToCheck job (form_asked count) X) status text → DueForTask task job contents X status text
-checks task answer script count job contents X status text is built owed =
-    subst (λ t. DueForTask t job contents X status text) (sym is) (by_options script (subst (λ t. is_built_task t ≡ true) is built))
-  where
-    by_options : (s : Option (List ℕ)) → is_built_task (Check answer s count) ≡ true → DueForTask (Check answer s count) job contents X status text
-    by_options None b = owed
-    by_options (Some s) b = cc
-
 -- a ranking of a job that asks for one may be asked of an instance with the job's place rule
 ranks_asked : (job : Job) (count : ℕ) (X : Problem) → choices_ranked job.task ≡ Some count → IsJob job → X.place ≡ job.place → MayBeAsked (RankForm count) job.objective X
 ranks_asked job count X ranks within placed =
@@ -84,10 +75,9 @@ pub may_be_asked : (job : Job) (answer : List ℕ) (count : Option ℕ) (X : Pro
 may_be_asked job answer None X is within placed = tt
 may_be_asked job answer (Some count) X is within placed = ranks_asked job count X (ap choices_ranked is) within placed
 
--- without a script, as no other is built
-pub without_script : (task : Task) (answer : List ℕ) (script : Option (List ℕ)) (count : Option ℕ) → task ≡ Check answer script count → is_built_task task ≡ true → task ≡ Check answer None count
-without_script task answer script count is built = by_script script is (subst (λ t. is_built_task t ≡ true) is built)
-  where
-    by_script : (s : Option (List ℕ)) → task ≡ Check answer s count → is_built_task (Check answer s count) ≡ true → task ≡ Check answer None count
-    by_script None same b = same
-    by_script (Some s) same b = cc
+-- what is due for the documents of a script is due by the command
+pub judged_due : (task : Task) (job : Job) (contents : List (List ℕ)) (X : Problem) (answer script : List ℕ) (count : Option ℕ) → is_built_task task ≡ true → task ≡ Check answer (Some script) count → (status : Status) (text : List ℕ)
+    → DueForScript (script_in job.objective X (content_at contents 1)) (λ lines. UnlessMiscounted (content_at contents 2) (length (solved_instances X lines)) (DueToJudge job.objective 0 (solved_instances X lines))) status text
+    → DueForTask task job contents X status text
+judged_due task job contents X answer script None built is status text due = subst (λ t. DueForTask t job contents X status text) (sym is) due
+judged_due task job contents X answer script (Some count) built is status text due = let no_form = subst (λ t. is_built_task t ≡ true) is built in cc

@@ -4,9 +4,9 @@ use Rattle.asg_doc.specs.declared.documents.Document.{Document}
 use Rattle.asg_doc.specs.HasText.{HasText}
 use Rattle.asg_doc.specs.RefusedLine.{AllHaveText, IsNoText, IsRefusedLine}
 use Rattle.asg_doc.specs.Text.{text_of, texts_of}
-use Rattle.asg_app.specs.declared.status.Status.{Status}
-use Rattle.asg_app.specs.declared.status.Status.TheVariants.{Document as Unread}
-use Rattle.asg_app.specs.Texts.{refused_document_text}
+use Rattle.asg_answers.specs.declared.status.Status.{Status}
+use Rattle.asg_answers.specs.declared.status.Status.TheVariants.{Document as Unread}
+use Rattle.asg_answers.specs.Texts.{refused_document_text}
 
 -- one document is due: the file is the text of no documents, or not of one, or `Owed` says what is
 -- due for the document

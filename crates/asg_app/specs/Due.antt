@@ -1,29 +1,41 @@
 -- The program's specification: what is due for the words of a command line and the contents of
 -- files.
-use Rattle.std.specs.Prelude.{◌≡◌, ◌<◌, ◌≤◌, ℕ, List, [], Option, Some, None, length, All, IsSome}
+use Rattle.std.specs.Prelude.{◌≡◌, ◌⊎◌, ◌<◌, ◌≤◌, ℕ, ◌++◌, List, [], Option, Some, None, length, All, IsSome}
 use Rattle.asg_model.specs.Limits.{longest_file}
 use Rattle.asg_model.specs.Problem.{Problem}
 use Rattle.asg_requests.specs.declared.requests.Job.{Job}
 use Rattle.asg_requests.specs.declared.requests.Task.{Task}
-use Rattle.asg_requests.specs.declared.requests.Task.TheVariants.{Solve, Rank, Check}
-use Rattle.asg_app.specs.declared.status.Status.{Status}
-use Rattle.asg_app.specs.declared.status.Status.TheVariants.{Usage, Instance, TooLong}
+use Rattle.asg_requests.specs.declared.requests.Task.TheVariants.{Solve, Rank, Edit, Check}
+use Rattle.asg_answers.specs.declared.status.Status.{Status}
+use Rattle.asg_answers.specs.declared.status.Status.TheVariants.{Usage, Instance, TooLong}
 use Rattle.asg_app.specs.AnswerStage.{UnlessUnread}
+use Rattle.asg_scripts.specs.Scripts.{HoldsLines, script_in, solved_instances}
+use Rattle.asg_text.specs.declared.script_lines.Line.{Line}
+use Rattle.asg_app.specs.AnswersStage.{UnlessMiscounted}
 use Rattle.asg_app.specs.DueToCheck.{DueToCheck, form_asked}
+use Rattle.asg_app.specs.DueToEdit.{DueToEdit}
+use Rattle.asg_app.specs.DueToJudge.{DueToJudge}
 use Rattle.asg_app.specs.DueToRank.{DueToRank}
 use Rattle.asg_app.specs.DueToSolve.{DueToSolve}
 use Rattle.asg_app.specs.Fetches.{MayHoldAll}
 use Rattle.asg_app.specs.InstanceFile.{Holds, Refuses, instance_in}
 use Rattle.asg_app.specs.Requests.{files_of, job_of}
+use Rattle.asg_app.specs.ScriptStage.{DueForScript}
 use Rattle.asg_app.specs.Sources.{AreShort, content_at}
-use Rattle.asg_app.specs.Texts.{usage_text, refused_instance_text}
+use Rattle.asg_answers.specs.Texts.{usage_text, refused_instance_text}
 
 -- what is due by each command for a job, the contents of its files and its instance
 abbrev pub DueForTask : Task → Job → List (List ℕ) → Problem → Status → List ℕ → Type 0
 DueForTask Solve job contents X = DueToSolve job X
 DueForTask (Rank count) job contents X = DueToRank job count X
+DueForTask (Edit script) job contents X =
+    DueForScript (script_in job.objective X (content_at contents 1)) (DueToEdit job X)
 DueForTask (Check answer None count) job contents X =
     UnlessUnread (content_at contents 1) (DueToCheck job (form_asked count) X)
+DueForTask (Check answer (Some script) None) job contents X =
+    DueForScript (script_in job.objective X (content_at contents 1))
+    (λ lines. UnlessMiscounted (content_at contents 2) (length (solved_instances X lines))
+    (DueToJudge job.objective 0 (solved_instances X lines)))
 DueForTask _ job contents X = λ status text. ⊥
 
 -- what is due for a job and the contents of its files: one of them is too long, or the first one is
@@ -51,6 +63,31 @@ abbrev pub Due : List (List ℕ) → (List ℕ → Option (List ℕ)) → Status
 Due words told status text =
     (contents : List (List ℕ)) × MayHoldAll told (files_of (job_of words)) contents
     × DueForAsked (job_of words) contents status text
+
+-- what a job to edit owes for the first lines of its script alone
+pub record DueForFront (job : Job) (contents : List (List ℕ)) (status : Status)
+    (text : List ℕ) : Type 0 where
+  pub script : List ℕ
+  pub edits : job.task ≡ Edit script
+  pub problem : Problem
+  pub held : instance_in job (content_at contents 0) ≡ Holds problem
+  pub front : List (ℕ × Line)
+  pub rest : List (ℕ × Line)
+  pub lines : script_in job.objective problem (content_at contents 1) ≡ HoldsLines (front ++ rest)
+  pub due : DueToEdit job problem front status text
+
+-- what is due for what the words ask, or of a request to edit for the first lines of its script
+abbrev pub DueForPart : Option Job → List (List ℕ) → Status → List ℕ → Type 0
+DueForPart None contents status text = DueForAsked None contents status text
+DueForPart (Some job) contents status text =
+    DueForJob job contents status text ⊎ DueForFront job contents status text
+
+-- the status and the text of which a run that is cut short may have written a part: those that are
+-- due, or of a request to edit those for the first lines of its script
+abbrev pub DueInPart : List (List ℕ) → (List ℕ → Option (List ℕ)) → Status → List ℕ → Type 0
+DueInPart words told status text =
+    (contents : List (List ℕ)) × MayHoldAll told (files_of (job_of words)) contents
+    × DueForPart (job_of words) contents status text
 
 -- the contents of each file that the words name are told
 abbrev pub Tells : List (List ℕ) → (List ℕ → Option (List ℕ)) → Type 0

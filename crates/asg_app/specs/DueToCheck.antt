@@ -7,9 +7,9 @@ use Rattle.asg_check.specs.declared.verdicts.Form.TheVariants.{Solve, Rank}
 use Rattle.asg_check.specs.Certifies.{Certifies}
 use Rattle.asg_check.specs.Reasons.{IsFirstReason}
 use Rattle.asg_requests.specs.declared.requests.Job.{Job}
-use Rattle.asg_app.specs.declared.status.Status.{Status}
-use Rattle.asg_app.specs.declared.status.Status.TheVariants.{Done, No}
-use Rattle.asg_app.specs.Texts.{yes_text, no_text}
+use Rattle.asg_answers.specs.declared.status.Status.{Status}
+use Rattle.asg_answers.specs.declared.status.Status.TheVariants.{Done, No}
+use Rattle.asg_answers.specs.Texts.{yes_text, no_text}
 
 -- the form that a document must have to be accepted: where a count is given, that of a ranking
 abbrev pub form_asked : Option ℕ → Form

@@ -7,10 +7,10 @@ use Rattle.asg_check.specs.declared.verdicts.Form.TheVariants.{Rank}
 use Rattle.asg_rank.specs.Rankings.{ranking_work}
 use Rattle.asg_rank.specs.Rooms.{most_work}
 use Rattle.asg_requests.specs.declared.requests.Job.{Job}
-use Rattle.asg_app.specs.declared.status.Status.{Status}
-use Rattle.asg_app.specs.declared.status.Status.TheVariants.{Done, Instance, Nothing}
-use Rattle.asg_app.specs.Texts.{refused_instance_text}
-use Rattle.asg_app.specs.WrittenDocument.{IsNoneDocument, IsRankedDocument}
+use Rattle.asg_answers.specs.declared.status.Status.{Status}
+use Rattle.asg_answers.specs.declared.status.Status.TheVariants.{Done, Instance, Nothing}
+use Rattle.asg_answers.specs.Texts.{refused_instance_text}
+use Rattle.asg_answers.specs.WrittenDocument.{IsNoneDocument, IsRankedDocument}
 
 -- how a request to rank so many choices ends for the instance: where the work, which is the count
 -- times the rows times the side, is at most 4,000,000, a document with a ranking is written, or one

@@ -5,11 +5,11 @@ use Rattle.asg_doc.specs.declared.documents.Document.{Document}
 use Rattle.asg_doc.specs.Text.{text_of}
 use Rattle.asg_check.specs.declared.verdicts.Form.TheVariants.{Solve}
 use Rattle.asg_requests.specs.declared.requests.Job.{Job}
-use Rattle.asg_app.specs.declared.status.Status.{Status}
-use Rattle.asg_app.specs.declared.status.Status.TheVariants.{Done, Instance, Nothing}
-use Rattle.asg_app.specs.SolverLimits.{SolverRefuses, SolverTakes, limit_number}
-use Rattle.asg_app.specs.Texts.{refused_instance_text}
-use Rattle.asg_app.specs.WrittenDocument.{IsBestDocument, IsNoneDocument}
+use Rattle.asg_answers.specs.declared.status.Status.{Status}
+use Rattle.asg_answers.specs.declared.status.Status.TheVariants.{Done, Instance, Nothing}
+use Rattle.asg_answers.specs.SolverLimits.{SolverRefuses, SolverTakes, limit_number}
+use Rattle.asg_answers.specs.Texts.{refused_instance_text}
+use Rattle.asg_answers.specs.WrittenDocument.{IsBestDocument, IsNoneDocument}
 
 -- how a request to solve ends for the instance: where the objective's solver takes it, a document
 -- with a best choice is written, or one with a Hall set, as no choice is valid; else its refusal,

@@ -5,8 +5,8 @@ use Rattle.asg_model.specs.Limits.{longest_file}
 use Rattle.asg_io.specs.Shelf.{Rose, asked_after}
 use Rattle.asg_io.specs.declared.shelf.FetchFault.{FetchFault}
 use Rattle.asg_io.specs.declared.shelf.FetchFault.TheVariants.{Failed, TooLong, NoMemory}
-use Rattle.asg_app.specs.declared.status.Status.{Status}
-use Rattle.asg_app.specs.declared.status.Status.TheVariants as statuses
+use Rattle.asg_answers.specs.declared.status.Status.{Status}
+use Rattle.asg_answers.specs.declared.status.Status.TheVariants as statuses
 
 -- the contents of a file may be these bytes: where they are told, they are
 abbrev pub MayHold : (List ℕ → Option (List ℕ)) → List ℕ → List ℕ → Type 0

@@ -9,7 +9,10 @@ use Rattle.asg_doc.specs.HasText.{HasText}
 use Rattle.asg_doc.specs.RefusedLine.{AllHaveText, IsNoText, IsRefusedLine}
 use Rattle.asg_doc.specs.Text.{text_of, texts_of}
 use Rattle.asg_check.specs.declared.verdicts.Form.{Form}
-use Rattle.asg_check.specs.declared.verdicts.Form.TheVariants.{Solve}
+use Rattle.asg_check.specs.declared.verdicts.Form.TheVariants.{Solve, Edit}
+use Rattle.asg_scripts.specs.Scripts.{HoldsLines, script_in, solved_instances}
+use Rattle.asg_text.specs.declared.script_lines.Line.{Line}
+use Rattle.asg_answers.specs.EditDocuments.{AreEditDocuments, at_first}
 use Rattle.asg_check.specs.Certifies.{Certifies}
 use Rattle.asg_check.specs.Reasons.{IsFirstReason}
 use Rattle.asg_check.specs.TrueClaim.{ClaimsTruly}
@@ -18,12 +21,12 @@ use Rattle.asg_requests.specs.declared.requests.Job.{Job}
 use Rattle.asg_rank.specs.Rankings.{ranking_work}
 use Rattle.asg_rank.specs.Rooms.{most_work}
 use Rattle.asg_requests.specs.declared.requests.Task.TheVariants.{Solve as Solving, Rank as Ranking}
-use Rattle.asg_app.specs.declared.status.Status.{Status}
-use Rattle.asg_app.specs.declared.status.Status.TheVariants.{Done, No, Nothing}
-use Rattle.asg_app.specs.SolverLimits.{SolverRefuses, limit_number}
+use Rattle.asg_answers.specs.declared.status.Status.{Status}
+use Rattle.asg_answers.specs.declared.status.Status.TheVariants.{Done, No, Nothing}
+use Rattle.asg_answers.specs.SolverLimits.{SolverRefuses, limit_number}
 use Rattle.asg_app.specs.InstanceFile.{Holds, Refuses, instance_in}
-use Rattle.asg_app.specs.Texts.{refused_document_text, no_text}
-use Rattle.asg_app.specs.WrittenDocument.{IsBestDocument, IsNoneDocument, IsRankedDocument}
+use Rattle.asg_answers.specs.Texts.{refused_document_text, no_text}
+use Rattle.asg_answers.specs.WrittenDocument.{IsBestDocument, IsNoneDocument, IsRankedDocument}
 
 -- two jobs ask about one instance file alike: of one objective, and with the same options for the
 -- instance
@@ -152,3 +155,36 @@ abbrev pub IsVerdict : Job → Form → Problem → Document → Status → Type
 IsVerdict job form X document status =
     ((status ≡ Done) × Certifies job.objective X form document)
     ⊎ ((status ≡ No) × ¬ Certifies job.objective X form document)
+
+-- documents that certify each for its instance, with a claim that is true of it
+abbrev pub AreTrue : Objective → List Problem → List Document → Type 0
+AreTrue objective [] [] = Unit {0}
+AreTrue objective [] (document ∷ documents) = ⊥
+AreTrue objective (X ∷ instances) [] = ⊥
+AreTrue objective (X ∷ instances) (document ∷ documents) =
+    HasText document × Certifies objective X Edit document × ClaimsTruly objective X document
+    × AreTrue objective instances documents
+
+-- the bytes hold an instance, and the script's lines that may be followed from it; the text is that
+-- of documents, one for each instance that the script asks for, each with a true claim, and each
+-- goes on from the phases that the edits since the one before it have kept
+pub record IsEdited (job : Job) (bytes script text : List ℕ) : Type 0 where
+  pub problem : Problem
+  pub lines : List (ℕ × Line)
+  pub documents : List Document
+  pub held : instance_in job bytes ≡ Holds problem
+  pub followed : script_in job.objective problem script ≡ HoldsLines lines
+  pub are_true : AreTrue job.objective (solved_instances problem lines) documents
+  pub going_on : AreEditDocuments job.objective problem at_first lines documents
+  pub written : text ≡ texts_of documents
+
+-- the bytes hold an instance, and the script's lines that may be followed from it; the answer is
+-- the text of documents, one for each instance that the script asks for, each with a true claim
+pub record AreCertified (job : Job) (bytes script answer : List ℕ) : Type 0 where
+  pub problem : Problem
+  pub lines : List (ℕ × Line)
+  pub documents : List Document
+  pub held : instance_in job bytes ≡ Holds problem
+  pub followed : script_in job.objective problem script ≡ HoldsLines lines
+  pub are_true : AreTrue job.objective (solved_instances problem lines) documents
+  pub read : answer ≡ texts_of documents

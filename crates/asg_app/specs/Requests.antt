@@ -5,15 +5,18 @@ use Rattle.asg_requests.specs.declared.requests.Job.{Job}
 use Rattle.asg_requests.specs.declared.requests.Request.{Request}
 use Rattle.asg_requests.specs.declared.requests.Request.TheVariants.{Work, Make}
 use Rattle.asg_requests.specs.declared.requests.Task.{Task}
-use Rattle.asg_requests.specs.declared.requests.Task.TheVariants.{Solve, Rank, Check}
+use Rattle.asg_requests.specs.declared.requests.Task.TheVariants.{Solve, Rank, Edit, Check}
 use Rattle.asg_requests.specs.Requests.{files_of as files_of_request}
 use Rattle.asg_words.specs.Requests.{request_of}
 
--- the tasks that are built: solving, ranking, and checking one document
+-- the tasks that are built: solving, ranking, editing, and checking one document, or the documents
+-- of a script
 abbrev pub is_built_task : Task → Bool
 is_built_task Solve = true
 is_built_task (Rank count) = true
+is_built_task (Edit script) = true
 is_built_task (Check answer None count) = true
+is_built_task (Check answer (Some script) None) = true
 is_built_task _ = false
 
 -- the jobs that are built: a task that is, and whole documents
@@ -36,6 +39,12 @@ abbrev pub files_of : Option Job → List (List ℕ)
 files_of None = []
 files_of (Some job) = files_of_request (Work job)
 
--- a command that writes its documents as it makes them: none that is built
+-- the task edits
+abbrev pub is_edit : Task → Bool
+is_edit (Edit script) = true
+is_edit _ = false
+
+-- a command that writes its documents as it makes them: the one that edits
 abbrev pub is_streamed : Option Job → Bool
-is_streamed job = false
+is_streamed None = false
+is_streamed (Some job) = is_edit job.task

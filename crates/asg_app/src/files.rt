@@ -9,7 +9,7 @@ ghost use Rattle.asg_app.specs.Sources.{content_at};
 
 use crate::requests::job;
 use crate::sources::Sources;
-use crate::status::Status;
+use asg_answers::Status;
 use asg_io::{FetchFault, Shelf};
 use asg_model::limits::LONGEST_FILE;
 use asg_requests::{Job, Task};
@@ -21,8 +21,13 @@ fn file_count(job: &Job) -> usize
     ensures { result ≡ length (files_of (Some job.now)) }
 {
     match &job.task {
-        Task::Check { .. } => 2,
-        _ => 1,
+        Task::Solve | Task::Rank(_) => 1,
+        Task::Edit(_) => 2,
+        Task::Check { script: None, .. } => 2,
+        Task::Check {
+            script: Some(_),
+            ..
+        } => 3,
     }
 }
 
@@ -33,7 +38,12 @@ fn file_name(job: &Job, place: usize) -> &str
     ensures { result.now ≡ content_at (files_of (Some job.now)) place }
 {
     match &job.task {
-        Task::Check { answer, .. } if place == 1 => answer.as_str(),
+        Task::Edit(script) if place == 1 => script.as_str(),
+        Task::Check {
+            script: Some(script),
+            ..
+        } if place == 1 => script.as_str(),
+        Task::Check { answer, .. } if place > 0 => answer.as_str(),
         _ => job.instance.as_str(),
     }
 }

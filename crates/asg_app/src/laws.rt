@@ -10,16 +10,16 @@ ghost use Rattle.asg_model.specs.Problem.{Problem};
 ghost use Rattle.asg_model.specs.Refused.{IsFirstRefused, PassesNegative};
 ghost use Rattle.asg_model.specs.Shapes.{square_side};
 ghost use Rattle.asg_requests.specs.declared.requests.Job.{Job};
-ghost use Rattle.asg_app.specs.declared.status.Status.{Status as Ended};
-ghost use Rattle.asg_app.specs.declared.status.Status.TheVariants.{Usage, Instance, TooLong};
+ghost use Rattle.asg_answers.specs.declared.status.Status.{Status as Ended};
+ghost use Rattle.asg_answers.specs.declared.status.Status.TheVariants.{Usage, Instance, TooLong};
 ghost use Rattle.asg_app.specs.Due.{Due, Tells, TellsShort};
 ghost use Rattle.asg_app.specs.Fetches.{MayHold};
 ghost use Rattle.asg_app.specs.InstanceFile.{Holds, Refuses, instance_in};
 ghost use Rattle.asg_app.specs.Promised.{IsRefusedInstance};
 ghost use Rattle.asg_app.specs.RefusedCosts.{first_refused};
 ghost use Rattle.asg_app.specs.Requests.{files_of, job_of};
-ghost use Rattle.asg_app.specs.Statuses.{HasOneText};
-ghost use Rattle.asg_app.specs.Texts.{usage_text, refused_instance_text};
+ghost use Rattle.asg_answers.specs.Statuses.{HasOneText};
+ghost use Rattle.asg_answers.specs.Texts.{usage_text, refused_instance_text};
 
 use asg_check::laws::one_reason;
 use asg_doc::{refused_line, unique_reading};
@@ -27,6 +27,7 @@ use asg_model::laws::shape_law;
 use asg_words::laws::request_law;
 
 pub mod check_laws;
+pub mod edit_laws;
 pub mod rank_laws;
 pub mod solve_laws;
 

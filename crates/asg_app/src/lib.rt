@@ -2,24 +2,23 @@
 //!
 //! A run reads the words, fetches the files that they name, makes a reply and puts it. A command is
 //! a function from a job, its instance and the contents of its other files to a reply, in a module
-//! of its own. Contracts see the words, what the shelf tells of the files, the bytes that the sink
-//! tells, and the status: `Due` says which status and which text are due, and laws say what that
-//! means. It serves the program alone.
+//! of its own; the one that edits writes each document as it is made. Contracts see the words, what
+//! the shelf tells of the files, the bytes that the sink tells, and the status: `Due` says which
+//! status and which text are due, and laws say what that means. It serves the program alone.
 #![tactic(auto)]
 
 mod answers;
 mod commands;
-mod documents;
 mod files;
+mod instances;
 pub mod laws;
 mod program;
-mod refusals;
 mod replies;
 mod requests;
-mod sheets;
+mod scripts;
 mod sources;
 mod stages;
-mod status;
+mod stops;
 
+pub use asg_answers::Status;
 pub use program::run;
-pub use status::Status;

@@ -3,40 +3,42 @@
 ghost use Rattle.std.specs.Prelude.{◌≡◌, ◌++◌, ◌⊎◌, ℕ, List, map, string_bytes};
 ghost use Rattle.asg_io.specs.Shelf.{Rose};
 ghost use Rattle.asg_io.specs.Sink.{Puts, PutsPrefix};
-ghost use Rattle.asg_app.specs.Due.{Due, Tells};
+ghost use Rattle.asg_app.specs.Due.{Due, DueInPart, Tells};
 ghost use Rattle.asg_app.specs.Ends.{WritesInPart};
 ghost use Rattle.asg_app.specs.Fetches.{AsksOf, AsksInTurn};
 ghost use Rattle.asg_app.specs.Requests.{job_of, files_of, is_streamed};
-ghost use Rattle.asg_app.specs.Statuses.{IsAnswer, HasRead};
+ghost use Rattle.asg_answers.specs.Statuses.{IsAnswer, HasRead};
 
 use crate::answers::answer;
 use crate::files::{fetch_asked, unread_status};
 use crate::laws::due_law;
-use crate::status::Status;
+use asg_answers::Status;
 use asg_io::{Shelf, Sink};
 use std::alloc::Global;
 
 /// Runs the program: reads the words after the program's name, fetches the files that they name
 /// from the shelf, and writes what is due to the sink. It answers how the run ended.
 ///
-/// The status is `Done` where a document with a best choice or a ranking was written, or where the
-/// document that was to be checked certifies, and `No` where it doesn't; `Nothing` where a document
-/// says that no choice is valid; `Usage` where the words ask for nothing that the program does;
-/// `TooLong` where one of the files is longer than 268,435,456 bytes; `Instance` where the
-/// instance's file is refused, by its text, by the options or by a cost that the objective doesn't
-/// take, is too large to be solved, with too many different costs for `balanced` or too many rows
-/// for `lex`, or where so many of its choices are too much to rank; `Document` where the answer's
-/// file isn't the text of one document; `ReadFault` where the shelf had a fault; `WriteFault` where
-/// the sink had one; and `NoMemory` where memory was wanting.
+/// The status is `Done` where a document with a best choice or a ranking was written, or those of a
+/// script, or where each document that was to be checked certifies, and `No` where one doesn't;
+/// `Nothing` where a document says that no choice is valid; `Usage` where the words ask for nothing
+/// that the program does; `TooLong` where one of the files is longer than 268,435,456 bytes;
+/// `Instance` where the instance's file is refused, by its text, by the options or by a cost that
+/// the objective doesn't take, is too large to be solved, with too many different costs for
+/// `balanced` or too many rows for `lex`, or where so many of its choices are too much to rank;
+/// `Script` where the script's file is refused, by its text or by an edit; `Document` where the
+/// answer's file isn't the text of as many documents as are due; `ReadFault` where the shelf had a
+/// fault; `WriteFault` where the sink had one; and `NoMemory` where memory was wanting.
 pub fn run<F: Shelf, K: Sink>(alloc: Global, words: &[String], shelf: &mut F, out: &mut K) -> Status
     // With the status of an answer, the text that is due with it was written.
     ensures answered { IsAnswer result → (text : List ℕ)
         × Due (map string_bytes words.now) (F.told shelf.old) result text
         × Puts (K.written out.old) (K.written out.new) text }
 
-    // A fault of the sink stops the writing: a prefix of a text that is due was written.
+    // A fault of the sink stops the writing: a prefix of a text that is due was written, or of a
+    // request to edit that is due for the first lines of its script.
     ensures write_fault { result ≡ Status.WriteFault → (status : Status) × (text : List ℕ)
-        × Due (map string_bytes words.now) (F.told shelf.old) status text
+        × DueInPart (map string_bytes words.now) (F.told shelf.old) status text
         × PutsPrefix (K.written out.old) (K.written out.new) text }
     ensures write_fault_cause { result ≡ Status.WriteFault →
         Rose (K.faults out.old) (K.faults out.new) }
@@ -46,11 +48,11 @@ pub fn run<F: Shelf, K: Sink>(alloc: Global, words: &[String], shelf: &mut F, ou
     ensures read_fault_cause { result ≡ Status.ReadFault →
         Rose (F.faults shelf.old) (F.faults shelf.new) }
 
-    // Where memory is wanting nothing was written, or a prefix of what is due by a command that
-    // writes as it goes.
+    // Where memory is wanting nothing was written, or by a command that writes as it goes a prefix
+    // of what is due, or due for the first lines of a script.
     ensures no_memory { result ≡ Status.NoMemory →
         WritesInPart (is_streamed (job_of (map string_bytes words.now)))
-        (Due (map string_bytes words.now) (F.told shelf.old))
+        (DueInPart (map string_bytes words.now) (F.told shelf.old))
         (K.written out.old) (K.written out.new) }
 
     // The files that the words name are asked for, in order, and nothing else; each only after the

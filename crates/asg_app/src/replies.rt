@@ -1,89 +1,17 @@
-//! What a run answers, and how it is put.
+//! How a reply is put.
 
-ghost use Rattle.std.specs.Prelude.{◌≡◌, IfOk, OnOk, OnErr, string_bytes};
-ghost use Rattle.asg_doc.specs.HasText.{HasText};
-ghost use Rattle.asg_doc.specs.Text.{text_of};
-ghost use Rattle.asg_io.specs.Shelf.{Rose};
-ghost use Rattle.asg_io.specs.Sink.{Puts, PutsPrefix};
+ghost use Rattle.std.specs.Prelude.{false};
+ghost use Rattle.asg_answers.specs.Replies.{IsReply};
+ghost use Rattle.asg_answers.specs.Statuses.{IsAnswer};
 ghost use Rattle.asg_app.specs.Ends.{Ends};
-ghost use Rattle.asg_app.specs.Replies.{IsReply, bytes_of};
-ghost use Rattle.asg_app.specs.Statuses.{IsAnswer};
 
-use crate::sheets::Sheet;
-use crate::status::Status;
-use asg_doc::Document;
+use asg_answers::{Reply, Status, put_text};
 use asg_io::{PutFault, Sink};
-use asg_model::NoMemory;
-use std::alloc::Global;
-
-/// What is to be written.
-#[derive(Drop)]
-pub(crate) enum Text {
-    /// A line, with its end.
-    Line(String),
-    /// A document.
-    Sheet(Sheet),
-}
-
-/// What a run answers: its status, and what is to be written. All memory for it is taken.
-#[derive(Drop)]
-pub(crate) struct Reply {
-    pub(crate) status: Status,
-    pub(crate) text: Text,
-}
-
-impl Reply {
-    // The reply of a line. The error is want of memory.
-    pub(crate) fn line(alloc: Global, status: Status, line: &str) -> Result<Reply, NoMemory>
-        ensures { IfOk result (λ reply. IsReply reply status line.now) }
-    {
-        Ok(Reply::made(status, String::from_str(alloc, line)?))
-    }
-
-    // The reply of a line that is made.
-    pub(crate) fn made(status: Status, line: String) -> Reply
-        ensures { IsReply result status (string_bytes line) }
-    {
-        Reply {
-            status,
-            text: Text::Line(line),
-        }
-    }
-
-    // The reply of a document. The error is want of memory.
-    pub(crate) fn sheet(
-        alloc: Global,
-        status: Status,
-        document: Document,
-    ) -> Result<Reply, NoMemory>
-        requires { HasText document }
-        ensures { IfOk result (λ reply. IsReply reply status (text_of document)) }
-    {
-        let sheet = Sheet::of(alloc, document)?;
-        Ok(Reply {
-            status,
-            text: Text::Sheet(sheet),
-        })
-    }
-}
-
-// Puts a text whole, or after a fault of the sink a prefix of it. It takes no memory.
-fn put_text<K: Sink>(text: Text, out: &mut K) -> Result<(), PutFault>
-    ensures whole { OnOk result (Puts (K.written out.old) (K.written out.new) (bytes_of text)) }
-    ensures prefix { OnErr result
-        (PutsPrefix (K.written out.old) (K.written out.new) (bytes_of text)) }
-    ensures cause { OnErr result (Rose (K.faults out.old) (K.faults out.new)) }
-{
-    match text {
-        Text::Line(line) => out.put(line.as_bytes()),
-        Text::Sheet(sheet) => sheet.send(out),
-    }
-}
 
 // Puts a reply. It takes no memory.
 pub(crate) fn put<K: Sink>(reply: Reply, out: &mut K) -> Status
     requires { IsAnswer reply.status }
-    ensures { Ends K.written K.faults out.old out.new (IsReply reply) result }
+    ensures { Ends K.written K.faults out.old out.new false (IsReply reply) (IsReply reply) result }
 {
     match put_text(reply.text, out) {
         Ok(()) => reply.status,

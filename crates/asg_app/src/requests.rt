@@ -9,14 +9,14 @@ use asg_requests::{Job, Request, Task, WordsRefusal};
 use asg_words::parse;
 use std::alloc::{AllocError, Global};
 
-// Whether a task is built: solving, ranking, and checking one document.
+// Whether a task is built: solving, ranking, editing, and checking one document, or the documents
+// of a script.
 fn is_built_task(task: &Task) -> bool
     ensures { result ≡ is_built_task task.now }
 {
     match task {
-        Task::Solve | Task::Rank(_) => true,
-        Task::Check { script, .. } => script.is_none(),
-        Task::Edit(_) => false,
+        Task::Solve | Task::Rank(_) | Task::Edit(_) => true,
+        Task::Check { script, count, .. } => script.is_none() || count.is_none(),
     }
 }
 

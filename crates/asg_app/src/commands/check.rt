@@ -10,11 +10,10 @@ ghost use Rattle.asg_app.specs.DueToCheck.{DueToCheck, form_asked};
 ghost use Rattle.asg_model.specs.Limits.{longest_file, most_side};
 ghost use Rattle.asg_model.specs.Refused.{PassesNegative};
 ghost use Rattle.asg_model.specs.Shapes.{square_side};
-ghost use Rattle.asg_app.specs.Replies.{Answers, IsReply};
-ghost use Rattle.asg_app.specs.Texts.{no_text, refused_document_text};
+ghost use Rattle.asg_answers.specs.Replies.{Answers, IsReply};
+ghost use Rattle.asg_answers.specs.Texts.{no_text, refused_document_text};
 
-use crate::replies::Reply;
-use crate::status::Status;
+use asg_answers::{Reply, Status};
 use asg_check::{Form, Verdict, check};
 use asg_doc::{DocRefusal, Document, read};
 use asg_model::{Instance, NoMemory};
@@ -31,16 +30,21 @@ pub(crate) fn form_asked(count: Option<u32>) -> Form
     }
 }
 
-// Tells the reason against the one document, and its place.
-fn denial(alloc: Global, reason: u8, place: i64) -> Result<Reply, NoMemory>
-    ensures { IfOk result (λ reply. IsReply reply Status.No (no_text 1 reason place)) }
+// Tells the reason against a document, and its place.
+pub(crate) fn denial(
+    alloc: Global,
+    document: usize,
+    reason: u8,
+    place: i64,
+) -> Result<Reply, NoMemory>
+    ensures { IfOk result (λ reply. IsReply reply Status.No (no_text document reason place)) }
 {
-    let line = format!(in alloc; "no 1 {reason} {place}\n")?;
+    let line = format!(in alloc; "no {document} {reason} {place}\n")?;
     Ok(Reply::made(Status::No, line))
 }
 
 // Tells that the answer's file is refused in this line.
-fn refusal(alloc: Global, line: u32) -> Result<Reply, NoMemory>
+pub(crate) fn refusal(alloc: Global, line: u32) -> Result<Reply, NoMemory>
     ensures { IfOk result (λ reply. IsReply reply Status.Document (refused_document_text line)) }
 {
     let line = format!(in alloc; "refused document {line}\n")?;
@@ -64,7 +68,7 @@ fn verdict(
     let _rows = inst.rows();
     match check(alloc, job.objective, inst, form, document)? {
         Verdict::Yes => Reply::line(alloc, Status::Done, "yes 1\n"),
-        Verdict::No { reason, place } => denial(alloc, reason, place),
+        Verdict::No { reason, place } => denial(alloc, 1, reason, place),
     }
 }
 

@@ -13,12 +13,9 @@ ghost use Rattle.asg_rank.specs.RankOutcomes.{IsProvedRanking, IsRankOutcome};
 ghost use Rattle.asg_rank.specs.Rankings.{ranking_work};
 ghost use Rattle.asg_rank.specs.Rooms.{most_work};
 ghost use Rattle.asg_app.specs.DueToRank.{DueToRank};
-ghost use Rattle.asg_app.specs.Replies.{Answers};
+ghost use Rattle.asg_answers.specs.Replies.{Answers};
 
-use crate::documents::{none_document, ranked_document};
-use crate::refusals::refusal;
-use crate::replies::Reply;
-use crate::status::Status;
+use asg_answers::{Reply, Status, none_document, ranked_document, refusal};
 use asg_check::Form;
 use asg_model::{Instance, NoMemory};
 use asg_proof::{Ids, Nodes};

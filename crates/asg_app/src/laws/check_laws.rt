@@ -9,8 +9,8 @@ ghost use Rattle.asg_doc.specs.Text.{text_of};
 ghost use Rattle.asg_check.specs.declared.verdicts.Form.TheVariants as forms;
 ghost use Rattle.asg_requests.specs.declared.requests.Job.{Job};
 ghost use Rattle.asg_requests.specs.declared.requests.Task.TheVariants.{Solve, Check};
-ghost use Rattle.asg_app.specs.declared.status.Status.{Status as Ended};
-ghost use Rattle.asg_app.specs.declared.status.Status.TheVariants as statuses;
+ghost use Rattle.asg_answers.specs.declared.status.Status.{Status as Ended};
+ghost use Rattle.asg_answers.specs.declared.status.Status.TheVariants as statuses;
 ghost use Rattle.asg_app.specs.Due.{Due, TellsShort};
 ghost use Rattle.asg_app.specs.DueToCheck.{form_asked};
 ghost use Rattle.asg_app.specs.Fetches.{MayHold};
@@ -19,7 +19,7 @@ ghost use Rattle.asg_app.specs.Promised.{AskAlike, IsSolved, IsUnsolvable, IsCer
 ghost use Rattle.asg_app.specs.Promised.{IsNeverLong};
 ghost use Rattle.asg_app.specs.Promised.{IsDenied, IsNotOne, IsUnread, IsVerdict};
 ghost use Rattle.asg_app.specs.Requests.{job_of};
-ghost use Rattle.asg_app.specs.Texts.{yes_text};
+ghost use Rattle.asg_answers.specs.Texts.{yes_text};
 
 use super::instance_law;
 use super::solve_laws::solved_law;

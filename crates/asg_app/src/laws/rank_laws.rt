@@ -9,14 +9,14 @@ ghost use Rattle.asg_rank.specs.Rankings.{ranking_work};
 ghost use Rattle.asg_rank.specs.Rooms.{most_work};
 ghost use Rattle.asg_requests.specs.declared.requests.Job.{Job};
 ghost use Rattle.asg_requests.specs.declared.requests.Task.TheVariants.{Rank, Check};
-ghost use Rattle.asg_app.specs.declared.status.Status.{Status as Ended};
-ghost use Rattle.asg_app.specs.declared.status.Status.TheVariants as statuses;
+ghost use Rattle.asg_answers.specs.declared.status.Status.{Status as Ended};
+ghost use Rattle.asg_answers.specs.declared.status.Status.TheVariants as statuses;
 ghost use Rattle.asg_app.specs.Due.{Due, TellsShort};
 ghost use Rattle.asg_app.specs.Fetches.{MayHold};
 ghost use Rattle.asg_app.specs.InstanceFile.{Holds, instance_in};
 ghost use Rattle.asg_app.specs.Promised.{AskAlike, IsCertified, IsRanked, IsUnsolvable};
 ghost use Rattle.asg_app.specs.Requests.{job_of};
-ghost use Rattle.asg_app.specs.Texts.{refused_instance_text, yes_text};
+ghost use Rattle.asg_answers.specs.Texts.{refused_instance_text, yes_text};
 
 use super::instance_law;
 use super::solve_laws::solved_law;

@@ -1,6 +1,18 @@
-use Rattle.asg_app.proofs.StageLaws.{asked_answer}
-use Rattle.asg_app.specs.Replies.{bytes_of}
+use Rattle.std.proofs.Common.{◌∙◌, false, sym, subst}
+use Rattle.asg_app.specs.Due.{DueForAsked, DueForPart}
+use Rattle.asg_app.specs.Ends.{Ends}
+use Rattle.asg_app.proofs.EditEnds.{Ends-part, part_of}
 use Rattle.asg_app.proofs.answers.answer.Goals as goal
 
-pub put-requires : goal.put-requires
-put-requires g c = asked_answer c.args.asked.now.job c.args.asked.now.sources c.in-Ok.reply.status (bytes_of c.in-Ok.reply.text) c.in-Ok.ensures
+pub returns-then-is_streamed : goal.returns-then-is_streamed
+returns-then-is_streamed g c =
+    let asked = c.args.asked.now in
+    subst (λ streamed. Ends g.K.Sink.written g.K.Sink.faults c.args.out.now c.answer_streamed.new.out streamed (DueForAsked asked.job asked.sources) (DueForPart asked.job asked.sources) c.answer_streamed.result)
+    (sym (sym c.is_streamed.ensures ∙ c.if-is_streamed.true)) c.answer_streamed.ensures
+
+pub returns-else-is_streamed : goal.returns-else-is_streamed
+returns-else-is_streamed g c =
+    let asked = c.args.asked.now in
+    subst (λ streamed. Ends g.K.Sink.written g.K.Sink.faults c.args.out.now c.answer_whole.new.out streamed (DueForAsked asked.job asked.sources) (DueForPart asked.job asked.sources) c.answer_whole.result)
+    (sym (sym c.is_streamed.ensures ∙ c.if-is_streamed.false))
+    (Ends-part g.K.Sink.written g.K.Sink.faults c.args.out.now c.answer_whole.new.out false (DueForAsked asked.job asked.sources) (DueForPart asked.job asked.sources) c.answer_whole.result (part_of asked.job asked.sources) c.answer_whole.ensures)

@@ -1,11 +1,11 @@
 use Rattle.std.proofs.Common.{[], map, string_bytes, subst, ap, sym, ◌∙◌, ◌++◌}
 use Rattle.asg_io.specs.Laws.{Puts-nil}
-use Rattle.asg_app.specs.Due.{Due, DueForAsked}
+use Rattle.asg_app.specs.Due.{Due, DueForAsked, DueForPart}
 use Rattle.asg_app.specs.Fetches.{AreGiven, AsksOf, Given, MayHoldAll, Stopped, status_of}
 use Rattle.asg_app.specs.Requests.{job_of, files_of}
-use Rattle.asg_app.specs.Statuses.{IsAnswer}
+use Rattle.asg_answers.specs.Statuses.{IsAnswer}
 use Rattle.asg_app.proofs.Fetching.{all_asked, given_asked, given_held, given_short, stopped_asked}
-use Rattle.asg_app.proofs.RunLemmas.{answer_without_fault, status_of_no_write, stopped_answer, stopped_fault}
+use Rattle.asg_app.proofs.RunLemmas.{answer_without_fault, status_of_no_write, stopped_answer, stopped_fault, written_in_part}
 use Rattle.asg_app.proofs.StageLaws.{short_answer}
 use Rattle.asg_app.proofs.program.run.Goals as goal
 
@@ -92,10 +92,17 @@ returns-in-Ok-clause-write_fault g c = λ e.
       (
         sources,
         subst (λ job. MayHoldAll told (files_of job) sources) c.in-Ok.ensures.job may,
-        subst (λ job. DueForAsked job sources found.0 found.1) c.in-Ok.ensures.job found.2,
+        subst (λ job. DueForPart job sources found.0 found.1) c.in-Ok.ensures.job found.2,
       ),
       found.3,
     )
+
+pub returns-in-Ok-clause-no_memory : goal.returns-in-Ok-clause-no_memory
+returns-in-Ok-clause-no_memory g c = λ e.
+    let told = g.F.Shelf.told c.args.shelf.now in
+    let sources = c.in-Ok.asked.sources in
+    let may = given_held g.F.Shelf.told g.F.Shelf.asked g.F.Shelf.faults (files_of c.in-Ok.asked.job) sources _ _ c.in-Ok.ensures.given in
+    written_in_part told c.in-Ok.asked.job (job_of (map string_bytes c.args.words.now)) sources _ _ c.in-Ok.ensures.job may (c.answer.ensures.no_memory e)
 
 pub returns-in-Ok-clause-asked_all : goal.returns-in-Ok-clause-asked_all
 returns-in-Ok-clause-asked_all g c = λ _.

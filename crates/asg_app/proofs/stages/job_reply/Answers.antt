@@ -1,27 +1,34 @@
-use Rattle.std.proofs.Common.{sym, ap, ◌∙◌, subst}
-use Rattle.asg_text.specs.Faults.{fault_of}
-use Rattle.asg_text.specs.Readings.{TellsOf}
-use Rattle.asg_text.specs.Texts.{reading_of}
-use Rattle.asg_app.specs.Due.{DueForJob}
-use Rattle.asg_app.specs.InstanceFile.{fitted}
-use Rattle.asg_app.specs.InstanceStage.{DueForFile}
-use Rattle.asg_app.proofs.InstanceLemmas.{due_for_job, refused_reply, spelled_file}
+use Rattle.std.proofs.Common.{◌≡◌, subst}
+use Rattle.asg_app.specs.Due.{DueForJob, DueForTask, Held}
+use Rattle.asg_app.specs.InstanceFile.{Holds, instance_in}
+use Rattle.asg_app.specs.Sources.{content_at}
+use Rattle.asg_app.specs.Stops.{StopsInstance}
+use Rattle.std.proofs.lemmas.Result.{IfOk-weaker}
+use Rattle.asg_answers.specs.Replies.{Answers}
+use Rattle.asg_app.proofs.InstanceLemmas.{stop_due}
 use Rattle.asg_app.proofs.ReplyLemmas.{owed_as}
 use Rattle.asg_app.proofs.stages.job_reply.Goals as goal
+
+pub task_reply-requires-clause-place : goal.task_reply-requires-clause-place
+task_reply-requires-clause-place c = c.instance_law.ensures.place c.at.result.now c.args.job.now c.in-Ok.inst c.in-Ok.ensures.held
+
+pub task_reply-requires-clause-side : goal.task_reply-requires-clause-side
+task_reply-requires-clause-side c = c.instance_law.ensures.side c.at.result.now c.args.job.now c.in-Ok.inst c.in-Ok.ensures.held
+
+pub task_reply-requires-clause-passes : goal.task_reply-requires-clause-passes
+task_reply-requires-clause-passes c = c.instance_law.ensures.passes c.at.result.now c.args.job.now c.in-Ok.inst c.in-Ok.ensures.held
 
 pub returns-in-Ok : goal.returns-in-Ok
 returns-in-Ok c =
     let job = c.args.job.now in
     let contents = c.args.sources.now in
-    let spelled = ap (reading_of job.format) (sym c.at.ensures.bytes) ∙ c.in-Ok.ensures.instance in
-    let file = fitted job.objective job.place job.each c.in-Ok.inst in
-    owed_as (DueForFile file job contents) (DueForJob job contents) c.fitted_reply.result
-    (due_for_job job contents file c.at.ensures.short (spelled_file job _ c.in-Ok.inst spelled))
-    c.fitted_reply.ensures
+    let X = c.in-Ok.inst in
+    let holds : instance_in job (content_at contents 0) ≡ Holds X = subst (λ bytes. instance_in job bytes ≡ Holds X) c.at.ensures.bytes c.in-Ok.ensures.held in
+    owed_as (DueForTask job.task job contents X) (DueForJob job contents) c.task_reply.result (λ status text owed. Held c.at.ensures.short X holds owed) c.task_reply.ensures
 
 pub returns-in-Err : goal.returns-in-Err
 returns-in-Err c =
     let job = c.args.job.now in
     let contents = c.args.sources.now in
-    let refused = subst (λ bytes. TellsOf (reading_of job.format bytes) c.in-Err.refused) c.at.ensures.bytes c.in-Err.ensures.refused in
-    refused_reply job contents (fault_of c.in-Err.refused) c.text_refusal.result c.at.ensures.short refused c.text_refusal.ensures
+    let stops = subst (λ bytes. StopsInstance (instance_in job bytes) c.in-Err.stop) c.at.ensures.bytes c.in-Err.ensures.stop in
+    IfOk-weaker c.stop_reply.result _ (Answers (DueForJob job contents)) (λ reply is. stop_due job contents reply c.at.ensures.short (subst (StopsInstance (instance_in job (content_at contents 0))) is stops)) c.stop_reply.ensures

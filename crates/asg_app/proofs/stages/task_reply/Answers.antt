@@ -1,30 +1,51 @@
-use Rattle.std.proofs.Common.{sym, subst}
+use Rattle.std.proofs.Common.{◌∙◌, length, sym, ap, subst}
 use Rattle.std.specs.Prelude.{IfOk}
+use Rattle.std.proofs.lemmas.Result.{IfOk-weaker}
+use Rattle.asg_requests.specs.declared.requests.Task.TheVariants.{Check}
+use Rattle.asg_scripts.specs.Scripts.{script_in, solved_instances}
+use Rattle.asg_answers.specs.Replies.{Answers, bytes_of}
+use Rattle.asg_app.specs.AnswersStage.{UnlessMiscounted}
 use Rattle.asg_app.specs.AnswerStage.{UnlessUnread}
 use Rattle.asg_app.specs.Due.{DueForTask}
 use Rattle.asg_app.specs.DueToCheck.{DueToCheck, form_asked}
-use Rattle.asg_app.specs.Replies.{Answers}
+use Rattle.asg_app.specs.DueToJudge.{DueToJudge}
+use Rattle.asg_app.specs.ScriptStage.{DueForScript}
 use Rattle.asg_app.specs.Sources.{content_at}
-use Rattle.asg_app.proofs.ReplyLemmas.{owed_as}
-use Rattle.asg_app.proofs.TaskCases.{built_task, built_word, checks, may_be_asked, rank_may_be_asked, ranked_count, without_script}
+use Rattle.asg_app.proofs.TaskCases.{built_task, judged_due}
 use Rattle.asg_app.proofs.stages.task_reply.Goals as goal
 
 pub returns-in-Solve : goal.returns-in-Solve
 returns-in-Solve c =
-    subst (λ task. IfOk c.reply.result (Answers (DueForTask task c.args.job.now c.args.sources.now c.args.inst.now))) (sym c.in-Solve.is) c.reply.ensures
+    subst (λ task. IfOk c.reply.result (Answers (DueForTask task c.args.job.now c.args.sources.now c.args.inst))) (sym c.in-Solve.is) c.reply.ensures
 
 pub returns-in-Rank : goal.returns-in-Rank
 returns-in-Rank c =
-    subst (λ task. IfOk c.reply-in-Rank.result (Answers (DueForTask task c.args.job.now c.args.sources.now c.args.inst.now))) (sym c.in-Rank.is) c.reply-in-Rank.ensures
+    subst (λ task. IfOk c.reply-in-Rank.result (Answers (DueForTask task c.args.job.now c.args.sources.now c.args.inst))) (sym c.in-Rank.is) c.reply-in-Rank.ensures
 
-pub returns-in-Check : goal.returns-in-Check
-returns-in-Check c =
+pub returns-in-Check-default-None-default : goal.returns-in-Check-default-None-default
+returns-in-Check-default-None-default c =
     let job = c.args.job.now in
-    let X = c.args.inst.now in
-    let form = form_asked c.in-Check.count in
+    let X = c.args.inst in
     let contents = c.args.sources.now in
-    let formed = subst (λ form. IfOk c.reply-in-Check.result (Answers (UnlessUnread c.at.result.now (DueToCheck job form X)))) c.form_asked.ensures c.reply-in-Check.ensures in
-    let told = subst (λ bytes. IfOk c.reply-in-Check.result (Answers (UnlessUnread bytes (DueToCheck job form X)))) c.at.ensures.bytes formed in
-    owed_as (UnlessUnread (content_at contents 1) (DueToCheck job form X)) (DueForTask job.task job contents X) c.reply-in-Check.result
-    (λ status text owed. checks job.task c.in-Check.answer c.in-Check.script c.in-Check.count job contents X status text c.in-Check.is (built_task job c.requires.ready.built) owed)
+    let here = c.in-Check-default-None-default in
+    let script_is = rw here.is at here.script-is in
+    let r = c.reply-in-Check-default-None-default in
+    let formed = subst (λ form. IfOk r.result (Answers (UnlessUnread c.at.result.now (DueToCheck job form X)))) c.form_asked.ensures r.ensures in
+    let told = subst (λ bytes. IfOk r.result (Answers (UnlessUnread bytes (DueToCheck job (form_asked here.count) X)))) c.at.ensures.bytes formed in
+    subst (λ task. IfOk r.result (Answers (DueForTask task job contents X))) (sym (here.is ∙ ap (λ script. Check here.answer script here.count) script_is)) told
+
+pub returns-in-Check-default-Some-default : goal.returns-in-Check-default-Some-default
+returns-in-Check-default-Some-default c =
+    let job = c.args.job.now in
+    let X = c.args.inst in
+    let contents = c.args.sources.now in
+    let here = c.in-Check-default-Some-default in
+    let script_is = rw here.is at here.script-is in
+    let r = c.reply-in-Check-default-Some-default in
+    let script = c.at-in-Check-default-Some-default in
+    let answer = c.at-in-Check-default-Some-default-2 in
+    let scripted = subst (λ bytes. IfOk r.result (Answers (DueForScript (script_in job.objective X bytes) (λ lines. UnlessMiscounted answer.result.now (length (solved_instances X lines)) (DueToJudge job.objective 0 (solved_instances X lines)))))) script.ensures.bytes r.ensures in
+    let told = subst (λ bytes. IfOk r.result (Answers (DueForScript (script_in job.objective X (content_at contents 1)) (λ lines. UnlessMiscounted bytes (length (solved_instances X lines)) (DueToJudge job.objective 0 (solved_instances X lines)))))) answer.ensures.bytes scripted in
+    IfOk-weaker r.result _ _
+    (λ reply due. judged_due job.task job contents X here.answer here.script-0 here.count (built_task job c.requires.ready.built) (here.is ∙ ap (λ script. Check here.answer script here.count) script_is) reply.status (bytes_of reply.text) due)
     told

@@ -1,6 +1,6 @@
 use Rattle.std.proofs.Common.{refl, arith}
 use Rattle.asg_doc.specs.Text.{texts_of}
-use Rattle.asg_app.specs.declared.status.Status.TheVariants.{Document}
+use Rattle.asg_answers.specs.declared.status.Status.TheVariants.{Document}
 use Rattle.asg_app.specs.AnswerStage.{UnlessUnread, Miscounted}
 use Rattle.asg_app.specs.DueToCheck.{DueToCheck}
 use Rattle.asg_app.proofs.AnswerLemmas.{one_has_text, one_read}

@@ -1,8 +1,8 @@
 use Rattle.std.proofs.Common.{refl}
-use Rattle.asg_app.specs.declared.status.Status.TheVariants.{Document}
+use Rattle.asg_answers.specs.declared.status.Status.TheVariants.{Document}
 use Rattle.asg_app.specs.AnswerStage.{UnlessUnread, NotRead}
 use Rattle.asg_app.specs.DueToCheck.{DueToCheck}
-use Rattle.asg_app.specs.Texts.{refused_document_text}
+use Rattle.asg_answers.specs.Texts.{refused_document_text}
 use Rattle.asg_app.proofs.ReplyLemmas.{replied}
 use Rattle.asg_app.proofs.commands.check.reply.Goals as goal
 

@@ -1,9 +1,9 @@
 use Rattle.std.proofs.Common.{ap, refl}
 use Rattle.std.specs.Int.{w64}
 use Rattle.std.proofs.lemmas.Int.{to_z-of_z}
-use Rattle.asg_app.specs.declared.status.Status.TheVariants.{Done, No}
+use Rattle.asg_answers.specs.declared.status.Status.TheVariants.{Done, No}
 use Rattle.asg_app.specs.DueToCheck.{DueToCheck, Certified, Denied}
-use Rattle.asg_app.specs.Texts.{no_text}
+use Rattle.asg_answers.specs.Texts.{no_text}
 use Rattle.asg_app.proofs.ReasonPlaces.{place_fits}
 use Rattle.asg_app.proofs.ReplyLemmas.{replied, yes_one}
 use Rattle.asg_app.proofs.commands.check.verdict.Goals as goal

@@ -1,6 +1,6 @@
 use Rattle.std.proofs.Common.{refl}
 use Rattle.asg_doc.specs.Text.{text_of}
-use Rattle.asg_app.specs.declared.status.Status.TheVariants.{Nothing}
+use Rattle.asg_answers.specs.declared.status.Status.TheVariants.{Nothing}
 use Rattle.asg_app.specs.DueToRank.{DueToRank, Unrankable}
 use Rattle.asg_app.proofs.ReplyLemmas.{replied}
 use Rattle.asg_app.proofs.commands.rank.none_reply.Goals as goal

@@ -1,6 +1,6 @@
 use Rattle.std.proofs.Common.{refl}
 use Rattle.asg_doc.specs.Text.{text_of}
-use Rattle.asg_app.specs.declared.status.Status.TheVariants.{Nothing}
+use Rattle.asg_answers.specs.declared.status.Status.TheVariants.{Nothing}
 use Rattle.asg_app.specs.DueToSolve.{DueToSolve, Unsolvable}
 use Rattle.asg_app.proofs.ReplyLemmas.{replied}
 use Rattle.asg_app.proofs.commands.solve.none_reply.Goals as goal

@@ -1,5 +1,5 @@
 use Rattle.std.proofs.Common.{subst}
-use Rattle.asg_app.specs.declared.status.Status.TheVariants.{Done, Nothing}
+use Rattle.asg_answers.specs.declared.status.Status.TheVariants.{Done, Nothing}
 use Rattle.asg_app.specs.Due.{DueForAsked}
 use Rattle.asg_app.specs.Fetches.{MayHoldAll}
 use Rattle.asg_app.specs.Requests.{files_of}

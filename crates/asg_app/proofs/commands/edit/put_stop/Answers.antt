@@ -1,0 +1,19 @@
+use Rattle.std.proofs.Common.{inl, true, Some, subst}
+use Rattle.asg_app.specs.Due.{DueForJob, DueForPart}
+use Rattle.asg_app.specs.Edits.{StopsJob}
+use Rattle.asg_app.proofs.EditEnds.{Ends-nothing, Ends-owed, stopped_answer}
+use Rattle.asg_app.proofs.commands.edit.put_stop.Goals as goal
+
+pub put-requires : goal.put-requires
+put-requires g c =
+    let job = c.requires.0 in
+    let contents = c.requires.1 in
+    stopped_answer job contents c.in-Ok.reply (subst (StopsJob job contents) c.in-Ok.ensures c.requires.2)
+
+pub returns-in-Ok : goal.returns-in-Ok
+returns-in-Ok g c = λ job contents stops.
+    Ends-owed g.K.Sink.written g.K.Sink.faults c.args.out.now c.put.new.out true (DueForJob job contents) (DueForPart (Some job) contents) c.in-Ok.reply c.put.result
+    (λ due text owed. inl owed) (subst (StopsJob job contents) c.in-Ok.ensures stops) c.put.ensures
+
+pub returns-in-Err : goal.returns-in-Err
+returns-in-Err g c = λ job contents stops. Ends-nothing g.K.Sink.written g.K.Sink.faults c.args.out.now true (DueForJob job contents) (DueForPart (Some job) contents)

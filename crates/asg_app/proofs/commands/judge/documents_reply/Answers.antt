@@ -1,0 +1,28 @@
+use Rattle.std.proofs.Common.{◌∙◌, length, refl, sym}
+use Rattle.asg_doc.specs.Text.{texts_of}
+use Rattle.asg_scripts.specs.Scripts.{solved_instances}
+use Rattle.asg_answers.specs.declared.status.Status.TheVariants.{Document}
+use Rattle.asg_app.specs.AnswersStage.{UnlessMiscounted, AllRead, OtherCount}
+use Rattle.asg_app.specs.DueToJudge.{DueToJudge}
+use Rattle.asg_answers.specs.Texts.{refused_document_text}
+use Rattle.asg_app.proofs.ReplyLemmas.{owed_as, replied}
+use Rattle.asg_scripts.specs.Laws.{solved_count}
+use Rattle.asg_app.proofs.commands.judge.documents_reply.Goals as goal
+
+pub returns-then-found-due : goal.returns-then-found-due
+returns-then-found-due c =
+    let instances = solved_instances c.args.inst c.args.lines.now in
+    let documents = c.args.documents.now in
+    let objective = c.args.job.now.objective in
+    owed_as (DueToJudge objective 0 instances documents) (UnlessMiscounted (texts_of documents) (length instances) (DueToJudge objective 0 instances)) c.verdict.result
+    (λ status text owed. AllRead documents c.requires.text refl (c.if-found-due.true ∙ c.solve_count-due.ensures ∙ sym (solved_count c.args.inst c.args.lines.now)) owed)
+    c.verdict.ensures
+
+pub returns-else-found-due : goal.returns-else-found-due
+returns-else-found-due c =
+    let instances = solved_instances c.args.inst c.args.lines.now in
+    let documents = c.args.documents.now in
+    let objective = c.args.job.now.objective in
+    replied (UnlessMiscounted (texts_of documents) (length instances) (DueToJudge objective 0 instances)) Document (refused_document_text 0) c.refusal.result
+    (OtherCount documents c.requires.text refl (λ same. c.if-found-due.false (same ∙ solved_count c.args.inst c.args.lines.now ∙ sym c.solve_count-due.ensures)) refl refl)
+    c.refusal.ensures

@@ -1,7 +1,0 @@
-use Rattle.std.proofs.Common.{take}
-use Rattle.asg_app.specs.DocumentParts.{AreAnswersOf}
-use Rattle.asg_app.proofs.documents.listed_answers.Given as goal
-
--- the answers so far are those of the choices so far
-abbrev pub invariant-choices : goal.invariant-choices
-invariant-choices l = AreAnswersOf l.objective l.inst (take l.place l.choices) l.answers.items

@@ -1,7 +1,0 @@
-use Rattle.std.proofs.Common.{◌≡◌, ◌++◌, take, string_bytes}
-use Rattle.asg_doc.specs.Text.{spaced}
-use Rattle.asg_app.proofs.refusals.push_numbers.Given as goal
-
--- the numbers so far stand behind the line
-abbrev pub invariant-loop-number : goal.invariant-loop-number
-invariant-loop-number l = string_bytes l.line ≡ string_bytes l.fn.line ++ spaced (take l.number-index l.numbers)

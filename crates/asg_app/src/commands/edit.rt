@@ -1,0 +1,131 @@
+//! Requests to edit: each document is written as soon as it is made.
+
+ghost use Rattle.std.specs.Prelude.{◌≡◌, ◌≤◌, ℕ, true, List, Some, IfErr, IfOk, IsTrue};
+ghost use Rattle.asg_model.specs.Limits.{most_side};
+ghost use Rattle.asg_model.specs.Objectives.{is_algebraic};
+ghost use Rattle.asg_model.specs.Refused.{PassesNegative};
+ghost use Rattle.asg_model.specs.Shapes.{square_side};
+ghost use Rattle.asg_requests.specs.declared.requests.Job.{Job as Editing};
+ghost use Rattle.asg_app.specs.Due.{DueForJob, DueForPart};
+ghost use Rattle.asg_app.specs.Edits.{IsStarted, StopsJob};
+ghost use Rattle.asg_app.specs.Ends.{Ends};
+ghost use Rattle.asg_app.specs.Readiness.{IsReady};
+ghost use Rattle.asg_app.specs.InstanceFile.{Holds, instance_in};
+ghost use Rattle.asg_app.specs.Requests.{is_edit};
+ghost use Rattle.asg_app.specs.Sources.{content_at};
+
+use crate::instances::instance;
+use crate::laws::instance_law;
+use crate::replies::put;
+use crate::scripts::script_lines;
+use crate::sources::Sources;
+use crate::stops::{Stop, stop_reply};
+use asg_answers::{Halt, Status, put_lines};
+use asg_edits::Editor;
+use asg_io::Sink;
+use asg_model::Instance;
+use asg_requests::Job;
+use asg_text::Line;
+use std::alloc::Global;
+
+/// What is to be written: the editor of an instance, and the lines that it follows.
+#[derive(Drop)]
+struct Work {
+    editor: Editor,
+    lines: Vec<(u32, Line)>,
+}
+
+// An editor of the instance for the lines. The error is want of memory.
+fn opened(alloc: Global, job: &Job, inst: Instance, lines: Vec<(u32, Line)>) -> Result<Work, Stop>
+    requires algebraic { IsTrue (is_algebraic job.now.objective) }
+    requires side { square_side inst ≤ most_side }
+    requires passes { PassesNegative job.now.objective inst }
+    ensures objective { IfOk result (λ work. work.editor.objective ≡ job.now.objective) }
+    ensures instance { IfOk result (λ work. work.editor.instance ≡ inst) }
+    ensures lines { IfOk result (λ work. work.lines ≡ lines) }
+    ensures stop { IfErr result (λ stop. stop ≡ Stop.NoMemory) }
+{
+    match Editor::open(alloc, job.objective, inst) {
+        Ok(editor) => Ok(Work { editor, lines }),
+        Err(_) => Err(Stop::NoMemory),
+    }
+}
+
+// The script of the job is read for its instance, and an editor is opened.
+fn scripted(alloc: Global, job: &Job, inst: Instance, sources: &Sources) -> Result<Work, Stop>
+    requires ready { IsReady job.now }
+    requires edits { IsTrue (is_edit job.now.task) }
+    requires held { instance_in job.now (content_at sources.now 0) ≡ Holds inst }
+    ensures started { IfOk result (IsStarted job.now sources.now) }
+    ensures stop { IfErr result (StopsJob job.now sources.now) }
+{
+    instance_law();
+    match script_lines(alloc, job, &inst, sources.at(1)) {
+        Ok(lines) => opened(alloc, job, inst, lines),
+        Err(stop) => Err(stop),
+    }
+}
+
+// The files of a job to edit are read, and an editor is opened.
+fn started(alloc: Global, job: &Job, sources: &Sources) -> Result<Work, Stop>
+    requires ready { IsReady job.now }
+    requires edits { IsTrue (is_edit job.now.task) }
+    ensures started { IfOk result (IsStarted job.now sources.now) }
+    ensures stop { IfErr result (StopsJob job.now sources.now) }
+{
+    match instance(alloc, job, sources.at(0)) {
+        Ok(inst) => scripted(alloc, job, inst, sources),
+        Err(stop) => Err(stop),
+    }
+}
+
+// Writes the documents of a job to edit.
+fn put_edits<K: Sink>(alloc: Global, job: &Job, work: &mut Work, out: &mut K) -> Status
+    requires ready { IsReady job.now }
+    requires edits { IsTrue (is_edit job.now.task) }
+    requires started { (contents : List (List ℕ)) × IsStarted job.now contents work.old }
+    ensures { (contents : List (List ℕ)) → IsStarted job.now contents work.old →
+        Ends K.written K.faults out.old out.new true (DueForJob job.now contents)
+        (DueForPart (Some job.now) contents) result }
+{
+    instance_law();
+    match put_lines(alloc, job.objective, &mut work.editor, &work.lines, out) {
+        Ok(()) => Status::Done,
+        Err(Halt::WriteFault) => Status::WriteFault,
+        Err(Halt::NoMemory) => Status::NoMemory,
+    }
+}
+
+// Puts the refusal of a file of a job to edit.
+fn put_stop<K: Sink>(stop: Stop, out: &mut K) -> Status
+    requires { (job : Editing) × (contents : List (List ℕ)) × StopsJob job contents stop }
+    ensures { (job : Editing) (contents : List (List ℕ)) → StopsJob job contents stop →
+        Ends K.written K.faults out.old out.new true (DueForJob job contents)
+        (DueForPart (Some job) contents) result }
+{
+    match stop_reply(stop) {
+        Ok(reply) => put(reply, out),
+        Err(_) => Status::NoMemory,
+    }
+}
+
+// Drops a value, by a function for each type that it holds.
+fn close<T: Drop>(_it: T) {}
+
+// Answers a job to edit: its documents are written, one after the other, or the refusal of one of
+// its files.
+pub(crate) fn answer<K: Sink>(alloc: Global, job: &Job, sources: &Sources, out: &mut K) -> Status
+    requires ready { IsReady job.now }
+    requires edits { IsTrue (is_edit job.now.task) }
+    ensures { Ends K.written K.faults out.old out.new true
+        (DueForJob job.now sources.now) (DueForPart (Some job.now) sources.now) result }
+{
+    match started(alloc, job, sources) {
+        Ok(mut work) => {
+            let status = put_edits(alloc, job, &mut work, out);
+            close(work);
+            status
+        }
+        Err(stop) => put_stop(stop, out),
+    }
+}

@@ -1,0 +1,82 @@
+//! Laws of requests to edit, and to check what they write.
+
+ghost use Rattle.std.specs.Prelude.{◌≡◌, ◌≤◌, ◌⊎◌, ℕ, List, Option, Some, None, length};
+ghost use Rattle.asg_model.specs.Limits.{longest_file};
+ghost use Rattle.asg_model.specs.Problem.{Problem};
+ghost use Rattle.asg_requests.specs.declared.requests.Job.{Job};
+ghost use Rattle.asg_requests.specs.declared.requests.Task.TheVariants.{Edit, Check};
+ghost use Rattle.asg_scripts.specs.Scripts.{HoldsLines, RefusesLines, script_in};
+ghost use Rattle.asg_text.specs.declared.script_lines.Line.{Line};
+ghost use Rattle.asg_answers.specs.declared.status.Status.{Status as Ended};
+ghost use Rattle.asg_answers.specs.declared.status.Status.TheVariants as statuses;
+ghost use Rattle.asg_app.specs.Due.{Due, TellsShort};
+ghost use Rattle.asg_app.specs.Fetches.{MayHold};
+ghost use Rattle.asg_app.specs.InstanceFile.{Holds, instance_in};
+ghost use Rattle.asg_app.specs.Promised.{AreCertified, AskAlike, IsEdited};
+ghost use Rattle.asg_app.specs.Requests.{job_of};
+ghost use Rattle.asg_answers.specs.Texts.{refused_script_text, yes_text};
+
+/// A request to edit ends with the status 0, 3, 4 or 10, unless a fault or want of memory cuts it
+/// short. Where the files are told, none is too long and the first holds an instance, it is 4 where
+/// the script is refused, by its text or by an edit, with the number and the line; else 0.
+pub fn edit_law()
+    ensures statuses { (words : List (List ℕ)) (told : List ℕ → Option (List ℕ))
+        (status : Ended) (text script : List ℕ) (job : Job) →
+        job_of words ≡ Some job → job.task ≡ Edit script → Due words told status text →
+        (status ≡ statuses.Done) ⊎ ((status ≡ statuses.Instance)
+        ⊎ ((status ≡ statuses.Script) ⊎ (status ≡ statuses.TooLong))) }
+    ensures refused { (words : List (List ℕ)) (told : List ℕ → Option (List ℕ))
+        (status : Ended) (text script bytes says numbers : List ℕ) (job : Job) (X : Problem) →
+        TellsShort words told → job_of words ≡ Some job → job.task ≡ Edit script →
+        told job.instance ≡ Some bytes → told script ≡ Some says →
+        instance_in job bytes ≡ Holds X → script_in job.objective X says ≡ RefusesLines numbers →
+        Due words told status text →
+        (status ≡ statuses.Script) × (text ≡ refused_script_text numbers) }
+    ensures followed { (words : List (List ℕ)) (told : List ℕ → Option (List ℕ))
+        (status : Ended) (text script bytes says : List ℕ) (job : Job) (X : Problem)
+        (lines : List (ℕ × Line)) →
+        TellsShort words told → job_of words ≡ Some job → job.task ≡ Edit script →
+        told job.instance ≡ Some bytes → told script ≡ Some says →
+        instance_in job bytes ≡ Holds X → script_in job.objective X says ≡ HoldsLines lines →
+        Due words told status text → status ≡ statuses.Done }
+{}
+
+/// For a request to edit, status 0 is due only with the texts of documents, one for each `solve`
+/// line of the script: each certifies for the instance as edited then, and claims truly a best
+/// choice of it, or that none is valid; and its phases go on from those that the edits since the
+/// document before have kept of that one's.
+pub fn edited_documents_law()
+    ensures { (words : List (List ℕ)) (told : List ℕ → Option (List ℕ))
+        (text script : List ℕ) (job : Job) →
+        job_of words ≡ Some job → job.task ≡ Edit script → Due words told statuses.Done text →
+        (bytes says : List ℕ) × MayHold told job.instance bytes × MayHold told script says
+        × IsEdited job bytes says text }
+{}
+
+/// For a request to check with a script, status 0 is due only where the answer's file is the text
+/// of as many documents as the script has `solve` lines, each of which certifies for the instance
+/// as edited then; what each claims is then true. The text is `yes` and their number.
+pub fn certified_documents_law()
+    ensures { (words : List (List ℕ)) (told : List ℕ → Option (List ℕ))
+        (text script answer : List ℕ) (job : Job) →
+        job_of words ≡ Some job → job.task ≡ Check answer (Some script) None →
+        Due words told statuses.Done text →
+        (bytes says spoken : List ℕ) × MayHold told job.instance bytes × MayHold told script says
+        × MayHold told answer spoken × (certified : AreCertified job bytes says spoken)
+        × (text ≡ yes_text (length certified.documents)) }
+{}
+
+/// What a request to edit writes is accepted by a request to check with the same script that asks
+/// alike, where it is no longer than the longest file that is read: status 0 is due, and the text
+/// `yes` and the number of the documents.
+pub fn accepted_documents_law()
+    ensures { (editing checking : List (List ℕ)) (told later : List ℕ → Option (List ℕ))
+        (text script says answer : List ℕ) (edit check : Job) →
+        job_of editing ≡ Some edit → edit.task ≡ Edit script →
+        Due editing told statuses.Done text →
+        job_of checking ≡ Some check → check.task ≡ Check answer (Some says) None →
+        AskAlike edit check → length text ≤ longest_file →
+        later check.instance ≡ told edit.instance → later says ≡ told script →
+        later answer ≡ Some text →
+        (count : ℕ) × Due checking later statuses.Done (yes_text count) }
+{}

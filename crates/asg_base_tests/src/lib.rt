@@ -10,6 +10,8 @@ mod of_parts;
 #[cfg(test)]
 mod of_samples;
 #[cfg(test)]
+mod of_scripts;
+#[cfg(test)]
 mod of_text;
 #[cfg(test)]
 mod of_words;

@@ -1,5 +1,6 @@
 //! Tests of `asg_check`.
 
+mod edit_tests;
 mod grade_tests;
 mod level_tests;
 mod phase_cases;

@@ -4,6 +4,7 @@ mod algebraic_runs;
 mod balanced_tests;
 mod bottleneck_runs;
 mod check_tests;
+mod edit_tests;
 mod lex_tests;
 mod memory_runs;
 mod phase_tests;

@@ -1,5 +1,12 @@
 //! Documents of rankings over the costs `1 2 / 4 3`, judged.
 
+ghost use Rattle.std.specs.Prelude.{◌≡◌, ◌≤◌};
+ghost use Rattle.asg_model.specs.declared.objectives.Objective.TheVariants.{Sum as PlainSum};
+ghost use Rattle.asg_model.specs.declared.parts.Place.TheVariants.{All as PlaceAll};
+ghost use Rattle.asg_model.specs.Limits.{most_side};
+ghost use Rattle.asg_model.specs.Refused.{PassesNegative};
+ghost use Rattle.asg_model.specs.Shapes.{square_side};
+
 use crate::of_check::phase_tests::verdict;
 use asg_check::{Form, NoMemory, Verdict, check};
 use asg_doc::{DocRefusal, Document, read};
@@ -10,7 +17,7 @@ use asg_samples::{Fault, Sample};
 use std::alloc::Global;
 use std::test::Fail;
 
-const PAIR: Sample<'static> = Sample {
+pub(crate) const PAIR: Sample<'static> = Sample {
     rows: &[true, true],
     columns: &[(1, true), (1, true)],
     firsts: &[1, 2, 4, 3],
@@ -96,11 +103,29 @@ fn documents() -> &'static [Ranked] {
     &DOCUMENTS
 }
 
+// The verdict on a document of the form, for an instance that places all rows.
+fn form_verdict(
+    alloc: Global,
+    inst: &Instance,
+    form: Form,
+    doc: &Document,
+) -> Result<Verdict, NoMemory>
+    requires side { square_side inst.now ≤ most_side }
+    requires passes { PassesNegative PlainSum inst.now }
+    requires place { inst.now.place ≡ PlaceAll }
+{
+    match form {
+        Form::Solve => check(alloc, Sum, inst, Form::Solve, doc),
+        Form::Rank(count) => check(alloc, Sum, inst, Form::Rank(count), doc),
+        Form::Edit => check(alloc, Sum, inst, Form::Edit, doc),
+    }
+}
+
 // The verdict on a document where a ranking may be asked.
 fn judged_document(
     alloc: Global,
     inst: &Instance,
-    count: u32,
+    form: Form,
     doc: &Document,
 ) -> Result<Option<Verdict>, NoMemory> {
     if inst.side() > MOST_SIDE {
@@ -112,7 +137,7 @@ fn judged_document(
     if inst.place() != Place::All {
         return Ok(None);
     }
-    let verdict = check(alloc, Sum, inst, Form::Rank(count), doc)?;
+    let verdict = form_verdict(alloc, inst, form, doc)?;
     Ok(Some(verdict))
 }
 
@@ -120,7 +145,7 @@ fn judged_document(
 const LONGEST_TEXT: usize = 1_000;
 
 // The text of a document of these parts.
-fn text(alloc: Global, parts: [&[u8]; 3]) -> Result<Vec<u8>, NoMemory> {
+pub(crate) fn text(alloc: Global, parts: [&[u8]; 3]) -> Result<Vec<u8>, NoMemory> {
     let mut bytes = Vec::from_slice(alloc, b"assignment 1\ncommand ")?;
     bytes.extend_from_slice(parts[0])?;
     bytes.extend_from_slice(parts[1])?;
@@ -130,10 +155,10 @@ fn text(alloc: Global, parts: [&[u8]; 3]) -> Result<Vec<u8>, NoMemory> {
 }
 
 // The verdict on the one document of a text.
-fn judged(
+pub(crate) fn judged(
     alloc: Global,
     inst: &Instance,
-    count: u32,
+    form: Form,
     text: &[u8],
 ) -> Result<Option<Verdict>, NoMemory> {
     if text.len() > LONGEST_TEXT {
@@ -141,7 +166,7 @@ fn judged(
     }
     match read(alloc, text) {
         Ok(documents) => match documents.as_slice() {
-            [document] => judged_document(alloc, inst, count, document),
+            [document] => judged_document(alloc, inst, form, document),
             _ => Ok(None),
         },
         Err(DocRefusal::Line(_)) => Ok(None),
@@ -152,7 +177,7 @@ fn judged(
 // Whether the document of a case is judged so.
 fn is_judged(alloc: Global, inst: &Instance, case: &Ranked) -> Result<bool, NoMemory> {
     let text = text(alloc, [case.1, case.2, case.3])?;
-    let found = judged(alloc, inst, case.0, &text)?;
+    let found = judged(alloc, inst, Form::Rank(case.0), &text)?;
     Ok(found == Some(verdict(case.4, case.5)))
 }
 

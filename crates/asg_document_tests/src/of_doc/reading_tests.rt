@@ -83,12 +83,41 @@ fn a_document_is_read(rt: HostRuntime) {
     assert!(rt; reads_best(rt.alloc()));
 }
 
-// Texts of which the first line or the second is refused, and the empty one, which is of no
+const EDITED: &[u8] = b"assignment 1\ncommand edit\nobjective sum\nstatus none\nhall 1 3\nend\n";
+
+// Whether this is the one document of `EDITED`.
+fn are_of_edited(documents: &[Document]) -> bool {
+    match documents {
+        [document] => {
+            document.command == Command::Edit
+                && document.objective == Objective::Sum
+                && matches!(document.claim, Claim::Nothing { .. })
+        }
+        _ => false,
+    }
+}
+
+// Whether it is read.
+fn reads_edited(alloc: Global) -> bool {
+    match read(alloc, EDITED) {
+        Ok(documents) => are_of_edited(&documents),
+        Err(_) => false,
+    }
+}
+
+#[test]
+fn a_document_of_edits_is_read(rt: HostRuntime) {
+    assert!(rt; reads_edited(rt.alloc()));
+}
+
+// Texts of which one of the first three lines is refused, and the empty one, which is of no
 // document.
-const TEXTS: [(&[u8], u32); 3] = [
+const TEXTS: [(&[u8], u32); 5] = [
     (b"", 0),
     (b"assignment 1", 1),
-    (b"assignment 1\ncommand edit\n", 2),
+    (b"assignment 1\ncommand edits\n", 2),
+    (b"assignment 1\ncommand edit", 2),
+    (b"assignment 1\ncommand edit\n", 3),
 ];
 
 // The first of these texts that isn't refused where it is to be.

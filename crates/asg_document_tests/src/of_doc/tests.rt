@@ -41,13 +41,18 @@ fn best(
     })
 }
 
-fn none(alloc: Global, objective: Objective, rows: &[u32]) -> Result<Document, AllocError>
+fn none(
+    alloc: Global,
+    command: Command,
+    objective: Objective,
+    rows: &[u32],
+) -> Result<Document, AllocError>
     requires objective { HasWord objective }
     requires rows { 0 < length rows.now }
     ensures { IfOk result HasText }
 {
     Ok(Document {
-        command: Command::Solve,
+        command,
         objective,
         claim: Claim::Nothing {
             rows: Ids::from_vec(rows.to_vec(alloc)?),
@@ -55,7 +60,7 @@ fn none(alloc: Global, objective: Objective, rows: &[u32]) -> Result<Document, A
     })
 }
 
-// Documents with a best choice, and one without a valid choice.
+// Documents with a best choice, and two without a valid choice, one of them after edits.
 fn least(alloc: Global) -> Result<Document, AllocError>
     ensures { IfOk result HasText }
 {
@@ -85,9 +90,16 @@ fn nothing(alloc: Global) -> Result<Document, AllocError>
 {
     none(
         alloc,
+        Command::Solve,
         Objective::BottleneckMax,
         &[1, 10, 99, 100, 4294967295],
     )
+}
+
+fn edited(alloc: Global) -> Result<Document, AllocError>
+    ensures { IfOk result HasText }
+{
+    none(alloc, Command::Edit, Objective::Sum, &[1, 3])
 }
 
 // Whether a document is written over the page, and nothing is put yet.
@@ -102,7 +114,8 @@ const TEXTS: &[u8] = b"assignment 1\ncommand solve\nobjective bottleneck\nstatus
       assignment 1\ncommand solve\nobjective bottleneck-max\nstatus best\nvalue -7\n\
       cells 1\n4294967295 0\nproof below 0 9\nend\n\
       assignment 1\ncommand solve\nobjective bottleneck-max\nstatus none\n\
-      hall 1 10 99 100 4294967295\nend\n";
+      hall 1 10 99 100 4294967295\nend\n\
+      assignment 1\ncommand edit\nobjective sum\nstatus none\nhall 1 3\nend\n";
 
 // Whether the page is put, and these are all bytes.
 fn is_finished(page: &mut Page, sink: &mut MemorySink, bytes: &[u8]) -> bool {
@@ -139,12 +152,23 @@ fn is_nothing_held(
     Ok(is_held(&document, page, sink))
 }
 
+// Whether the one after edits is.
+fn is_edited_held(
+    alloc: Global,
+    page: &mut Page,
+    sink: &mut MemorySink,
+) -> Result<bool, AllocError> {
+    let document = edited(alloc)?;
+    Ok(is_held(&document, page, sink))
+}
+
 // Whether each of them is.
 fn are_held(alloc: Global, page: &mut Page, sink: &mut MemorySink) -> Result<bool, AllocError> {
     Ok(
         is_least_held(alloc, page, sink)?
             && is_greatest_held(alloc, page, sink)?
-            && is_nothing_held(alloc, page, sink)?,
+            && is_nothing_held(alloc, page, sink)?
+            && is_edited_held(alloc, page, sink)?,
     )
 }
 

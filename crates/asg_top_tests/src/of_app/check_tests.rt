@@ -247,6 +247,7 @@ pub(crate) fn is_stopped(alloc: Global, case: &Faulty) -> Result<bool, AllocErro
     let files = Files {
         f: THREE,
         g: SOLVED.as_bytes(),
+        s: b"",
         fetch_fails: case.1,
         put_fails: case.2,
     };

@@ -11,20 +11,27 @@ pub(crate) struct Ran {
     pub(crate) written: Vec<u8>,
 }
 
-// The files `f` and `g`, and which fetches and puts fail.
+// The files `f`, `g` and `s`, and which fetches and puts fail.
 #[derive(Clone, Copy)]
 pub(crate) struct Files<'a> {
     pub(crate) f: &'a [u8],
     pub(crate) g: &'a [u8],
+    pub(crate) s: &'a [u8],
     pub(crate) fetch_fails: &'a [u32],
     pub(crate) put_fails: &'a [(u32, u32)],
 }
 
 // The files of these contents, over a shelf and a sink without faults.
 pub(crate) fn held<'a>(f: &'a [u8], g: &'a [u8]) -> Files<'a> {
+    scripted(f, g, b"")
+}
+
+// The files of these contents, and a script.
+pub(crate) fn scripted<'a>(f: &'a [u8], g: &'a [u8], s: &'a [u8]) -> Files<'a> {
     Files {
         f,
         g,
+        s,
         fetch_fails: &[],
         put_fails: &[],
     }
@@ -41,11 +48,12 @@ fn add_file(
     Ok(())
 }
 
-// The shelf with the two files.
+// The shelf with the three files.
 fn shelf_of(alloc: Global, files: &Files<'_>) -> Result<MemoryShelf, AllocError> {
     let mut contents = Vec::new(alloc);
     add_file(alloc, &mut contents, "f", files.f)?;
     add_file(alloc, &mut contents, "g", files.g)?;
+    add_file(alloc, &mut contents, "s", files.s)?;
     Ok(MemoryShelf::with(alloc, contents, files.fetch_fails.to_vec(alloc)?))
 }
 

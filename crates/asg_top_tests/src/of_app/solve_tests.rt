@@ -81,7 +81,7 @@ fn a_hall_set_of_two_rows(rt: HostRuntime) -> Result<(), Fail> {
 }
 
 // Words that are no request, and requests that aren't built.
-static NO_REQUESTS: [&[&str]; 19] = [
+static NO_REQUESTS: [&[&str]; 20] = [
     &[],
     &["solve", "bottleneck"],
     &["solve", "bottleneck", "f", "g"],
@@ -98,7 +98,8 @@ static NO_REQUESTS: [&[&str]; 19] = [
     &["solve", "bottleneck", "f", "--brief"],
     &["rank", "balanced", "f", "--count", "1"],
     &["rank", "sum", "f", "--count", "1", "--brief"],
-    &["check", "bottleneck", "f", "g", "--script", "f"],
+    &["edit", "sum", "f", "g", "--brief"],
+    &["check", "lex", "f", "g", "--script", "s"],
     &["solve", "bottleneck", "f", "--place", "0"],
     &["make", "1", "1"],
 ];

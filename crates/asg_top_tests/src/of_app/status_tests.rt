@@ -12,6 +12,6 @@ fn is_told(alloc: Global, status: Status, words: &str) -> Result<bool, AllocErro
 
 #[test]
 fn a_status_in_words(rt: HostRuntime) -> Result<(), Fail> {
-    assert!(rt; is_told(rt.alloc(), Status::No, "the document doesn't certify")?);
+    assert!(rt; is_told(rt.alloc(), Status::No, "a document doesn't certify")?);
     Ok(())
 }

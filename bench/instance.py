@@ -21,27 +21,32 @@ def costs_of(kind, rows, columns, chance):
         return [[i * j for j in range(1, columns + 1)] for i in range(1, rows + 1)]
     if kind in ("distance", "near"):
         side = {"distance": 1e6, "near": 14000}[kind]
-        points = [[(chance.uniform(0, side), chance.uniform(0, side)) for _ in range(n)] for n in (rows, columns)]
-        return [[round(((x - u) ** 2 + (y - v) ** 2) ** 0.5) for u, v in points[1]] for x, y in points[0]]
+        points = [[(chance.uniform(0, side), chance.uniform(0, side)) for _ in range(n)]
+                  for n in (rows, columns)]
+        return [[round(((x - u) ** 2 + (y - v) ** 2) ** 0.5) for u, v in points[1]]
+                for x, y in points[0]]
     if kind == "sparse":
         own = chance.sample(range(columns), rows)
         return [[chance.randint(1, 10**6) if j == own[i] or chance.random() * columns < 10 else None
                  for j in range(columns)] for i in range(rows)]
     if kind == "pair":
-        return [[f"{chance.randint(0, 20)}:{chance.randint(0, 1000)}" for _ in range(columns)] for _ in range(rows)]
+        return [[f"{chance.randint(0, 20)}:{chance.randint(0, 1000)}" for _ in range(columns)]
+                for _ in range(rows)]
     greatest = {"uniform": 10**9, "narrow": 100, "middle": 19999}[kind]
     return [[chance.randint(0, greatest) for _ in range(columns)] for _ in range(rows)]
 
 
 def write(form, costs, columns, out):
     if form == "asn":
-        arcs = [(i, j, cost) for i, row in enumerate(costs, 1) for j, cost in enumerate(row, len(costs) + 1) if cost is not None]
+        arcs = [(i, j, cost) for i, row in enumerate(costs, 1)
+                for j, cost in enumerate(row, len(costs) + 1) if cost is not None]
         out.write(f"p asn {len(costs) + columns} {len(arcs)}\n")
         out.writelines(f"n {i}\n" for i in range(1, len(costs) + 1))
         out.writelines(f"a {i} {j} {cost}\n" for i, j, cost in arcs)
         return
     out.write(f"{len(costs)}\n" if form == "square" else f"{len(costs)} {columns}\n")
-    out.writelines(" ".join("-" if cost is None else str(cost) for cost in row) + "\n" for row in costs)
+    out.writelines(" ".join("-" if cost is None else str(cost) for cost in row) + "\n"
+                   for row in costs)
 
 
 kind, form, rows, columns, seed = sys.argv[1], sys.argv[2], *map(int, sys.argv[3:6])

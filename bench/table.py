@@ -40,13 +40,13 @@ PEERS = {
     "solve sum-max": ("jv-max", "sap-max"),
     "solve pair": ("pair",),
     "solve capped": ("jv", "sap"),
-    "solve bottleneck": ("bbit", "bsap", "bhk"),
-    "solve bottleneck-max": ("bbit-max", "bsap-max", "bhk-max"),
+    "solve bottleneck": ("bbit", "bsap"),
+    "solve bottleneck-max": ("bbit-max", "bsap-max"),
     "solve time-cost": ("tc",),
-    "solve balanced": ("balbit", "baltp"),
+    "solve balanced": ("balbit",),
     "solve lex": ("lexlv",),
     "rank sum": ("murty",),
-    "edit sum": ("ewarm", "ecold"),
+    "edit sum": ("ewarm",),
 }
 
 

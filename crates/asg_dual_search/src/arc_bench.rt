@@ -29,26 +29,115 @@ pub(crate) struct ArcBench {
     pub later: Vec<u32>,
 }
 
-impl ArcBench {
-    // A bench over so many columns; no row has one. The error is want of memory.
-    pub(crate) fn make(alloc: Global, arcs: &Arcs, side: usize) -> Result<ArcBench, NoMemory> {
-        let rows = arcs.starts.len().saturating_sub(1);
-        Ok(ArcBench {
-            duals: vec![in alloc; 0; side]?,
+// The lists of a bench that are as long as there are rows.
+#[derive(Drop)]
+struct OfRows {
+    column_of: Vec<u32>,
+    arc_of: Vec<u32>,
+    waiting: Vec<u32>,
+    later: Vec<u32>,
+}
+
+impl OfRows {
+    // Those of so many rows, none of which has a column. The error is want of memory.
+    fn make(alloc: Global, rows: usize) -> Result<OfRows, NoMemory> {
+        Ok(OfRows {
             column_of: vec![in alloc; NONE; rows]?,
             arc_of: vec![in alloc; NONE; rows]?,
-            row_of: vec![in alloc; NONE; side]?,
-            keys: vec![in alloc; i64::MAX; side]?,
-            came: vec![in alloc; NONE; side]?,
-            came_by: vec![in alloc; NONE; side]?,
-            touched: vec![in alloc; NONE; side]?,
-            touches: 0,
-            done: vec![in alloc; NONE; side]?,
-            reached: vec![in alloc; 0; side]?,
-            heap: Heap::make(alloc, arcs.columns.len())?,
             waiting: vec![in alloc; 0; rows]?,
             later: vec![in alloc; 0; rows]?,
         })
+    }
+}
+
+// The lists of a bench that tell of each column how it was reached.
+#[derive(Drop)]
+struct Ways {
+    duals: Vec<i64>,
+    keys: Vec<i64>,
+    came: Vec<u32>,
+    came_by: Vec<u32>,
+}
+
+impl Ways {
+    // Those of so many columns, none of which was reached. The error is want of memory.
+    fn make(alloc: Global, side: usize) -> Result<Ways, NoMemory> {
+        Ok(Ways {
+            duals: vec![in alloc; 0; side]?,
+            keys: vec![in alloc; i64::MAX; side]?,
+            came: vec![in alloc; NONE; side]?,
+            came_by: vec![in alloc; NONE; side]?,
+        })
+    }
+}
+
+// The lists of a bench that tell which columns were reached, and their rows.
+#[derive(Drop)]
+struct Reached {
+    row_of: Vec<u32>,
+    touched: Vec<u32>,
+    done: Vec<u32>,
+    reached: Vec<i64>,
+}
+
+impl Reached {
+    // Those of so many columns, none of which was reached. The error is want of memory.
+    fn make(alloc: Global, side: usize) -> Result<Reached, NoMemory> {
+        Ok(Reached {
+            row_of: vec![in alloc; NONE; side]?,
+            touched: vec![in alloc; NONE; side]?,
+            done: vec![in alloc; NONE; side]?,
+            reached: vec![in alloc; 0; side]?,
+        })
+    }
+}
+
+impl ArcBench {
+    // A bench over so many columns; no row has one. The error is want of memory.
+    pub(crate) fn make(alloc: Global, arcs: &Arcs, side: usize) -> Result<ArcBench, NoMemory> {
+        let of_rows = OfRows::make(alloc, arcs.starts.len().saturating_sub(1))?;
+        let ways = Ways::make(alloc, side)?;
+        let reached = Reached::make(alloc, side)?;
+        let heap = Heap::make(alloc, arcs.columns.len())?;
+        Ok(ArcBench::of(of_rows, ways, reached, heap))
+    }
+
+    // The bench of these parts.
+    fn of(of_rows: OfRows, ways: Ways, columns: Reached, heap: Heap) -> ArcBench {
+        let OfRows {
+            column_of,
+            arc_of,
+            waiting,
+            later,
+        } = of_rows;
+        let Ways {
+            duals,
+            keys,
+            came,
+            came_by,
+        } = ways;
+        let Reached {
+            row_of,
+            touched,
+            done,
+            reached,
+        } = columns;
+        ArcBench {
+            duals,
+            column_of,
+            arc_of,
+            row_of,
+            keys,
+            came,
+            came_by,
+            touched,
+            touches: 0,
+            done,
+            reached,
+            heap,
+            waiting,
+            later,
+        }
     }
 
     // Gives a row a column by an arc.

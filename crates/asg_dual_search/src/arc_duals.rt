@@ -21,6 +21,30 @@ fn cells_of(alloc: Global, arcs: &Arcs, arc_of: &[u32]) -> Result<Vec<u64>, NoMe
     Ok(cells)
 }
 
+// What a bench comes to, on which no row has a column; `None` where not every row gets one. The
+// error is want of memory.
+fn found_on_bench(
+    alloc: Global,
+    side: u32,
+    classes: &Classes,
+    arcs: &Arcs,
+    bench: &mut ArcBench,
+) -> Result<Option<Found>, NoMemory> {
+    if !solve_arcs(bench, arcs) {
+        return Ok(None);
+    }
+    let cells = cells_of(alloc, arcs, bench.arc_of.as_slice())?;
+    let placing = Placing {
+        class_of: bench.column_of.as_slice(),
+        cells: cells.as_slice(),
+        duals: bench.duals.as_slice(),
+        greatest: 0,
+        outside: 0,
+    };
+    let found = found_by(alloc, side, classes, placing)?;
+    Ok(Some(found))
+}
+
 // An assignment of a square of this side with dual variables, by the arcs of its counted rows;
 // `None` where none was found. The error is want of memory.
 pub(crate) fn found_by_arcs(
@@ -34,16 +58,5 @@ pub(crate) fn found_by_arcs(
         return Ok(None);
     }
     let mut bench = ArcBench::make(alloc, arcs, columns)?;
-    if !solve_arcs(&mut bench, arcs) {
-        return Ok(None);
-    }
-    let cells = cells_of(alloc, arcs, bench.arc_of.as_slice())?;
-    let placing = Placing {
-        class_of: bench.column_of.as_slice(),
-        cells: cells.as_slice(),
-        duals: bench.duals.as_slice(),
-        greatest: 0,
-        outside: 0,
-    };
-    Ok(Some(found_by(alloc, side, classes, placing)?))
+    found_on_bench(alloc, side, classes, arcs, &mut bench)
 }

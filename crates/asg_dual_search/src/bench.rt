@@ -33,26 +33,98 @@ pub(crate) struct Bench<N: Number> {
     pub scans: u64,
 }
 
-impl<N: Number> Bench<N> {
-    // A bench over a table; no row has a column. The error is want of memory.
-    pub(crate) fn make(alloc: Global, table: &Table<N>) -> Result<Bench<N>, NoMemory> {
-        let side = table.side;
-        let wide = table.wide;
-        Ok(Bench {
-            duals: vec![in alloc; N::zero(); wide]?,
-            column_of: vec![in alloc; NONE; side]?,
-            row_of: vec![in alloc; NONE; wide]?,
-            free: vec![in alloc; 0; wide / 64 + 1]?,
+// The lists of a bench that a search goes by.
+#[derive(Drop)]
+struct Distances<N: Number> {
+    keys: Vec<N>,
+    limits: Vec<N>,
+    blocks: Vec<N>,
+    came: Vec<u32>,
+    done: Vec<u32>,
+    reached: Vec<N>,
+}
+
+impl<N: Number> Distances<N> {
+    // Those of so many columns. The error is want of memory.
+    fn make(alloc: Global, wide: usize) -> Result<Distances<N>, NoMemory> {
+        Ok(Distances {
             keys: vec![in alloc; N::zero(); wide]?,
             limits: vec![in alloc; N::zero(); wide]?,
             blocks: vec![in alloc; N::greatest(); padded(wide / 16)]?,
             came: vec![in alloc; 0; wide]?,
             done: vec![in alloc; 0; wide]?,
             reached: vec![in alloc; N::zero(); wide]?,
-            waiting: vec![in alloc; 0; side]?,
-            later: vec![in alloc; 0; side]?,
-            scans: 0,
         })
+    }
+}
+
+// The lists of a bench that are as long as there are rows.
+#[derive(Drop)]
+struct OfRows {
+    column_of: Vec<u32>,
+    waiting: Vec<u32>,
+    later: Vec<u32>,
+}
+
+impl OfRows {
+    // Those of so many rows, none of which has a column. The error is want of memory.
+    fn make(alloc: Global, rows: usize) -> Result<OfRows, NoMemory> {
+        Ok(OfRows {
+            column_of: vec![in alloc; NONE; rows]?,
+            waiting: vec![in alloc; 0; rows]?,
+            later: vec![in alloc; 0; rows]?,
+        })
+    }
+}
+
+impl<N: Number> Bench<N> {
+    // A bench over a table; no row has a column. The error is want of memory.
+    pub(crate) fn make(alloc: Global, table: &Table<N>) -> Result<Bench<N>, NoMemory> {
+        let wide = table.wide;
+        let duals = vec![in alloc; N::zero(); wide]?;
+        let row_of = vec![in alloc; NONE; wide]?;
+        let free = vec![in alloc; 0; wide / 64 + 1]?;
+        let of_rows = OfRows::make(alloc, table.side)?;
+        let distances = Distances::make(alloc, wide)?;
+        Ok(Bench::of(duals, row_of, free, of_rows, distances))
+    }
+
+    // The bench of these parts.
+    fn of(
+        duals: Vec<N>,
+        row_of: Vec<u32>,
+        free: Vec<u64>,
+        of_rows: OfRows,
+        distances: Distances<N>,
+    ) -> Bench<N> {
+        let OfRows {
+            column_of,
+            waiting,
+            later,
+        } = of_rows;
+        let Distances {
+            keys,
+            limits,
+            blocks,
+            came,
+            done,
+            reached,
+        } = distances;
+        Bench {
+            duals,
+            column_of,
+            row_of,
+            free,
+            keys,
+            limits,
+            blocks,
+            came,
+            done,
+            reached,
+            waiting,
+            later,
+            scans: 0,
+        }
     }
 
     // Takes all columns from all rows, and out of all searches.

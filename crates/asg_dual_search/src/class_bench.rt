@@ -38,6 +38,80 @@ pub(crate) struct ClassBench<N: Number> {
     pub level: N,
 }
 
+// The lists of a bench that tell the rows of each class.
+#[derive(Drop)]
+struct Members {
+    class_of: Vec<u32>,
+    first_rows: Vec<u32>,
+    earlier: Vec<u32>,
+    later: Vec<u32>,
+}
+
+impl Members {
+    // Those of so many rows, none of which has one of so many classes. The error is want of memory.
+    fn make(alloc: Global, rows: usize, wide: usize) -> Result<Members, NoMemory> {
+        Ok(Members {
+            class_of: vec![in alloc; NONE; rows]?,
+            first_rows: vec![in alloc; NONE; wide]?,
+            earlier: vec![in alloc; NONE; rows]?,
+            later: vec![in alloc; NONE; rows]?,
+        })
+    }
+}
+
+// The lists of a bench that a search goes by.
+#[derive(Drop)]
+struct Distances<N: Number> {
+    keys: Vec<N>,
+    limits: Vec<N>,
+    blocks: Vec<N>,
+    reached: Vec<N>,
+}
+
+impl<N: Number> Distances<N> {
+    // Those of so many classes. The error is want of memory.
+    fn make(alloc: Global, wide: usize) -> Result<Distances<N>, NoMemory> {
+        Ok(Distances {
+            keys: vec![in alloc; N::zero(); wide]?,
+            limits: vec![in alloc; N::zero(); wide]?,
+            blocks: vec![in alloc; N::greatest(); padded(wide / 16)]?,
+            reached: vec![in alloc; N::zero(); wide]?,
+        })
+    }
+}
+
+// What a bench has of each class beside its rows and its distance.
+#[derive(Drop)]
+struct Standing<N: Number> {
+    duals: Vec<N>,
+    came: Vec<u32>,
+    done: Vec<u32>,
+    leasts: Vec<N>,
+    least_rows: Vec<u32>,
+}
+
+impl<N: Number> Standing<N> {
+    // That of so many classes. The error is want of memory.
+    fn make(alloc: Global, wide: usize) -> Result<Standing<N>, NoMemory> {
+        Ok(Standing {
+            duals: vec![in alloc; N::zero(); wide]?,
+            came: vec![in alloc; 0; wide]?,
+            done: vec![in alloc; 0; wide]?,
+            leasts: vec![in alloc; N::greatest(); wide]?,
+            least_rows: vec![in alloc; NONE; wide]?,
+        })
+    }
+}
+
+// A bit for each of the classes of a table. The error is want of memory.
+fn all_free<N: Number>(alloc: Global, table: &Table<N>) -> Result<Vec<u64>, NoMemory> {
+    let mut free = vec![in alloc; 0; table.wide / 64 + 1]?;
+    for class in 0..table.side {
+        mark(free.as_mut_slice(), class, true);
+    }
+    Ok(free)
+}
+
 impl<N: Number> ClassBench<N> {
     // A bench over a table; no row has a class. The error is want of memory.
     pub(crate) fn make(
@@ -46,29 +120,59 @@ impl<N: Number> ClassBench<N> {
         classes: &Classes,
     ) -> Result<ClassBench<N>, NoMemory> {
         let wide = table.wide;
-        let rows = classes.rows.len();
-        let mut free = vec![in alloc; 0; wide / 64 + 1]?;
-        for class in 0..table.side {
-            mark(free.as_mut_slice(), class, true);
-        }
-        Ok(ClassBench {
-            duals: vec![in alloc; N::zero(); wide]?,
-            class_of: vec![in alloc; NONE; rows]?,
-            first_rows: vec![in alloc; NONE; wide]?,
-            earlier: vec![in alloc; NONE; rows]?,
-            later: vec![in alloc; NONE; rows]?,
-            rooms: Vec::from_slice(alloc, classes.rooms.as_slice())?,
+        let free = all_free(alloc, table)?;
+        let rooms = Vec::from_slice(alloc, classes.rooms.as_slice())?;
+        let members = Members::make(alloc, classes.rows.len(), wide)?;
+        let distances = Distances::make(alloc, wide)?;
+        let standing = Standing::make(alloc, wide)?;
+        Ok(ClassBench::of(free, rooms, members, distances, standing))
+    }
+
+    // The bench of these parts.
+    fn of(
+        free: Vec<u64>,
+        rooms: Vec<u32>,
+        members: Members,
+        distances: Distances<N>,
+        standing: Standing<N>,
+    ) -> ClassBench<N> {
+        let Members {
+            class_of,
+            first_rows,
+            earlier,
+            later,
+        } = members;
+        let Distances {
+            keys,
+            limits,
+            blocks,
+            reached,
+        } = distances;
+        let Standing {
+            duals,
+            came,
+            done,
+            leasts,
+            least_rows,
+        } = standing;
+        ClassBench {
+            duals,
+            class_of,
+            first_rows,
+            earlier,
+            later,
+            rooms,
             free,
-            keys: vec![in alloc; N::zero(); wide]?,
-            limits: vec![in alloc; N::zero(); wide]?,
-            blocks: vec![in alloc; N::greatest(); padded(wide / 16)]?,
-            came: vec![in alloc; 0; wide]?,
-            done: vec![in alloc; 0; wide]?,
-            reached: vec![in alloc; N::zero(); wide]?,
-            leasts: vec![in alloc; N::greatest(); wide]?,
-            least_rows: vec![in alloc; NONE; wide]?,
+            keys,
+            limits,
+            blocks,
+            came,
+            done,
+            reached,
+            leasts,
+            least_rows,
             level: N::zero(),
-        })
+        }
     }
 
     // Gives a row that has no class one.

@@ -66,7 +66,7 @@ fn found_on_bench<N: Number>(
     table: &Table<N>,
     leasts: &[u64],
     bench: &Bench<N>,
-) -> Result<Found, NoMemory> {
+) -> Result<Option<Found>, NoMemory> {
     let class_of = bench.column_of.as_slice();
     let duals = bench.duals.as_slice();
     let greatest = if classes.are_fewer(side as usize) {
@@ -82,7 +82,7 @@ fn found_on_bench<N: Number>(
         greatest,
         outside: 0,
     };
-    found_by(alloc, side, classes, placing)
+    Ok(Some(found_by(alloc, side, classes, placing)?))
 }
 
 // Solves a square where each class has one column and each row is to have one.
@@ -95,11 +95,11 @@ fn found_by_column<N: Number>(
 ) -> Result<Option<Found>, NoMemory> {
     let mut bench = Bench::make(alloc, table)?;
     let is_full = !classes.are_fewer(side as usize);
-    if !solve_plain(alloc, &mut bench, table, classes.rows.len(), is_full)? {
-        return Ok(None);
+    if solve_plain(alloc, &mut bench, table, classes.rows.len(), is_full)? {
+        found_on_bench(alloc, side, classes, table, leasts, &bench)
+    } else {
+        Ok(None)
     }
-    let found = found_on_bench(alloc, side, classes, table, leasts, &bench)?;
-    Ok(Some(found))
 }
 
 // What a bench of classes came to.
@@ -110,7 +110,7 @@ fn found_on_class_bench<N: Number>(
     table: &Table<N>,
     leasts: &[u64],
     bench: &ClassBench<N>,
-) -> Result<Found, NoMemory> {
+) -> Result<Option<Found>, NoMemory> {
     let class_of = bench.class_of.as_slice();
     let outside = if classes.outside > 0 {
         (bench.level.to_wide().max(0) as u64).wrapping_add(amount(leasts, 0))
@@ -125,7 +125,7 @@ fn found_on_class_bench<N: Number>(
         greatest: 0,
         outside,
     };
-    found_by(alloc, side, classes, placing)
+    Ok(Some(found_by(alloc, side, classes, placing)?))
 }
 
 // Solves a square where rows may take columns that are copies of none, or classes have several
@@ -138,11 +138,11 @@ fn found_by_class<N: Number>(
     leasts: &[u64],
 ) -> Result<Option<Found>, NoMemory> {
     let mut bench = ClassBench::make(alloc, table, classes)?;
-    if !place_rows(alloc, &mut bench, table, classes.outside)? {
-        return Ok(None);
+    if place_rows(alloc, &mut bench, table, classes.outside)? {
+        found_on_class_bench(alloc, side, classes, table, leasts, &bench)
+    } else {
+        Ok(None)
     }
-    let found = found_on_class_bench(alloc, side, classes, table, leasts, &bench)?;
-    Ok(Some(found))
 }
 
 // An assignment of a square of this side with dual variables, by the table of its classes, in which

@@ -12,6 +12,22 @@ use crate::places::at;
 use crate::tables::Table;
 use std::alloc::Global;
 
+// The columns of rows within the least limit, to which the bound rises; `None` where there is none.
+// The error is want of memory.
+fn columns_within(
+    alloc: Global,
+    numbers: &Numbers,
+    bound: &mut Bound,
+) -> Result<Option<Vec<u32>>, NoMemory> {
+    let mut table: Table<i32> = table_by(alloc, numbers, MISSING)?;
+    let mut bench = Bench::make(alloc, &table)?;
+    if !serve_all(&mut bench, &mut table, bound) {
+        return Ok(None);
+    }
+    let columns = Vec::from_slice(alloc, bench.column_of.as_slice())?;
+    Ok(Some(columns))
+}
+
 /// The least limit within which there is an assignment, and such an assignment, as a search found
 /// them: nothing of it is tested.
 #[derive(Drop)]
@@ -51,11 +67,8 @@ pub fn threshold_of(alloc: Global, numbers: &Numbers) -> Result<Option<Threshold
     if extents.greatest.max(bound.limit) >= MISSING {
         return Ok(None);
     }
-    let mut table: Table<i32> = table_by(alloc, numbers, MISSING)?;
-    let mut bench = Bench::make(alloc, &table)?;
-    if !serve_all(&mut bench, &mut table, &mut bound) {
-        return Ok(None);
+    match columns_within(alloc, numbers, &mut bound)? {
+        Some(columns) => Ok(Some(Threshold { bound, columns })),
+        None => Ok(None),
     }
-    let columns = Vec::from_slice(alloc, bench.column_of.as_slice())?;
-    Ok(Some(Threshold { bound, columns }))
 }

@@ -1,5 +1,7 @@
 -- From the square of a node's parent to that of the node.
-use Rattle.std.proofs.Common.{◌≡◌, ℕ, ◌+◌, ◌<◌, ◌≤◌, true, List, [], ◌++◌, Option, refl, sym, ap, subst, ◌∙◌, arith}
+use Rattle.std.proofs.Common.{◌≡◌, ℕ, ◌+◌, ◌<◌, ◌≤◌, true, List, [], ◌++◌, Option, refl, sym, ap, subst, ◌∙◌, arith, ⊎_elim}
+use Rattle.std.proofs.lemmas.Bool.{cases_lt}
+use Rattle.asg_model.specs.Counts.{placed}
 use Rattle.asg_model.specs.Problem.{Problem}
 use Rattle.asg_model.specs.Shapes.{square_side}
 use Rattle.asg_order.specs.declared.words.Word.{Word}
@@ -12,7 +14,7 @@ use Rattle.std.proofs.Math.Path.{fun_ext}
 use Rattle.asg_proof.specs.Masks.{keeps_cell}
 use Rattle.asg_proof.specs.Nodes.{node_answer, node_at, node_trail}
 use Rattle.asg_proof.specs.Phases.{PhaseOf, AreAdmittedPhases, after_phases, index_of}
-use Rattle.asg_proof.specs.SearchTrees.{AreAdmittedWords, HasTrail, IsMarked, is_answered}
+use Rattle.asg_proof.specs.SearchTrees.{AreAdmittedWords, HasPlace, HasTrail, IsMarked, is_answered}
 use Rattle.asg_proof.specs.declared.nodes.Mark.{Mark}
 use Rattle.asg_proof.specs.declared.nodes.Mark.TheVariants.{Answered, Open, Empty}
 use Rattle.asg_proof.specs.laws.PhaseLists.{after_phases-append, index_is_value}
@@ -110,6 +112,17 @@ module _ {V : Type 0} (T : TreeOf V) where
         subst (λ words. IsTrailSquare T (instance_at T n) words after.now after.index) (sym trail_is)
         (led_square laws (instance_at T n) (node_trail T.nodes parent) (node_at T.nodes n).own before after s led)
 
+-- the trail of a node that has its place is its parent's and its own phases
+pub trail_of : {V : Type 0} (T : TreeOf V) (n : ℕ) → 1 ≤ n → HavePlaces T (n + 1) → node_trail T.nodes n ≡ node_trail T.nodes (node_at T.nodes n).parent ++ (node_at T.nodes n).own
+trail_of T n from places =
+    ⊎_elim
+    (λ (first : n < 2).
+    let root : n ≡ 1 = omega (arith, first, from) in
+    let place = (places n from (omega arith)).root_parent root in
+    ap (node_trail T.nodes) root ∙ ap (λ m. (node_at T.nodes m).own) (sym root) ∙ ap (λ p. node_trail T.nodes p ++ (node_at T.nodes n).own) (sym place))
+    (λ (later : 2 ≤ n). trail_is T n (omega (arith, later)) places)
+    (cases_lt n 2)
+
 -- an answered node has a trail
 trail_from : {V : Type 0} (T : TreeOf V) (n : ℕ) (mark : Mark) → IsMarked T.monoid T.difference T.word_of T.enter T.problem T.answers T.nodes n mark → is_answered mark ≡ true → HasTrail T.monoid T.difference T.word_of T.enter T.problem T.answers T.nodes n
 trail_from T n (Answered a) marked is = marked.1
@@ -146,13 +159,14 @@ module _ {V : Type 0} (T : TreeOf V) (laws : IsOrderedMonoid T.monoid) (value_of
   begun = start_square T laws start at
 
   -- where bits keep all cells, the square before any step is the root's before its own phases
-  pub root_above : (bits : BitTable) → KeepsAll T.problem bits → IsTrailSquare T (instance_at T 1) [] (masked_grid start.now bits.words) start.index
-  root_above bits all =
+  pub root_above : (bits : BitTable) → KeepsAll T.problem bits → HasPlace (placed T.problem) T.nodes 1 → StandsAbove T 1 start.now bits start.index
+  root_above bits all place =
       let side = begun.labels.side in
       let size : HasSize start.now.side bits = subst (λ n. HasSize n bits) (sym side) all.size in
       let each : (r k : ℕ) → r < start.now.side → k < start.now.side → has_bit bits r k ≡ true = λ r k hr hk. all.each r k (subst (λ n. r < n) side hr) (subst (λ n. k < n) side hk) in
-      same_square T T.problem [] start.now (masked_grid start.now bits.words) start.index begun refl refl refl refl
-      (masked_by start.now bits (λ r k. true) size each (trail_side T T.problem [] start.now start.index begun))
+      let above = same_square T T.problem [] start.now (masked_grid start.now bits.words) start.index begun refl refl refl refl
+      (masked_by start.now bits (λ r k. true) size each (trail_side T T.problem [] start.now start.index begun)) in
+      subst (λ p. IsTrailSquare T T.problem (node_trail T.nodes p) (masked_grid start.now bits.words) start.index) (sym (place.root_parent refl)) above
 
   -- the own phases of a sound root are admitted
   pub root_admitted : IsSound T 1 → AreAdmittedFrom T.monoid T.difference T.word_of start.now.side (cell_at start.now) (node_at T.nodes 1).own

@@ -6,7 +6,7 @@ use Rattle.std.proofs.lemmas.List.{take_all}
 use Rattle.std.proofs.lemmas.List.Sums.{count_by_more_no, count_by_more_yes}
 use Rattle.asg_proof.specs.declared.nodes.Node.{Node}
 use Rattle.asg_proof.specs.Nodes.{node_at}
-use Rattle.asg_proof.specs.SearchTrees.{child_count}
+use Rattle.asg_proof.specs.SearchTrees.{HasPlace, child_count}
 use Rattle.asg_trees.specs.declared.groups.Groups.{Groups}
 use Rattle.asg_trees.specs.declared.verdicts.Judgement.{Judgement}
 use Rattle.asg_trees.specs.declared.verdicts.Tally.{Tally}
@@ -21,6 +21,14 @@ before_none nodes member e = cond-true (eqb member 0) (nodes + 1) member (eq-eqb
 
 pub before_some : (nodes member : ℕ) → member ≢ 0 → judged_before nodes member ≡ member
 before_some nodes member e = cond-false (eqb member 0) (nodes + 1) member (ne_eqb member 0 e)
+
+-- a node in its place that names one is below the root
+pub below_root : {k parent : ℕ} (nodes : List Node) (n : ℕ) → n ≢ 0 → HasPlace k nodes n → (node_at nodes n).parent ≡ parent → 1 ≤ parent → 1 < n
+below_root nodes n some place on from =
+    ⊎_elim
+    (λ (first : n < 2). absurd (omega (arith, place.root_parent (omega (arith, first, some)), on, from)))
+    (λ (later : 2 ≤ n). omega (arith, later))
+    (cases_lt n 2)
 
 module _ (nodes : List Node) (parent : ℕ) where
   -- no node between two that name the parent, one the next after the other, names it

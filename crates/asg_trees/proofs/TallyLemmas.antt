@@ -1,5 +1,5 @@
 -- The tally of a tree, node by node, and the verdict at its end.
-use Rattle.std.proofs.Common.{◌≡◌, ◌⊎◌, ℕ, ◌+◌, ◌<◌, ◌≤◌, ◌-◌, min, cond, true, false, [], length, Option, Some, None, inl, inr, refl, sym, ap, subst, ◌∙◌, arith, ⊎_elim}
+use Rattle.std.proofs.Common.{◌≡◌, ◌⊎◌, ℕ, ◌+◌, ◌<◌, ◌≤◌, ◌-◌, min, cond, true, false, List, [], length, Option, Some, None, inl, inr, refl, sym, ap, subst, ◌∙◌, arith, ⊎_elim}
 use Rattle.std.specs.Prelude.{IfSome}
 use Rattle.std.proofs.lemmas.Bool.{false≢true, cases_lt, le-leb, lt-leb}
 use Rattle.std.proofs.lemmas.List.Elements.{All-get_or}
@@ -216,3 +216,9 @@ pub answer_over : {V : Type 0} (T : TreeOf V) → IsTree T → (n : ℕ) → IsS
 answer_over T tree n sound answered =
     let within = answer_within T n sound answered in
     (All-get_or (IsValid T.problem) T.answers (answer_number (node_at T.nodes n).mark - 1) [] (omega (arith, within.0, within.1)) tree.valid).over
+
+-- that of a parent whose children are judged next is
+pub parent_over : {V : Type 0} (T : TreeOf V) → IsTree T → (count parent : ℕ) (tally : Tally) → IsTallied T count parent 0 tally → 1 ≤ parent → parent < tally.fault → is_answered (node_at T.nodes parent).mark ≡ true
+    → (f : List (Option ℕ)) → f ≡ node_answer T.answers T.nodes parent → length f ≡ length T.problem.rows
+parent_over T tree count parent tally t from below answered f is =
+    ap (λ g. length g) is ∙ answer_over T tree parent (sound_upto T count parent tally t below parent from (omega arith)) answered

@@ -52,6 +52,12 @@ with_judgement tally n AtFault = record tally { fault = n }
 with_judgement tally n LeftOpen = record tally { left = min tally.left n }
 with_judgement tally n Fine = tally
 
+-- a tally with some judgement of node number n that holds
+pub record TalliesNode {V : Type 0} (T : TreeOf V) (count n : ℕ) (before after : Tally) : Type 0 where
+  pub judgement : Judgement
+  pub judges : Judges T count n judgement
+  pub same : after ≡ with_judgement before n judgement
+
 -- the tally where all nodes before the first at fault were judged
 pub record IsWholeTally {V : Type 0} (T : TreeOf V) (count : ℕ) (tally : Tally) : Type 0 where
   pub from : 1 ≤ tally.fault

@@ -1,6 +1,6 @@
 //! The cells of an answer on the kept cells of a square.
 
-ghost use Rattle.std.specs.Prelude.{◌≡◌, ◌↔◌, ◌<◌, ◌≤◌, ℕ, IsTrue, IfSome, is_some, length};
+ghost use Rattle.std.specs.Prelude.{◌≡◌, ◌↔◌, ◌<◌, ◌≤◌, IsTrue, IfSome, is_some, length};
 ghost use Rattle.asg_square.specs.Grid.{cell_at};
 ghost use Rattle.asg_square.specs.Masked.{masked_grid};
 ghost use Rattle.asg_trees.specs.Kept.{ChoosesKept, HasKept, HasSize};

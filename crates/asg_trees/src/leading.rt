@@ -102,23 +102,23 @@ pub(crate) fn lead_by<M: Written>(
 }
 
 /// Leads a square over phases that are known to be admitted in turn; where it is known what they
-/// make of it, that is taken. The error is want of memory.
+/// make of it, that is taken out and is the square. The error is want of memory.
 pub(crate) fn stand_after<M: Written>(
     alloc: Global,
     m: &M,
     reduced: &mut Reduced<M::Value>,
-    led: Option<Reduced<M::Value>>,
+    led: &mut Option<Reduced<M::Value>>,
     phases: &[WrittenPhase],
 ) -> Result<(), NoMemory>
     requires reduced { IsReduced (M.monoid_of m.now) reduced.old }
     requires admitted { AreAdmittedFrom (M.monoid_of m.now) (M.difference m.now) (M.word_of m.now)
         reduced.old.now.side (cell_at reduced.old.now) phases.now }
-    requires led { IfSome led (AreReplayed (M.monoid_of m.now) (M.difference m.now)
+    requires led { IfSome led.old (AreReplayed (M.monoid_of m.now) (M.difference m.now)
         (M.word_of m.now) phases.now reduced.old) }
     ensures { IfOk result (λ _. AreReplayed (M.monoid_of m.now) (M.difference m.now)
         (M.word_of m.now) phases.now reduced.old reduced.new) }
 {
-    match led {
+    match led.take() {
         Some(after) => {
             *reduced = after;
             Ok(())

@@ -9,9 +9,9 @@
 //! squares besides that of the root, whatever the depth of the tree: that of the parent whose
 //! children are judged, and one for children whose trail has more than a short phase beyond the
 //! parent's. The memory is in proportion to the document and to the squares; the time, besides that
-//! of the squares of parents, at most in proportion to the cells for each node. What a node keeps is
-//! told, changed and met by words of 64 columns. Trees of `sum` and `sum-max` are judged in 64 bits
-//! first.
+//! of the squares of parents, at most in proportion to the cells for each node. What a node keeps
+//! is told, changed and met by words of 64 columns. Trees of `sum` and `sum-max` are judged in 64
+//! bits first.
 //!
 //! It trusts nothing that nodes say. Contracts see answers as choices and nodes as they are
 //! declared. It stands on no solver.
@@ -29,11 +29,13 @@ mod node_parts;
 mod objectives;
 mod own_answers;
 mod own_phases;
+mod parents;
 mod paths;
 mod places;
 mod roots;
 mod siblings;
 mod taking_out;
+mod tallies;
 mod trees;
 mod verdicts;
 

@@ -11,11 +11,11 @@ ghost use Rattle.asg_model.specs.Shapes.{square_side};
 ghost use Rattle.asg_model.specs.ValidChoice.{IsValid};
 ghost use Rattle.asg_monoids.specs.BoundedSums.{bounded_sums, bounded_difference, plain_word};
 ghost use Rattle.asg_monoids.specs.BoundedSums.{narrow_top};
-ghost use Rattle.asg_monoids.specs.Entered.{is_sum_objective};
+ghost use Rattle.asg_monoids.specs.Entered.{is_sum_objective, sum_entered};
 ghost use Rattle.asg_monoids.specs.NarrowObjectives.{is_narrow_objective};
 ghost use Rattle.asg_proof.specs.Nodes.{node_at};
 ghost use Rattle.asg_replays.specs.Replays.{AreReplayed};
-ghost use Rattle.asg_trees.specs.Judged.{TellsRanking};
+ghost use Rattle.asg_trees.specs.Judged.{TellsRanking, TellsTree};
 
 use crate::NoMemory;
 use crate::node_parts::own_of;
@@ -53,8 +53,8 @@ fn judge_sums(
     Ok(verdict)
 }
 
-// What the own phases of the root make of the square before any step in 64 bits, where none is long,
-// they are admitted in turn, and no sum comes near 2^62. The error is want of memory.
+// What the own phases of the root make of the square before any step in 64 bits, where none is
+// long, they are admitted in turn, and no sum comes near 2^62. The error is want of memory.
 fn root_led(
     alloc: Global,
     root: &Reduced<u64>,
@@ -72,6 +72,33 @@ fn root_led(
         return Ok(None);
     }
     narrow_led(alloc, root, own)
+}
+
+// The verdict by sums in 64 bits. The error is want of memory.
+fn narrow_verdict(
+    alloc: Global,
+    objective: Objective,
+    inst: &Instance,
+    count: usize,
+    answers: &[Choice],
+    nodes: &[Node],
+) -> Result<TreeVerdict, NoMemory>
+    requires narrow { IsTrue (is_narrow_objective objective) }
+    requires place { inst.now.place ≡ PlaceAll }
+    requires side { square_side inst.now ≤ most_side }
+    requires passes { PassesNegative objective inst.now }
+    requires some { 1 ≤ length answers.now }
+    requires valid { All (IsValid inst.now) answers.now }
+    ensures { IfOk result (TellsTree (bounded_sums narrow_top) bounded_difference plain_word
+        (sum_entered objective) inst.now count answers.now nodes.now) }
+{
+    let _rows = inst.rows();
+    let kind = NarrowKind::of(objective);
+    let mut root = start(alloc, &kind, inst)?;
+    let mut led = root_led(alloc, &root, nodes)?;
+    judge_from(
+        alloc, &kind, inst, count, answers, nodes, &mut root, &mut led,
+    )
 }
 
 // The verdict by `sum` or `sum-max`: first by sums in 64 bits, and where these don't tell that the
@@ -95,10 +122,7 @@ fn judge_narrow(
     narrow_sums();
     tree_tops_law();
     let _rows = inst.rows();
-    let kind = NarrowKind::of(objective);
-    let mut root = start(alloc, &kind, inst)?;
-    let led = root_led(alloc, &root, nodes)?;
-    let verdict = judge_from(alloc, &kind, inst, count, answers, nodes, &mut root, led)?;
+    let verdict = narrow_verdict(alloc, objective, inst, count, answers, nodes)?;
     match verdict {
         TreeVerdict::Tree => Ok(TreeVerdict::Tree),
         _ => judge_sums(alloc, objective, inst, count, answers, nodes),

@@ -1,6 +1,6 @@
 //! Answers of nodes, and their branches.
 
-ghost use Rattle.std.specs.Prelude.{◌≡◌, ◌↔◌, ◌==◌, ◌<◌, ◌≤◌, ℕ, IsTrue, if◌then◌else◌, length};
+ghost use Rattle.std.specs.Prelude.{◌≡◌, ◌↔◌, ◌==◌, ◌≤◌, ℕ, IsTrue, if◌then◌else◌, length};
 ghost use Rattle.asg_proof.specs.Nodes.{answer_number, node_at};
 ghost use Rattle.asg_proof.specs.SearchTrees.{child_count};
 ghost use Rattle.asg_trees.specs.Groups.{AreGroups, answer_keys, parent_keys};

@@ -1,6 +1,6 @@
 //! The phases of a node's own, from the kept cells of its parent's square.
 
-ghost use Rattle.std.specs.Prelude.{◌≡◌, ◌∷◌, ◌≤◌, [], None, IfOk, IfSome};
+ghost use Rattle.std.specs.Prelude.{◌≡◌, ◌∷◌, [], None, IfOk, IfSome};
 ghost use Rattle.asg_order.specs.Monoid.{IsValue};
 ghost use Rattle.asg_proof.specs.Steps.{HasValues};
 ghost use Rattle.asg_square.specs.Grid.{cell_at};
@@ -16,8 +16,8 @@ use asg_replays::{first_bad, read_steps};
 use asg_square::{BitRows, Square};
 use std::alloc::Global;
 
-// Whether the steps of a phase times the rows that enter are at most four times the side, so that it
-// is tested cell by cell in a time that is in proportion to the cells, as that of a copy is.
+// Whether the steps of a phase times the rows that enter are at most four times the side, so that
+// it is tested cell by cell in a time that is in proportion to the cells, as that of a copy is.
 fn is_short(phase: &WrittenPhase, side: u32) -> bool {
     let steps = phase.steps().len();
     let entering = phase

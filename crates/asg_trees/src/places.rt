@@ -1,6 +1,6 @@
 //! The places of nodes: the parents and the branches that they name.
 
-ghost use Rattle.std.specs.Prelude.{◌≡◌, ◌↔◌, ◌+◌, ◌<◌, ◌≤◌, ℕ, IsTrue, length};
+ghost use Rattle.std.specs.Prelude.{◌↔◌, ◌+◌, ◌<◌, ◌≤◌, ℕ, IsTrue, length};
 ghost use Rattle.asg_proof.specs.SearchTrees.{HasPlace, IsBelowParent};
 
 use crate::node_parts::{branch_of, has_answer, parent_of};

@@ -15,16 +15,14 @@ ghost use Rattle.asg_trees.specs.Trees.{IsSound, IsTree, tree_of};
 use crate::NoMemory;
 use crate::groups::Groups;
 use crate::leading::{led_index, stand_after};
-use crate::marks::judge_mark;
 use crate::node_parts::own_of;
-use crate::siblings::tallied;
+use crate::tallies::tally_node;
 use crate::verdicts::Tally;
 use asg_admit::Reduced;
 use asg_model::{Choice, Instance};
 use asg_order::{Kind, Ordered};
 use asg_proof::Node;
 use asg_square::BitRows;
-use asg_square::laws::square_law;
 use std::alloc::Global;
 
 // Judges the root, where it has its place, on the square before any step. The index after its own
@@ -73,32 +71,18 @@ fn tally_root<K: Kind>(
         (K.entered kind.now) inst.now answers.now nodes.now in
         IfOk result (IsTallied T count 1 0) }
 {
-    let _ = count;
     if so_far.fault <= 1 {
         return Ok(so_far);
     }
-    square_law::<<<K as Kind>::M as Ordered>::Value>();
-    let judgement = judge_mark(
-        alloc,
-        kind.monoid(),
-        inst,
-        answers,
-        nodes,
-        members,
-        given,
-        last,
-        &root.now,
-        kept,
-        root.index,
-        known,
-        1,
-    )?;
-    Ok(tallied(so_far, 1, judgement))
+    tally_node(
+        alloc, kind, inst, answers, nodes, members, given, count, last, &root.now, kept,
+        root.index, known, 1, so_far,
+    )
 }
 
 /// Judges the root, where it has its place, on the square before any step, and where it is sound
-/// leads the square over its trail. What its own phases make of the square may be known. The error
-/// is want of memory.
+/// leads the square over its trail. What its own phases make of the square may be known, and is
+/// taken then. The error is want of memory.
 pub(crate) fn judge_root<K: Kind>(
     alloc: Global,
     kind: &K,
@@ -111,7 +95,7 @@ pub(crate) fn judge_root<K: Kind>(
     last: Option<<<K as Kind>::M as Ordered>::Value>,
     root: &mut Reduced<<<K as Kind>::M as Ordered>::Value>,
     kept: &BitRows,
-    led: Option<Reduced<<<K as Kind>::M as Ordered>::Value>>,
+    led: &mut Option<Reduced<<<K as Kind>::M as Ordered>::Value>>,
     so_far: Tally,
 ) -> Result<Tally, NoMemory>
     requires tree { let T = tree_of (K.M.monoid_of (K.monoid kind.now))
@@ -125,7 +109,7 @@ pub(crate) fn judge_root<K: Kind>(
     requires start { IsStart (K.M.monoid_of (K.monoid kind.now)) (K.entered kind.now) inst.now
         root.old }
     requires kept { KeepsAll inst.now kept.now }
-    requires led { IfSome led (AreReplayed (K.M.monoid_of (K.monoid kind.now))
+    requires led { IfSome led.old (AreReplayed (K.M.monoid_of (K.monoid kind.now))
         (K.M.difference (K.monoid kind.now)) (K.M.word_of (K.monoid kind.now))
         (node_at nodes.now 1).own root.old) }
     requires from { 1 ≤ so_far.fault }
@@ -147,7 +131,7 @@ pub(crate) fn judge_root<K: Kind>(
         (K.entered kind.now) inst.now answers.now nodes.now in
         IfOk result (λ tally. 1 < tally.fault → StandsAt T 1 root.new.now root.new.index) }
 {
-    let known = led_index(&led);
+    let known = led_index(led);
     let tally = tally_root(
         alloc, kind, inst, answers, nodes, members, given, count, last, root, kept, known, so_far,
     )?;

@@ -1,7 +1,6 @@
-use Rattle.std.proofs.Common.{subst, arith}
+use Rattle.std.proofs.Common.{subst}
 use Rattle.asg_monoids.specs.BoundedSums.{bounded_sums, bounded_difference, plain_word, narrow_top}
-use Rattle.asg_monoids.specs.Entered.{cost_reach, sum_entered}
-use Rattle.asg_proof.specs.laws.LiveCosts.{lies_within}
+use Rattle.asg_monoids.specs.Entered.{sum_entered}
 use Rattle.asg_trees.specs.Judged.{TellsTree}
 use Rattle.asg_trees.proofs.NarrowTrees.{is_sum-narrow, told_narrow}
 use Rattle.asg_trees.proofs.objectives.judge_narrow.Goals as goal
@@ -12,12 +11,8 @@ returns-in-Tree c =
     let answers = c.args.answers.now in
     let nodes = c.args.nodes.now in
     let sums = c.narrow_sums.ensures in
-    let told = subst (λ objective. TellsTree (bounded_sums narrow_top) bounded_difference plain_word (sum_entered objective) X c.args.count answers nodes c.in_ok-verdict.verdict) c.of-kind.ensures c.in_ok-verdict.ensures in
     told_narrow c.args.objective c.requires.narrow sums.sum sums.sum_max c.tree_tops_law.ensures X c.rows-rows.ensures.instance c.requires.passes c.args.count answers nodes c.requires.some c.requires.valid
-    (subst (TellsTree (bounded_sums narrow_top) bounded_difference plain_word (sum_entered c.args.objective) X c.args.count answers nodes) c.in-Tree.is told)
+    (subst (TellsTree (bounded_sums narrow_top) bounded_difference plain_word (sum_entered c.args.objective) X c.args.count answers nodes) c.in-Tree.is c.in_ok-verdict.ensures)
 
 pub judge_sums-requires-clause-sums : goal.judge_sums-requires-clause-sums
 judge_sums-requires-clause-sums c = is_sum-narrow c.args.objective c.requires.narrow
-
-pub start-requires-clause-near : goal.start-requires-clause-near
-start-requires-clause-near c = lies_within cost_reach c.args.inst.now (omega arith) c.rows-rows.ensures.instance

@@ -35,15 +35,15 @@ tally_root-requires-clause-known g c =
     let start = c.args.root.now in
     let own = (node_at c.args.nodes.now 1).own in
     subst (λ o. IfSome o (λ index. HaveIndex T.monoid T.difference T.word_of start.now.side (cell_at start.now) index own)) (sym c.led_index-known.ensures)
-    (led_known T.monoid (g.met.K.M.Ordered.laws m) T.difference T.word_of own start c.requires.start.index c.args.led c.requires.led)
+    (led_known T.monoid (g.met.K.M.Ordered.laws m) T.difference T.word_of own start c.requires.start.index c.args.led.now c.requires.led)
 
 pub stand_after-requires-clause-led : goal.stand_after-requires-clause-led
 stand_after-requires-clause-led g c =
     let kind = c.args.kind.now in
     let m = g.K.Kind.monoid kind in
     let start = c.args.root.now in
-    subst (λ o. IfSome c.args.led (AreReplayed (g.K.M.Ordered.monoid_of o) (g.K.M.DMonoid.difference o) (g.K.M.Written.word_of o) c.own_of.result.now start)) (sym c.monoid.ensures)
-    (subst (λ own. IfSome c.args.led (AreReplayed (g.K.M.Ordered.monoid_of m) (g.K.M.DMonoid.difference m) (g.K.M.Written.word_of m) own start)) (sym c.own_of.ensures) c.requires.led)
+    subst (λ o. IfSome c.args.led.now (AreReplayed (g.K.M.Ordered.monoid_of o) (g.K.M.DMonoid.difference o) (g.K.M.Written.word_of o) c.own_of.result.now start)) (sym c.monoid.ensures)
+    (subst (λ own. IfSome c.args.led.now (AreReplayed (g.K.M.Ordered.monoid_of m) (g.K.M.DMonoid.difference m) (g.K.M.Written.word_of m) own start)) (sym c.own_of.ensures) c.requires.led)
 
 pub returns-clause-stands : goal.returns-clause-stands
 returns-clause-stands g c = λ more.

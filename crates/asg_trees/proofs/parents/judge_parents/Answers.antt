@@ -3,7 +3,7 @@ use Rattle.asg_square.specs.Grid.{Grid}
 use Rattle.asg_trees.specs.Trees.{tree_of}
 use Rattle.asg_trees.proofs.NodeFacts.{side-of_node}
 use Rattle.asg_trees.proofs.TallyLemmas.{tally_whole}
-use Rattle.asg_trees.proofs.trees.judge_parents.Goals as goal
+use Rattle.asg_trees.proofs.parents.judge_parents.Goals as goal
 
 pub parents-init : goal.parents-init
 parents-init g c = record {

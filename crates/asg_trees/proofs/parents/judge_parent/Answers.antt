@@ -5,7 +5,7 @@ use Rattle.asg_trees.specs.Groups.{IsNextWith, parent_keys}
 use Rattle.asg_trees.specs.Trees.{tree_of}
 use Rattle.asg_trees.proofs.SiblingLemmas.{members_done, members_first}
 use Rattle.asg_trees.proofs.TallyLemmas.{sound_upto, tally_unanswered}
-use Rattle.asg_trees.proofs.trees.judge_parent.Goals as goal
+use Rattle.asg_trees.proofs.parents.judge_parent.Goals as goal
 
 pub returns-then-not-has_answer-clause-tallied : goal.returns-then-not-has_answer-clause-tallied
 returns-then-not-has_answer-clause-tallied g c =

@@ -1,18 +1,17 @@
 use Rattle.std.proofs.Common.{sym, subst}
-use Rattle.asg_proof.specs.SearchTrees.{HasPlace}
 use Rattle.asg_proof.specs.laws.LiveCosts.{lies_within}
 use Rattle.asg_replays.specs.laws.LiveCosts.{live_values}
 use Rattle.asg_trees.specs.Judged.{TellsTree}
 use Rattle.asg_trees.specs.declared.verdicts.TreeVerdict.{TreeVerdict}
 use Rattle.asg_trees.specs.Trees.{tree_of}
 use Rattle.asg_trees.proofs.TallyLemmas.{told}
-use Rattle.asg_trees.proofs.trees.judge_from.Goals as goal
+use Rattle.asg_trees.proofs.trees.judge_grouped.Goals as goal
 
 pub last_product-last-requires-clause-near : goal.last_product-last-requires-clause-near
 last_product-last-requires-clause-near g c = lies_within (g.K.Kind.reach c.args.kind.now) c.args.inst.now c.requires.reach c.rows.ensures.instance
 
-pub judge_root-requires-clause-tree : goal.judge_root-requires-clause-tree
-judge_root-requires-clause-tree g c =
+pub tally_nodes-requires-clause-tree : goal.tally_nodes-requires-clause-tree
+tally_nodes-requires-clause-tree g c =
     let kind = c.args.kind.now in
     let X = c.args.inst.now in
     record {
@@ -24,28 +23,8 @@ judge_root-requires-clause-tree g c =
       valid = c.requires.valid;
     }
 
-pub judge_root-requires-clause-last : goal.judge_root-requires-clause-last
-judge_root-requires-clause-last g c = c.last_product-last.ensures c.args.nodes.now
-
-pub judge_root-requires-clause-places : goal.judge_root-requires-clause-places
-judge_root-requires-clause-places g c = λ n from below.
-    subst (λ k. HasPlace k c.args.nodes.now n) c.placed.ensures (c.first_misplaced.ensures.before n from below)
-
-pub judge_parents-requires-clause-tree : goal.judge_parents-requires-clause-tree
-judge_parents-requires-clause-tree g c =
-    let kind = c.args.kind.now in
-    let X = c.args.inst.now in
-    record {
-      instance = c.rows.ensures.instance;
-      all_placed = c.requires.place;
-      few = c.requires.side;
-      enters = live_values (g.K.M.Ordered.monoid_of (g.K.Kind.monoid kind)) (g.K.Kind.entered kind) (g.K.Kind.objective kind) (g.K.Kind.reach kind) X (g.met.K.Kind.enters_value kind)
-          (lies_within (g.K.Kind.reach kind) X c.requires.reach c.rows.ensures.instance) c.requires.passes;
-      valid = c.requires.valid;
-    }
-
-pub judge_parents-requires-clause-last : goal.judge_parents-requires-clause-last
-judge_parents-requires-clause-last g c = c.last_product-last.ensures c.args.nodes.now
+pub tally_nodes-requires-clause-last : goal.tally_nodes-requires-clause-last
+tally_nodes-requires-clause-last g c = c.last_product-last.ensures c.args.nodes.now
 
 pub returns : goal.returns
 returns g c =

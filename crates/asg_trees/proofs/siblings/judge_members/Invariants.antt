@@ -3,7 +3,7 @@ use Rattle.asg_proof.specs.Nodes.{node_at}
 use Rattle.asg_trees.specs.Kept.{IsMaskOf, KeepsOtherRows}
 use Rattle.asg_trees.specs.Tallies.{IsTallied, judged_before}
 use Rattle.asg_trees.specs.Trees.{tree_of}
-use Rattle.asg_trees.proofs.siblings.judge_children.Given as goal
+use Rattle.asg_trees.proofs.siblings.judge_members.Given as goal
 
 -- the nodes so far that name the parent were judged
 abbrev pub invariant-members : goal.invariant-members

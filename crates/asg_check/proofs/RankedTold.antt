@@ -65,6 +65,29 @@ module _ (objective : Objective) (X : Problem) (answers : List Answer) where
         let spelled = subst (λ a. IsWrittenAs X a.cells wrong.0) one wrong.1 in
         wrong.2 (ap (λ a. a.value) one ∙ same ∙ ap (choice_value objective X) (written-once X answer.cells choice wrong.0 i here spelled))
 
+-- ---- choices that are read
+
+-- one more choice that is written as the next answer
+module _ (X : Problem) (answers : List Answer) (n : ℕ) (choices : List (List (Option ℕ))) (count : length choices ≡ n) (w : AreWrittenAs X (take n answers) choices) (answer : Answer) (choice : List (Option ℕ)) (within : n < length answers) (at : answer ≡ get_or answers n answer) (here : IsWrittenAs X answer.cells choice) where
+  more_taken : take (n + 1) answers ≡ take n answers ++ answer ∷ []
+  more_taken = take_more answers n answer within ∙ ap (λ a. take n answers ++ a ∷ []) (sym at)
+
+  valid_one : All (IsValid X) (choice ∷ [])
+  valid_one zero d less = here.valid
+  valid_one (suc k) d less = absurd (omega (arith, less))
+
+  pub written_more : AreWrittenAs X (take (n + 1) answers) (choices ++ choice ∷ [])
+  written_more = record {
+    valid = All-append (IsValid X) choices (choice ∷ []) w.valid valid_one;
+    written =
+        ap (map (λ a. a.cells)) more_taken ∙ map-append (λ a. a.cells) (take n answers) (answer ∷ [])
+        ∙ ap (λ cells. cells ++ answer.cells ∷ []) w.written ∙ ap (λ c. map (cells_by_id X) choices ++ c ∷ []) here.written
+        ∙ sym (map-append (cells_by_id X) choices (choice ∷ []));
+  }
+
+  pub count_more : length (choices ++ choice ∷ []) ≡ n + 1
+  count_more = length-append choices (choice ∷ []) ∙ ap (λ k. k + 1) count
+
 -- ---- order
 
 module _ (objective : Objective) (answers : List Answer) where

@@ -51,13 +51,39 @@ pub(crate) fn levels_verdict(
         return Ok(Reason::BadLevel.verdict());
     }
     let square = cost_square(alloc, inst)?;
-    let mut walk = first_walk(alloc, inst, &square)?;
     let chosen = chosen_by(alloc, inst, &square, perm)?;
-    if let Some(place) = first_none(alloc, inst, &square, &mut walk, &chosen, perm, levels)? {
+    let mut walk = first_walk(alloc, inst, &square)?;
+    walked_verdict(
+        alloc, inst, choice, &square, &mut walk, &chosen, perm, levels,
+    )
+}
+
+// The verdict of a walk that stands before the first level. The error is want of memory.
+fn walked_verdict(
+    alloc: Global,
+    inst: &Instance,
+    choice: &Choice,
+    square: &Square<i64>,
+    walk: &mut Walk,
+    chosen: &Choice,
+    perm: &[u32],
+    levels: &[Level],
+) -> Result<Verdict, NoMemory>
+    requires instance { IsInstance inst.now }
+    requires side { square_side inst.now ≤ most_side }
+    requires rows { length choice.now ≡ length inst.now.rows }
+    requires columns { IsColumnList inst.now perm.now }
+    requires square { IsCostSquare inst.now square.now }
+    requires chosen { chosen.now ≡ choice_of inst.now perm.now }
+    requires first { HasPassed inst.now perm.now levels.now 0 walk.old }
+    ensures { IfOk result (Tells (LevelsStand inst.now choice.now perm.now levels.now)
+        level_reasons) }
+{
+    if let Some(place) = first_none(alloc, inst, square, walk, chosen, perm, levels)? {
         return Ok(Reason::BadLevel.verdict_at_part(place));
     }
-    leave_between(&mut walk, inst, &square, i64::MIN);
-    if hold_in_all(inst, &walk, &chosen, choice, perm, levels) {
+    leave_between(walk, inst, square, i64::MIN);
+    if hold_in_all(inst, walk, chosen, choice, perm, levels) {
         return Ok(Verdict::Yes);
     }
     Ok(Reason::BadLevel.verdict())

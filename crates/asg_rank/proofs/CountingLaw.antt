@@ -1,5 +1,5 @@
--- There are at most as many different valid choices as ways to give each active row any column: each choice is a number
--- with a digit for each row that chooses.
+-- There are at most as many different valid choices as ways to give each active row any column:
+-- each choice is a number with a digit for each row that chooses.
 use Rattle.std.proofs.Common.{◌≡◌, ◌≢◌, ℕ, suc, ◌+◌, ◌*◌, ◌^◌, ◌<◌, ◌≤◌, Bool, true, false, cond, ◌&&◌, List, [], ◌∷◌, length, get_or, map, Option, Some, None, refl, sym, ◌∙◌, ap, subst, arith, ⊎_elim}
 use Rattle.std.specs.Prelude.{All, AllPairs, Contains, IsSome, is_some, count_by}
 use Rattle.std.specs.Option.{option_map_or}

@@ -48,7 +48,8 @@ between_bit from to upto before k bit h low high =
 
 -- ---- the columns of a word
 
--- the columns of a word, from one on and before another, were cut, but for those whose bits are left
+-- the columns of a word, from one on and before another, were cut, but for those whose bits are
+-- left
 abbrev pub cut_but : ℕ → ℕ → ℕ → ℕ → ℕ → ℕ → ℕ → Bool
 cut_but row number from to rest r k =
     not (eqb r row && (eqb (k / 64) number && (is_from_to from to k && not (is_bit_set rest (k % 64)))))

@@ -1,4 +1,5 @@
--- The search after the next child was made: it was left open, or it has its best choice, or it has none.
+-- The search after the next child was made: it was left open, or it has its best choice, or it has
+-- none.
 use Rattle.std.proofs.Common.{◌≡◌, ℕ, ◌+◌, ◌-◌, ◌*◌, ◌<◌, ◌≤◌, ◌⊎◌, inl, true, List, [], ◌∷◌, ◌++◌, length, get_or, is_some, Option, Some, None, refl, sym, ◌∙◌, ap, subst, arith, ⊎_elim}
 use Rattle.std.specs.Prelude.{IfSome, vec_capacity, slice_set}
 use Rattle.std.proofs.Math.Seq.{get_or-append_seam}

@@ -1,4 +1,5 @@
--- Where a child starts to grow: the matching of its parent without the row's column, on the cells that are kept.
+-- Where a child starts to grow: the matching of its parent without the row's column, on the cells
+-- that are kept.
 use Rattle.std.proofs.Common.{◌≡◌, ◌≢◌, ℕ, ◌<◌, ◌≤◌, Bool, true, cond, not, List, Option, Some, None, refl, sym, ◌∙◌, ap, ⊎_elim}
 use Rattle.std.specs.Prelude.{nat_lt, slice_index_or}
 use Rattle.std.proofs.lemmas.Bool.{cases_lt, eq-eqb, ne_eqb, lt-ltb, le-ltb}

@@ -21,7 +21,8 @@ IsReducedTo-kept R F G keeps Y trail index reduced live to = record {
   index_is = to.index_is;
 }
 
--- a square stays that of a node where the tree keeps the trails and indexes of its nodes, and their parts
+-- a square stays that of a node where the tree keeps the trails and indexes of its nodes, and their
+-- parts
 module _ {V : Type 0} (R : Rules V) (T U : Tree V) (part now : ℕ → Problem) (keeps : KeepsTrails T.region U.region) (more : length T.entries.items ≤ length U.entries.items)
     (live : (n : ℕ) → 1 ≤ n → n ≤ length T.entries.items → IfSome (entry_at R.monoid.unit T.entries.items n).trail (IsLive T.region))
     (trails : (n : ℕ) → 1 ≤ n → n ≤ length T.entries.items → (entry_at R.monoid.unit U.entries.items n).trail ≡ (entry_at R.monoid.unit T.entries.items n).trail)

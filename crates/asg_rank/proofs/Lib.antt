@@ -54,6 +54,7 @@ mod GrowEnds
 mod RootSteps
 mod PlantSteps
 mod Sizes
+mod BothMade
 mod CopySteps
 mod GivenAll
 mod RankedKinds

@@ -11,7 +11,7 @@ use Rattle.asg_proof.specs.Nodes.{node_at}
 use Rattle.asg_rank.specs.declared.entries.Entry.{Entry}
 use Rattle.asg_rank.specs.declared.trees.Tree.{Tree}
 use Rattle.asg_rank.specs.Entries.{blank, entry_at}
-use Rattle.asg_rank.specs.Written.{IsWrittenNode, AreWrittenNodes}
+use Rattle.asg_rank.specs.Written.{IsWrittenNode, PushesNode, AreWrittenNodes}
 
 -- an entry that was read from a list of the nodes is the node of the next number
 pub entry_here : {V : Type 0} (unit : V) (entries xs : List (Entry V)) (i : ℕ) (x : Entry V) → xs ≡ entries → x ≡ get_or xs i x → i < length xs → entry_at unit entries (i + 1) ≡ x
@@ -29,8 +29,8 @@ module _ {V : Type 0} (unit : V) (word_of : V → Word) (T : Tree V) where
   pub nodes_first : AreFirstNodes unit word_of T 0 []
   nodes_first = record { count_is = refl; each = λ n low high. absurd (omega (arith, low, high)); kept = All-nil IsNodePart }
 
-  pub nodes_more : (count : ℕ) (nodes : List Node) → AreFirstNodes unit word_of T count nodes → (here : Entry V) → entry_at unit T.entries.items (count + 1) ≡ here → (node : Node) → IsWrittenNode unit word_of T here node → IsNodePart node → AreFirstNodes unit word_of T (count + 1) (nodes ++ node ∷ [])
-  nodes_more count nodes first here here_is node written part =
+  one_more : (count : ℕ) (nodes : List Node) → AreFirstNodes unit word_of T count nodes → (here : Entry V) → entry_at unit T.entries.items (count + 1) ≡ here → (node : Node) → IsWrittenNode unit word_of T here node → IsNodePart node → AreFirstNodes unit word_of T (count + 1) (nodes ++ node ∷ [])
+  one_more count nodes first here here_is node written part =
       let d : Node = record { parent = 0; branch = 0; mark = MarkOpen; own = [] } in
       let size = first.count_is in
       let more = length_push nodes node in
@@ -51,6 +51,10 @@ module _ {V : Type 0} (unit : V) (word_of : V → Word) (T : Tree V) where
             (cases_lt n (count + 1));
         kept = All-push IsNodePart nodes node first.kept part;
       }
+
+  pub nodes_more : (count : ℕ) (nodes after : List Node) → AreFirstNodes unit word_of T count nodes → (here : Entry V) → entry_at unit T.entries.items (count + 1) ≡ here → PushesNode unit word_of T here nodes after → AreFirstNodes unit word_of T (count + 1) after
+  nodes_more count nodes after first here here_is pushes =
+      subst (AreFirstNodes unit word_of T (count + 1)) (sym pushes.pushed) (one_more count nodes first here here_is pushes.node pushes.written pushes.part)
 
   pub nodes_all : (count : ℕ) (nodes : List Node) → count ≡ length T.entries.items → AreFirstNodes unit word_of T count nodes → AreWrittenNodes unit word_of T nodes
   nodes_all count nodes all first =

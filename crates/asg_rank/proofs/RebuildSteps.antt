@@ -1,4 +1,5 @@
--- A square that loses the cells of a branch, and to which the phase is applied that a trail has beyond another one.
+-- A square that loses the cells of a branch, and to which the phase is applied that a trail has
+-- beyond another one.
 use Rattle.std.proofs.Common.{◌≡◌, ℕ, ◌<◌, Bool, true, false, cond, List, [], ◌∷◌, ◌++◌, Option, Some, None, refl, sym, ◌∙◌, ap, subst, ⊎_elim}
 use Rattle.std.specs.Prelude.{IfSome, option_and_then, option_map, unwrap_or}
 use Rattle.std.proofs.lemmas.Option.{none-some, same_Some}

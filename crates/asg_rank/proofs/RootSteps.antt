@@ -3,15 +3,21 @@ use Rattle.std.proofs.Common.{◌≡◌, ℕ, ◌+◌, ◌-◌, ◌*◌, ◌<◌
 use Rattle.std.specs.Prelude.{IsSome}
 use Rattle.std.proofs.lemmas.Bool.{cases_lt}
 use Rattle.asg_model.specs.declared.bands.Band.TheVariants.{Whole}
+use Rattle.asg_model.specs.declared.objectives.Objective.{Objective}
 use Rattle.asg_model.specs.declared.parts.Cost.{Cost}
+use Rattle.asg_model.specs.declared.parts.Place.TheVariants.{All as PlaceAll}
 use Rattle.asg_model.specs.Counts.{placed}
+use Rattle.asg_model.specs.Instances.{IsInstance}
+use Rattle.asg_model.specs.Limits.{most_cost, most_side}
 use Rattle.asg_model.specs.Problem.{Problem}
+use Rattle.asg_model.specs.Refused.{PassesNegative}
 use Rattle.asg_model.specs.Shapes.{square_side}
 use Rattle.asg_match.specs.Deficient.{IsDeficient}
 use Rattle.asg_match.specs.HallSets.{AllowsCells}
 use Rattle.asg_match.specs.Matching.{IsPerfect}
-use Rattle.asg_order.specs.Monoid.{IsOrderedMonoid}
-use Rattle.asg_pool.specs.Forest.{Forest, phases_to}
+use Rattle.asg_order.specs.Entering.{MayEnter}
+use Rattle.asg_order.specs.Monoid.{IsValue, IsOrderedMonoid}
+use Rattle.asg_pool.specs.Forest.{phases_to}
 use Rattle.asg_proof.specs.Phases.{AreAdmittedPhases, after_phases, index_of}
 use Rattle.asg_proof.specs.laws.PhaseLists.{is_some-phases, index_is_value, HasSide-phases}
 use Rattle.asg_proof.specs.laws.Squares.{HasSide-square_cell}
@@ -28,8 +34,9 @@ use Rattle.asg_algebra.specs.Growing.{IsAbsorbed}
 use Rattle.asg_roots.specs.declared.roots.Root.{Root}
 use Rattle.asg_rank.specs.declared.searches.Search.{Search}
 use Rattle.asg_rank.specs.Cuts.{AreBitsFor}
-use Rattle.asg_rank.specs.Opening.{IsRootOf, IsBlank, IsPlantable}
-use Rattle.asg_roots.specs.Roots.{IsSolvedRoot}
+use Rattle.asg_rank.specs.Opening.{IsRootOf, IsBlank, IsPlantable, root_in}
+use Rattle.asg_roots.specs.Roots.{IsSolvedRoot, IsInstanceRoot}
+use Rattle.asg_roots.specs.laws.InstanceRoots.{enters_values}
 use Rattle.asg_rank.specs.Rooms.{answer_room}
 use Rattle.asg_rank.specs.Rules.{Rules, Leads, IsSolved, IsReducedTo, reduced_cell}
 use Rattle.asg_rank.specs.Searches.{IsRankable, HasMemory}
@@ -128,38 +135,46 @@ module _ {V : Type 0} (R : Rules V) (laws : IsOrderedMonoid R.monoid) (X : Probl
           )
 
 -- what the root of a search came to
-pub root_of : {V : Type 0} (R : Rules V) → IsOrderedMonoid R.monoid → (X : Problem) (Q : Grid V) → IsSquareOf X R.monoid.unit R.enter Q → ((free : V) (enter : Cost → V) (r c : ℕ) → is_some (square_cell X free enter r c) ≡ has_cell X Whole r c) → (records : ℕ) (S : Search V) → S.desk.work.now ≡ S.base.now → AreBitsFor S.base.now.side (λ _ _. true) S.desk.bits → (matching : List (Option ℕ)) (ended : Solved) → IsSolvedRoot R.monoid R.difference Q records (record { reduced = S.base; ended = ended; matching = matching; bench = S.desk.bench; region = S.tree.region }) → IsRootOf R X S matching ended
+pub root_of : {V : Type 0} (R : Rules V) → IsOrderedMonoid R.monoid → (X : Problem) (Q : Grid V) → IsSquareOf X R.monoid.unit R.enter Q → ((free : V) (enter : Cost → V) (r c : ℕ) → is_some (square_cell X free enter r c) ≡ has_cell X Whole r c) → (records : ℕ) (S : Search V) → S.desk.work.now ≡ S.base.now → AreBitsFor S.base.now.side (λ _ _. true) S.desk.bits → (matching : List (Option ℕ)) (ended : Solved) → IsSolvedRoot R.monoid R.difference Q records (root_in S ended matching) → IsRootOf R X S matching ended
 root_of {V} R laws X Q square presence records S work bits matching (Perfect trail) is =
-    let root : Root V = record { reduced = S.base; ended = Perfect trail; matching = matching; bench = S.desk.bench; region = S.tree.region } in (
+    let root : Root V = root_in S (Perfect trail) matching in (
       root_reduced R laws X Q square records root is,
       root_leads R laws X Q square records root is,
       root_solved R laws X Q square records root is matching is.ends,
     )
 root_of {V} R laws X Q square presence records S work bits matching (Short trail) is =
-    let root : Root V = record { reduced = S.base; ended = Short trail; matching = matching; bench = S.desk.bench; region = S.tree.region } in
+    let root : Root V = root_in S (Short trail) matching in
     subst (λ (G : Grid V). let cells = IsPresent (cell_at (masked_grid G S.desk.bits.words)) in HasLabelsOf X G × IsDeficient cells G.side S.desk.bench.rows × AllowsCells cells X Whole) (sym work) (
       root_labels R laws X Q square records root is,
       subst (λ cells. IsDeficient (IsPresent cells) S.base.now.side S.desk.bench.rows) (sym (masked_all R laws X Q square records root is S.desk.bits bits)) is.ends,
       allows_cells R laws X Q square records root is S.desk.bits bits presence,
     )
 
--- a search over a root that was solved can have its root made
-module _ {V : Type 0} (R : Rules V) (laws : IsOrderedMonoid R.monoid) (X : Problem) (count : ℕ) (some : 1 ≤ count) (rankable : IsRankable R X) (Q : Grid V) (square : IsSquareOf X R.monoid.unit R.enter Q)
-    (presence : (free : V) (enter : Cost → V) (r c : ℕ) → is_some (square_cell X free enter r c) ≡ has_cell X Whole r c) (records : ℕ) (root : Root V) (is : IsSolvedRoot R.monoid R.difference Q records root)
-    (S : Search V) (ended : Solved) (matching : List (Option ℕ)) (base : S.base ≡ root.reduced) (ends : ended ≡ root.ended) (matched : matching ≡ root.matching) (bench : S.desk.bench ≡ root.bench) (region : S.tree.region ≡ root.region)
-  where
-    root_is : root ≡ record { reduced = S.base; ended = ended; matching = matching; bench = S.desk.bench; region = S.tree.region }
-    root_is i = record { reduced = sym base i; ended = sym ends i; matching = sym matched i; bench = sym bench i; region = sym region i }
+-- the root that was solved is the one that a search is over
+pub root_is : {V : Type 0} (root : Root V) (S : Search V) (ended : Solved) (matching : List (Option ℕ)) → S.base ≡ root.reduced → ended ≡ root.ended → matching ≡ root.matching → S.desk.bench ≡ root.bench → S.tree.region ≡ root.region → root ≡ root_in S ended matching
+root_is root S ended matching base ends matched bench region i = record { reduced = sym base i; ended = sym ends i; matching = sym matched i; bench = sym bench i; region = sym region i }
 
-    pub plantable : IsBlank X (answer_room X count) S → HasMemory X S → records ≡ Q.side + (answer_room X count - 1) * placed X → IsPlantable R X count S ended matching
-    plantable blank memory are =
-        let spare = is.spare in
-        let spare_is : S.tree.region.spare ≡ root.region.spare = ap (λ (f : Forest V). f.spare) region in
-        record {
-          some = some;
-          rankable = rankable;
-          blank = blank;
-          memory = memory;
-          root = root_of R laws X Q square presence records S blank.work blank.bits matching ended (subst (IsSolvedRoot R.monoid R.difference Q records) root_is is);
-          phases_fit = omega (arith, spare, spare_is, are);
-        }
+-- rankings ask no more of an instance
+pub rankable_by : {V : Type 0} (R : Rules V) (objective : Objective) (reach : ℕ) (X : Problem) → X.place ≡ PlaceAll → square_side X ≤ most_side → most_cost ≤ reach → IsInstance X → PassesNegative objective X → ((cost : Cost) → MayEnter objective reach cost → IsValue R.monoid (R.enter cost)) → IsRankable R X
+rankable_by R objective reach X place small far instance passes values = record {
+  place = place;
+  small = small;
+  enters = enters_values R.monoid R.enter objective reach X far instance passes values;
+}
+
+-- a search over a root that was solved can have its root made
+pub plantable : {V : Type 0} (R : Rules V) → IsOrderedMonoid R.monoid → (X : Problem) (count : ℕ) → 1 ≤ count → IsRankable R X → ((free : V) (enter : Cost → V) (r c : ℕ) → is_some (square_cell X free enter r c) ≡ has_cell X Whole r c) → (room records : ℕ) → room ≡ answer_room X count → records ≡ square_side X + (room - 1) * placed X
+    → (S : Search V) (ended : Solved) (matching : List (Option ℕ)) → IsInstanceRoot R.monoid R.difference R.enter X records (root_in S ended matching) → IsBlank X room S → HasMemory X S → IsPlantable R X count S ended matching
+plantable R laws X count some rankable presence room records room_is are S ended matching is blank memory =
+    let spare = is.solved.spare in
+    let side = is.of_instance.labels.side in
+    let here = subst (λ n. IsBlank X n S) room_is blank in
+    let same = subst (λ n. records ≡ square_side X + (n - 1) * placed X) room_is are in
+    record {
+      some = some;
+      rankable = rankable;
+      blank = here;
+      memory = memory;
+      root = root_of R laws X is.square is.of_instance presence records S here.work here.bits matching ended is.solved;
+      phases_fit = omega (arith, spare, side, same);
+    }

@@ -1,4 +1,5 @@
--- What depends on the rows, the columns and the place rule of an instance alone is the same of its parts.
+-- What depends on the rows, the columns and the place rule of an instance alone is the same of its
+-- parts.
 use Rattle.std.proofs.Common.{◌≡◌, ℕ, List, Option, sym, ap, subst}
 use Rattle.asg_model.specs.Problem.{Problem, problem_of}
 use Rattle.asg_model.specs.Shapes.{square_side}

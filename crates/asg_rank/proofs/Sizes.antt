@@ -10,6 +10,7 @@ use Rattle.asg_model.specs.Instances.{IsInstance, IsPlaceInRange}
 use Rattle.asg_model.specs.Problem.{Problem}
 use Rattle.asg_model.specs.Shapes.{square_side, side_by}
 use Rattle.asg_rank.specs.Rankings.{ranking_work}
+use Rattle.asg_rank.specs.Rooms.{answer_room}
 use Rattle.asg_rank.proofs.GivenSearches.{add_one_times}
 
 module _ (X : Problem) (instance : IsInstance X) where
@@ -71,6 +72,13 @@ module _ (X : Problem) (instance : IsInstance X) where
 -- less is asked for by fewer
 pub work_upto : (X : Problem) (room count : ℕ) → room ≤ count → ranking_work X room ≤ ranking_work X count
 work_upto X room count few = mul-le-mul_right (square_side X) (mul-le-mul_right (length X.rows) few)
+
+-- and by as many as there is room for
+pub room_work : (X : Problem) (room count most : ℕ) → room ≡ answer_room X count → ranking_work X count ≤ most → ranking_work X room ≤ most
+room_work X room count most is work =
+    let upto : room ≤ count = omega (arith, is) in
+    let less = work_upto X room count upto in
+    omega (arith, less, work)
 
 -- all but one
 pub rest_few : (room k : ℕ) → (room - 1) * k ≤ room * k

@@ -9,7 +9,8 @@ use Rattle.asg_order.specs.laws.Orders.{le_from_less, reflexive}
 use Rattle.asg_rank.specs.declared.slots.Slot.{Slot}
 use Rattle.asg_rank.specs.Slots.{slot_of, slot_at, Ascends, HaveValues, AreUpTo, Inserts}
 
--- a slot stands at a place between those of a list, those before it up to its index and those behind it above
+-- a slot stands at a place between those of a list, those before it up to its index and those
+-- behind it above
 pub record IsInserted {V : Type 0} (M : Monoid V) (old : List (Slot V)) (slot : Slot V) (new : List (Slot V)) : Type 0 where
   pub place : ℕ
   pub within : place ≤ length old
@@ -99,7 +100,8 @@ module _ {V : Type 0} (M : Monoid V) (laws : IsOrderedMonoid M) (old : List (Slo
       (λ (from : n ≤ i.place). from)
       (cases_lt i.place n)
 
-  -- what holds of each two slots of the old list, and of them and the offered one in their order, holds of each two
+  -- what holds of each two slots of the old list, and of them and the offered one in their order,
+  -- holds of each two
   pub pairs_now : (Q : Slot V → Slot V → Type 0) → ((j k : ℕ) → j < k → k < length old → Q (slot_at M.unit old j) (slot_at M.unit old k)) → ((j : ℕ) → j < i.place → Q (slot_at M.unit old j) slot) → ((j : ℕ) → i.place ≤ j → j < length old → Q slot (slot_at M.unit old j)) → (j k : ℕ) → j < k → k < length new → Q (slot_at M.unit new j) (slot_at M.unit new k)
   pairs_now Q both low high j k less h =
       let count = i.count in

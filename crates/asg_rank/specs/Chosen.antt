@@ -3,7 +3,8 @@ use Rattle.std.specs.Prelude.{◌≡◌, ℕ, ◌<◌, List, length, Option, sli
 use Rattle.asg_match.specs.Matching.{Matches}
 use Rattle.asg_square.specs.Grid.{Grid, IsPerm, grid_choice, IsValidWithin}
 
--- the choice of the perfect assignment of the square by which each row has its column of the matching
+-- the choice of the perfect assignment of the square by which each row has its column of the
+-- matching
 pub record IsChosenBy {V : Type 0} (Q : Grid V) (matching choice : List (Option ℕ)) : Type 0 where
   pub columns : List ℕ
   pub over : length columns ≡ length matching

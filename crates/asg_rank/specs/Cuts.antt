@@ -10,7 +10,8 @@ use Rattle.asg_square.specs.BitTable.{BitTable, has_bit, is_from_to}
 use Rattle.asg_square.specs.Grid.{Grid, cell_at}
 use Rattle.asg_square.specs.Labels.{row_label, column_label}
 
--- a row keeps the copies of the column that it chooses alone, or loses them; what is no copy of a column stays
+-- a row keeps the copies of the column that it chooses alone, or loses them; what is no copy of a
+-- column stays
 abbrev pub keeps_copies : Option ℕ → Bool → Option ℕ → Bool
 keeps_copies chosen alone label =
     option_map_or (λ e. if alone then takes e chosen else not (takes e chosen)) label true
@@ -23,7 +24,8 @@ label_in Q k = slice_index_or Q.column_labels k None
 abbrev pub cuts_cell : ℕ → ℕ → ℕ → ℕ → Bool
 cuts_cell row column r k = not ((r == row) && (k == column))
 
--- all but those of one row at the columns from one on and before another, of the 64 columns of a word
+-- all but those of one row at the columns from one on and before another, of the 64 columns of a
+-- word
 abbrev pub cuts_word : ℕ → ℕ → ℕ → ℕ → ℕ → ℕ → Bool
 cuts_word row number from to r k = not ((r == row) && ((k / 64 == number) && is_from_to from to k))
 
@@ -48,7 +50,8 @@ abbrev pub fixes_labelled : Problem → List (Option ℕ) → ℕ → Option ℕ
 fixes_labelled X f branch (Some r) (Some d) = is_fixed_at branch (row_number X r) (is_chosen f (r, d))
 fixes_labelled X f branch _ _ = true
 
--- the cells that are kept while the active rows before number `branch` have their chosen cells alone
+-- the cells that are kept while the active rows before number `branch` have their chosen cells
+-- alone
 abbrev pub fixes_cell : Problem → List (Option ℕ) → ℕ → ℕ → ℕ → Bool
 fixes_cell X f branch r k = fixes_labelled X f branch (row_label X r) (column_label X k)
 

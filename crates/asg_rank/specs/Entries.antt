@@ -23,7 +23,8 @@ abbrev pub is_open_at : {V : Type 0} → V → List (Entry V) → ℕ → ℕ �
 is_open_at unit entries upto n =
     nat_le 1 n && (if nat_le n (length entries) then is_open_state (entry_at unit entries n).state else nat_le n upto)
 
--- the number of the child by branch i of the node with an answer, counted from 0: each has k children
+-- the number of the child by branch i of the node with an answer, counted from 0: each has k
+-- children
 abbrev pub child_number : ℕ → ℕ → ℕ → ℕ
 child_number k a i = 1 + a * k + i
 

@@ -22,7 +22,8 @@ use Rattle.asg_rank.specs.Trees.{given_at, HasRoomFor}
 abbrev pub last_winner : {V : Type 0} → V → Search V → ℕ
 last_winner unit S = winner_in unit S.slots.used (S.given - 1)
 
--- no child of that node can be kept: all slots are in use, and no index there is greater than the node's
+-- no child of that node can be kept: all slots are in use, and no index there is greater than the
+-- node's
 abbrev pub IsLastBehind : {V : Type 0} → Monoid V → Search V → Type 0
 IsLastBehind M S = IsBehind M S.slots (entry_at M.unit S.tree.entries.items (last_winner M.unit S)).index
 
@@ -40,8 +41,8 @@ pub record IsGrowing {V : Type 0} (R : Rules V) (X : Problem) (count made : ℕ)
   pub nodes_fit : HasRoomFor S.tree ((S.slots.room - S.given) * placed X + (placed X - made))
       ((S.slots.room - S.given) * placed X - made)
 
--- the same, where children may grow: the square is that of the node's part after its trail, and the bits tell which
--- cells of it are kept
+-- the same, where children may grow: the square is that of the node's part after its trail, and the
+-- bits tell which cells of it are kept
 pub record IsExpanding {V : Type 0} (R : Rules V) (X : Problem) (count made : ℕ) (keep : ℕ → ℕ → Bool) (S : Search V)
     : Type 0 where
   pub growing : IsGrowing R X count made S

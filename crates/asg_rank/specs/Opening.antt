@@ -18,6 +18,7 @@ use Rattle.asg_rank.specs.Rooms.{answer_room}
 use Rattle.asg_rank.specs.Rules.{Rules, Leads, IsSolved, IsReducedTo}
 use Rattle.asg_rank.specs.Desks.{IsDeskMemory}
 use Rattle.asg_rank.specs.Searches.{IsRankable, HasMemory}
+use Rattle.asg_roots.specs.declared.roots.Root.{Root}
 
 -- nothing was given and there is no node, with the memory for so many answers
 pub record IsBlank {V : Type 0} (X : Problem) (room : ℕ) (S : Search V) : Type 0 where
@@ -35,8 +36,8 @@ pub record IsBlank {V : Type 0} (X : Problem) (room : ℕ) (S : Search V) : Type
   pub no_square : S.desk.node ≡ 0
   pub bits : AreBitsFor S.base.now.side (λ _ _. true) S.desk.bits
 
--- the memory of a search for so many answers: no node yet, free slots and choices, and a desk but for a bench, over
--- a copy of a square
+-- the memory of a search for so many answers: no node yet, free slots and choices, and a desk but
+-- for a bench, over a copy of a square
 pub record IsMemory {V : Type 0} (X : Problem) (room : ℕ) (Q : Grid V) (memory : Memory V) : Type 0 where
   pub small : room * placed X + 1 < 2 ^ 32
   pub no_node : memory.tree.0.items ≡ []
@@ -46,6 +47,16 @@ pub record IsMemory {V : Type 0} (X : Problem) (room : ℕ) (Q : Grid V) (memory
   pub choices_fit : vec_len memory.answers.0 ≡ room
   pub choices_over : All (λ f. length f ≡ length X.rows) memory.answers.0.items
   pub desk : IsDeskMemory Q memory.desk
+
+-- the solved root that a search is over, with what solving it came to
+abbrev pub root_in : {V : Type 0} → Search V → Solved → List (Option ℕ) → Root V
+root_in S ended matching = record {
+  reduced = S.base;
+  ended = ended;
+  matching = matching;
+  bench = S.desk.bench;
+  region = S.tree.region;
+}
 
 -- what solving the square of the instance came to: a best choice, or rows with too few columns
 abbrev pub IsRootOf : {V : Type 0} → Rules V → Problem → Search V → List (Option ℕ) → Solved → Type 0

@@ -36,15 +36,16 @@ abbrev pub IsRefusal : Problem → ℕ → RankRefusal → Type 0
 IsRefusal X count (RankTooLarge work) = (work ≡ ranking_work X count) × (most_work < work)
 IsRefusal X count NoMemory = Unit {0}
 
--- what the next answer is: one more choice, best of those that weren't given; or none, where nothing is left
+-- what the next answer is: one more choice, best of those that weren't given; or none, where
+-- nothing is left
 abbrev pub Gives : Objective → Problem → ℕ → List (List (Option ℕ)) → List (List (Option ℕ)) → Next → Type 0
 Gives objective X count before after (Answer number) =
     (number ≡ length after) × (length after ≤ count)
     × ((f : List (Option ℕ)) × (after ≡ before ++ f ∷ [])) × IsNextBest objective X after number
 Gives objective X count before after Done = (after ≡ before) × IsExhausted X count before
 
--- each phase has 1 to side steps over the rows and the columns, and every node but the root has at most one of its
--- own
+-- each phase has 1 to side steps over the rows and the columns, and every node but the root has at
+-- most one of its own
 pub record HaveFewPhases (side : ℕ) (nodes : List Node) : Type 0 where
   pub over : (n : ℕ) → IsNumber nodes n → All (IsPhaseOver side) (node_at nodes n).own
   pub one : (n : ℕ) → IsNumber nodes n → 1 < n → length (node_at nodes n).own ≤ 1

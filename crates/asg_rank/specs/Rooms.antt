@@ -7,7 +7,8 @@ use Rattle.asg_model.specs.Problem.{Problem}
 abbrev pub most_work : ℕ
 most_work = 4000000
 
--- one more than as many choices as give each active row any column: at least one more than are valid
+-- one more than as many choices as give each active row any column: at least one more than are
+-- valid
 abbrev pub more_than_valid : Problem → ℕ
 more_than_valid X = length X.columns ^ placed X + 1
 

@@ -27,14 +27,16 @@ abbrev pub reduced_cell : {V : Type 0} → Rules V → Forest V → Problem → 
 reduced_cell R F Y trail =
     after_phases R.monoid R.difference (phases_to F trail) (square_cell Y R.monoid.unit R.enter)
 
--- the trail is live, its phases are admitted in turn from the square of an instance, and the index is their product
+-- the trail is live, its phases are admitted in turn from the square of an instance, and the index
+-- is their product
 pub record Leads {V : Type 0} (R : Rules V) (F : Forest V) (Y : Problem) (trail : Option ℕ) (index : V) : Type 0 where
   pub live : IfSome trail (IsLive F)
   pub admitted : AreAdmittedPhases R.monoid R.difference (square_side Y) (phases_to F trail)
       (square_cell Y R.monoid.unit R.enter)
   pub index_is : index ≡ index_of R.monoid (phases_to F trail)
 
--- after the phases of the trail the matching gives each row a column by a cell that the index absorbs
+-- after the phases of the trail the matching gives each row a column by a cell that the index
+-- absorbs
 abbrev pub IsSolved : {V : Type 0} → Rules V → Forest V → Problem → Option ℕ → V → List (Option ℕ) → Type 0
 IsSolved R F Y trail index matching =
     IsPerfect (IsAbsorbed R.monoid index (reduced_cell R F Y trail)) (square_side Y) matching

@@ -53,7 +53,8 @@ pub record IsKept {V : Type 0} (unit : V) (given : ℕ) (used : List (Slot V)) (
   pub upto : place < length used
   pub node : (slot_at unit used place).node ≡ n
 
--- the slots: first those of the answers, then those of open nodes; each open node is in one, or behind all
+-- the slots: first those of the answers, then those of open nodes; each open node is in one, or
+-- behind all
 pub record AreSlots {V : Type 0} (R : Rules V) (given : ℕ) (T : Tree V) (part : ℕ → Problem) (slots : SlotList V)
     : Type 0 where
   pub few : given ≤ length slots.used
@@ -71,7 +72,8 @@ pub record AreSlots {V : Type 0} (R : Rules V) (given : ℕ) (T : Tree V) (part 
       → IsKept R.monoid.unit given slots.used n
       ⊎ IsBehind R.monoid slots (entry_at R.monoid.unit T.entries.items n).index
 
--- an answer is valid for the part of its node, worth the index there, and that of the matching in its slot
+-- an answer is valid for the part of its node, worth the index there, and that of the matching in
+-- its slot
 pub record IsAnswer {V : Type 0} (R : Rules V) (X Y : Problem) (slot : Slot V) (f : List (Option ℕ)) : Type 0 where
   pub valid : IsValid Y f
   pub worth : choice_fold R.monoid R.enter X f ≡ slot.index
@@ -82,7 +84,8 @@ pub record IsAnswer {V : Type 0} (R : Rules V) (X Y : Problem) (slot : Slot V) (
 abbrev pub given_of : {V : Type 0} → Search V → List (List (Option ℕ))
 given_of S = take S.given S.choices.items
 
--- the tree of the answers, the nodes that have their best choice, and the answers in order, all different
+-- the tree of the answers, the nodes that have their best choice, and the answers in order, all
+-- different
 pub record IsSearch {V : Type 0} (R : Rules V) (X : Problem) (upto : ℕ) (given : List (List (Option ℕ))) (slots : SlotList V)
     (T : Tree V) : Type 0 where
   pub part : ℕ → Problem
@@ -97,8 +100,8 @@ abbrev pub IsBase : {V : Type 0} → Rules V → Problem → Tree V → Reduced 
 IsBase R X T base =
     let root = entry_at R.monoid.unit T.entries.items 1 in IsReducedTo R T.region X root.trail root.index base
 
--- the instance is as rankings ask: all rows are placed, the side is within the limit, and each live cost enters as
--- a value
+-- the instance is as rankings ask: all rows are placed, the side is within the limit, and each live
+-- cost enters as a value
 pub record IsRankable {V : Type 0} (R : Rules V) (X : Problem) : Type 0 where
   pub place : X.place ≡ PlaceAll
   pub small : square_side X ≤ most_side
@@ -115,8 +118,8 @@ pub record IsDesk {V : Type 0} (side : ℕ) (desk : Desk V) : Type 0 where
   pub columns : vec_len desk.columns ≡ side
   pub ids : 1001 ≤ vec_len desk.ids
 
--- the memory of a search: for how many answers there is room, for their choices, and for the children of all but
--- the last, with a phase or a Hall set each
+-- the memory of a search: for how many answers there is room, for their choices, and for the
+-- children of all but the last, with a phase or a Hall set each
 pub record HasMemory {V : Type 0} (X : Problem) (S : Search V) : Type 0 where
   pub given_fit : S.given ≤ S.slots.room
   pub used_fit : length S.slots.used ≤ S.slots.room
@@ -129,9 +132,9 @@ pub record HasMemory {V : Type 0} (X : Problem) (S : Search V) : Type 0 where
   pub halls_width : length X.rows ≤ S.tree.halls.width
   pub desk : IsDesk (square_side X) S.desk
 
--- between two answers: each node has been made, the base stands where the root has a choice, and the square of the desk
--- for the node that it names, there is memory for what is to come, and where there is room for no more answers the
--- children of the last one's node are open
+-- between two answers: each node has been made, the base stands where the root has a choice, and
+-- the square of the desk for the node that it names, there is memory for what is to come, and where
+-- there is room for no more answers the children of the last one's node are open
 pub record IsReady {V : Type 0} (R : Rules V) (X : Problem) (count : ℕ) (S : Search V) : Type 0 where
   pub rankable : IsRankable R X
   pub search : IsSearch R X (length S.tree.entries.items) (given_of S) S.slots S.tree
@@ -144,8 +147,8 @@ pub record IsReady {V : Type 0} (R : Rules V) (X : Problem) (count : ℕ) (S : S
   pub last : S.given ≡ S.slots.room → (i : ℕ) → 1 ≤ i → i ≤ placed X
       → (entry_at R.monoid.unit S.tree.entries.items (child_number (placed X) (S.given - 1) i)).state ≡ Open
 
--- what a ranker keeps: it is ready for the next answer, the objective refuses no live cost, the kind reaches all costs,
--- and at least one choice was asked for
+-- what a ranker keeps: it is ready for the next answer, the objective refuses no live cost, the
+-- kind reaches all costs, and at least one choice was asked for
 pub record IsRanker {V : Type 0} (R : Rules V) (objective : Objective) (reach : ℕ) (X : Problem) (count : ℕ)
     (S : Search V) : Type 0 where
   pub ready : IsReady R X count S

@@ -34,12 +34,24 @@ abbrev pub answer_in : State → ℕ
 answer_in (Answered number) = number
 answer_in _ = 0
 
--- a square is that of the part of a node after its trail, where the number is that of a node: 0 is that of none
+-- a square is that of the part of a node after its trail, where the number is that of a node: 0 is
+-- that of none
 pub record IsStanding {V : Type 0} (R : Rules V) (T : Tree V) (part : ℕ → Problem) (node : ℕ) (square : Reduced V)
     : Type 0 where
   pub upto : node ≤ length T.entries.items
   pub reduced : 1 ≤ node → let e = entry_at R.monoid.unit T.entries.items node in
       IsReducedTo R T.region (part node) e.trail e.index square
+
+-- a tree of answers, and a square for one of its nodes
+pub record IsStandingIn {V : Type 0} (M : Monoid V) (difference : V → V → V) (X : Problem) (T : Tree V)
+    (given : List (List (Option ℕ))) (node : ℕ) (square : Reduced V) : Type 0 where
+  pub enter : Cost → V
+  pub winner : ℕ → ℕ
+  pub upto : ℕ
+  pub part : ℕ → Problem
+  pub tree : IsTree (rules_of M difference enter) X given winner upto T part
+  pub over : All (λ f. length f ≡ length X.rows) given
+  pub standing : IsStanding (rules_of M difference enter) T part node square
 
 -- a tree of answers, the square of the root after its phases, and that of another node
 pub record IsRebuilt {V : Type 0} (M : Monoid V) (difference : V → V → V) (X : Problem) (T : Tree V)

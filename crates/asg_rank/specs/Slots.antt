@@ -50,8 +50,8 @@ pub record Refuses {V : Type 0} (M : Monoid V) (old : List (Slot V)) (slot : Slo
   pub same : new ≡ old
   pub upto : AreUpTo M slot.index old
 
--- what becomes of a slot that is offered: it is put in its place where there is room, and otherwise where the
--- last one is greater
+-- what becomes of a slot that is offered: it is put in its place where there is room, and otherwise
+-- where the last one is greater
 abbrev pub Offers : {V : Type 0} → Monoid V → SlotList V → Slot V → SlotList V → Type 0
 Offers M before slot after =
     (length before.used < before.room × Inserts M before.used slot after.used)

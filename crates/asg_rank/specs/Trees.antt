@@ -1,4 +1,5 @@
--- The search tree of a ranker: for which part of the instance each node stands, and what is known of it.
+-- The search tree of a ranker: for which part of the instance each node stands, and what is known
+-- of it.
 use Rattle.std.specs.Prelude.{◌≡◌, ℕ, ◌+◌, ◌*◌, ◌<◌, ◌≤◌, List, [], length, Option, None, slice_index_or, vec_capacity}
 use Rattle.asg_model.specs.declared.bands.Band.TheVariants.{Whole}
 use Rattle.asg_model.specs.Counts.{placed}
@@ -19,7 +20,8 @@ use Rattle.asg_rank.specs.Rules.{Rules, Leads}
 abbrev pub given_at : List (List (Option ℕ)) → ℕ → List (Option ℕ)
 given_at given a = slice_index_or given a []
 
--- the parts: the root's is the instance, and that of a child the child of the part of the node with an answer
+-- the parts: the root's is the instance, and that of a child the child of the part of the node with
+-- an answer
 pub record AreParts (X : Problem) (given : List (List (Option ℕ))) (winner : ℕ → ℕ) (part : ℕ → Problem) : Type 0 where
   pub root : part 1 ≡ X
   pub children : (a i : ℕ) → a < length given → 1 ≤ i → i ≤ placed X
@@ -72,8 +74,8 @@ pub record IsWinner {V : Type 0} (k a count n : ℕ) (e : Entry V) : Type 0 wher
   pub upto : n ≤ 1 + a * k
   pub state_is : e.state ≡ Answered (a + 1)
 
--- the tree of the answers that were given, up to a number of nodes, the last of which may still be to come; a
--- frontier of open parts is left
+-- the tree of the answers that were given, up to a number of nodes, the last of which may still be
+-- to come; a frontier of open parts is left
 pub record IsTree {V : Type 0} (R : Rules V) (X : Problem) (given : List (List (Option ℕ))) (winner : ℕ → ℕ)
     (upto : ℕ) (T : Tree V) (part : ℕ → Problem) : Type 0 where
   pub parts : AreParts X given winner part

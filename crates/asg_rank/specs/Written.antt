@@ -7,6 +7,7 @@ use Rattle.asg_proof.specs.Phases.{PhaseOf, worded}
 use Rattle.asg_proof.specs.declared.nodes.Mark.{Mark}
 use Rattle.asg_proof.specs.declared.nodes.Mark.TheVariants.{Answered as MarkAnswered, Open as MarkOpen, Empty as MarkEmpty}
 use Rattle.asg_proof.specs.declared.nodes.Node.{Node}
+use Rattle.asg_proof.specs.NodeLists.{IsNodePart}
 use Rattle.asg_proof.specs.Nodes.{node_at}
 use Rattle.asg_rank.specs.declared.entries.Entry.{Entry}
 use Rattle.asg_rank.specs.declared.entries.State.{State}
@@ -27,7 +28,8 @@ pub record AreOwn {V : Type 0} (word_of : V → Word) (F : Forest V) (before tra
   pub list : phases_to F trail ≡ phases_to F before ++ own
   pub words : written ≡ map (worded word_of) own
 
--- the trails on the way from one back to the first: their last phases are the phases of that trail, from the last on
+-- the trails on the way from one back to the first: their last phases are the phases of that trail,
+-- from the last on
 abbrev pub AreTrailsTo : {V : Type 0} → Forest V → Option ℕ → List ℕ → Type 0
 AreTrailsTo F None trails = trails ≡ []
 AreTrailsTo F (Some t) [] = ⊥
@@ -45,7 +47,8 @@ IsWrittenMark halls (Answered number) mark = mark ≡ MarkAnswered number
 IsWrittenMark halls Open mark = mark ≡ MarkOpen
 IsWrittenMark halls (Empty h) mark = mark ≡ MarkEmpty (hall_at halls h)
 
--- where a node stands: it is a root with a live trail, or its trail is that of its parent or grew on it
+-- where a node stands: it is a root with a live trail, or its trail is that of its parent or grew
+-- on it
 pub record IsTold {V : Type 0} (M : Monoid V) (T : Tree V) (e : Entry V) : Type 0 where
   pub state : IsStateOf T.halls e.state
   pub live : IfSome e.trail (IsLive T.region)
@@ -67,6 +70,14 @@ pub record IsWrittenNode {V : Type 0} (unit : V) (word_of : V → Word) (T : Tre
   pub branch_is : node.branch ≡ e.branch
   pub mark_is : IsWrittenMark T.halls e.state node.mark
   pub own_are : IsWrittenOwn unit word_of T e node.own
+
+-- a node of the tree was put behind others
+pub record PushesNode {V : Type 0} (unit : V) (word_of : V → Word) (T : Tree V) (e : Entry V)
+    (before after : List Node) : Type 0 where
+  pub node : Node
+  pub pushed : after ≡ before ++ node ∷ []
+  pub written : IsWrittenNode unit word_of T e node
+  pub part : IsNodePart node
 
 -- the nodes are those of the tree in order
 pub record AreWrittenNodes {V : Type 0} (unit : V) (word_of : V → Word) (T : Tree V) (nodes : List Node) : Type 0 where

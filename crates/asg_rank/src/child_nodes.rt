@@ -79,7 +79,8 @@ fn write_hall<V: Copy>(
     halls.push(&ids[..count as usize])
 }
 
-/// Puts a node behind the others that has its best choice, and offers it a slot. It takes no memory.
+/// Puts a node behind the others that has its best choice, and offers it a slot. It takes no
+/// memory.
 pub(crate) fn keep_child<M: DMonoid>(
     m: &M,
     search: &mut Search<M::Value>,

@@ -8,6 +8,7 @@ ghost use Rattle.asg_rank.specs.Searches.{IsDesk};
 ghost use Rattle.asg_square.specs.Grid.{Grid};
 
 use crate::NoMemory;
+use crate::pairs::both;
 use asg_admit::Reduced;
 use asg_algebra::Bench;
 use asg_match::Matching;
@@ -18,8 +19,8 @@ use std::alloc::Global;
 const IDS: usize = 1001;
 
 /// The square of a node's part after the phases of its trail, the number of the node, which is 0
-/// before there is one, the cells of it that a branch keeps, and the memory of a solver: a matching,
-/// a bench, places for the steps of a phase, columns of rows, and ids.
+/// before there is one, the cells of it that a branch keeps, and the memory of a solver: a
+/// matching, a bench, places for the steps of a phase, columns of rows, and ids.
 #[derive(Drop)]
 pub(crate) struct Desk<V: Copy> {
     pub(crate) work: Reduced<V>,
@@ -86,7 +87,24 @@ fn column_memory(alloc: Global, side: u32) -> Result<(Vec<u32>, Vec<u32>), NoMem
     Ok((columns, ids))
 }
 
-/// The memory of a desk over a copy of a square: all of it but a bench. The error is want of memory.
+// The memory of a solver over a side: a matching, and places for the steps of a phase; columns of
+// rows, and ids.
+fn solver_memory<V: Copy>(
+    alloc: Global,
+    side: u32,
+    unit: V,
+) -> Result<((Matching, Vec<V>), (Vec<u32>, Vec<u32>)), NoMemory>
+    ensures trial { IfOk result (λ memory. length memory.0.0 ≡ side) }
+    ensures steps { IfOk result (λ memory. side < vec_len memory.0.1) }
+    ensures columns { IfOk result (λ memory. vec_len memory.1.0 ≡ side) }
+    ensures ids { IfOk result (λ memory. 1001 ≤ vec_len memory.1.1) }
+{
+    let trial = trial_memory(alloc, side, unit)?;
+    both(trial, column_memory(alloc, side))
+}
+
+/// The memory of a desk over a copy of a square: all of it but a bench. The error is want of
+/// memory.
 pub(crate) fn desk_memory<V: Copy>(
     alloc: Global,
     square: &Square<V>,
@@ -96,10 +114,11 @@ pub(crate) fn desk_memory<V: Copy>(
     ensures { IfOk result (IsDeskMemory square.now) }
 {
     let copy = copied_square(alloc, square, unit)?;
-    let trial = trial_memory(alloc, square.side(), unit)?;
-    let columns = column_memory(alloc, square.side())?;
+    let rest = solver_memory(alloc, square.side(), unit);
+    let made = both(copy, rest)?;
+    let (trial, columns) = made.1;
     Ok(DeskMemory {
-        copy,
+        copy: made.0,
         trial,
         columns,
     })

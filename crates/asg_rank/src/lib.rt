@@ -23,6 +23,7 @@ mod giving;
 mod hall_pools;
 mod masked_cells;
 mod opening;
+mod pairs;
 mod ranker;
 mod rankings;
 mod rebuilding;

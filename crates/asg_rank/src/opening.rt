@@ -1,13 +1,14 @@
 //! The memory of a search, and its root.
 
-ghost use Rattle.std.specs.Prelude.{◌≡◌, ℕ, ◌*◌, ◌≤◌, [], IfOk, All, length, vec_len};
+ghost use Rattle.std.specs.Prelude.{◌≡◌, ℕ, ◌+◌, ◌-◌, ◌*◌, ◌≤◌, [], IfOk, All, length, vec_len};
 ghost use Rattle.asg_model.specs.declared.parts.Place.TheVariants.{All as PlaceAll};
+ghost use Rattle.asg_model.specs.Counts.{placed};
 ghost use Rattle.asg_model.specs.Limits.{most_cost, most_side};
 ghost use Rattle.asg_model.specs.Problem.{Problem};
 ghost use Rattle.asg_model.specs.Refused.{PassesNegative};
 ghost use Rattle.asg_model.specs.Shapes.{square_side};
 ghost use Rattle.asg_model.specs.declared.parts.Cost.{Cost};
-ghost use Rattle.asg_rank.specs.Opening.{IsBlank, IsMemory, IsPlantable};
+ghost use Rattle.asg_rank.specs.Opening.{IsBlank, IsMemory, IsPlantable, root_in};
 ghost use Rattle.asg_rank.specs.Rankings.{ranking_work};
 ghost use Rattle.asg_rank.specs.Rooms.{most_work};
 ghost use Rattle.asg_rank.specs.Rules.{rules_of};
@@ -19,6 +20,7 @@ use crate::child_nodes::{close_child, push_child};
 use crate::desks::{DeskMemory, desk_memory, desk_with};
 use crate::entries::{Entry, State};
 use crate::hall_pools::HallPool;
+use crate::pairs::both;
 use crate::rooms::answer_room;
 use crate::searches::Search;
 use crate::slots::{Slots, offer};
@@ -193,13 +195,51 @@ where
     requires records { square_side inst.now ≤ records }
     requires work { ranking_work inst.now room ≤ most_work }
     ensures root { let m = K.monoid kind.now in
-        IfOk result (λ both. IsInstanceRoot (K.M.monoid_of m) (K.M.difference m)
-        (K.entered kind.now) inst.now records both.0) }
-    ensures memory { IfOk result (λ both. IsMemory inst.now room both.0.reduced.now both.1) }
+        IfOk result (λ made. IsInstanceRoot (K.M.monoid_of m) (K.M.difference m)
+        (K.entered kind.now) inst.now records made.0) }
+    ensures memory { IfOk result (λ made. IsMemory inst.now room made.0.reduced.now made.1) }
 {
     let root = instance_root(alloc, kind, inst, records)?;
-    let memory = search_memory(alloc, inst, &root.reduced.now, room, kind.monoid().unit())?;
-    Ok((root, memory))
+    let memory = search_memory(alloc, inst, &root.reduced.now, room, kind.monoid().unit());
+    both(root, memory)
+}
+
+// A search without a node yet, over the solved square of an instance, with the memory for so many
+// answers; and what solving it came to. The error is want of memory.
+fn begun_search<K: Kind>(
+    alloc: Global,
+    kind: &K,
+    inst: &Instance,
+    room: u32,
+    records: u32,
+) -> Result<(Search<<K::M as Ordered>::Value>, Solved, Matching), NoMemory>
+where
+    K::M: RootGuess,
+    requires side { square_side inst.now ≤ most_side }
+    requires passes { PassesNegative (K.objective kind.now) inst.now }
+    requires reach { most_cost ≤ K.reach kind.now }
+    requires records { square_side inst.now ≤ records }
+    requires work { ranking_work inst.now room ≤ most_work }
+    ensures root { let m = K.monoid kind.now in
+        IfOk result (λ begun. IsInstanceRoot (K.M.monoid_of m) (K.M.difference m)
+        (K.entered kind.now) inst.now records (root_in begun.0 begun.1 begun.2)) }
+    ensures blank { IfOk result (λ begun. IsBlank inst.now room begun.0) }
+    ensures memory { IfOk result (λ begun. HasMemory inst.now begun.0) }
+{
+    let made = root_and_memory(alloc, kind, inst, room, records)?;
+    Ok(blank_search(made.0, made.1))
+}
+
+// How many records of phases a search for so many answers needs: those of the root, and one for
+// each child of all answers but the last.
+fn record_count(inst: &Instance, room: u32) -> u32
+    requires some { 1 ≤ room }
+    requires side { square_side inst.now ≤ most_side }
+    requires work { ranking_work inst.now room ≤ most_work }
+    ensures { result ≡ square_side inst.now + (room - 1) * placed inst.now }
+{
+    let _rows = inst.rows();
+    inst.side() + (room - 1) * inst.placed()
 }
 
 /// A search with its root alone, and the memory for so many answers. The error is want of memory.
@@ -226,9 +266,8 @@ where
     let _rows = inst.rows();
     let m = kind.monoid();
     let room = answer_room(inst, count);
-    let records = inst.side() + (room - 1) * inst.placed();
-    let both = root_and_memory(alloc, kind, inst, room, records)?;
-    let begun = blank_search(both.0, both.1);
+    let records = record_count(inst, room);
+    let begun = begun_search(alloc, kind, inst, room, records)?;
     let mut search = begun.0;
     plant(m, inst, &mut search, begun.1, &begun.2);
     Ok(search)

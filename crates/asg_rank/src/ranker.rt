@@ -13,9 +13,12 @@ ghost use Rattle.asg_proof.specs.SearchTrees.{IsSearchTree};
 ghost use Rattle.asg_rank.specs.Rankings.{ranking_work, IsExhausted, IsRefusal, Gives};
 ghost use Rattle.asg_rank.specs.Rankings.{AreCountable, HaveFewPhases, LeaveLastOpen};
 ghost use Rattle.asg_rank.specs.Rooms.{most_work};
+ghost use Rattle.asg_rank.specs.Rules.{rules_of};
+ghost use Rattle.asg_rank.specs.Searches.{IsReady, given_of};
 
 use crate::NoMemory;
 use crate::opening::open_search;
+use crate::pairs::both;
 use crate::rooms::counting_law;
 use crate::searches::{Search, advance};
 use crate::trees::root_hall;
@@ -69,6 +72,40 @@ pub struct Ranker<K: Kind + Drop> {
     search: Search<<<K as Kind>::M as Ordered>::Value>,
 }
 
+// The work of a ranking of so many choices.
+fn work_of(inst: &Instance, count: u32) -> u64
+    requires { square_side inst.now ≤ most_side }
+    ensures { result ≡ ranking_work inst.now count }
+{
+    let rows = inst.rows().len() as u64;
+    u64::from(count) * rows * u64::from(inst.side())
+}
+
+// A copy of an instance, and a search over it for so many choices. The error is want of memory.
+fn copy_and_search<K: Kind>(
+    alloc: Global,
+    kind: &K,
+    inst: &Instance,
+    count: u32,
+) -> Result<(Instance, Search<<K::M as Ordered>::Value>), NoMemory>
+where
+    K::M: RootGuess,
+    requires place { inst.now.place ≡ PlaceAll }
+    requires side { square_side inst.now ≤ most_side }
+    requires passes { PassesNegative (K.objective kind.now) inst.now }
+    requires reach { most_cost ≤ K.reach kind.now }
+    requires some { 1 ≤ count }
+    requires work { ranking_work inst.now count ≤ most_work }
+    ensures copy { IfOk result (λ made. made.0 ≡ inst.now) }
+    ensures ready { let m = K.monoid kind.now in
+        let R = rules_of (K.M.monoid_of m) (K.M.difference m) (K.entered kind.now) in
+        IfOk result (λ made. IsReady R inst.now count made.1) }
+    ensures none { IfOk result (λ made. given_of made.1 ≡ []) }
+{
+    let copy = inst.copy(alloc)?;
+    both(copy, open_search(alloc, kind, inst, count))
+}
+
 impl<K: Kind + Drop> Model for Ranker<K> {
     ghost use Rattle.asg_rank.specs.Rankings.{Ranking};
     ghost use Rattle.asg_rank.specs.Rules.{rules_of};
@@ -115,18 +152,16 @@ where
         ensures within { IfOk result (λ r. ranking_work inst.now count ≤ most_work) }
         ensures refusal { IfErr result (IsRefusal inst.now count) }
     {
-        let rows = inst.rows().len() as u64;
-        let work = u64::from(count) * rows * u64::from(inst.side());
+        let work = work_of(inst, count);
         if work > MOST_WORK {
             return Err(RankRefusal::RankTooLarge(work));
         }
-        let inst = inst.copy(alloc)?;
-        let search = open_search(alloc, &kind, &inst, count)?;
+        let made = copy_and_search(alloc, &kind, inst, count)?;
         Ok(Ranker {
             kind,
-            inst,
+            inst: made.0,
             count,
-            search,
+            search: made.1,
         })
     }
 

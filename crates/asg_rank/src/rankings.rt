@@ -152,7 +152,9 @@ where
         (K.entered ranker.kind) (K.objective ranker.kind) ranker.problem ranker.count) }
 {
     let mut spent = ranker;
-    outcome_of(alloc, &mut spent)
+    let outcome = outcome_of(alloc, &mut spent);
+    drop(spent);
+    outcome
 }
 
 // The ranking by a kind.

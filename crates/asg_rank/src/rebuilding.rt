@@ -1,16 +1,20 @@
 //! The square of the part of a node, after the phases of its trail.
 
-ghost use Rattle.std.specs.Prelude.{◌≡◌, ℕ, ◌<◌, ◌≤◌, length, Some};
+ghost use Rattle.std.specs.Prelude.{◌≡◌, ℕ, ◌<◌, ◌≤◌, All, length, Some};
 ghost use Rattle.asg_model.specs.declared.parts.Cost.{Cost};
 ghost use Rattle.asg_model.specs.declared.parts.Place.TheVariants.{All as PlaceAll};
 ghost use Rattle.asg_model.specs.Problem.{Problem};
 ghost use Rattle.asg_admit.specs.Reduced.{IsReduced, IsPhaseTo};
 ghost use Rattle.asg_pool.specs.Forest.{phases_of, last_phase, IsLive};
+ghost use Rattle.asg_proof.specs.Masks.{keeps_cell};
+ghost use Rattle.asg_proof.specs.Nodes.{answer_at};
 ghost use Rattle.asg_proof.specs.Phases.{IsAdmittedPhase};
-ghost use Rattle.asg_square.specs.Grid.{cell_at};
+ghost use Rattle.asg_square.specs.Grid.{cell_at, HasLabelsOf};
+ghost use Rattle.asg_rank.specs.Cuts.{LosesCells};
 ghost use Rattle.asg_rank.specs.Entries.{entry_at, IsNext};
 ghost use Rattle.asg_rank.specs.Rules.{rules_of, IsReducedTo};
 ghost use Rattle.asg_rank.specs.Settled.{IsOwn, SettlesOwn, IsRebuilt, IsStanding, answer_in};
+ghost use Rattle.asg_rank.specs.Settled.{IsStandingIn};
 ghost use Rattle.asg_rank.specs.Trees.{IsTree};
 
 use crate::cuts::cut_branch;
@@ -20,6 +24,7 @@ use asg_admit::{Reduced, settle};
 use asg_model::{Choice, Instance};
 use asg_order::DMonoid;
 use asg_pool::{Region, Trail};
+use asg_square::Square;
 
 /// The trail, where there is one and it isn't the one before.
 pub(crate) fn own_trail(before: Option<Trail>, trail: Option<Trail>) -> Option<Trail>
@@ -87,10 +92,73 @@ fn answer_of(state: State) -> u32
     }
 }
 
+// The number of the node above a node.
+fn parent_of<V: Copy>(tree: &Tree<V>, node: u32) -> u32
+    requires from { 1 ≤ node }
+    requires upto { node ≤ length tree.now.entries.items }
+    ensures { (unit : V) → result ≡ (entry_at unit tree.now.entries.items node).parent }
+{
+    entry(&tree.entries, node).parent
+}
+
+// Takes out the cells that a branch doesn't keep, by the choice of the answer that a state names.
+fn cut_by<V: Copy>(
+    square: &mut Square<V>,
+    inst: &Instance,
+    choices: &[Choice],
+    state: State,
+    branch: u32,
+)
+    requires labels { HasLabelsOf inst.now square.old }
+    requires place { inst.now.place ≡ PlaceAll }
+    requires over { All (λ f. length f ≡ length inst.now.rows) choices.now }
+    requires from { 1 ≤ answer_in state }
+    requires upto { answer_in state ≤ length choices.now }
+    ensures { LosesCells (keeps_cell inst.now (answer_at choices.now (answer_in state)) branch)
+        square.old square.new }
+{
+    let answer = answer_of(state);
+    cut_branch(square, inst, &choices[answer as usize - 1], branch);
+}
+
+// Makes the square of the part of the node above that of the part of a node: its branch takes its
+// cells, and its phases are applied.
+fn step_down<M: DMonoid>(
+    m: &M,
+    inst: &Instance,
+    tree: &Tree<M::Value>,
+    choices: &[Choice],
+    work: &mut Reduced<M::Value>,
+    room: &mut [M::Value],
+    node: u32,
+)
+    requires place { inst.now.place ≡ PlaceAll }
+    requires from { 2 ≤ node }
+    requires upto { node ≤ length tree.now.entries.items }
+    requires tree { IsStandingIn (M.monoid_of m.now) (M.difference m.now) inst.now tree.now
+        choices.now (entry_at (M.monoid_of m.now).unit tree.now.entries.items node).parent
+        work.old }
+    requires side { tree.now.region.side ≡ work.old.now.side }
+    requires room { work.old.now.side < length room.old }
+    ensures reduced { (enter : Cost → M.Value) (winner : ℕ → ℕ) (upto : ℕ) (part : ℕ → Problem)
+        → let R = rules_of (M.monoid_of m.now) (M.difference m.now) enter in
+        let e = entry_at R.monoid.unit tree.now.entries.items node in
+        IsTree R inst.now choices.now winner upto tree.now part
+        → IsStanding R tree.now part e.parent work.old
+        → IsReducedTo R tree.now.region (part node) e.trail e.index work.new }
+    ensures room { length room.new ≡ length room.old }
+{
+    tree.region.spare();
+    let here = entry(&tree.entries, node);
+    let before = entry(&tree.entries, here.parent);
+    cut_by(&mut work.now, inst, choices, before.state, here.branch);
+    settle_own(m, &tree.region, before.trail, here.trail, work, room);
+}
+
 /// Makes a square that of the part of a node after the phases of its trail. It starts from the node
-/// above for which the square stands, or from that of the instance after the phases of the root; the
-/// branches of the nodes from there on take their cells, and their phases are applied. It takes no
-/// memory.
+/// above for which the square stands, or from that of the instance after the phases of the root;
+/// the branches of the nodes from there on take their cells, and their phases are applied. It takes
+/// no memory.
 pub(crate) fn rebuild<M: DMonoid>(
     m: &M,
     inst: &Instance,
@@ -123,31 +191,12 @@ pub(crate) fn rebuild<M: DMonoid>(
     if node == stands {
         return;
     }
-    let here = entry(&tree.entries, node);
     if node == 1 {
         work.now.take(&base.now);
         work.index = base.index;
         return;
     }
-    rebuild(
-        m,
-        inst,
-        tree,
-        choices,
-        base,
-        work,
-        room,
-        stands,
-        here.parent,
-    );
-    tree.region.spare();
-    let before = entry(&tree.entries, here.parent);
-    let answer = answer_of(before.state);
-    cut_branch(
-        &mut work.now,
-        inst,
-        &choices[answer as usize - 1],
-        here.branch,
-    );
-    settle_own(m, &tree.region, before.trail, here.trail, work, room);
+    let parent = parent_of(tree, node);
+    rebuild(m, inst, tree, choices, base, work, room, stands, parent);
+    step_down(m, inst, tree, choices, work, room, node);
 }

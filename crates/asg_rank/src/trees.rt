@@ -58,8 +58,8 @@ fn row_count(inst: &Instance) -> u32
     inst.rows().len() as u32
 }
 
-/// The memory of a tree without a node yet: for the children of so many answers and their Hall sets.
-/// The error is want of memory.
+/// The memory of a tree without a node yet: for the children of so many answers and their Hall
+/// sets. The error is want of memory.
 pub(crate) fn tree_memory<V: Copy>(
     alloc: Global,
     inst: &Instance,

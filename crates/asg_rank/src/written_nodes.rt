@@ -1,13 +1,14 @@
 //! The search tree as documents have it.
 
-ghost use Rattle.std.specs.Prelude.{◌≡◌, ◌≤◌, ◌<◌, ◌^◌, ℕ, All, length, map, IfOk, IfSome};
+ghost use Rattle.std.specs.Prelude.{◌≡◌, ◌≤◌, ◌<◌, ◌^◌, ℕ, [], All, length, map, IfOk, IfSome};
 ghost use Rattle.asg_order.specs.Monoid.{IsValue};
 ghost use Rattle.asg_pool.specs.Forest.{IsLive, phases_to, phases_of, last_phase};
-ghost use Rattle.asg_proof.specs.NodeLists.{IsMarkPart, IsNodePart};
-ghost use Rattle.asg_proof.specs.Phases.{worded, IsPhase};
+ghost use Rattle.asg_proof.specs.NodeLists.{AreNodeParts, IsMarkPart, IsNodePart};
+ghost use Rattle.asg_proof.specs.Phases.{worded, ArePhases, IsPhase};
 ghost use Rattle.asg_rank.specs.Entries.{entry_at, IsNext};
 ghost use Rattle.asg_rank.specs.Written.{AreOfValues, AreOwn, AreTrailsTo, IsStateOf, IsWrittenMark};
 ghost use Rattle.asg_rank.specs.Written.{IsTold, IsWrittenOwn, IsWrittenNode, AreWrittenNodes};
+ghost use Rattle.asg_rank.specs.Written.{PushesNode};
 
 use crate::NoMemory;
 use crate::entries::{Entry, State};
@@ -100,6 +101,31 @@ fn phase_count<V: Copy>(region: &Region<V>, last: Option<Trail>) -> u32
     }
 }
 
+// Puts all phases of a trail into an empty list, with each step as its word. The error is want of
+// memory.
+fn push_phases<M: Written>(
+    alloc: Global,
+    m: &M,
+    region: &Region<M::Value>,
+    last: &Option<Trail>,
+    phases: &mut Vec<WrittenPhase>,
+) -> Result<(), NoMemory>
+    requires none { phases.old.items ≡ [] }
+    requires live { IfSome last.now (IsLive region.now) }
+    requires values { AreOfValues (M.monoid_of m.now) (phases_to region.now last.now) }
+    ensures words { IfOk result (λ _. phases.new.items
+        ≡ map (worded (M.word_of m.now)) (phases_to region.now last.now)) }
+    ensures kept { IfOk result (λ _. ArePhases phases.new.items) }
+{
+    let _spare = region.spare();
+    let trails = trails_to(alloc, region, *last)?;
+    'trails: for k in 0..trails.len() {
+        let trail = trails[trails.len() - 1 - k];
+        phases.push(written_phase(alloc, m, region, trail)?)?;
+    }
+    Ok(())
+}
+
 // All phases of a trail, with each step as its word. They can be counted in 32 bits.
 fn all_phases<M: Written>(
     alloc: Global,
@@ -113,14 +139,9 @@ fn all_phases<M: Written>(
         ≡ map (worded (M.word_of m.now)) (phases_to region.now last)) }
     ensures fits { IfOk result (λ phases. length phases < 2 ^ 32) }
 {
-    let _spare = region.spare();
     let count = phase_count(region, last);
-    let trails = trails_to(alloc, region, last)?;
     let mut phases = Vec::with_capacity(alloc, count as usize)?;
-    'trails: for k in 0..trails.len() {
-        let trail = trails[trails.len() - 1 - k];
-        phases.push(written_phase(alloc, m, region, trail)?)?;
-    }
+    push_phases(alloc, m, region, &last, &mut phases)?;
     Ok(Phases::from_vec(phases))
 }
 
@@ -190,6 +211,44 @@ fn written_node<M: Written>(
     Ok(node_of(here.parent, here.branch, mark, own))
 }
 
+// Puts a node of a tree behind others. The error is want of memory.
+fn push_node<M: Written>(
+    alloc: Global,
+    m: &M,
+    tree: &Tree<M::Value>,
+    here: &Entry<M::Value>,
+    nodes: &mut Vec<Node>,
+) -> Result<(), NoMemory>
+    requires { IsTold (M.monoid_of m.now) tree.now here.now }
+    ensures { IfOk result (λ _. PushesNode (M.monoid_of m.now).unit (M.word_of m.now) tree.now
+        here.now nodes.old.items nodes.new.items) }
+{
+    let node = written_node(alloc, m, tree, here)?;
+    nodes.push(node)?;
+    Ok(())
+}
+
+// Puts the nodes of a tree in order into an empty list. The error is want of memory.
+fn push_nodes<M: Written>(
+    alloc: Global,
+    m: &M,
+    tree: &Tree<M::Value>,
+    nodes: &mut Vec<Node>,
+) -> Result<(), NoMemory>
+    requires none { nodes.old.items ≡ [] }
+    requires told { (n : ℕ) → 1 ≤ n → n ≤ length tree.now.entries.items
+        → IsTold (M.monoid_of m.now) tree.now
+        (entry_at (M.monoid_of m.now).unit tree.now.entries.items n) }
+    ensures written { IfOk result (λ _. AreWrittenNodes (M.monoid_of m.now).unit
+        (M.word_of m.now) tree.now nodes.new.items) }
+    ensures parts { IfOk result (λ _. AreNodeParts nodes.new.items) }
+{
+    'nodes: for here in &tree.entries {
+        push_node(alloc, m, tree, here, nodes)?;
+    }
+    Ok(())
+}
+
 /// The nodes of a tree in order. The error is want of memory.
 pub(crate) fn written_nodes<M: Written>(
     alloc: Global,
@@ -202,8 +261,6 @@ pub(crate) fn written_nodes<M: Written>(
     ensures { IfOk result (AreWrittenNodes (M.monoid_of m.now).unit (M.word_of m.now) tree.now) }
 {
     let mut nodes = Vec::with_capacity(alloc, tree.entries.len())?;
-    'nodes: for here in &tree.entries {
-        nodes.push(written_node(alloc, m, tree, here)?)?;
-    }
+    push_nodes(alloc, m, tree, &mut nodes)?;
     Ok(Nodes::from_vec(nodes))
 }

@@ -1,7 +1,7 @@
 use Rattle.std.proofs.Common.{◌≡◌, map, take}
 use Rattle.asg_pool.specs.Forest.{phases_to}
 use Rattle.asg_proof.specs.Phases.{worded, ArePhases}
-use Rattle.asg_rank.proofs.written_nodes.all_phases.Given as goal
+use Rattle.asg_rank.proofs.written_nodes.push_phases.Given as goal
 
 -- the first phases of the trail, with words
 abbrev pub invariant-trails : goal.invariant-trails

@@ -1,5 +1,5 @@
 use Rattle.asg_rank.proofs.NodeSteps.{AreFirstNodes}
-use Rattle.asg_rank.proofs.written_nodes.written_nodes.Given as goal
+use Rattle.asg_rank.proofs.written_nodes.push_nodes.Given as goal
 
 -- the first nodes of the tree
 abbrev pub invariant-nodes : goal.invariant-nodes

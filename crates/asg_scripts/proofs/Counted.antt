@@ -1,5 +1,5 @@
 -- How many lines ask for an answer.
-use Rattle.std.proofs.Common.{◌≡◌, ℕ, ◌+◌, ◌<◌, ◌≤◌, List, [], ◌∷◌, length, drop, get_or, ap, ◌∙◌, sym, arith}
+use Rattle.std.proofs.Common.{◌≡◌, ℕ, ◌+◌, ◌<◌, ◌≤◌, List, [], ◌∷◌, length, drop, get_or, ap, arith}
 use Rattle.asg_scripts.specs.Laws.{rest_at}
 use Rattle.asg_scripts.specs.SolveLines.{solve_count, solves}
 use Rattle.asg_text.specs.declared.script_lines.Line.{Line}

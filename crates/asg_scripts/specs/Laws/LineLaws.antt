@@ -4,7 +4,7 @@ use Rattle.std.specs.Option.{option_map}
 use Rattle.asg_model.specs.declared.edits.EditRefusal.{EditRefusal}
 use Rattle.asg_model.specs.declared.objectives.Objective.{Objective}
 use Rattle.asg_model.specs.Problem.{Problem}
-use Rattle.asg_scripts.specs.Scripts.{ScriptFile, HoldsLines, RefusesLines, after_line, earlier, first_refused, held_script, line_refusal, numbers_at, script_in, solved_instances, tried}
+use Rattle.asg_scripts.specs.Scripts.{HoldsLines, after_line, earlier, first_refused, held_script, line_refusal, numbers_at, script_in, solved_instances, tried}
 use Rattle.asg_text.specs.Scripts.{ScriptReading, SpellsLines, RefusesScript, reading_of_script}
 use Rattle.asg_text.specs.declared.script_lines.Line.{Line}
 use Rattle.asg_text.specs.declared.script_lines.Line.TheVariants.{Edit, Solve}

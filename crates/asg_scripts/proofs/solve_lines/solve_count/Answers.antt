@@ -1,4 +1,4 @@
-use Rattle.std.proofs.Common.{◌≡◌, ◌+◌, ◌≤◌, drop, ap, length, arith}
+use Rattle.std.proofs.Common.{◌+◌, ◌≤◌, ap, length, arith}
 use Rattle.std.proofs.lemmas.Grind.{common_steps}
 use Rattle.std.proofs.lemmas.List.{drop_all}
 use Rattle.asg_scripts.specs.SolveLines.{solve_count}

@@ -22,8 +22,9 @@ use Rattle.asg_square.specs.Grid.{Grid}
 use Rattle.asg_square.specs.Labels.{column_label}
 use Rattle.asg_repair.specs.declared.named_places.NamedPlaces.{NamedPlaces}
 use Rattle.asg_repair.specs.Edited.{Touches, NamesPlaces}
-use Rattle.asg_repair.specs.NamedPlaces.{places_of, IsNamed, label_at, HasColumnsOf}
-use Rattle.asg_repair.specs.Sessions.{AreAbsorbedAfter, MaySolve, sure_columns}
+use Rattle.asg_repair.specs.declared.works.Work.{Work}
+use Rattle.asg_repair.specs.NamedPlaces.{places_of, IsClearedOf, IsNamed, label_at, HasColumnsOf}
+use Rattle.asg_repair.specs.Sessions.{AreAbsorbedAfter, IsSized, MaySolve, sure_columns}
 use Rattle.asg_repair.proofs.EditedCosts.{EntersValues-edited, PassesNegative-edited}
 use Rattle.asg_repair.proofs.EditedShapes.{edited_label, edited_side}
 use Rattle.asg_repair.proofs.NamedLemmas.{label_of_column, named_touched, touched_named, untouched_same}
@@ -50,12 +51,20 @@ HasColumnsOf-edited X is edit Q before = record {
       ∙ ap (λ n. map (column_label (edited X edit)) (range_with_len 0 n)) (sym (edited_side X is edit));
 }
 
--- ---- rows whose cell was named lost their column
+-- what a session solves in fits the edited instance
+pub IsSized-edited : {V : Type 0} (X : Problem) → IsInstance X → (edit : Edit) (work : Work V) → IsSized X work → IsSized (edited X edit) work
+IsSized-edited X is edit work sized =
+    let same = edited_side X is edit in
+    record {
+      square = HasColumnsOf-edited X is edit work.reduced.now sized.square;
+      matching_side = sized.matching_side ∙ sym same;
+      is_matching = sized.is_matching;
+      bench_side = sized.bench_side ∙ sym same;
+      columns_side = sized.columns_side ∙ sym same;
+      steps_room = let few = sized.steps_room in omega (arith, few, same);
+    }
 
-pub record IsClearedOf {V : Type 0} (places : NamedPlaces) (Q : Grid V) (before after : List (Option ℕ)) : Type 0 where
-  pub only : (r k : ℕ) → Matches after r k → Matches before r k
-  pub kept : (r k : ℕ) → Matches before r k → (IsNamed places (label_at Q) r k → ⊥) → Matches after r k
-  pub cleared : (r k : ℕ) → Matches after r k → IsNamed places (label_at Q) r k → ⊥
+-- ---- rows whose cell was named lost their column
 
 module _ {V : Type 0} (X : Problem) (edit : Edit) (names : NamesPlaces X edit) (Q : Grid V) (columns : HasColumnsOf X Q) (places : NamedPlaces) (places_are : places ≡ places_of X edit)
     (before after : List (Option ℕ)) (size : length before ≡ square_side X) (is_matching : IsMatching before) (cleared : IsClearedOf places Q before after)

@@ -1,10 +1,9 @@
 -- What a session keeps is kept by an edit.
-use Rattle.std.proofs.Common.{◌≡◌, ℕ, ◌≤◌, Bool, true, false, ◌||◌, ◌&&◌, List, length, take, Option, Some, None, sym, ap, subst, ◌∙◌, arith}
+use Rattle.std.proofs.Common.{◌≡◌, ℕ, ◌≤◌, Bool, true, false, ◌||◌, ◌&&◌, length, take, Some, None, sym, ap, subst, ◌∙◌, arith}
 use Rattle.std.specs.Prelude.{nat_eq, nat_lt}
 use Rattle.std.proofs.lemmas.Bool.{and_parts, eqb-true}
 use Rattle.std.proofs.lemmas.List.{take_all}
-use Rattle.asg_admit.specs.declared.reduced.Reduced.{Reduced}
-use Rattle.asg_match.specs.Matching.{column_at, IsMatching}
+use Rattle.asg_match.specs.Matching.{column_at}
 use Rattle.asg_model.specs.declared.edits.Edit.{Edit}
 use Rattle.asg_model.specs.declared.objectives.Objective.{Objective}
 use Rattle.asg_model.specs.declared.parts.Cost.{Cost}
@@ -24,29 +23,13 @@ use Rattle.asg_repair.specs.declared.phase_chains.PhaseChain.{PhaseChain}
 use Rattle.asg_repair.specs.declared.works.Work.{Work}
 use Rattle.asg_repair.specs.Edited.{Touches, NamesPlaces}
 use Rattle.asg_repair.specs.Mended.{IsLedBut}
-use Rattle.asg_repair.specs.NamedPlaces.{places_of, HasColumnsOf}
-use Rattle.asg_repair.specs.PhaseChains.{phases_in, IsPhaseChain}
-use Rattle.asg_repair.specs.Sessions.{AreAbsorbedAfter, IsGiven, IsLed, IsSession, ids_in, sure_columns}
-use Rattle.asg_repair.proofs.EditSteps.{IsClearedOf, MaySolve-edited, absorbed_edited, column_kept, still_whole, sure_kept, uncut}
+use Rattle.asg_repair.specs.NamedPlaces.{places_of, IsClearedOf}
+use Rattle.asg_repair.specs.PhaseChains.{phases_in, IsCutTo, IsPrepared}
+use Rattle.asg_repair.specs.Sessions.{AreAbsorbedAfter, IsGiven, IsLed, IsSession, IsSized, ids_in, sure_columns}
+use Rattle.asg_repair.proofs.EditSteps.{MaySolve-edited, absorbed_edited, column_kept, length-sure, still_whole, sure_kept, uncut}
 use Rattle.asg_repair.proofs.EditedShapes.{edited_rows, edited_side}
 use Rattle.asg_repair.proofs.LedSquares.{IsLedBut-edited}
 use Rattle.asg_repair.proofs.NamedLemmas.{NamesPlaces-passed}
-
--- records are spare and the way is told, and the phases are the same
-pub record IsPrepared {V : Type 0} (before after : PhaseChain V) : Type 0 where
-  pub chain : IsPhaseChain after
-  pub phases : phases_in after ≡ phases_in before
-  pub side : after.region.side ≡ before.region.side
-  pub more : before.region.spare ≤ after.region.spare
-  pub kept : before.is_told ≡ true → after.is_told ≡ true
-
--- so many phases are left
-pub record IsCutTo {V : Type 0} (kept : ℕ) (before after : PhaseChain V) : Type 0 where
-  pub chain : IsPhaseChain after
-  pub told : after.is_told ≡ true
-  pub phases : phases_in after ≡ take kept (phases_in before)
-  pub side : after.region.side ≡ before.region.side
-  pub spare : before.region.spare ≤ after.region.spare
 
 module _ {V : Type 0} (M : Monoid V) (difference : V → V → V) (enter : Cost → V) (objective : Objective) (reach : ℕ) (X : Problem) (work : Work V) (phases : PhaseChain V) (led cut : Bool) (room : AnswerRoom)
     (session : IsSession M difference enter objective reach X work phases led cut room)
@@ -75,8 +58,8 @@ module _ {V : Type 0} (M : Monoid V) (difference : V → V → V) (enter : Cost 
         }
 
     -- an edit is applied, and so many of the phases are kept
-    module _ (edit : Edit) (passes : refusal_of objective X edit ≡ None) (prepared after : PhaseChain V) (is : IsPrepared phases prepared) (count kept : ℕ) (size : count ≡ length (phases_in prepared))
-        (are_kept : AreKept M difference (square_side X) (phases_in prepared) (square_cell (edited X edit) M.unit enter) kept) (is_cut : IsCutTo kept prepared after)
+    module _ (edit : Edit) (passes : refusal_of objective X edit ≡ None) (prepared : PhaseChain V) (is : IsPrepared phases prepared) (count kept : ℕ) (size : count ≡ length (phases_in prepared))
+        (are_kept : AreKept M difference (square_side X) (phases_in prepared) (square_cell (edited X edit) M.unit enter) kept)
       where
         abbrev Y : Problem
         Y = edited X edit
@@ -87,23 +70,19 @@ module _ {V : Type 0} (M : Monoid V) (difference : V → V → V) (enter : Cost 
         names : NamesPlaces X edit
         names = NamesPlaces-passed objective X edit passes
 
-        phases_are : phases_in after ≡ take kept (phases_in phases)
-        phases_are = is_cut.phases ∙ ap (take kept) is.phases
-
         side_same : square_side Y ≡ square_side X
         side_same = edited_side X instance edit
+
+        taken_are : take kept (phases_in prepared) ≡ take kept (phases_in phases)
+        taken_are = ap (take kept) is.phases
 
         kept_of : AreKept M difference (square_side Y) (phases_in phases) (square_cell Y M.unit enter) kept
         kept_of =
             subst (λ n. AreKept M difference n (phases_in phases) (square_cell Y M.unit enter) kept) (sym side_same)
             (subst (λ list. AreKept M difference (square_side X) list (square_cell Y M.unit enter) kept) is.phases are_kept)
 
-        -- a prefix is kept, the longest that is admitted
-        pub kept_phases : (n : ℕ) × (phases_in after ≡ take n (phases_in phases)) × AreKept M difference (square_side Y) (phases_in phases) (square_cell Y M.unit enter) n
-        kept_phases = (kept, phases_are, kept_of)
-
-        pub region_same : after.region.side ≡ square_side Y
-        region_same = is_cut.side ∙ is.side ∙ session.region_side ∙ sym side_same
+        region_prepared : prepared.region.side ≡ square_side Y
+        region_prepared = is.side ∙ session.region_side ∙ sym side_same
 
         -- ---- the square was led, and all phases are kept
 
@@ -121,9 +100,9 @@ module _ {V : Type 0} (M : Monoid V) (difference : V → V → V) (enter : Cost 
           all_taken = take_all kept (phases_in phases) (let e = every in omega (arith, e))
 
           -- only the cells that the edit names may differ
-          pub IsLedBut-kept : (places : NamedPlaces) → places ≡ places_of X edit → (q : ℕ) → places.column ≡ Some q → IsLedBut M difference enter Y (phases_in after) places.row q work.reduced
+          pub IsLedBut-kept : (places : NamedPlaces) → places ≡ places_of X edit → (q : ℕ) → places.column ≡ Some q → IsLedBut M difference enter Y (take kept (phases_in prepared)) places.row q work.reduced
           IsLedBut-kept places places_are q at =
-              subst (λ list. IsLedBut M difference enter Y list places.row q work.reduced) (sym (phases_are ∙ all_taken))
+              subst (λ list. IsLedBut M difference enter Y list places.row q work.reduced) (sym (taken_are ∙ all_taken))
               (IsLedBut-edited M difference enter X instance edit names places places_are (phases_in phases) work.reduced (session.together.is_led both.0)
               (subst (λ list. AreAdmittedPhases M difference (square_side Y) list (square_cell Y M.unit enter)) all_taken kept_of.admitted)
               q at)
@@ -134,52 +113,62 @@ module _ {V : Type 0} (M : Monoid V) (difference : V → V → V) (enter : Cost 
               still_whole (phases_in phases) cut kept count count_is (let e = every in let f = count_is in omega (arith, e, f)) all_taken
               ∙ session.together.is_whole both.0
 
-        -- ---- rows whose cells the edit names lose their columns
+        -- ---- the phases are cut to those that are kept
 
-        module _ (places : NamedPlaces) (places_are : places ≡ places_of X edit) (matching : List (Option ℕ)) (long : length matching ≡ length work.matching)
-            (cleared : IsClearedOf places work.reduced.now work.matching matching) (now_cut : Bool) (now_cut_is : now_cut ≡ (cut || nat_lt kept count))
-          where
-            -- where all phases are kept, each row that isn't touched keeps its column
-            pub kept_columns : phases_in after ≡ phases_in phases → (r : ℕ) → ((k : ℕ) → Touches X edit r k → ⊥) → column_at (sure_columns now_cut matching) r ≡ column_at (sure_columns cut work.matching) r
-            kept_columns all r apart =
-                let whole = still_whole (phases_in prepared) cut kept count size (let few = are_kept.within in omega (arith, few, size)) (sym is_cut.phases ∙ all ∙ sym is.phases) in
-                ap (λ b. column_at (sure_columns b matching) r) (now_cut_is ∙ whole)
-                ∙ sure_kept cut work.matching matching r long
-                (column_kept X edit names work.reduced.now session.sized.square places places_are work.matching matching session.sized.matching_side session.sized.is_matching cleared r apart)
+        module _ (after : PhaseChain V) (is_cut : IsCutTo kept prepared after) where
+          phases_are : phases_in after ≡ take kept (phases_in phases)
+          phases_are = is_cut.phases ∙ taken_are
 
-            still_absorbed : now_cut ≡ false → AreAbsorbedAfter M difference enter Y (phases_in after) matching
-            still_absorbed h =
-                let whole = uncut (phases_in prepared) cut kept count size (sym now_cut_is ∙ h) in
-                subst (λ list. AreAbsorbedAfter M difference enter Y list matching) (sym (is_cut.phases ∙ whole.1 ∙ is.phases))
-                (absorbed_edited X edit names work.reduced.now session.sized.square places places_are work.matching matching session.sized.matching_side session.sized.is_matching cleared
-                M difference enter (phases_in phases) instance (session.together.absorbed whole.0))
+          -- a prefix is kept, the longest that is admitted
+          pub kept_phases : (n : ℕ) × (phases_in after ≡ take n (phases_in phases)) × AreKept M difference (square_side Y) (phases_in phases) (square_cell Y M.unit enter) n
+          kept_phases = (kept, phases_are, kept_of)
 
-            -- what a session keeps
-            pub IsSession-edited : ((cost : Cost) → MayEnter objective reach cost → IsValue M (enter cost)) → IsInstance Y → IsMatching matching → square_side X ≤ prepared.region.spare → (stays now_led : Bool) → stays ≡ (led && nat_eq kept count) → (now_led ≡ true → stays ≡ true) → (reduced : Reduced V) → HasColumnsOf Y reduced.now → (now_led ≡ true → IsLed M difference enter Y (phases_in after) reduced) → IsSession M difference enter objective reach Y (record work { matching = matching; reduced = reduced }) after now_led now_cut (record room { given = Open })
-            IsSession-edited values now is_matching spare stays now_led stays_is only reduced columns led_is = record {
-              may_solve = MaySolve-edited M enter objective reach X edit session.may_solve passes values now;
-              sized = record {
-                square = columns;
-                matching_side = long ∙ session.sized.matching_side ∙ sym side_same;
-                is_matching = is_matching;
-                bench_side = session.sized.bench_side ∙ sym side_same;
-                columns_side = session.sized.columns_side ∙ sym side_same;
-                steps_room = let few = session.sized.steps_room in omega (arith, few, side_same);
-              };
-              chain = is_cut.chain;
-              region_side = region_same;
-              together = record {
-                admitted =
-                    subst (λ list. AreAdmittedPhases M difference (square_side Y) list (square_cell Y M.unit enter)) (sym phases_are) kept_of.admitted;
-                is_led = led_is;
-                is_told = λ h. is_cut.told;
-                is_whole = λ h. now_cut_is ∙ uncut_still stays stays_is (only h);
-                absorbed = still_absorbed;
-              };
-              spare = λ h. let more = is_cut.spare in omega (arith, spare, more, side_same);
-              answer_room = record {
-                choice_rows = session.answer_room.choice_rows ∙ sym (edited_rows X edit);
-                ids_room = session.answer_room.ids_room;
-              };
-              given_is = tt;
-            }
+          -- rows whose cells the edit names lose their columns
+
+          module _ (places : NamedPlaces) (places_are : places ≡ places_of X edit) (later : Work V) (sized : IsSized Y later)
+              (cleared : IsClearedOf places work.reduced.now work.matching later.matching) (now_cut : Bool) (now_cut_is : now_cut ≡ (cut || nat_lt kept count))
+            where
+              long : length later.matching ≡ length work.matching
+              long = sized.matching_side ∙ side_same ∙ sym session.sized.matching_side
+
+              -- as many columns are seen as before
+              pub kept_count : length (sure_columns now_cut later.matching) ≡ length (sure_columns cut work.matching)
+              kept_count = length-sure now_cut later.matching ∙ long ∙ sym (length-sure cut work.matching)
+
+              -- where all phases are kept, each row that isn't touched keeps its column
+              pub kept_columns : phases_in after ≡ phases_in phases → (r : ℕ) → ((k : ℕ) → Touches X edit r k → ⊥) → column_at (sure_columns now_cut later.matching) r ≡ column_at (sure_columns cut work.matching) r
+              kept_columns all r apart =
+                  let whole = still_whole (phases_in prepared) cut kept count size (let few = are_kept.within in omega (arith, few, size)) (sym is_cut.phases ∙ all ∙ sym is.phases) in
+                  ap (λ b. column_at (sure_columns b later.matching) r) (now_cut_is ∙ whole)
+                  ∙ sure_kept cut work.matching later.matching r long
+                  (column_kept X edit names work.reduced.now session.sized.square places places_are work.matching later.matching session.sized.matching_side session.sized.is_matching cleared r apart)
+
+              still_absorbed : now_cut ≡ false → AreAbsorbedAfter M difference enter Y (phases_in after) later.matching
+              still_absorbed h =
+                  let whole = uncut (phases_in prepared) cut kept count size (sym now_cut_is ∙ h) in
+                  subst (λ list. AreAbsorbedAfter M difference enter Y list later.matching) (sym (is_cut.phases ∙ whole.1 ∙ is.phases))
+                  (absorbed_edited X edit names work.reduced.now session.sized.square places places_are work.matching later.matching session.sized.matching_side session.sized.is_matching cleared
+                  M difference enter (phases_in phases) instance (session.together.absorbed whole.0))
+
+              -- what a session keeps
+              pub IsSession-edited : ((cost : Cost) → MayEnter objective reach cost → IsValue M (enter cost)) → IsInstance Y → square_side X ≤ prepared.region.spare → (stays now_led : Bool) → stays ≡ (led && nat_eq kept count) → (now_led ≡ true → stays ≡ true) → (now_led ≡ true → IsLed M difference enter Y (phases_in after) later.reduced) → IsSession M difference enter objective reach Y later after now_led now_cut (record room { given = Open })
+              IsSession-edited values now spare stays now_led stays_is only led_is = record {
+                may_solve = MaySolve-edited M enter objective reach X edit session.may_solve passes values now;
+                sized = sized;
+                chain = is_cut.chain;
+                region_side = is_cut.side ∙ region_prepared;
+                together = record {
+                  admitted =
+                      subst (λ list. AreAdmittedPhases M difference (square_side Y) list (square_cell Y M.unit enter)) (sym phases_are) kept_of.admitted;
+                  is_led = led_is;
+                  is_told = λ h. is_cut.told;
+                  is_whole = λ h. now_cut_is ∙ uncut_still stays stays_is (only h);
+                  absorbed = still_absorbed;
+                };
+                spare = λ h. let more = is_cut.spare in omega (arith, spare, more, side_same);
+                answer_room = record {
+                  choice_rows = session.answer_room.choice_rows ∙ sym (edited_rows X edit);
+                  ids_room = session.answer_room.ids_room;
+                };
+                given_is = tt;
+              }

@@ -1,7 +1,6 @@
 -- Phases that lead on, one more at the end.
-use Rattle.std.proofs.Common.{◌≡◌, ℕ, suc, ◌<◌, ◌+◌, List, [], ◌∷◌, ◌++◌, length, take, get_or, Option, refl, sym, ◌∙◌, ap, subst, arith}
-use Rattle.asg_order.specs.Monoid.{Monoid, IsValue, IsOrderedMonoid, fold_of}
-use Rattle.asg_order.specs.Differences.{HasDifferences}
+use Rattle.std.proofs.Common.{◌≡◌, ℕ, suc, ◌<◌, ◌+◌, List, [], ◌∷◌, ◌++◌, length, take, get_or, refl, sym, ◌∙◌, ap, subst, arith}
+use Rattle.asg_order.specs.Monoid.{Monoid, IsOrderedMonoid, fold_of}
 use Rattle.asg_order.specs.laws.Products.{neutral_right}
 use Rattle.asg_admit.specs.Reduced.{IsReduced, IsPhaseTo, KeepsLabels}
 use Rattle.asg_admit.specs.declared.reduced.Reduced.{Reduced}

@@ -1,5 +1,5 @@
 -- Where an edit raises or removes live cells all phases are kept.
-use Rattle.std.proofs.Common.{◌≡◌, ℕ, ◌≤◌, List, length, take, Option, sym, subst, arith}
+use Rattle.std.proofs.Common.{◌≡◌, ℕ, List, length, take, Option, subst, arith}
 use Rattle.std.proofs.lemmas.List.{take_all}
 use Rattle.asg_admit.specs.laws.KeptPhases.{kept_all, kept_once}
 use Rattle.asg_model.specs.declared.edits.Edit.{Edit}

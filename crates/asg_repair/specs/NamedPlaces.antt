@@ -1,7 +1,8 @@
 -- The places that an edit names, and the cells of the square that stand for them.
-use Rattle.std.specs.Prelude.{◌≡◌, ℕ, Option, Some, None, slice_index_or, map}
+use Rattle.std.specs.Prelude.{◌≡◌, ℕ, List, Option, Some, None, slice_index_or, map}
 use Rattle.std.specs.List.{range_with_len}
 use Rattle.std.specs.Option.{option_and_then}
+use Rattle.asg_match.specs.Matching.{Matches}
 use Rattle.asg_model.specs.declared.edits.Edit.{Edit}
 use Rattle.asg_model.specs.Edits.{named_row, named_column}
 use Rattle.asg_model.specs.HallSet.{row_place_of, column_place_of}
@@ -40,3 +41,11 @@ label_at Q k = slice_index_or Q.column_labels k None
 pub record HasColumnsOf {V : Type 0} (X : Problem) (Q : Grid V) : Type 0 where
   pub side : Q.side ≡ square_side X
   pub columns : Q.column_labels ≡ map (column_label X) (range_with_len 0 (square_side X))
+
+-- each row whose cell stands for the places has lost its column, and all others keep theirs
+pub record IsClearedOf {V : Type 0} (places : NamedPlaces) (Q : Grid V)
+    (before after : List (Option ℕ)) : Type 0 where
+  pub only : (r k : ℕ) → Matches after r k → Matches before r k
+  pub kept : (r k : ℕ) → Matches before r k → (IsNamed places (label_at Q) r k → ⊥)
+      → Matches after r k
+  pub cleared : (r k : ℕ) → Matches after r k → IsNamed places (label_at Q) r k → ⊥

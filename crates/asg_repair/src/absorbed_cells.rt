@@ -38,7 +38,8 @@ impl<M: DMonoid> Allowed for AbsorbedCells<'_, M> {
         }
     }
 
-    ghost within = { λ s r c h. absorbed_within (M.monoid_of s.m.now) s.index s.square.now s.grid r c h };
+    ghost within = { λ s r c h.
+        absorbed_within (M.monoid_of s.m.now) s.index s.square.now s.grid r c h };
 }
 
 // Whether a value absorbs another: their product is the first.
@@ -62,7 +63,8 @@ pub(crate) fn prune_absorbed<M: DMonoid>(
     requires index { IsValue (M.monoid_of m.now) index }
     requires side { length matching.old ≡ square.now.side }
     ensures side { length matching.new ≡ length matching.old }
-    ensures absorbed { AllAllowed (IsAbsorbed (M.monoid_of m.now) index (cell_at square.now)) matching.new }
+    ensures absorbed { AllAllowed (IsAbsorbed (M.monoid_of m.now) index (cell_at square.now))
+        matching.new }
     ensures only { (r k : ℕ) → Matches matching.new r k → Matches matching.old r k }
     ensures kept { (r k : ℕ) → Matches matching.old r k
         → IsAbsorbed (M.monoid_of m.now) index (cell_at square.now) r k

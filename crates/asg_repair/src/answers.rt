@@ -9,8 +9,9 @@ ghost use Rattle.asg_proof.specs.Phases.{PhaseOf};
 ghost use Rattle.asg_square.specs.Cells.{IsPresent};
 ghost use Rattle.asg_square.specs.Grid.{cell_at, HasLabelsOf};
 ghost use Rattle.asg_repair.specs.Answers.{IsWrittenBy};
-ghost use Rattle.asg_repair.specs.Sessions.{ids_in, IsAnswerRoom, IsGiven, IsLed, IsSized, MaySolve};
-ghost use Rattle.asg_repair.specs.declared.answers.Given.TheVariants.{Open};
+ghost use Rattle.asg_repair.specs.Sessions.{ids_in, IsAnswerRoom, IsGiven, IsLed};
+ghost use Rattle.asg_repair.specs.Sessions.{IsSized, MaySolve};
+ghost use Rattle.asg_repair.specs.declared.answers.Given.TheVariants.{Chosen, Open, Stuck};
 
 use crate::NoMemory;
 use crate::laws::led_law;
@@ -102,6 +103,48 @@ fn write_hall<V: Copy>(square: &Square<V>, inst: &Instance, rows: &[u32], ids: &
     hall_of(square, inst, &cells, rows, ids)
 }
 
+// Writes down the choice of a perfect assignment by present cells.
+fn give_choice<V: Copy>(work: &mut Work<V>, room: &mut AnswerRoom)
+    requires perfect { IsPerfect (IsPresent (cell_at work.old.reduced.now))
+        work.old.reduced.now.side work.old.matching }
+    requires columns { length work.old.columns.items ≡ work.old.reduced.now.side }
+    requires out { length room.old.choice ≡ work.old.reduced.now.rows }
+    ensures written { IsWrittenBy work.old.reduced.now work.old.matching room.new.choice }
+    ensures given { room.new.given ≡ Chosen }
+    ensures ids { room.new.ids ≡ room.old.ids }
+    ensures reduced { work.new.reduced ≡ work.old.reduced }
+    ensures matching { work.new.matching ≡ work.old.matching }
+    ensures bench { work.new.bench ≡ work.old.bench }
+    ensures room { work.new.room ≡ work.old.room }
+    ensures columns { length work.new.columns.items ≡ length work.old.columns.items }
+{
+    write_choice(
+        &work.reduced.now,
+        &work.matching,
+        &mut work.columns,
+        &mut room.choice,
+    );
+    room.given = Given::Chosen;
+}
+
+// Writes down a Hall set of the rows of the last tree, which have fewer present cells than they
+// are.
+fn give_hall<V: Copy>(inst: &Instance, work: &Work<V>, room: &mut AnswerRoom)
+    requires labels { HasLabelsOf inst.now work.now.reduced.now }
+    requires short { IsDeficient (IsPresent (cell_at work.now.reduced.now))
+        work.now.reduced.now.side work.now.bench.rows }
+    requires room { 1001 ≤ length room.old.ids.items }
+    ensures hall { GivesHallSets inst.now (IsPresent (cell_at work.now.reduced.now))
+        (ids_in room.new) }
+    ensures given { room.new.given ≡ Stuck }
+    ensures choice { room.new.choice ≡ room.old.choice }
+    ensures ids { length room.new.ids.items ≡ length room.old.ids.items }
+{
+    let rows = work.bench.violator();
+    room.count = write_hall(&work.reduced.now, inst, rows, &mut room.ids);
+    room.given = Given::Stuck;
+}
+
 /// Writes down what a solver came to: the choice of the matching, or the Hall set of the rows of
 /// the last tree. It takes no memory.
 pub(crate) fn give<K: Kind>(
@@ -134,19 +177,7 @@ pub(crate) fn give<K: Kind>(
     led_law(kind.monoid());
     let _rows = inst.rows();
     match ended {
-        Solved::Perfect(_) => {
-            write_choice(
-                &work.reduced.now,
-                &work.matching,
-                &mut work.columns,
-                &mut room.choice,
-            );
-            room.given = Given::Chosen;
-        }
-        Solved::Short(_) => {
-            let rows = work.bench.violator();
-            room.count = write_hall(&work.reduced.now, inst, rows, &mut room.ids);
-            room.given = Given::Stuck;
-        }
+        Solved::Perfect(_) => give_choice(work, room),
+        Solved::Short(_) => give_hall(inst, work, room),
     }
 }

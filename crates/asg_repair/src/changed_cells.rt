@@ -93,7 +93,8 @@ fn kept_in_row<M: DMonoid, C: ChangedCells<M::Value>>(
     left
 }
 
-/// How many of the phases of trails all cells of some rows allow that are changed. It takes no memory.
+/// How many of the phases of trails all cells of some rows allow that are changed. It takes no
+/// memory.
 pub(crate) fn kept_count<M: DMonoid, C: ChangedCells<M::Value>>(
     m: &M,
     region: &Region<M::Value>,

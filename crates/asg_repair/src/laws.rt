@@ -45,7 +45,8 @@ pub fn led_law<M: DMonoid>(m: &M)
         → IsInstance X
         → EntersValues monoid enter X
         → IsLed monoid (M.difference m.now) enter X phases reduced
-        → IsPerfect (IsAbsorbed monoid reduced.index (cell_at reduced.now)) reduced.now.side matching
+        → IsPerfect (IsAbsorbed monoid reduced.index (cell_at reduced.now)) reduced.now.side
+        matching
         → length p ≡ length matching
         → ((r : ℕ) → r < length matching → Matches matching r (slice_index p r))
         → choice ≡ grid_choice reduced.now p

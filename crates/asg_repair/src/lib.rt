@@ -15,6 +15,7 @@
 
 mod absorbed_cells;
 mod answers;
+mod applied_edits;
 mod changed_cells;
 mod edited_cells;
 mod free_rows;

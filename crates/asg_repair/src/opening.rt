@@ -39,7 +39,8 @@ fn columns_and_room<V: Copy>(
 }
 
 // Room for what is edited: a root has so many records of phases spare as its square has rows, and
-// beside it come columns for these and places for the steps of a phase. The error is want of memory.
+// beside it come columns for these and places for the steps of a phase. The error is want of
+// memory.
 fn edit_room<V: Copy>(
     alloc: Global,
     root: &mut Root<V>,

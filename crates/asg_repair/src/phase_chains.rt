@@ -49,7 +49,8 @@ impl<V: Copy> PhaseChain<V> {
     pub(crate) fn of(alloc: Global, region: Region<V>, last: Option<Trail>) -> PhaseChain<V>
         ensures region { result.region ≡ region }
         ensures last { result.last ≡ last }
-        ensures untold { result.is_told ≡ true → IsWayTo result.region result.last result.way.items }
+        ensures untold { result.is_told ≡ true
+            → IsWayTo result.region result.last result.way.items }
     {
         PhaseChain {
             region,

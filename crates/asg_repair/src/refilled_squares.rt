@@ -11,8 +11,8 @@ use asg_admit::Reduced;
 use asg_model::{Cost, Instance};
 use asg_order::{Kind, Ordered};
 
-/// Makes a reduced square that of an instance, its costs entered and the index the unit: no phase has
-/// been applied. It takes no memory.
+/// Makes a reduced square that of an instance, its costs entered and the index the unit: no phase
+/// has been applied. It takes no memory.
 pub(crate) fn refill<K: Kind>(
     kind: &K,
     inst: &Instance,

@@ -37,8 +37,8 @@ fn release_last<V: Copy>(region: &mut Region<V>, last: Option<Trail>) -> Option<
     }
 }
 
-/// Releases the trails of a chain from the last one on, so that so many phases are left; the last trail
-/// that is left. It takes no memory.
+/// Releases the trails of a chain from the last one on, so that so many phases are left; the last
+/// trail that is left. It takes no memory.
 pub(crate) fn release_to<V: Copy>(
     region: &mut Region<V>,
     last: Option<Trail>,

@@ -1,6 +1,7 @@
 //! Sessions.
 
-ghost use Rattle.std.specs.Prelude.{◌≡◌, ◌≢◌, ◌≤◌, ◌||◌, ℕ, None, Some, nat_lt, take, length, IfOk, OnOk, OnErr, IfErr};
+ghost use Rattle.std.specs.Prelude.{◌≡◌, ◌≢◌, ◌≤◌, ◌||◌, ℕ, None, Some, nat_lt, take, length};
+ghost use Rattle.std.specs.Prelude.{IfOk, OnOk, OnErr, IfErr};
 ghost use Rattle.asg_match.specs.Matching.{column_at};
 ghost use Rattle.asg_model.specs.declared.edits.EditRefusal.TheVariants.{NoMemory as NoMemoryRefusal};
 ghost use Rattle.asg_model.specs.Edits.{edited, refusal_of};
@@ -15,9 +16,9 @@ ghost use Rattle.asg_square.specs.Cells.{square_cell};
 
 use crate::NoMemory;
 use crate::answers::{AnswerRoom, Given};
-use crate::edited_cells::kept_through;
-use crate::led_squares::{follow, stays_led};
-use crate::named_places::{clear_named, named_places};
+use crate::applied_edits::{edit_instance, follow_edit};
+use crate::led_squares::stays_led;
+use crate::named_places::named_places;
 use crate::opening::{Opened, solve_first};
 use crate::phase_chains::PhaseChain;
 use crate::works::Work;
@@ -25,7 +26,7 @@ use asg_model::{Edit, EditRefusal, Instance};
 use asg_order::{Kind, Ordered};
 use asg_proof::laws::raised_law;
 use asg_roots::RootGuess;
-use std::alloc::{AllocError, Global};
+use std::alloc::Global;
 use std::marker::Model;
 
 /// A session: an instance that is edited, with what its last answer left: the phases that are still
@@ -150,41 +151,30 @@ impl<K: Kind + Drop> Session<K> {
         ensures kind { self.new.kind ≡ self.old.kind }
         ensures unchanged { OnErr result (self.new ≡ self.old) }
     {
-        let side = self.inst.side();
-        self.phases.prepare(side)?;
         let places = named_places(&self.inst, edit);
-        let square = &self.work.reduced.now;
-        let kept = kept_through(&self.kind, &self.inst, square, &self.phases, edit, places);
-        apply_to(&self.kind, &mut self.inst, edit)?;
+        let kept = edit_instance(
+            &self.kind,
+            &mut self.inst,
+            &self.work.reduced.now,
+            &mut self.phases,
+            edit,
+            places,
+        )?;
         let _rows = self.inst.rows();
-        clear_named(places, &self.work.reduced.now, &mut self.work.matching);
         let count = self.phases.len();
         self.is_cut = is_cut_by(self.is_cut, kept, count);
         let stays = stays_led(self.is_led, kept, count);
-        self.phases.cut(kept);
-        self.is_led = follow(
+        self.is_led = follow_edit(
             &self.kind,
             &self.inst,
-            &mut self.work.reduced,
-            &self.phases,
+            &mut self.work,
+            &mut self.phases,
             places,
+            kept,
             stays,
         );
         self.room.given = Given::Open;
         Ok(())
-    }
-}
-
-// Applies an edit that isn't refused to an instance. The error is want of memory, and then the
-// instance is as it was.
-fn apply_to<K: Kind>(kind: &K, inst: &mut Instance, edit: Edit) -> Result<(), NoMemory>
-    requires { refusal_of (K.objective kind.now) inst.old edit ≡ None }
-    ensures edited { OnOk result (inst.new ≡ edited inst.old edit) }
-    ensures kept { OnErr result (inst.new ≡ inst.old) }
-{
-    match inst.edit(kind.objective(), edit) {
-        Ok(()) => Ok(()),
-        Err(_) => Err(AllocError),
     }
 }
 

@@ -12,7 +12,8 @@ ghost use Rattle.asg_pool.specs.Forest.{IsLive};
 ghost use Rattle.asg_square.specs.Cells.{square_cell};
 ghost use Rattle.asg_square.specs.Grid.{cell_at};
 ghost use Rattle.asg_repair.specs.PhaseChains.{phases_in, IsPhaseChain};
-ghost use Rattle.asg_repair.specs.Sessions.{AreAbsorbed, AreAbsorbedAfter, AreTogether, IsLed, IsSized, MaySolve};
+ghost use Rattle.asg_repair.specs.Sessions.{AreAbsorbed, AreAbsorbedAfter, AreTogether};
+ghost use Rattle.asg_repair.specs.Sessions.{IsLed, IsSized, MaySolve};
 
 use crate::absorbed_cells::prune_absorbed;
 use crate::phase_chains::PhaseChain;
@@ -168,9 +169,9 @@ fn solve_with<K: Kind>(
     requires region_side { region.old.side ≡ reduced.old.now.side }
     requires spare { unmatched matching.old ≤ region.old.spare }
     requires live { IfSome trail (IsLive region.old) }
-    ensures solved { HasSolved (K.M.monoid_of (K.monoid kind.now)) (K.M.difference (K.monoid kind.now))
-        reduced.old reduced.new matching.old matching.new region.old region.new trail
-        (last_of result) }
+    ensures solved { HasSolved (K.M.monoid_of (K.monoid kind.now))
+        (K.M.difference (K.monoid kind.now)) reduced.old reduced.new matching.old matching.new
+        region.old region.new trail (last_of result) }
     ensures ends { EndsIn (K.M.monoid_of (K.monoid kind.now)) reduced.new matching.new
         bench.new.rows result }
     ensures bench_side { bench.new.side ≡ bench.old.side }

@@ -1,5 +1,5 @@
-use Rattle.std.proofs.Common.{rules, ◌≡◌, ◌≤◌, None, sym, ◌∙◌, ap, subst}
-use Rattle.asg_model.specs.Edits.{edited, refusal_of}
+use Rattle.std.proofs.Common.{rules, ◌≡◌, ◌≤◌, None, ◌∙◌, ap, subst}
+use Rattle.asg_model.specs.Edits.{refusal_of}
 use Rattle.asg_model.specs.Instances.{IsInstance}
 use Rattle.asg_model.specs.Limits.{most_cost}
 use Rattle.asg_model.specs.Problem.{Problem}

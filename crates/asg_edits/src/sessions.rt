@@ -1,6 +1,7 @@
 //! The session of an objective's kind.
 
 ghost use Rattle.std.specs.Prelude.{◌≡◌, ◌≤◌, None, IfOk, IsTrue, OnErr, OnOk};
+ghost use Rattle.asg_model.specs.declared.objectives.Objective.TheVariants.{TimeCost};
 ghost use Rattle.asg_model.specs.Edits.{refusal_of};
 ghost use Rattle.asg_model.specs.Instances.{IsInstance};
 ghost use Rattle.asg_model.specs.Limits.{most_side};
@@ -27,6 +28,45 @@ pub(crate) enum Sessions {
     Times(Session<TimeKind>),
 }
 
+// A session of sums, opened. The error is want of memory.
+fn open_sums(alloc: Global, kind: SumKind, inst: Instance) -> Result<Sessions, NoMemory>
+    requires side { square_side inst ≤ most_side }
+    requires passes { PassesNegative kind.objective inst }
+    ensures objective { IfOk result (λ session. (editor_of session).objective ≡ kind.objective) }
+    ensures instance { IfOk result (λ session. (editor_of session).instance ≡ inst) }
+{
+    match Session::open(alloc, kind, inst) {
+        Ok(session) => Ok(Sessions::Sums(session)),
+        Err(error) => Err(error),
+    }
+}
+
+// A session of greatest costs, opened. The error is want of memory.
+fn open_peaks(alloc: Global, kind: PeakKind, inst: Instance) -> Result<Sessions, NoMemory>
+    requires side { square_side inst ≤ most_side }
+    requires passes { PassesNegative kind.objective inst }
+    ensures objective { IfOk result (λ session. (editor_of session).objective ≡ kind.objective) }
+    ensures instance { IfOk result (λ session. (editor_of session).instance ≡ inst) }
+{
+    match Session::open(alloc, kind, inst) {
+        Ok(session) => Ok(Sessions::Peaks(session)),
+        Err(error) => Err(error),
+    }
+}
+
+// A session of times and costs, opened. The error is want of memory.
+fn open_times(alloc: Global, kind: TimeKind, inst: Instance) -> Result<Sessions, NoMemory>
+    requires side { square_side inst ≤ most_side }
+    requires passes { PassesNegative TimeCost inst }
+    ensures objective { IfOk result (λ session. (editor_of session).objective ≡ TimeCost) }
+    ensures instance { IfOk result (λ session. (editor_of session).instance ≡ inst) }
+{
+    match Session::open(alloc, kind, inst) {
+        Ok(session) => Ok(Sessions::Times(session)),
+        Err(error) => Err(error),
+    }
+}
+
 // The session of an objective's kind, opened. The error is want of memory.
 pub(crate) fn open_sessions(
     alloc: Global,
@@ -41,17 +81,12 @@ pub(crate) fn open_sessions(
 {
     match objective {
         Objective::Sum | Objective::SumMax | Objective::SumPair | Objective::Capped(_) => {
-            let session = Session::open(alloc, SumKind::of(objective), inst)?;
-            Ok(Sessions::Sums(session))
+            open_sums(alloc, SumKind::of(objective), inst)
         }
         Objective::Bottleneck | Objective::BottleneckMax => {
-            let session = Session::open(alloc, PeakKind::of(objective), inst)?;
-            Ok(Sessions::Peaks(session))
+            open_peaks(alloc, PeakKind::of(objective), inst)
         }
-        Objective::TimeCost => {
-            let session = Session::open(alloc, TimeKind::new(), inst)?;
-            Ok(Sessions::Times(session))
-        }
+        Objective::TimeCost => open_times(alloc, TimeKind::new(), inst),
         Objective::Balanced | Objective::Lex => unreachable!(),
     }
 }

@@ -83,6 +83,57 @@ fn judge_parent<K: Kind>(
     )
 }
 
+// Judges the nodes below the root, parent by parent, up to the first node at fault, and tallies
+// them; a square is made that of each parent in turn. The error is want of memory.
+fn judge_each<K: Kind>(
+    alloc: Global,
+    kind: &K,
+    inst: &Instance,
+    answers: &[Choice],
+    nodes: &[Node],
+    members: &Groups,
+    given: &Groups,
+    count: usize,
+    last: Option<<<K as Kind>::M as Ordered>::Value>,
+    root: &Reduced<<<K as Kind>::M as Ordered>::Value>,
+    reduced: &mut Reduced<<<K as Kind>::M as Ordered>::Value>,
+    kept: &mut BitRows,
+    so_far: Tally,
+) -> Result<Tally, NoMemory>
+    requires tree { let T = tree_of (K.M.monoid_of (K.monoid kind.now))
+        (K.M.difference (K.monoid kind.now)) (K.M.word_of (K.monoid kind.now))
+        (K.entered kind.now) inst.now answers.now nodes.now in IsTree T }
+    requires members { AreGroups (parent_keys nodes.now) (length nodes.now) members.now }
+    requires given { AreGroups (answer_keys nodes.now) (length answers.now) given.now }
+    requires last { let T = tree_of (K.M.monoid_of (K.monoid kind.now))
+        (K.M.difference (K.monoid kind.now)) (K.M.word_of (K.monoid kind.now))
+        (K.entered kind.now) inst.now answers.now nodes.now in IsLastProduct T count last }
+    requires kept { KeepsOtherRows inst.now kept.old }
+    requires root { let T = tree_of (K.M.monoid_of (K.monoid kind.now))
+        (K.M.difference (K.monoid kind.now)) (K.M.word_of (K.monoid kind.now))
+        (K.entered kind.now) inst.now answers.now nodes.now in
+        1 < so_far.fault → StandsAt T 1 root.now.now root.now.index }
+    requires room { 1 < so_far.fault → reduced.old.now.side ≡ square_side inst.now }
+    requires tallied { let T = tree_of (K.M.monoid_of (K.monoid kind.now))
+        (K.M.difference (K.monoid kind.now)) (K.M.word_of (K.monoid kind.now))
+        (K.entered kind.now) inst.now answers.now nodes.now in IsTallied T count 1 0 so_far }
+    ensures { let T = tree_of (K.M.monoid_of (K.monoid kind.now))
+        (K.M.difference (K.monoid kind.now)) (K.M.word_of (K.monoid kind.now))
+        (K.entered kind.now) inst.now answers.now nodes.now in
+        IfOk result (IsWholeTally T count) }
+{
+    let mut tally = so_far;
+    let mut parent = 1;
+    'parents: while parent < tally.fault {
+        tally = judge_parent(
+            alloc, kind, inst, answers, nodes, members, given, count, last, root, reduced, kept,
+            parent, tally,
+        )?;
+        parent += 1;
+    }
+    Ok(tally)
+}
+
 /// Judges the nodes below the root, parent by parent, up to the first node at fault, and tallies
 /// them. The error is want of memory.
 pub(crate) fn judge_parents<K: Kind>(
@@ -125,26 +176,19 @@ pub(crate) fn judge_parents<K: Kind>(
         now,
         index: root.index,
     };
-    let mut tally = so_far;
-    let mut parent = 1;
-    'parents: while parent < tally.fault {
-        tally = judge_parent(
-            alloc,
-            kind,
-            inst,
-            answers,
-            nodes,
-            members,
-            given,
-            count,
-            last,
-            root,
-            &mut reduced,
-            kept,
-            parent,
-            tally,
-        )?;
-        parent += 1;
-    }
-    Ok(tally)
+    judge_each(
+        alloc,
+        kind,
+        inst,
+        answers,
+        nodes,
+        members,
+        given,
+        count,
+        last,
+        root,
+        &mut reduced,
+        kept,
+        so_far,
+    )
 }

@@ -11,6 +11,9 @@ use Rattle.asg_trees.proofs.GroupLemmas.{parent_key}
 use Rattle.asg_trees.proofs.SiblingLemmas.{before_some, below_root, member_falls, member_judged, members_done, members_first, next_named, next_of_member}
 use Rattle.asg_trees.proofs.siblings.judge_members.Goals as goal
 
+pub first_of-member-requires : goal.first_of-member-requires
+first_of-member-requires g c = omega (arith, c.requires.members.first_count, c.requires.upto)
+
 pub members-init : goal.members-init
 members-init g c =
     let kind = c.args.kind.now in
@@ -45,6 +48,17 @@ judge_member-requires-clause-stands g c =
 pub judge_member-requires-clause-choice : goal.judge_member-requires-clause-choice
 judge_member-requires-clause-choice g c =
     c.requires.choice ∙ ap (node_answer c.args.answers.now c.args.nodes.now) (sym (c.members.invariant.named c.members-test.true))
+
+pub branch_of-marked-requires-clause-from : goal.branch_of-marked-requires-clause-from
+branch_of-marked-requires-clause-from g c = omega (arith, c.members-test.true)
+
+pub branch_of-marked-requires-clause-upto : goal.branch_of-marked-requires-clause-upto
+branch_of-marked-requires-clause-upto g c = c.members.invariant.upto
+
+pub next_of-member-requires : goal.next_of-member-requires
+next_of-member-requires g c =
+    let keys = length-map c.args.nodes.now (λ (node : Node). node.parent) in
+    omega (arith, c.requires.members.next_count, keys, c.members.invariant.upto)
 
 pub members-smaller : goal.members-smaller
 members-smaller g c =

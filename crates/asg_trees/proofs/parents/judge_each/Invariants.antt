@@ -4,7 +4,7 @@ use Rattle.asg_trees.specs.Kept.{KeepsOtherRows}
 use Rattle.asg_trees.specs.Tallies.{IsTallied}
 use Rattle.asg_trees.specs.Trails.{StandsAt}
 use Rattle.asg_trees.specs.Trees.{tree_of}
-use Rattle.asg_trees.proofs.parents.judge_parents.Given as goal
+use Rattle.asg_trees.proofs.parents.judge_each.Given as goal
 
 -- the parents so far were gone through
 abbrev pub invariant-parents : goal.invariant-parents

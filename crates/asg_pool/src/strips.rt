@@ -100,8 +100,7 @@ fn append<T: Copy>(values: &mut Vec<T>, row: &[T], width: usize)
         × (length row.now + length more ≡ width) }
     ensures capacity { vec_capacity values.old ≤ vec_capacity values.new }
 {
+    let places = values.len() + width;
     let _ = values.extend_from_slice(row);
-    for _ in row.len()..width {
-        values.push_reserved(row[0]);
-    }
+    let _ = values.resize(places, row[0]);
 }

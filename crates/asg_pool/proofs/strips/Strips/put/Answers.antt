@@ -1,9 +1,103 @@
-use Rattle.std.proofs.Common.{◌≡◌, ℕ, ◌+◌, ◌-◌, ◌*◌, ◌<◌, ◌≤◌, ◌++◌, ◌∷◌, [], List, length, set, ap, ◌∙◌, arith}
-use Rattle.std.proofs.lemmas.List.{with_items_is}
+use Rattle.std.proofs.Common.{◌≡◌, ℕ, ◌+◌, ◌-◌, ◌*◌, ◌<◌, ◌≤◌, ◌++◌, ◌∷◌, [], List, length, set, take, drop, sym, ap, ◌∙◌, arith}
+use Rattle.std.proofs.lemmas.List.{with_items_is, length-set, length-drop, length-take-le}
+use Rattle.std.proofs.lemmas.List.Elements.{All-set}
+use Rattle.std.proofs.lemmas.Nat.{row_fits}
 use borrow.Rule.Slice.PartMut.{put_mid, same_len_mid}
 use Rattle.asg_pool.specs.Strips.{Rows, rows_of}
-use Rattle.asg_pool.proofs.StripLemmas.{rows_count, strip_pushed, strip_put}
+use Rattle.asg_pool.proofs.StripLemmas.{place_fits, rows_count, strip_pushed, strip_put}
 use Rattle.asg_pool.proofs.strips.Strips.put.Goals as goal
+
+pub slice_bounds-copy_from_slice-end : goal.slice_bounds-copy_from_slice-end
+slice_bounds-copy_from_slice-end g c =
+    let s = c.self.inside in
+    let less = c.if-k-len.true in
+    let n = c.len.ensures in
+    let len = s.lens.ok.0 in
+    let fits = place_fits s.width c.args.k s.lens.items s.values.items (omega (arith, less, n, len)) c.self.invariant.count in
+    let same = ap length c.deref_mut.ensures.value in
+    let short = c.requires.width in
+    let wide = ap (λ v. v.width) c.self.view_is in
+    omega (arith, fits, same, short, wide)
+
+pub copy_from_slice-requires : goal.copy_from_slice-requires
+copy_from_slice-requires g c =
+    let s = c.self.inside in
+    let less = c.if-k-len.true in
+    let n = c.len.ensures in
+    let len = s.lens.ok.0 in
+    let fits = place_fits s.width c.args.k s.lens.items s.values.items (omega (arith, less, n, len)) c.self.invariant.count in
+    let same = ap length c.deref_mut.ensures.value in
+    let short = c.requires.width in
+    let width = ap (λ v. v.width) c.self.view_is in
+    let row = c.args.row.now in
+    let now = c.deref_mut.result.now in
+    let at = c.args.k * s.width in
+    let wide : at + length row - at ≡ length row = omega arith in
+    let rest = length-drop at now in
+    ap (λ m. length (take m (drop at now))) wide
+    ∙ length-take-le (length row) (drop at now) (omega (arith, rest, fits, same, short, width))
+
+pub index_mut-requires : goal.index_mut-requires
+index_mut-requires g c =
+    let less = c.if-k-len.true in
+    let n = c.len.ensures in
+    omega (arith, less, n)
+
+-- there is memory for one more row
+pub append-requires : goal.append-requires
+append-requires g c =
+    let s = c.self.inside in
+    let i = c.self.invariant in
+    let same = ap (λ v. v.width) c.self.view_is in
+    let room = ap (λ v. v.room) c.self.view_is in
+    let short = c.requires.width in
+    let place = c.requires.room in
+    let from = c.if-k-len.false in
+    let n = c.len.ensures in
+    let len = s.lens.ok.0 in
+    let long = s.values.ok.0 in
+    let upto = row_fits (length s.lens.items) s.width s.room s.width (omega (arith, from, n, len, place, room)) (omega arith) in
+    let count = i.count in
+    let fit = i.values_fit in
+    record {
+      some = c.requires.some;
+      width = omega (arith, short, same);
+      room = omega (arith, upto, count, fit, long);
+    }
+
+pub push_reserved-requires : goal.push_reserved-requires
+push_reserved-requires g c =
+    let room = ap (λ v. v.room) c.self.view_is in
+    let place = c.requires.room in
+    let from = c.if-k-len.false in
+    let n = c.len.ensures in
+    let fit = c.self.invariant.lens_fit in
+    omega (arith, from, n, place, room, fit)
+
+pub invariant_of-self : goal.invariant_of-self
+invariant_of-self g c =
+    let s = c.self.inside in
+    let i = c.self.invariant in
+    let row = c.args.row.now in
+    let at = c.args.k * s.width in
+    let now = c.deref_mut.result.now in
+    let part = c.copy_from_slice.new.self in
+    let same = ap (λ v. v.width) c.self.view_is in
+    let written = put_mid at (at + length row - at) now part in
+    let long : length written ≡ length s.values.items =
+    same_len_mid at (at + length row - at) now part c.copy_from_slice.ensures.len ∙ ap length c.deref_mut.ensures.value in
+    let whole = with_items_is s.values written (let len = s.values.ok.0 in omega (arith, long, len)) in
+    let lens = length-set s.lens.items c.args.k (length row) in
+    let count = i.count in
+    let used = i.used in
+    let short = c.requires.width in
+    record {
+      count = ap length whole ∙ long ∙ count ∙ ap (λ n. n * s.width) (sym lens);
+      within = All-set (λ n. n ≤ s.width) s.lens.items c.args.k (length row) (omega (arith, short, same)) i.within;
+      used = omega (arith, lens, used);
+      lens_fit = i.lens_fit;
+      values_fit = i.values_fit;
+    }
 
 pub returns-then-k-len : goal.returns-then-k-len
 returns-then-k-len g c =

@@ -141,7 +141,7 @@ minus_is_no_integer : integer_of (45 ∷ []) ≡ None
 unfolding integer_of number_of
 minus_is_no_integer = refl
 
-integer_is_present : (token : List ℕ) (a : ℤ) → integer_of token ≡ Some a → is_absent token ≡ false
+pub integer_is_present : (token : List ℕ) (a : ℤ) → integer_of token ≡ Some a → is_absent token ≡ false
 integer_is_present token a spells =
     ⊎_elim
     (λ absent. let same : token ≡ 45 ∷ [] = (bytes_eq-Decides token (45 ∷ [])).0 absent in absurd (none-some a (sym minus_is_no_integer ∙ ap integer_of (sym same) ∙ spells)))
@@ -149,7 +149,7 @@ integer_is_present token a spells =
     (cases_Bool (is_absent token))
 
 -- an integer in range is a cost in range
-plain_in_range : (token : List ℕ) (a : ℤ) → integer_of token ≡ Some a → unsigned_abs a ≤ most_cost → Some (Some (record { a = a; b = pos 0 })) ≡ option_map cost_in_range (cost_of token)
+pub plain_in_range : (token : List ℕ) (a : ℤ) → integer_of token ≡ Some a → unsigned_abs a ≤ most_cost → Some (Some (record { a = a; b = pos 0 })) ≡ option_map cost_in_range (cost_of token)
 plain_in_range token a spells in_range =
     sym (ap (λ a. option_map cost_in_range (option_or (option_map (λ a. record { a = a; b = pos 0 }) a) (pair_cost_of token))) spells ∙ ap (λ v. Some (cond (v && true) (Some (record { a = a; b = pos 0 })) None)) (le-leb _ _ in_range))
 

@@ -26,3 +26,12 @@ pub mod PairLemmas
 pub mod ScriptLineLemmas
 pub mod ScriptLemmas
 pub mod ScriptLaw
+pub mod WrittenNumbers
+pub mod WrittenCells
+pub mod TokenLines
+pub mod TableRows
+pub mod AscendingCells
+pub mod RectLines
+pub mod RectLengths
+pub mod RectLaw
+pub mod PlainLaw

@@ -69,7 +69,7 @@ module _ (x y : List ℕ) (a b : ℤ) (spells_a : integer_of x ≡ Some a) (spel
   no_plain : integer_of token ≡ None
   no_plain = no_integer token (length x) (some_bytes x a spells_a) (omega (arith, length-append x (58 ∷ y))) (byte_behind x 58 y 0)
 
-  spells_pair : Some (Some (record { a = a; b = b })) ≡ option_map cost_in_range (cost_of token)
+  pub spells_pair : Some (Some (record { a = a; b = b })) ≡ option_map cost_in_range (cost_of token)
   spells_pair =
       pair_in_range token (length x) (Some a) (Some b) colon_is
       (part_in_range x a spells_a a_in_range ∙ ap (λ word. option_map integer_in_range (integer_of word)) (sym first_is))
@@ -77,8 +77,8 @@ module _ (x y : List ℕ) (a b : ℤ) (spells_a : integer_of x ≡ Some a) (spel
       ∙ ap (λ plain. option_map cost_in_range (option_or (option_map (λ a. record { a = a; b = pos 0 }) plain) (pair_cost_of token))) (sym no_plain)
 
   -- it isn't the token of an absent cell
-  present : is_absent token ≡ false
-  present =
+  pub pair_present : is_absent token ≡ false
+  pair_present =
       ⊎_elim
       (λ absent.
       let same : token ≡ 45 ∷ [] = (bytes_eq-Decides token (45 ∷ [])).0 absent in
@@ -93,7 +93,7 @@ module _ (place : ℕ) (text second third rest : List ℕ) (a b : ℤ) (first : 
       let x = first.word in
       let y = other.word in
       let spells = spells_pair x y a b first.spells other.spells first.in_range other.in_range first.no_colon in
-      let there = present x y a b first.spells other.spells first.in_range other.in_range first.no_colon in
+      let there = pair_present x y a b first.spells other.spells first.in_range other.in_range first.no_colon in
       record {
         token = x ++ 58 ∷ y;
         first = ap tokens (first.cut ∙ ap (λ second. x ++ 58 ∷ second) (other.cut ∙ ap (λ third. y ++ third) space.cut) ∙ sym (append_assoc x (58 ∷ y) (space.separator ∷ rest))) ∙ word_first is_space (x ++ 58 ∷ y) space.separator rest (omega (arith, length-append x (58 ∷ y))) (All-append (λ b. is_space b ≡ false) x (58 ∷ y) first.no_space (All-cons (λ b. is_space b ≡ false) 58 y refl other.no_space)) space.separates;

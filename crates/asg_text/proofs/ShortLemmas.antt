@@ -36,13 +36,13 @@ digit_is_no_colon b is_digit =
     let range = digit_range b is_digit in
     ne_eqb b 58 (λ e. omega (arith, range))
 
-no_spaces : (digits : List ℕ) → list_all is_ascii_digit digits ≡ true → All (λ b. is_space b ≡ false) digits
+pub no_spaces : (digits : List ℕ) → list_all is_ascii_digit digits ≡ true → All (λ b. is_space b ≡ false) digits
 no_spaces [] are = All-nil (λ b. is_space b ≡ false)
 no_spaces (b ∷ digits) are =
     let parts = and_parts _ _ are in
     All-cons (λ b. is_space b ≡ false) b digits (digit_is_no_space b parts.0) (no_spaces digits parts.1)
 
-no_colons : (digits : List ℕ) → list_all is_ascii_digit digits ≡ true → All (λ b. (b == 58) ≡ false) digits
+pub no_colons : (digits : List ℕ) → list_all is_ascii_digit digits ≡ true → All (λ b. (b == 58) ≡ false) digits
 no_colons [] are = All-nil (λ b. (b == 58) ≡ false)
 no_colons (b ∷ digits) are =
     let parts = and_parts _ _ are in
@@ -108,16 +108,26 @@ from_zero a = omega (arith, ints)
 amount_below_zero : (n : ℕ) → unsigned_abs (pos 0 -ℤ pos n) ≡ n
 amount_below_zero n = omega (arith, ints)
 
+-- digits spell their number
+pub digits_spell : (digits : List ℕ) → 0 < length digits → list_all is_ascii_digit digits ≡ true → integer_of digits ≡ Some (pos (digits_value 10 digits))
+unfolding integer_of
+digits_spell digits some are =
+    ap {B = Option ℤ} (λ v. cond v (option_map (λ n. neg_ℤ (pos n)) (number_of (drop 1 digits))) (option_map pos (number_of digits))) (no_minus digits some are) ∙ ap (option_map pos) (number_of_digits digits some are)
+
+-- and behind a minus sign the number below zero
+pub minus_spells : (digits : List ℕ) → 0 < length digits → list_all is_ascii_digit digits ≡ true → integer_of (45 ∷ digits) ≡ Some (neg_ℤ (pos (digits_value 10 digits)))
+unfolding integer_of
+minus_spells digits some are = ap (option_map (λ n. neg_ℤ (pos n))) (number_of_digits digits some are)
+
 module _ {text : List ℕ} {amount : ℤ} {rest : List ℕ} (short : IsShortAmount text amount rest) where
   -- an amount without a sign
   pub plain_integer : IsShortInteger text amount rest
-  unfolding integer_of
   plain_integer = record {
     word = short.digits;
     cut = short.cut;
     no_space = no_spaces short.digits short.are_digits;
     no_colon = no_colons short.digits short.are_digits;
-    spells = ap {B = Option ℤ} (λ v. cond v (option_map (λ n. neg_ℤ (pos n)) (number_of (drop 1 short.digits))) (option_map pos (number_of short.digits))) (no_minus short.digits short.some short.are_digits) ∙ ap (option_map pos) (number_of_digits short.digits short.some short.are_digits) ∙ ap Some (sym short.is_amount);
+    spells = digits_spell short.digits short.some short.are_digits ∙ ap Some (sym short.is_amount);
     in_range = let high = short.in_range in omega (arith, ap unsigned_abs short.is_amount);
   }
 
@@ -127,13 +137,12 @@ module _ {text : List ℕ} {amount : ℤ} {rest : List ℕ} (short : IsShortAmou
 
   -- and behind a minus sign
   negative_integer : IsShortInteger (45 ∷ text) (pos 0 -ℤ amount) rest
-  unfolding integer_of
   negative_integer = record {
     word = 45 ∷ short.digits;
     cut = ap (λ text. 45 ∷ text) short.cut;
     no_space = All-cons (λ b. is_space b ≡ false) 45 short.digits refl (no_spaces short.digits short.are_digits);
     no_colon = All-cons (λ b. (b == 58) ≡ false) 45 short.digits refl (no_colons short.digits short.are_digits);
-    spells = ap (option_map (λ n. neg_ℤ (pos n))) (number_of_digits short.digits short.some short.are_digits) ∙ ap (λ a. Some (neg_ℤ a)) (sym short.is_amount) ∙ ap Some (from_zero amount);
+    spells = minus_spells short.digits short.some short.are_digits ∙ ap (λ a. Some (neg_ℤ a)) (sym short.is_amount) ∙ ap Some (from_zero amount);
     in_range = let high = short.in_range in let same : unsigned_abs (pos 0 -ℤ amount) ≡ digits_value 10 short.digits = rw short.is_amount (amount_below_zero (digits_value 10 short.digits)) in omega arith;
   }
 

@@ -12,6 +12,8 @@ pub mod NodeSets
 pub mod Networks
 pub mod SameCells
 pub mod Texts
+pub mod RectTexts
+pub mod RectSteps
 pub mod Layouts
 pub mod ScriptFaults
 pub mod ScriptLines

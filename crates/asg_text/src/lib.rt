@@ -23,6 +23,7 @@ mod network_tables;
 mod node_sets;
 mod numbers;
 mod pieces;
+mod rect_texts;
 mod refusals;
 mod script_lines;
 mod script_refusals;
@@ -33,6 +34,7 @@ mod tables;
 
 pub use files::read;
 pub use formats::Format;
+pub use rect_texts::write_rect;
 pub use refusals::TextRefusal;
 pub use script_lines::Line;
 pub use script_refusals::ScriptRefusal;

@@ -130,23 +130,46 @@ fn read_costs<'a>(
         (tokens costs.rest.now) (length costs.firsts.items) costs.firsts.items costs.seconds.items) }
     ensures refused { IfErr result (IsEarliest (faults_of_cells header count (tokens text.now))) }
 {
-    let room = count.min(text.len());
-    let mut firsts = vec![in alloc; 0; room]?;
+    let mut firsts = vec![in alloc; 0; count.min(text.len())]?;
     let mut seconds = Vec::new(alloc);
-    let mut rest = text;
-    for place in 0..room {
-        let Some(cell) = next_cell(rest, header + place as u64 + 1)? else {
-            return Err(TextRefusal::TokenCount(count as u64, place as u64));
-        };
-        put_second(alloc, &mut seconds, room, place, second_part(cell.cost))?;
-        firsts[place] = first_part(cell.cost);
-        rest = cell.rest;
-    }
+    let rest = fill_costs(alloc, header, count, text, &mut firsts, &mut seconds)?;
     Ok(TableCosts {
         firsts,
         seconds,
         rest,
     })
+}
+
+// Reads cells behind a header of so many tokens into all places of the first parts, where so many
+// cells are to be, and gives the text behind the last one.
+fn fill_costs<'a>(
+    alloc: Global,
+    header: u64,
+    count: usize,
+    text: &'a [u8],
+    firsts: &mut Vec<i64>,
+    seconds: &mut Vec<i64>,
+) -> Result<&'a [u8], TextRefusal>
+    requires header { header ≤ 2 }
+    requires count { count ≤ most_rows * most_columns }
+    requires room { length firsts.old.items ≤ count }
+    requires none { seconds.old.items ≡ [] }
+    ensures room { OnOk result (length firsts.new.items ≡ length firsts.old.items) }
+    ensures costs { IfOk result (λ rest. AreRead (header + 1) (tokens text.now) (tokens rest.now)
+        (length firsts.new.items) firsts.new.items seconds.new.items) }
+    ensures refused { IfErr result (IsEarliest (faults_of_cells header count (tokens text.now))) }
+{
+    let room = firsts.len();
+    let mut rest = text;
+    for place in 0..room {
+        let Some(cell) = next_cell(rest, header + place as u64 + 1)? else {
+            return Err(TextRefusal::TokenCount(count as u64, place as u64));
+        };
+        put_second(alloc, seconds, room, place, second_part(cell.cost))?;
+        firsts[place] = first_part(cell.cost);
+        rest = cell.rest;
+    }
+    Ok(rest)
 }
 
 // Active rows with the ids from 1 on.

@@ -1,0 +1,62 @@
+-- How long rect texts are.
+use Rattle.std.proofs.Common.{◌≡◌, ℕ, zero, suc, ◌+◌, ◌*◌, ◌^◌, ◌<◌, ◌≤◌, cond, List, [], ◌∷◌, ◌++◌, length, map, Option, Some, None, refl, sym, ap, ◌∙◌, arith, length-append}
+use Rattle.std.specs.Prelude.{ℤ, pos, negsuc, All, unsigned_abs}
+use Rattle.std.specs.Fmt.{decimal, signed_decimal}
+use Rattle.std.specs.List.{flat_map, join_with_byte, range_with_len}
+use Rattle.std.specs.Ordering.{int_eq}
+use Rattle.std.proofs.Math.Nat.{mul-le-mul_right}
+use Rattle.std.proofs.lemmas.Bool.{cond_both}
+use Rattle.std.proofs.lemmas.Fmt.{length-decimal-le}
+use Rattle.std.proofs.lemmas.List.{length-map}
+use Rattle.std.proofs.lemmas.List.Elements.{All-nil, All-cons, All-head, All-tail, All-map, All-weaker}
+use Rattle.std.proofs.lemmas.List.FromFn.{length-range_with_len, length-map-range_with_len}
+use Rattle.std.proofs.lemmas.Nat.{mul-le}
+use Rattle.asg_model.specs.declared.parts.Cost.{Cost}
+use Rattle.asg_model.specs.Instances.{IsCostInRange}
+use Rattle.asg_model.specs.Limits.{most_cost, longest_file}
+use Rattle.asg_text.specs.RectTexts.{cell_text, cost_text, token_line}
+use Rattle.asg_text.proofs.WrittenCells.{IsCellInRange}
+
+-- a token of at most 23 bytes
+abbrev pub IsShort : List ℕ → Type 0
+IsShort token = length token ≤ 23
+
+length-part : (a : ℤ) → unsigned_abs a ≤ most_cost → length (signed_decimal a) ≤ 11
+length-part (pos n) within = omega (arith, length-decimal-le 10 n (omega arith) (omega arith) (omega arith))
+length-part (negsuc n) within = omega (arith, length-decimal-le 10 (suc n) (omega arith) (omega arith) (omega arith))
+
+cell_is_short : (cell : Option Cost) → IsCellInRange cell → IsShort (cell_text cell)
+cell_is_short None within = omega arith
+cell_is_short (Some cost) within =
+    let first = length-part cost.a within.a_in_range in
+    let second = length-part cost.b within.b_in_range in
+    cond_both (int_eq cost.b (pos 0)) (signed_decimal cost.a) (signed_decimal cost.a ++ 58 ∷ signed_decimal cost.b) IsShort
+    (λ plain. omega arith)
+    (λ pair. omega (arith, length-append (signed_decimal cost.a) (58 ∷ signed_decimal cost.b)))
+
+pub cells_are_short : (cells : List (Option Cost)) → All IsCellInRange cells → All IsShort (map cell_text cells)
+cells_are_short cells within =
+    All-map IsShort cell_text cells (All-weaker IsCellInRange (λ cell. IsShort (cell_text cell)) cell_is_short cells within)
+
+pub size_is_short : (n : ℕ) → n ≤ 1000 → IsShort (decimal n)
+size_is_short n few = omega (arith, length-decimal-le 4 n (omega arith) (omega arith) (omega arith))
+
+-- a line of so many tokens
+length-join : (line : List (List ℕ)) → All IsShort line → length (join_with_byte 32 line) ≤ 24 * length line
+length-join [] short = omega arith
+length-join (token ∷ []) short = omega (arith, All-head IsShort token [] short)
+length-join (token ∷ next ∷ line) short =
+    omega (arith, length-append token (32 ∷ join_with_byte 32 (next ∷ line)), All-head IsShort token (next ∷ line) short, length-join (next ∷ line) (All-tail IsShort token (next ∷ line) short))
+
+pub length-line : (line : List (List ℕ)) → All IsShort line → length (token_line line) ≤ 24 * length line + 1
+length-line line short = omega (arith, length-append (join_with_byte 32 line) (10 ∷ []), length-join line short)
+
+-- so many lines of at most so many bytes
+pub length-lines : (line : ℕ → List ℕ) (most : ℕ) (rows : List ℕ) → ((r : ℕ) → length (line r) ≤ most) → length (flat_map line rows) ≤ length rows * most
+length-lines line most [] few = omega arith
+length-lines line most (r ∷ rows) few =
+    omega (arith, length-append (line r) (flat_map line rows), few r, length-lines line most rows few)
+
+pub few_bytes : (sizes rows n m : ℕ) → n ≤ 1000 → m ≤ 1000 → sizes ≤ 49 → rows ≤ n * (24 * m + 1) → sizes + rows ≤ longest_file
+few_bytes sizes rows n m few_rows few_columns short within =
+    omega (arith, mul-le n (24 * m + 1) 1000 24001 few_rows (omega arith))

@@ -1,0 +1,33 @@
+-- The tokens of lines of tokens.
+use Rattle.std.proofs.Common.{◌≡◌, ℕ, List, [], ◌∷◌, ◌++◌, refl, sym, ap, ◌∙◌, append_assoc}
+use Rattle.std.specs.Prelude.{All}
+use Rattle.std.specs.List.{flat_map, join_with_byte}
+use Rattle.std.proofs.lemmas.List.Elements.{All-head, All-tail}
+use Rattle.asg_text.specs.Pieces.{pieces, tokens, is_space}
+use Rattle.asg_text.specs.RectTexts.{token_line}
+use Rattle.asg_text.proofs.FirstPiece.{pieces_behind}
+use Rattle.asg_text.proofs.ShortLemmas.{word_first}
+use Rattle.asg_text.proofs.WrittenNumbers.{IsToken}
+
+-- of one line, before other text
+pub tokens_of_line : (line : List (List ℕ)) (rest : List ℕ) → All IsToken line → tokens (token_line line ++ rest) ≡ line ++ tokens rest
+tokens_of_line [] rest are = pieces_behind is_space 10 rest refl
+tokens_of_line (token ∷ []) rest are =
+    let here = All-head IsToken token [] are in
+    ap tokens (append_assoc token (10 ∷ []) rest) ∙ word_first is_space token 10 rest here.some here.no_space refl
+tokens_of_line (token ∷ next ∷ line) rest are =
+    let here = All-head IsToken token (next ∷ line) are in
+    let more : List ℕ = join_with_byte 32 (next ∷ line) in
+    ap tokens (append_assoc (token ++ 32 ∷ more) (10 ∷ []) rest ∙ append_assoc token (32 ∷ more) (10 ∷ rest) ∙ ap (λ text. token ++ 32 ∷ text) (sym (append_assoc more (10 ∷ []) rest)))
+    ∙ word_first is_space token 32 (token_line (next ∷ line) ++ rest) here.some here.no_space refl
+    ∙ ap (λ line. token ∷ line) (tokens_of_line (next ∷ line) rest (All-tail IsToken token (next ∷ line) are))
+
+no_tokens : tokens [] ≡ []
+unfolding pieces
+no_tokens = refl
+
+-- of many lines
+pub tokens_of_lines : {A : Type 0} (line : A → List (List ℕ)) (xs : List A) → ((x : A) → All IsToken (line x)) → tokens (flat_map (λ x. token_line (line x)) xs) ≡ flat_map line xs
+tokens_of_lines line [] are = no_tokens
+tokens_of_lines line (x ∷ xs) are =
+    tokens_of_line (line x) (flat_map (λ x. token_line (line x)) xs) (are x) ∙ ap (λ tokens. line x ++ tokens) (tokens_of_lines line xs are)

@@ -1,0 +1,8 @@
+use Rattle.std.proofs.Common.{◌≡◌, ◌*◌, map}
+use Rattle.std.specs.Prelude.{pos}
+use Rattle.std.specs.List.{range_with_len}
+use Rattle.asg_make.specs.Places.{cost_of_place}
+use Rattle.asg_make.proofs.formulas.costs.Given as goal
+
+abbrev pub invariant-loop-place : goal.invariant-loop-place
+invariant-loop-place l = l.costs.items ≡ map (λ k. pos (cost_of_place l.seed l.side k)) (range_with_len 0 l.place)

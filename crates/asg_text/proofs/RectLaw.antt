@@ -1,6 +1,6 @@
 -- The rect text of a plain instance is read as the instance.
-use Rattle.std.proofs.Common.{◌≡◌, ℕ, zero, suc, ◌+◌, ◌*◌, ◌/◌, ◌%◌, ◌<◌, ◌≤◌, cond, List, [], ◌∷◌, ◌++◌, length, get_or, take, map, Option, Some, None, refl, sym, ap, ◌∙◌, arith, eqb, length-append}
-use Rattle.std.specs.Prelude.{All, IfSome, not, nat_lt, ◌||◌}
+use Rattle.std.proofs.Common.{◌≡◌, ℕ, zero, suc, ◌+◌, ◌*◌, ◌/◌, ◌%◌, ◌<◌, ◌≤◌, List, [], ◌∷◌, ◌++◌, length, get_or, take, map, Option, Some, None, sym, ap, ◌∙◌, arith, eqb, length-append}
+use Rattle.std.specs.Prelude.{All, not, ◌||◌}
 use Rattle.std.specs.Fmt.{decimal}
 use Rattle.std.specs.List.{flat_map, range_with_len}
 use Rattle.std.proofs.Math.Nat.{mul_comm}
@@ -11,16 +11,14 @@ use Rattle.std.proofs.lemmas.List.FromFn.{length-range_with_len, length-map-rang
 use Rattle.std.proofs.lemmas.List.Sums.{count_by-le-length}
 use Rattle.std.proofs.lemmas.Nat.{mul-add-lt, div-add-mod', div_below, mod_below}
 use Rattle.asg_model.specs.declared.parts.Cost.{Cost}
-use Rattle.asg_model.specs.declared.parts.Place.TheVariants.{All as PlaceAll}
 use Rattle.asg_model.specs.Instances.{IsInstance, IsCostInRange}
 use Rattle.asg_model.specs.Limits.{most_rows, most_columns, longest_file}
 use Rattle.asg_model.specs.Live.{cost_at}
 use Rattle.asg_model.specs.Problem.{Problem, problem_of}
 use Rattle.asg_text.specs.declared.formats.Format.TheVariants.{Rect}
 use Rattle.asg_text.specs.Faults.{NoRows, TooLarge, TokenCount, fault_where}
-use Rattle.asg_text.specs.Numbers.{size_of}
 use Rattle.asg_text.specs.Pieces.{tokens}
-use Rattle.asg_text.specs.Readings.{Spells, reading_with, row_of, column_of, cells_of_rows, table_of}
+use Rattle.asg_text.specs.Readings.{Spells, reading_with, cells_of_rows, table_of}
 use Rattle.asg_text.specs.RectTexts.{IsPlain, cell_text, costs_of_row, row_line, size_line, rect_text}
 use Rattle.asg_text.specs.Tables.{cell_of, cell_faults, size_faults, reading_of_table, reading_of_rect}
 use Rattle.asg_text.specs.Texts.{reading_of}

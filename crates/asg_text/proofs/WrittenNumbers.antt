@@ -1,5 +1,5 @@
 -- The texts of numbers as tokens.
-use Rattle.std.proofs.Common.{◌≡◌, ◌==◌, ℕ, suc, ◌^◌, ◌<◌, ◌≤◌, true, false, cond, List, [], ◌∷◌, length, Some, None, refl, sym, ap, ◌∙◌, arith}
+use Rattle.std.proofs.Common.{◌≡◌, ◌==◌, ℕ, suc, ◌<◌, ◌≤◌, true, false, cond, List, [], ◌∷◌, length, Some, None, refl, ap, ◌∙◌, arith}
 use Rattle.std.specs.Prelude.{ℤ, pos, negsuc, neg_ℤ, nat_le, All, unsigned_abs, option_and_then}
 use Rattle.std.specs.Fmt.{decimal, signed_decimal}
 use Rattle.std.specs.List.{list_all}
@@ -10,7 +10,7 @@ use Rattle.std.proofs.lemmas.Fmt.{decimal_is_IsNumeral}
 use Rattle.std.proofs.lemmas.List.Elements.{All-cons}
 use Rattle.std.proofs.lemmas.Str.Parse.{digit_from_value}
 use Rattle.asg_model.specs.Limits.{most_cost}
-use Rattle.asg_text.specs.Numbers.{integer_of, number_of, size_of}
+use Rattle.asg_text.specs.Numbers.{integer_of, size_of}
 use Rattle.asg_text.specs.Pieces.{is_space}
 use Rattle.asg_text.proofs.NumberLemmas.{number_of_digits}
 use Rattle.asg_text.proofs.ShortLemmas.{no_spaces, no_colons, digits_spell, minus_spells}

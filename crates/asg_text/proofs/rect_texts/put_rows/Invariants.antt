@@ -1,4 +1,4 @@
-use Rattle.std.proofs.Common.{◌≡◌, ◌++◌, length}
+use Rattle.std.proofs.Common.{◌≡◌, ◌++◌}
 use Rattle.std.specs.List.{flat_map, range_with_len}
 use Rattle.asg_text.specs.RectTexts.{row_line}
 use Rattle.asg_text.proofs.rect_texts.put_rows.Given as goal

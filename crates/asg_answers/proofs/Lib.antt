@@ -8,3 +8,4 @@ pub mod Outcomes
 pub mod PhaseTexts
 pub mod RankedAnswers
 pub mod RankingTexts
+pub mod WrittenPages

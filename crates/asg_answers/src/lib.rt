@@ -8,6 +8,7 @@
 
 mod documents;
 mod edited;
+mod pages;
 mod refusals;
 mod replies;
 mod sheets;
@@ -16,6 +17,7 @@ mod status;
 
 pub use documents::{best_document, edit_document, none_document, ranked_document};
 pub use edited::{Halt, put_lines};
+pub use pages::Pages;
 pub use refusals::{refusal, script_refusal};
 pub use replies::{Reply, Text, put_text};
 pub use sheets::Sheet;

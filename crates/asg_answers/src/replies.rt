@@ -7,6 +7,7 @@ ghost use Rattle.asg_io.specs.Shelf.{Rose};
 ghost use Rattle.asg_io.specs.Sink.{Puts, PutsPrefix};
 ghost use Rattle.asg_answers.specs.Replies.{IsReply, bytes_of};
 
+use crate::pages::Pages;
 use crate::sheets::Sheet;
 use crate::status::Status;
 use asg_doc::Document;
@@ -21,6 +22,8 @@ pub enum Text {
     Line(String),
     /// A document.
     Sheet(Sheet),
+    /// The bytes of a file.
+    File(Pages),
 }
 
 /// What a run answers: its status, and what is to be written. All memory for it is taken.
@@ -61,6 +64,16 @@ impl Reply {
             text: Text::Sheet(sheet),
         })
     }
+    /// The reply of the bytes of a file. The error is want of memory.
+    pub fn file(alloc: Global, status: Status, bytes: Vec<u8>) -> Result<Reply, NoMemory>
+        ensures { IfOk result (λ reply. IsReply reply status bytes.items) }
+    {
+        let pages = Pages::of(alloc, bytes)?;
+        Ok(Reply {
+            status,
+            text: Text::File(pages),
+        })
+    }
 }
 
 /// Puts a text whole, or after a fault of the sink a prefix of it. It takes no memory.
@@ -73,5 +86,6 @@ pub fn put_text<K: Sink>(text: Text, out: &mut K) -> Result<(), PutFault>
     match text {
         Text::Line(line) => out.put(line.as_bytes()),
         Text::Sheet(sheet) => sheet.send(out),
+        Text::File(pages) => pages.send(out),
     }
 }

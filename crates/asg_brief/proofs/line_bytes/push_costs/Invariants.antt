@@ -1,0 +1,7 @@
+use Rattle.std.proofs.Common.{◌≡◌, ◌++◌, take}
+use Rattle.asg_doc.specs.Text.{spaced_costs}
+use Rattle.asg_brief.proofs.line_bytes.push_costs.Given as goal
+
+-- the costs so far stand behind the line
+abbrev pub invariant-costs : goal.invariant-costs
+invariant-costs l = l.line.items ≡ l.fn.line.items ++ spaced_costs (take l.cost-index l.costs)

@@ -1,0 +1,3 @@
+pub mod BestValues
+pub mod BriefLines
+pub mod RankedEnds

@@ -1,5 +1,5 @@
 -- What the session of each kind does, as an editor sees it.
-use Rattle.std.proofs.Common.{◌≡◌, ℕ, ◌≤◌, ◌++◌, List, length, map, Result, Ok, Err, refl, ap}
+use Rattle.std.proofs.Common.{◌≡◌, ℕ, ◌≤◌, ◌++◌, List, Option, length, map, Result, Ok, Err, refl, ap}
 use Rattle.std.specs.Prelude.{OnOk}
 use Rattle.asg_algebra.specs.Solved.{unmatched}
 use Rattle.asg_model.specs.declared.edits.Edit.{Edit}
@@ -19,9 +19,9 @@ use Rattle.asg_edits.specs.declared.sessions.Sessions.{Sessions}
 use Rattle.asg_edits.specs.declared.sessions.Sessions.TheVariants.{Sums, Peaks, Times}
 use Rattle.asg_edits.specs.Edited.{EditFact, KeepsIn}
 use Rattle.asg_edits.specs.Editors.{EditorOf, Edits, GoesTo, editor_of}
-use Rattle.asg_edits.specs.EditOutcomes.{IsAnswerAt, IsAnswerIn}
+use Rattle.asg_edits.specs.EditOutcomes.{IsAnswerAt, IsAnswerIn, IsChoiceAt, IsChoiceIn}
 use Rattle.asg_proof.specs.declared.outcomes.Outcome.{Outcome}
-use Rattle.asg_edits.proofs.MonoidFacts.{edit_parts, peak_answer, peak_fact, sum_answer, sum_fact, time_answer, time_fact}
+use Rattle.asg_edits.proofs.MonoidFacts.{edit_parts, peak_answer, peak_choice, peak_fact, sum_answer, sum_choice, sum_fact, time_answer, time_choice, time_fact}
 
 -- two facts on an answer give a third
 pub on_ok : {T E : Type 0} (result : Result T E) (A B C : Type 0) → (A → B → C) → OnOk result A → OnOk result B → OnOk result C
@@ -74,6 +74,25 @@ pub times_answered : (s : SessionOf TimeKind (ℕ × ℕ)) (outcome : Outcome)
     → IsAnswerIn (graded (bounded_sums s.kind.monoid.inner.top)) (graded_difference (bounded_sums s.kind.monoid.inner.top) bounded_difference) graded_word time_entered s.instance (map (worded graded_word) s.phases) (unmatched s.columns) outcome
     → IsAnsweredBy (Times s) outcome
 times_answered s outcome is = time_answer s.kind.monoid.inner.top s.kind.stops s.instance (map (worded graded_word) s.phases) (unmatched s.columns) outcome is
+
+-- the same of a choice alone
+abbrev pub IsChosenBy : Sessions → Option (List (Option ℕ)) → Type 0
+IsChosenBy sessions choice = IsChoiceAt (editor_of sessions).objective (editor_of sessions).instance choice
+
+pub sums_chosen : (s : SessionOf SumKind ℕ) (choice : Option (List (Option ℕ)))
+    → IsChoiceIn (bounded_sums s.kind.monoid.top) bounded_difference plain_word (sum_entered s.kind.objective) s.instance (map (worded plain_word) s.phases) choice
+    → IsChosenBy (Sums s) choice
+sums_chosen s choice is = sum_choice s.kind.objective s.kind.is_sum s.kind.monoid.top s.kind.stops s.instance (map (worded plain_word) s.phases) choice is
+
+pub peaks_chosen : (s : SessionOf PeakKind ℕ) (choice : Option (List (Option ℕ)))
+    → IsChoiceIn maxima maxima_difference plain_word (peak_entered s.kind.objective) s.instance (map (worded plain_word) s.phases) choice
+    → IsChosenBy (Peaks s) choice
+peaks_chosen s choice is = peak_choice s.kind.objective s.kind.is_peak s.instance (map (worded plain_word) s.phases) choice is
+
+pub times_chosen : (s : SessionOf TimeKind (ℕ × ℕ)) (choice : Option (List (Option ℕ)))
+    → IsChoiceIn (graded (bounded_sums s.kind.monoid.inner.top)) (graded_difference (bounded_sums s.kind.monoid.inner.top) bounded_difference) graded_word time_entered s.instance (map (worded graded_word) s.phases) choice
+    → IsChosenBy (Times s) choice
+times_chosen s choice is = time_choice s.kind.monoid.inner.top s.kind.stops s.instance (map (worded graded_word) s.phases) choice is
 
 -- where the session stands after it answered
 pub goes_to : (old new : EditorOf) → new.objective ≡ old.objective → new.instance ≡ old.instance → (more : List (PhaseOf Word)) × (new.phases ≡ old.phases ++ more) × (length more ≤ old.unsure) → GoesTo old new

@@ -1,11 +1,12 @@
 -- Facts of a kind's monoid as facts of the objective's.
-use Rattle.std.proofs.Common.{◌≡◌, ℕ, ◌≤◌, ◌^◌, List, Option, sym, subst}
+use Rattle.std.proofs.Common.{◌≡◌, ℕ, ◌≤◌, ◌^◌, List, Option, Some, None, sym, subst}
 use Rattle.std.specs.Prelude.{IsTrue}
 use Rattle.asg_model.specs.declared.objectives.Objective.{Objective}
 use Rattle.asg_model.specs.declared.objectives.Objective.TheVariants.{Sum, SumMax, SumPair, Capped, Bottleneck, BottleneckMax, TimeCost, Balanced, Lex}
 use Rattle.asg_model.specs.declared.parts.Cost.{Cost}
 use Rattle.asg_model.specs.Objectives.{is_bottleneck}
 use Rattle.asg_model.specs.Problem.{Problem}
+use Rattle.asg_model.specs.ValidChoice.{IsValid}
 use Rattle.asg_monoids.specs.BoundedSums.{bounded_sums, bounded_difference, plain_word}
 use Rattle.asg_monoids.specs.Entered.{is_sum_objective, peak_entered, sum_entered, time_entered, top_of}
 use Rattle.asg_monoids.specs.Grades.{graded, graded_difference, graded_word}
@@ -22,7 +23,7 @@ use Rattle.asg_proof.specs.declared.outcomes.Outcome.TheVariants.{Best, Nothing}
 use Rattle.asg_proof.specs.declared.outcomes.Proof.{Proof}
 use Rattle.asg_proof.specs.declared.outcomes.Proof.TheVariants.{Below, Levels, Phases, Windows}
 use Rattle.asg_edits.specs.Edited.{EditFact}
-use Rattle.asg_edits.specs.EditOutcomes.{IsAnswerAt, IsAnswerIn, IsBestAt, IsBestIn, IsPhases}
+use Rattle.asg_edits.specs.EditOutcomes.{IsAnswerAt, IsAnswerIn, IsBestAt, IsBestIn, IsChoiceAt, IsChoiceIn, IsPhases}
 
 -- ---- from the monoid of a kind
 
@@ -102,3 +103,34 @@ peak_answer objective is X words unsure (Nothing rows) hall = hall
 pub time_answer : (top : ℕ) → top ≡ 2 ^ 120 → (X : Problem) (words : List (PhaseOf Word)) (unsure : ℕ) (outcome : Outcome) → IsAnswerIn (graded (bounded_sums top)) (graded_difference (bounded_sums top) bounded_difference) graded_word time_entered X words unsure outcome → IsAnswerAt TimeCost X words unsure outcome
 time_answer top stops X words unsure (Best choice proof) best = best_at TimeCost X words unsure choice proof (time_fact top stops (AnswerFact X words unsure choice proof) best)
 time_answer top stops X words unsure (Nothing rows) hall = hall
+
+-- ---- choices of each kind
+
+abbrev ProofFact : Problem → List (PhaseOf Word) → List (Option ℕ) → Fact
+ProofFact X words choice V M difference word_of enter = ProvesFold M difference word_of enter X choice words
+
+proves_at : (objective : Objective) (X : Problem) (words : List (PhaseOf Word)) (choice : List (Option ℕ)) → InMonoidOf objective (ProofFact X words choice) → ProvesPhases objective X choice words
+proves_at Sum X words choice is = is
+proves_at SumMax X words choice is = is
+proves_at SumPair X words choice is = is
+proves_at (Capped cap) X words choice is = is
+proves_at Bottleneck X words choice is = is
+proves_at BottleneckMax X words choice is = is
+proves_at TimeCost X words choice is = is
+proves_at Balanced X words choice is = absurd is
+proves_at Lex X words choice is = absurd is
+
+choice_at : (objective : Objective) (X : Problem) (words : List (PhaseOf Word)) (choice : List (Option ℕ)) → IsValid X choice → InMonoidOf objective (ProofFact X words choice) → IsChoiceAt objective X (Some choice)
+choice_at objective X words choice valid is = (Phases words, record { valid = valid; proved = proves_at objective X words choice is })
+
+pub sum_choice : (objective : Objective) → IsTrue (is_sum_objective objective) → (top : ℕ) → top ≡ top_of objective → (X : Problem) (words : List (PhaseOf Word)) (choice : Option (List (Option ℕ))) → IsChoiceIn (bounded_sums top) bounded_difference plain_word (sum_entered objective) X words choice → IsChoiceAt objective X choice
+sum_choice objective is top stops X words (Some choice) best = choice_at objective X words choice best.0 (sum_fact objective is top stops (ProofFact X words choice) best.1)
+sum_choice objective is top stops X words None hall = hall
+
+pub peak_choice : (objective : Objective) → IsTrue (is_bottleneck objective) → (X : Problem) (words : List (PhaseOf Word)) (choice : Option (List (Option ℕ))) → IsChoiceIn maxima maxima_difference plain_word (peak_entered objective) X words choice → IsChoiceAt objective X choice
+peak_choice objective is X words (Some choice) best = choice_at objective X words choice best.0 (peak_fact objective is (ProofFact X words choice) best.1)
+peak_choice objective is X words None hall = hall
+
+pub time_choice : (top : ℕ) → top ≡ 2 ^ 120 → (X : Problem) (words : List (PhaseOf Word)) (choice : Option (List (Option ℕ))) → IsChoiceIn (graded (bounded_sums top)) (graded_difference (bounded_sums top) bounded_difference) graded_word time_entered X words choice → IsChoiceAt TimeCost X choice
+time_choice top stops X words (Some choice) best = choice_at TimeCost X words choice best.0 (time_fact top stops (ProofFact X words choice) best.1)
+time_choice top stops X words None hall = hall

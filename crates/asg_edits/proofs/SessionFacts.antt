@@ -1,5 +1,5 @@
 -- What a session promises, by words.
-use Rattle.std.proofs.Common.{◌≡◌, ℕ, ◌≤◌, ◌<◌, ◌^◌, ◌++◌, List, length, map, take, Option, None, refl, sym, ap, ◌∙◌, subst, arith}
+use Rattle.std.proofs.Common.{◌≡◌, ℕ, ◌≤◌, ◌<◌, ◌^◌, ◌++◌, List, length, map, take, Option, Some, None, refl, sym, ap, ◌∙◌, subst, arith}
 use Rattle.std.specs.Prelude.{All}
 use Rattle.std.proofs.lemmas.List.{length-map, map-append, take-map}
 use Rattle.asg_algebra.specs.Solved.{unmatched}
@@ -22,7 +22,7 @@ use Rattle.asg_repair.specs.Edited.{Touches}
 use Rattle.asg_repair.specs.Sessions.{IsBestBy}
 use Rattle.asg_square.specs.Cells.{square_cell}
 use Rattle.asg_edits.specs.Edited.{KeepsIn}
-use Rattle.asg_edits.specs.EditOutcomes.{IsBestIn}
+use Rattle.asg_edits.specs.EditOutcomes.{IsBestIn, IsChoiceIn}
 use Rattle.asg_edits.proofs.SureRows.{ClosesColumns, one_lost, one_touched}
 
 module _ {V : Type 0} (M : Monoid V) (difference : V → V → V) (word_of : V → Word) (enter : Cost → V) where
@@ -68,6 +68,11 @@ module _ {V : Type 0} (M : Monoid V) (difference : V → V → V) (word_of : V �
         };
         all = best.all;
       })
+
+  -- and without its phases written out
+  pub IsChoiceIn-by : (X : Problem) (phases : List (PhaseOf V)) (columns choice copy : List (Option ℕ)) → IsBestBy M difference enter X phases columns choice → copy ≡ choice → IsChoiceIn M difference word_of enter X (map (worded word_of) phases) (Some copy)
+  IsChoiceIn-by X phases columns choice copy best same =
+      subst (λ f. IsChoiceIn M difference word_of enter X (map (worded word_of) phases) (Some f)) (sym same) (best.valid, record { phases = phases; written = refl; proved = best.proof })
 
 -- the words of phases that were added
 pub more_words : {V : Type 0} (word_of : V → Word) (old new : List (PhaseOf V)) (most : ℕ) → (more : List (PhaseOf V)) × (new ≡ old ++ more) × (length more ≤ most)

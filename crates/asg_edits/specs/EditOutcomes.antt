@@ -1,5 +1,5 @@
 -- What a session answers, over a monoid and by the objective.
-use Rattle.std.specs.Prelude.{◌≡◌, ℕ, ◌<◌, ◌^◌, All, List, Option, length}
+use Rattle.std.specs.Prelude.{◌≡◌, ℕ, ◌<◌, ◌^◌, All, List, Option, Some, None, length}
 use Rattle.asg_model.specs.declared.bands.Band.TheVariants.{Whole}
 use Rattle.asg_model.specs.declared.objectives.Objective.{Objective}
 use Rattle.asg_model.specs.declared.parts.Cost.{Cost}
@@ -58,3 +58,16 @@ abbrev pub IsAnswerAt : Objective → Problem → List (PhaseOf Word) → ℕ �
 IsAnswerAt objective X words unsure (Best choice proof) =
     IsBestAt objective X words unsure choice proof
 IsAnswerAt objective X words unsure (Nothing rows) = IsHall X Whole rows
+
+-- a choice alone over a monoid: it is valid, and phases prove its fold; or there is none, and rows
+-- are a Hall set of the whole instance
+abbrev pub IsChoiceIn : {V : Type 0} → Monoid V → (V → V → V) → (V → Word) → (Cost → V)
+    → Problem → List (PhaseOf Word) → Option (List (Option ℕ)) → Type 0
+IsChoiceIn M difference word_of enter X words (Some choice) =
+    IsValid X choice × ProvesFold M difference word_of enter X choice words
+IsChoiceIn M difference word_of enter X words None = (rows : List ℕ) × IsHall X Whole rows
+
+-- the same by the objective: some proof proves the choice best
+abbrev pub IsChoiceAt : Objective → Problem → Option (List (Option ℕ)) → Type 0
+IsChoiceAt objective X (Some choice) = (proof : Proof) × IsProvedBest objective X choice proof
+IsChoiceAt objective X None = (rows : List ℕ) × IsHall X Whole rows

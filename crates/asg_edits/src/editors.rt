@@ -7,12 +7,13 @@ ghost use Rattle.asg_model.specs.Limits.{most_side};
 ghost use Rattle.asg_model.specs.Objectives.{is_algebraic};
 ghost use Rattle.asg_model.specs.Refused.{PassesNegative};
 ghost use Rattle.asg_model.specs.Shapes.{square_side};
-ghost use Rattle.asg_edits.specs.EditOutcomes.{IsAnswerAt};
+ghost use Rattle.asg_edits.specs.EditOutcomes.{IsAnswerAt, IsChoiceAt};
 ghost use Rattle.asg_edits.specs.Editors.{Edits, GoesTo};
 
 use crate::NoMemory;
+use crate::chosen_sessions::choose_sessions;
 use crate::sessions::{Sessions, answer_sessions, edit_sessions, instance_of, open_sessions};
-use asg_model::{Edit, Instance, Objective};
+use asg_model::{Choice, Edit, Instance, Objective};
 use asg_proof::Outcome;
 use std::alloc::Global;
 use std::marker::Model;
@@ -78,5 +79,15 @@ impl Editor {
             self.new.phases self.new.unsure) }
     {
         answer_sessions(alloc, &mut self.session)
+    }
+
+    /// Answers the instance as edited by a best choice alone, or `None` where no choice is valid.
+    /// All is then as after `answer`, but no phase is written out. The error is want of memory. The
+    /// time grows with the cube of the side at most.
+    pub fn best_choice(&mut self, alloc: Global) -> Result<Option<Choice>, NoMemory>
+        ensures goes { GoesTo self.old self.new }
+        ensures choice { IfOk result (IsChoiceAt self.new.objective self.new.instance) }
+    {
+        choose_sessions(alloc, &mut self.session)
     }
 }

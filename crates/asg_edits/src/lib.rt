@@ -6,6 +6,7 @@
 #![tactic(auto)]
 
 mod choice_copies;
+mod chosen_sessions;
 mod editors;
 mod session_answers;
 mod session_edits;

@@ -32,6 +32,9 @@ impl Model for Sheet {
     ghost invariant = { λ sheet. HasText sheet.document × (sheet.page ≡ blank) };
 }
 
+// Drops a value, by a function for each type that it holds.
+fn close<T: Drop>(_it: T) {}
+
 impl Sheet {
     /// The document with a page. The error is want of memory.
     pub fn of(alloc: Global, document: Document) -> Result<Sheet, NoMemory>
@@ -52,6 +55,9 @@ impl Sheet {
         ensures never_falls { K.faults out.old ≤ K.faults out.new }
     {
         let Sheet { document, mut page } = self;
-        send(&document, &mut page, out)
+        let sent = send(&document, &mut page, out);
+        close(document);
+        close(page);
+        sent
     }
 }

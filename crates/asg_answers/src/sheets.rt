@@ -32,9 +32,6 @@ impl Model for Sheet {
     ghost invariant = { λ sheet. HasText sheet.document × (sheet.page ≡ blank) };
 }
 
-// Drops a value, by a function for each type that it holds.
-fn close<T: Drop>(_it: T) {}
-
 impl Sheet {
     /// The document with a page. The error is want of memory.
     pub fn of(alloc: Global, document: Document) -> Result<Sheet, NoMemory>
@@ -56,8 +53,8 @@ impl Sheet {
     {
         let Sheet { document, mut page } = self;
         let sent = send(&document, &mut page, out);
-        close(document);
-        close(page);
+        drop(document);
+        drop(page);
         sent
     }
 }

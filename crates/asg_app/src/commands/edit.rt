@@ -109,9 +109,6 @@ fn put_stop<K: Sink>(stop: Stop, out: &mut K) -> Status
     }
 }
 
-// Drops a value, by a function for each type that it holds.
-fn close<T: Drop>(_it: T) {}
-
 // Answers a job to edit: its documents are written, one after the other, or the refusal of one of
 // its files.
 pub(crate) fn answer<K: Sink>(alloc: Global, job: &Job, sources: &Sources, out: &mut K) -> Status
@@ -123,7 +120,7 @@ pub(crate) fn answer<K: Sink>(alloc: Global, job: &Job, sources: &Sources, out: 
     match started(alloc, job, sources) {
         Ok(mut work) => {
             let status = put_edits(alloc, job, &mut work, out);
-            close(work);
+            drop(work);
             status
         }
         Err(stop) => put_stop(stop, out),

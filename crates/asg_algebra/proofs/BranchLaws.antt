@@ -23,11 +23,11 @@ use Rattle.asg_algebra.proofs.PhaseEnds.{phase_so_far}
 
 module _ {V : Type 0} {M : Monoid V} (laws : IsOrderedMonoid M) {difference : V → V → V} (has : HasDifferences M difference) (before : Reduced V) {m : List (Option ℕ)} {b : Growth V} {sum : V} where
   -- the index with the steps of the phase so far
-  led_index : (seen : ℕ) → IsSearch M difference before.now before.index m b sum seen → (index : V) → index ≡ M.product before.index sum → index ≡ M.product before.index (fold_of M b.steps.items)
+  pub led_index : (seen : ℕ) → IsSearch M difference before.now before.index m b sum seen → (index : V) → index ≡ M.product before.index sum → index ≡ M.product before.index (fold_of M b.steps.items)
   led_index seen search index e = e ∙ ap (M.product before.index) search.underway.sums_are.now
 
   -- the phase so far has at most side steps
-  few_led : (seen : ℕ) → seen ≤ vec_len b.tree.rows → IsSearch M difference before.now before.index m b sum seen → length b.steps.items ≤ before.now.side
+  pub few_led : (seen : ℕ) → seen ≤ vec_len b.tree.rows → IsSearch M difference before.now before.index m b sum seen → length b.steps.items ≤ before.now.side
   few_led seen within search = omega (arith, within, search.few_steps, few_rows laws has search, b.steps.ok.0)
 
   -- the root has a column by one phase

@@ -16,6 +16,11 @@ pub mod SolvedLaws
 pub mod FinishLaws
 pub mod BranchLaws
 pub mod BranchStarts
+pub mod ApartRows
+pub mod ApartCounts
+pub mod ApartPhases
+pub mod ApartWords
+pub mod ApartBranches
 pub mod SolvingLaws
 pub mod FoldLaws
 mod TakenLaws

@@ -13,3 +13,4 @@ pub mod Served
 pub mod Benches
 pub mod Ended
 pub mod Branches
+pub mod Apart

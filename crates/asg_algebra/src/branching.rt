@@ -13,6 +13,7 @@ ghost use Rattle.asg_algebra.specs.Rest.{IsRestOf};
 ghost use Rattle.asg_algebra.specs.Served.{made_of};
 ghost use Rattle.asg_algebra.specs.Solved.{ArePushed};
 
+use crate::apart_branches::branch_apart;
 use crate::bench::Bench;
 use crate::growth::{Growth, Round, advance_round};
 use crate::masked::Masked;
@@ -61,7 +62,7 @@ fn is_at_limit<M: DMonoid>(m: &M, index: M::Value, sum: M::Value, limit: Option<
 }
 
 // Grows the tree up to the first column that no row has, or up to the limit.
-fn grow_within<M: DMonoid, S: RowSquare<M>>(
+pub(crate) fn grow_within<M: DMonoid, S: RowSquare<M>>(
     m: &M,
     reduced: &S,
     index: M::Value,
@@ -95,7 +96,7 @@ fn grow_within<M: DMonoid, S: RowSquare<M>>(
 }
 
 // Pushes the phase of the search on the trail, if it has a step.
-fn push<V: Copy>(
+pub(crate) fn push<V: Copy>(
     growth: &mut Growth<V>,
     region: &mut Region<V>,
     trail: Option<Trail>,
@@ -159,6 +160,78 @@ fn serve_branch<M: DMonoid, S: RowSquare<M>>(
     }
 }
 
+// What `branch_from` comes to, by a tree on all the cells.
+fn branch_whole<M: DMonoid>(
+    m: &M,
+    reduced: &Reduced<M::Value>,
+    words: &[u64],
+    matching: &mut Matching,
+    growth: &mut Growth<M::Value>,
+    region: &mut Region<M::Value>,
+    trail: &Option<Trail>,
+    root: u32,
+    limit: &Option<M::Value>,
+) -> Branch<M::Value>
+    requires rest { IsRestOf (M.monoid_of m.now) (masked_reduced reduced.now words.now)
+        matching.old }
+    requires small { reduced.now.now.side ≤ most_side }
+    requires bench { IsBench reduced.now.now.side growth.old }
+    requires root { root < reduced.now.now.side }
+    requires root_free { column_at matching.old root ≡ None }
+    requires limit { IfSome limit.now (IsValue (M.monoid_of m.now)) }
+    requires spare { 1 ≤ region.old.spare }
+    requires live { IfSome trail.now (IsLive region.old) }
+    requires region_side { region.old.side ≡ reduced.now.now.side }
+    ensures branches { Branches (M.monoid_of m.now) (M.difference m.now)
+        (masked_reduced reduced.entry.now words.now) matching.old matching.new limit.now region.old
+        region.new trail.now root growth.new.tree.rows.items result }
+    ensures bench { IsBench reduced.entry.now.now.side growth.new }
+{
+    let square = Masked {
+        square: reduced,
+        words,
+    };
+    serve_branch(m, &square, matching, growth, region, *trail, root, *limit)
+}
+
+// What `branch_from` comes to: by a tree without the columns that are apart, where it succeeds, and
+// else by one on all the cells.
+fn branch_either<M: DMonoid>(
+    m: &M,
+    reduced: &Reduced<M::Value>,
+    words: &[u64],
+    matching: &mut Matching,
+    growth: &mut Growth<M::Value>,
+    region: &mut Region<M::Value>,
+    trail: &Option<Trail>,
+    root: u32,
+    limit: &Option<M::Value>,
+) -> Branch<M::Value>
+    requires rest { IsRestOf (M.monoid_of m.now) (masked_reduced reduced.now words.now)
+        matching.old }
+    requires small { reduced.now.now.side ≤ most_side }
+    requires bench { IsBench reduced.now.now.side growth.old }
+    requires root { root < reduced.now.now.side }
+    requires root_free { column_at matching.old root ≡ None }
+    requires limit { IfSome limit.now (IsValue (M.monoid_of m.now)) }
+    requires spare { 1 ≤ region.old.spare }
+    requires live { IfSome trail.now (IsLive region.old) }
+    requires region_side { region.old.side ≡ reduced.now.now.side }
+    ensures branches { Branches (M.monoid_of m.now) (M.difference m.now)
+        (masked_reduced reduced.entry.now words.now) matching.old matching.new limit.now region.old
+        region.new trail.now root growth.new.tree.rows.items result }
+    ensures bench { IsBench reduced.entry.now.now.side growth.new }
+{
+    match branch_apart(
+        m, reduced, words, matching, growth, region, trail, root, limit,
+    ) {
+        Some(branch) => branch,
+        None => branch_whole(
+            m, reduced, words, matching, growth, region, trail, root, limit,
+        ),
+    }
+}
+
 /// Gives a row that has no column one on a square of which some cells are left out; the square
 /// isn't touched. `words` has for each row as many words of 64 bits as its columns need: the cells
 /// whose bit is set count.
@@ -197,18 +270,15 @@ pub fn branch_from<M: DMonoid>(
     ensures bench_side { bench.new.side ≡ bench.old.side }
 {
     let _ = reduced.now.side();
-    let square = Masked {
-        square: reduced,
-        words,
-    };
-    serve_branch(
+    branch_either(
         m,
-        &square,
+        reduced,
+        words,
         matching,
         &mut bench.growth,
         region,
-        trail,
+        &trail,
         root,
-        limit,
+        &limit,
     )
 }

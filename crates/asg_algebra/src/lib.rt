@@ -14,6 +14,9 @@
 #![tactic(auto)]
 
 mod absorbed_cells;
+mod apart_branches;
+mod apart_rows;
+mod apart_squares;
 mod bench;
 mod branching;
 mod dual_squares;

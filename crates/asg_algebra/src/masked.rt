@@ -8,7 +8,7 @@ use asg_match::Matching;
 use asg_order::DMonoid;
 
 // As many words of 64 bits as the columns of the greatest square need.
-const MOST_WORDS: usize = 32;
+pub(crate) const MOST_WORDS: usize = 32;
 
 /// A reduced square with the cells that rows of bits keep: for each row as many words of 64 bits as
 /// its columns need.

@@ -1,7 +1,8 @@
-use Rattle.std.proofs.Common.{◌≡◌, ℕ, ◌+◌, ◌-◌, ◌*◌, ◌<◌, ◌≤◌, ◌++◌, ◌∷◌, [], List, length, set, take, drop, sym, ap, ◌∙◌, arith}
-use Rattle.std.proofs.lemmas.List.{with_items_is, length-set, length-drop, length-take-le}
-use Rattle.std.proofs.lemmas.List.Elements.{All-set}
+use Rattle.std.proofs.Common.{◌≡◌, ℕ, suc, ◌+◌, ◌-◌, ◌*◌, ◌<◌, ◌≤◌, ◌++◌, ◌∷◌, [], List, length, set, take, drop, sym, subst, ap, ◌∙◌, arith}
+use Rattle.std.proofs.lemmas.List.{with_items_is, length-append, length-set, length-drop, length-take-le}
+use Rattle.std.proofs.lemmas.List.Elements.{All-push, All-set}
 use Rattle.std.proofs.lemmas.Nat.{row_fits}
+use Rattle.std.specs.Prelude.{All}
 use borrow.Rule.Slice.PartMut.{put_mid, same_len_mid}
 use Rattle.asg_pool.specs.Strips.{Rows, rows_of}
 use Rattle.asg_pool.proofs.StripLemmas.{place_fits, rows_count, strip_pushed, strip_put}
@@ -97,6 +98,41 @@ invariant_of-self g c =
       used = omega (arith, lens, used);
       lens_fit = i.lens_fit;
       values_fit = i.values_fit;
+    }
+
+pub invariant_of-self-else-k-len : goal.invariant_of-self-else-k-len
+invariant_of-self-else-k-len g c =
+    let s = c.self.inside in
+    let i = c.self.invariant in
+    let row = c.args.row.now in
+    let e = c.append.ensures.items in
+    let p = c.push_reserved.ensures in
+    let same = ap (λ v. v.width) c.self.view_is in
+    let room = ap (λ v. v.room) c.self.view_is in
+    let short = c.requires.width in
+    let place = c.requires.room in
+    let from = c.if-k-len.false in
+    let n = c.len.ensures in
+    let len = s.lens.ok.0 in
+    let one = length-append s.lens.items (length row ∷ []) in
+    let longer = ap length p.items in
+    let lens : length c.push_reserved.new.self.items ≡ suc (length s.lens.items) = omega (arith, longer, one) in
+    let times = ap (λ m. m * s.width) lens in
+    let values = ap length e.1 in
+    let parts = length-append s.values.items (row ++ e.0) in
+    let filled = length-append row e.0 in
+    let sum = e.2 in
+    let count = i.count in
+    let fit = i.lens_fit in
+    let lens_same = p.capacity in
+    let values_fit = i.values_fit in
+    let values_more = c.append.ensures.capacity in
+    record {
+      count = omega (arith, values, parts, filled, sum, count, times);
+      within = subst (All (λ m. m ≤ s.width)) (sym p.items) (All-push (λ m. m ≤ s.width) s.lens.items (length row) i.within (omega (arith, short, same)));
+      used = omega (arith, lens, from, n, len, place, room);
+      lens_fit = omega (arith, fit, lens_same);
+      values_fit = omega (arith, values_fit, values_more);
     }
 
 pub returns-then-k-len : goal.returns-then-k-len

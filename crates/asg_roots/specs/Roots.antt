@@ -3,12 +3,24 @@ use Rattle.std.specs.Prelude.{◌≡◌, ℕ, ◌+◌, ◌≤◌, [], length, No
 use Rattle.asg_admit.specs.declared.reduced.Reduced.{Reduced}
 use Rattle.asg_algebra.specs.Ended.{EndsIn, last_of}
 use Rattle.asg_algebra.specs.Solved.{LeadTo}
+use Rattle.asg_algebra.specs.declared.square_solvers.SolvedSquare.{SolvedSquare}
 use Rattle.asg_model.specs.declared.parts.Cost.{Cost}
 use Rattle.asg_model.specs.Problem.{Problem}
 use Rattle.asg_order.specs.Monoid.{Monoid}
 use Rattle.asg_pool.specs.Forest.{Forest, IsLive, phases_to}
 use Rattle.asg_square.specs.Grid.{Grid, IsSquareOf}
 use Rattle.asg_roots.specs.declared.roots.Root.{Root}
+use Rattle.asg_roots.specs.declared.workplaces.Workplace.{Workplace}
+
+-- the root of what was solved in a workplace
+abbrev pub root_of : {V : Type 0} → SolvedSquare V → Workplace V → Root V
+root_of solved place = record {
+  reduced = solved.reduced;
+  ended = solved.ended;
+  matching = place.matching;
+  bench = place.bench;
+  region = place.region;
+}
 
 -- a square was solved from the unit on, in a region without trails that had so many records
 pub record IsSolvedRoot {V : Type 0} (M : Monoid V) (difference : V → V → V) (Q : Grid V) (records : ℕ)

@@ -9,10 +9,13 @@
 #![tactic(auto)]
 
 mod guesses;
+mod instance_roots;
 mod roots;
+mod workplaces;
 
 pub use guesses::{Hint, RootGuess};
-pub use roots::{Root, instance_root};
+pub use instance_roots::instance_root;
+pub use roots::Root;
 
 /// There was not enough memory.
 pub type NoMemory = std::alloc::AllocError;

@@ -5,7 +5,7 @@ use Rattle.asg_square.specs.Grid.{cell_at}
 use Rattle.asg_roots.specs.Roots.{IsInstanceRoot, IsSolvedRoot}
 use Rattle.asg_roots.specs.laws.InstanceRoots.{enters_values, square_values}
 use Rattle.asg_roots.proofs.RootSteps.{IfOk-weaker_some, root_of_instance}
-use Rattle.asg_roots.proofs.roots.hinted_entered_root.Goals as goal
+use Rattle.asg_roots.proofs.instance_roots.hinted_entered_root.Goals as goal
 
 pub hinted_root-requires-clause-values : goal.hinted_root-requires-clause-values
 hinted_root-requires-clause-values g c =

@@ -6,7 +6,7 @@ use Rattle.asg_square.specs.Grid.{cell_at}
 use Rattle.asg_roots.specs.Roots.{IsInstanceRoot, IsSolvedRoot}
 use Rattle.asg_roots.specs.laws.InstanceRoots.{enters_values, square_values}
 use Rattle.asg_roots.proofs.RootSteps.{root_of_instance}
-use Rattle.asg_roots.proofs.roots.entered_root.Goals as goal
+use Rattle.asg_roots.proofs.instance_roots.entered_root.Goals as goal
 
 pub solve_root-requires-clause-values : goal.solve_root-requires-clause-values
 solve_root-requires-clause-values g c =

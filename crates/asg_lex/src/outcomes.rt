@@ -1,33 +1,31 @@
 //! The outcome of the lexicographic objective: a best choice with its proof, or a Hall set.
 
-ghost use Rattle.std.specs.Prelude.{◌≡◌, ◌<◌, ◌≤◌, ℕ, IfOk, IfErr, length};
-ghost use Rattle.asg_match.specs.Matching.{IsPerfect};
+ghost use Rattle.std.specs.Prelude.{◌≡◌, ◌<◌, ◌≤◌, All, IfOk, IfErr, length};
 ghost use Rattle.asg_model.specs.declared.objectives.Objective.TheVariants.{Lex};
 ghost use Rattle.asg_model.specs.Limits.{most_side};
 ghost use Rattle.asg_model.specs.Shapes.{square_side};
 ghost use Rattle.asg_model.specs.ValidChoice.{IsValid};
+ghost use Rattle.asg_proof.specs.LevelLists.{AreLevelParts};
 ghost use Rattle.asg_proof.specs.LevelRows.{most_level_rows, HasFewRows};
+ghost use Rattle.asg_proof.specs.Levels.{AreProvedLevels, IsLeftAssignment};
 ghost use Rattle.asg_proof.specs.Outcomes.{IsOutcome};
-ghost use Rattle.asg_proof.specs.PromisedProofs.{GivesFewLevels};
+ghost use Rattle.asg_proof.specs.PromisedProofs.{GivesFewLevels, IsUnitLevel};
 ghost use Rattle.asg_square.specs.Grid.{IsSquareOf};
 ghost use Rattle.asg_live_cells.specs.Grades.{free_grade, grade_of};
-ghost use Rattle.asg_live_cells.specs.Marks.{IsMarked};
 ghost use Rattle.asg_live_cells.specs.LiveCells.{AreEntriesUnder};
 ghost use Rattle.asg_lex.specs.Refusals.{IsRefusal};
-ghost use Rattle.asg_lex.specs.RunStates.{IsRun};
-ghost use Rattle.asg_lex.specs.Starts.{MarksUnder};
+ghost use Rattle.asg_lex.specs.RunStates.{IsDone};
+ghost use Rattle.asg_lex.specs.Starts.{HasChoiceUnder};
 
 use crate::NoMemory;
 use crate::choice_limits::limit_of;
-use crate::level_work::Work;
 use crate::runs::{Run, left_columns, take_all};
-use crate::starts::{cells_under, matched};
-use asg_live_cells::{LiveCells, Marks, graded_square, in_order};
-use asg_match::{Matching, Tree};
+use crate::starts::start;
+use asg_live_cells::{LiveCells, graded_square, in_order};
 use asg_model::{Choice, Instance, Objective};
 use asg_proof::laws::levels_law;
 use asg_proof::{Columns, Levels, Outcome, Proof};
-use asg_square::BitRows;
+use asg_square::Square;
 use asg_square::laws::{grid_law, square_law};
 use asg_thresh::bottleneck;
 use std::alloc::Global;
@@ -55,65 +53,43 @@ impl From<NoMemory> for LexRefusal {
     }
 }
 
-// The start: no level yet. The error is want of memory.
-fn first_run(
-    alloc: Global,
-    inst: &Instance,
-    cells: &LiveCells<'_>,
-    marks: Marks,
-    matching: Matching,
-) -> Result<Run, NoMemory>
+// The run after all costs. The error is want of memory.
+fn finished_run(alloc: Global, inst: &Instance, cells: &LiveCells<'_>) -> Result<Run, NoMemory>
     requires few { square_side inst.now ≤ most_side }
     requires square { IsSquareOf inst.now free_grade grade_of cells.now.square.now }
     requires some { 0 < cells.now.limit }
     requires entries { AreEntriesUnder cells.now.square.now cells.now.limit cells.now.entries.now }
-    requires side { marks.side ≡ cells.now.square.now.side }
-    requires marked { MarksUnder cells.now.square.now cells.now.limit marks.bits }
-    requires perfect { IsPerfect (IsMarked marks.bits marks.side) cells.now.square.now.side matching }
-    ensures { IfOk result (λ run. (bound : ℕ) × IsRun inst.now cells.now.limit
-        cells.now.entries.now bound (length cells.now.entries.now) run) }
+    requires choice { HasChoiceUnder inst.now cells.now.limit }
+    ensures { IfOk result (IsDone inst.now cells.now.limit cells.now.entries.now) }
 {
-    square_law::<u32>();
-    let _rows = inst.rows();
-    let side = cells.square.side();
-    let width = side.div_ceil(64);
-    let zeros = BitRows::make(alloc, side, side)?;
-    let ones = BitRows::make(alloc, side, side)?;
-    let ins = vec![in alloc; 0; side as usize]?;
-    let outs = vec![in alloc; 0; (64 * width) as usize]?;
-    let tree = Tree::make(alloc, side)?;
-    let work = Work {
-        marks,
-        zeros,
-        ones,
-        ins,
-        outs,
-        phases: Vec::new(alloc),
-    };
-    Ok(Run {
-        work,
-        matching,
-        tree,
-        levels: Vec::new(alloc),
-    })
+    let mut run = start(alloc, inst, cells)?;
+    take_all(alloc, inst, cells, &mut run)?;
+    Ok(run)
 }
 
-// The best choice of the levels. The error is want of memory.
-fn best(
+// The levels of a run, of which nothing else is kept.
+fn levels_of(run: Run) -> Levels
+    requires { AreLevelParts run.levels.items }
+    ensures { result ≡ run.levels.items }
+{
+    Levels::from_vec(run.levels)
+}
+
+// The choice of a perfect assignment by what is left after proved levels, which is a best one, with
+// these levels. The error is want of memory.
+fn best_of(
     alloc: Global,
     inst: &Instance,
-    cells: &LiveCells<'_>,
-    marks: Marks,
-    matching: Matching,
+    square: &Square<u32>,
+    perm: Vec<u32>,
+    levels: Levels,
 ) -> Result<Outcome, NoMemory>
-    requires few { square_side inst.now ≤ most_side }
     requires few_rows { HasFewRows inst.now }
-    requires square { IsSquareOf inst.now free_grade grade_of cells.now.square.now }
-    requires some { 0 < cells.now.limit }
-    requires entries { AreEntriesUnder cells.now.square.now cells.now.limit cells.now.entries.now }
-    requires side { marks.side ≡ cells.now.square.now.side }
-    requires marked { MarksUnder cells.now.square.now cells.now.limit marks.bits }
-    requires perfect { IsPerfect (IsMarked marks.bits marks.side) cells.now.square.now.side matching }
+    requires square { IsSquareOf inst.now free_grade grade_of square.now }
+    requires left { IsLeftAssignment inst.now perm.items levels }
+    requires proved { AreProvedLevels inst.now levels }
+    requires units { All (IsUnitLevel (square_side inst.now)) levels }
+    requires count { length perm.items ≡ square_side inst.now }
     ensures outcome { IfOk result (IsOutcome Lex inst.now) }
     ensures levels { IfOk result (GivesFewLevels (square_side inst.now) most_level_rows) }
 {
@@ -122,17 +98,55 @@ fn best(
     grid_law::<u32>();
     levels_law();
     let _rows = inst.rows();
-    let mut run = first_run(alloc, inst, cells, marks, matching)?;
-    take_all(alloc, inst, cells, &mut run)?;
-    let perm = left_columns(alloc, inst, cells, &run)?;
-    let choice = cells.square.choice_of(alloc, perm.as_slice())?;
+    let choice = square.choice_of(alloc, perm.as_slice())?;
     Ok(Outcome::Best {
         choice,
         proof: Proof::Levels {
             perm: Columns::from_vec(perm),
-            levels: Levels::from_vec(run.levels),
+            levels,
         },
     })
+}
+
+// The best choice of the levels. The error is want of memory.
+fn best(alloc: Global, inst: &Instance, cells: &LiveCells<'_>) -> Result<Outcome, NoMemory>
+    requires few { square_side inst.now ≤ most_side }
+    requires few_rows { HasFewRows inst.now }
+    requires square { IsSquareOf inst.now free_grade grade_of cells.now.square.now }
+    requires some { 0 < cells.now.limit }
+    requires entries { AreEntriesUnder cells.now.square.now cells.now.limit cells.now.entries.now }
+    requires choice { HasChoiceUnder inst.now cells.now.limit }
+    ensures outcome { IfOk result (IsOutcome Lex inst.now) }
+    ensures levels { IfOk result (GivesFewLevels (square_side inst.now) most_level_rows) }
+{
+    let run = finished_run(alloc, inst, cells)?;
+    let perm = left_columns(alloc, inst, cells, &run)?;
+    best_of(alloc, inst, cells.square, perm, levels_of(run))
+}
+
+// The outcome, where a choice is valid whose costs have grades under a limit. The error is want of
+// memory.
+fn outcome_below(
+    alloc: Global,
+    inst: &Instance,
+    square: &Square<u32>,
+    limit: u32,
+) -> Result<Outcome, NoMemory>
+    requires few { square_side inst.now ≤ most_side }
+    requires few_rows { HasFewRows inst.now }
+    requires square { IsSquareOf inst.now free_grade grade_of square.now }
+    requires some { 0 < limit }
+    requires choice { HasChoiceUnder inst.now limit }
+    ensures outcome { IfOk result (IsOutcome Lex inst.now) }
+    ensures levels { IfOk result (GivesFewLevels (square_side inst.now) most_level_rows) }
+{
+    let entries = in_order(alloc, square, limit)?;
+    let cells = LiveCells {
+        square,
+        limit,
+        entries: entries.as_slice(),
+    };
+    best(alloc, inst, &cells)
 }
 
 // The outcome, where a choice is valid: the walk starts at the greatest cost that it has. The error
@@ -144,18 +158,9 @@ fn outcome_under(alloc: Global, inst: &Instance, choice: &Choice) -> Result<Outc
     ensures outcome { IfOk result (IsOutcome Lex inst.now) }
     ensures levels { IfOk result (GivesFewLevels (square_side inst.now) most_level_rows) }
 {
-    let _rows = inst.rows();
     let limit = limit_of(inst, choice);
     let square = graded_square(alloc, inst)?;
-    let marks = cells_under(alloc, &square, limit)?;
-    let matching = matched(alloc, inst, &square, limit, &marks)?;
-    let entries = in_order(alloc, &square, limit)?;
-    let cells = LiveCells {
-        square: &square,
-        limit,
-        entries: entries.as_slice(),
-    };
-    best(alloc, inst, &cells, marks, matching)
+    outcome_below(alloc, inst, &square, limit)
 }
 
 // The outcome of an instance with few rows. The error is want of memory.

@@ -1,19 +1,26 @@
-//! The start of the walk: the cells under a limit, with a perfect matching by them.
+//! The start of the walk: the cells under a limit, with a perfect matching by them, and no level.
 
-ghost use Rattle.std.specs.Prelude.{◌≡◌, ◌<◌, ◌≤◌, ℕ, IfOk};
+ghost use Rattle.std.specs.Prelude.{◌≡◌, ◌<◌, ◌≤◌, ℕ, IfOk, length};
 ghost use Rattle.asg_match.specs.Matching.{IsPerfect};
 ghost use Rattle.asg_model.specs.Limits.{most_side};
+ghost use Rattle.asg_model.specs.Shapes.{square_side};
 ghost use Rattle.asg_square.specs.BitTable.{has_bit};
 ghost use Rattle.asg_square.specs.Grid.{IsSquareOf, cell_at};
 ghost use Rattle.asg_live_cells.specs.Grades.{free_grade, grade_of};
+ghost use Rattle.asg_live_cells.specs.LiveCells.{AreEntriesUnder};
 ghost use Rattle.asg_live_cells.specs.Marks.{IsMarked};
+ghost use Rattle.asg_lex.specs.LevelWork.{AreSized};
+ghost use Rattle.asg_lex.specs.RunStates.{IsRun};
 ghost use Rattle.asg_lex.specs.Starts.{is_under, MarksUnder, HasChoiceUnder};
 
 use crate::NoMemory;
-use asg_live_cells::Marks;
-use asg_match::{Matching, Pairing, hall_of, perfect_or_hall};
+use crate::level_work::Work;
+use crate::runs::Run;
+use asg_live_cells::{LiveCells, Marks};
+use asg_match::{Matching, Pairing, Tree, hall_of, perfect_or_hall};
 use asg_model::Instance;
 use asg_model::laws::hall_law;
+use asg_square::laws::square_law;
 use asg_square::{BitRows, Square};
 use std::alloc::Global;
 
@@ -44,12 +51,8 @@ fn mark_row(bits: &mut BitRows, square: &Square<u32>, limit: u32, row: u32)
     }
 }
 
-/// Marks for the cells of a square whose grades are under the limit. The error is want of memory.
-pub(crate) fn cells_under(
-    alloc: Global,
-    square: &Square<u32>,
-    limit: u32,
-) -> Result<Marks, NoMemory>
+// Marks for the cells of a square whose grades are under the limit. The error is want of memory.
+fn cells_under(alloc: Global, square: &Square<u32>, limit: u32) -> Result<Marks, NoMemory>
     requires few { square.now.side ≤ most_side }
     ensures side { IfOk result (λ m. m.side ≡ square.now.side) }
     ensures cells { IfOk result (λ m. MarksUnder square.now limit m.bits) }
@@ -62,9 +65,9 @@ pub(crate) fn cells_under(
     Ok(Marks { side, bits })
 }
 
-/// A perfect matching by the cells under a limit, under which a valid choice lies. The error is
-/// want of memory.
-pub(crate) fn matched(
+// A perfect matching by the cells under a limit, under which a valid choice lies. The error is want
+// of memory.
+fn matched(
     alloc: Global,
     inst: &Instance,
     square: &Square<u32>,
@@ -89,4 +92,71 @@ pub(crate) fn matched(
             unreachable!()
         }
     }
+}
+
+// The work with these marks before any phase. The error is want of memory.
+fn first_work(alloc: Global, marks: Marks) -> Result<Work, NoMemory>
+    requires { marks.side ≤ most_side }
+    ensures sized { IfOk result (AreSized marks.side) }
+    ensures marks { IfOk result (λ work. work.marks ≡ marks) }
+{
+    let side = marks.side;
+    let width = side.div_ceil(64);
+    let ins = vec![in alloc; 0; side as usize]?;
+    let outs = vec![in alloc; 0; (64 * width) as usize]?;
+    let zeros = BitRows::make(alloc, side, side)?;
+    let ones = BitRows::make(alloc, side, side)?;
+    Ok(Work {
+        marks,
+        zeros,
+        ones,
+        ins,
+        outs,
+        phases: Vec::new(alloc),
+    })
+}
+
+// The start with these marks and this matching. The error is want of memory.
+fn first_run(
+    alloc: Global,
+    inst: &Instance,
+    cells: &LiveCells<'_>,
+    marks: Marks,
+    matching: Matching,
+) -> Result<Run, NoMemory>
+    requires few { square_side inst.now ≤ most_side }
+    requires square { IsSquareOf inst.now free_grade grade_of cells.now.square.now }
+    requires some { 0 < cells.now.limit }
+    requires entries { AreEntriesUnder cells.now.square.now cells.now.limit cells.now.entries.now }
+    requires side { marks.side ≡ cells.now.square.now.side }
+    requires marked { MarksUnder cells.now.square.now cells.now.limit marks.bits }
+    requires perfect { IsPerfect (IsMarked marks.bits marks.side) cells.now.square.now.side matching }
+    ensures { IfOk result (λ run. (bound : ℕ) × IsRun inst.now cells.now.limit
+        cells.now.entries.now bound (length cells.now.entries.now) run) }
+{
+    square_law::<u32>();
+    let _rows = inst.rows();
+    let tree = Tree::make(alloc, marks.side)?;
+    let work = first_work(alloc, marks)?;
+    Ok(Run {
+        work,
+        matching,
+        tree,
+        levels: Vec::new(alloc),
+    })
+}
+
+/// The start: no level yet. The error is want of memory.
+pub(crate) fn start(alloc: Global, inst: &Instance, cells: &LiveCells<'_>) -> Result<Run, NoMemory>
+    requires few { square_side inst.now ≤ most_side }
+    requires square { IsSquareOf inst.now free_grade grade_of cells.now.square.now }
+    requires some { 0 < cells.now.limit }
+    requires entries { AreEntriesUnder cells.now.square.now cells.now.limit cells.now.entries.now }
+    requires choice { HasChoiceUnder inst.now cells.now.limit }
+    ensures { IfOk result (λ run. (bound : ℕ) × IsRun inst.now cells.now.limit
+        cells.now.entries.now bound (length cells.now.entries.now) run) }
+{
+    let marks = cells_under(alloc, cells.square, cells.limit)?;
+    let matching = matched(alloc, inst, cells.square, cells.limit, &marks)?;
+    first_run(alloc, inst, cells, marks, matching)
 }

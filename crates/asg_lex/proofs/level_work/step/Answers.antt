@@ -54,6 +54,24 @@ one_if_few : (b : Bool) → cond {A = ℕ} b 1 0 ≤ 1
 one_if_few true = omega arith
 one_if_few false = omega arith
 
+pub count_zeros-requires-clause-few : goal.count_zeros-requires-clause-few
+count_zeros-requires-clause-few c r h =
+    let u = c.requires.underway in
+    let long = ap length c.enters.ensures.enters in
+    let inside : r < length c.args.matching.now = omega (arith, h, long, c.in_ok-phase.ensures.split.row_count) in
+    let before = u.duals.few_ins r inside in
+    let few = c.requires.few in
+    let most = u.few in
+    omega (arith, before, few, most)
+
+pub count_zeros-requires-2-clause-few : goal.count_zeros-requires-2-clause-few
+count_zeros-requires-2-clause-few c r h =
+    let u = c.requires.underway in
+    let before = u.duals.few r in
+    let few = c.requires.few in
+    let most = u.few in
+    omega (arith, before, few, most)
+
 -- no row is in more steps than there are phases
 pub tighten-requires-clause-few_ins : goal.tighten-requires-clause-few_ins
 tighten-requires-clause-few_ins c r h =

@@ -9,7 +9,7 @@ ghost use Rattle.asg_roots.specs.Roots.{IsInstanceRoot};
 
 use crate::NoMemory;
 use crate::guesses::{Hint, RootGuess};
-use crate::roots::{Root, close, hinted_root, solve_root};
+use crate::roots::{Root, hinted_root, solve_root};
 use asg_algebra::{SquareSolver, entered_square};
 use asg_model::Instance;
 use asg_order::{Kind, Ordered};
@@ -142,12 +142,12 @@ where
     match kind.monoid().guess(alloc, kind.objective(), &square) {
         Ok(Some(hint)) => {
             let root = tried_root(alloc, kind, inst, square, records, &hint);
-            close(hint);
+            drop(hint);
             root
         }
         Ok(None) => entered_root(alloc, kind, inst, square, records),
         Err(error) => {
-            close(square);
+            drop(square);
             Err(error)
         }
     }

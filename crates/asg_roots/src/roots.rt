@@ -102,9 +102,6 @@ fn solve_given_in<M: SquareSolver>(
     Ok(found)
 }
 
-/// Drops a value, by a function for each type.
-pub(crate) fn close<T: Drop>(_it: T) {}
-
 /// Solves a square from the unit on by the engine, in a region with so many records. The error is
 /// want of memory. The time grows with the cube of the side at most.
 pub(crate) fn solve_root<M: SquareSolver>(
@@ -121,7 +118,7 @@ pub(crate) fn solve_root<M: SquareSolver>(
     match solve_in(alloc, m, square, &mut place) {
         Ok(solved) => Ok(rooted(solved, place)),
         Err(error) => {
-            close(place);
+            drop(place);
             Err(error)
         }
     }
@@ -147,11 +144,11 @@ fn given_root<M: SquareSolver>(
     match solve_given_in(alloc, m, square, &mut place, phases, columns) {
         Ok(Some(solved)) => Ok(Some(rooted(solved, place))),
         Ok(None) => {
-            close(place);
+            drop(place);
             Ok(None)
         }
         Err(error) => {
-            close(place);
+            drop(place);
             Err(error)
         }
     }

@@ -1,7 +1,6 @@
--- Documents of edited instances, line by line.
-use Rattle.std.proofs.Common.{◌≡◌, ℕ, ◌+◌, ◌≤◌, ◌<◌, List, [], ◌∷◌, ◌++◌, length, take, drop, get_or, Option, Some, None, refl, sym, ap, ◌∙◌, subst, append_assoc, arith, inl, inr}
+-- What is written for a script, line by line.
+use Rattle.std.proofs.Common.{◌≡◌, ℕ, ◌+◌, ◌≤◌, ◌<◌, Bool, true, false, List, [], ◌∷◌, ◌++◌, length, take, drop, get_or, Option, Some, None, refl, sym, ap, ◌∙◌, subst, append_assoc, arith, inl, inr}
 use Rattle.std.proofs.lemmas.List.{append-nil, take_all, take-append-drop, take_more}
-use Rattle.std.proofs.lemmas.Grind.{flat_map-append}
 use Rattle.asg_model.specs.declared.edits.Edit.{Edit}
 use Rattle.asg_model.specs.declared.objectives.Objective.{Objective}
 use Rattle.asg_model.specs.Edits.{edited}
@@ -13,12 +12,13 @@ use Rattle.asg_proof.specs.declared.outcomes.Proof.TheVariants.{Below, Levels, P
 use Rattle.asg_doc.specs.declared.documents.Claim.{Claim}
 use Rattle.asg_doc.specs.declared.documents.Claim.TheVariants.{Best, Nothing, Ranked}
 use Rattle.asg_doc.specs.declared.documents.Document.{Document}
-use Rattle.asg_doc.specs.Text.{text_of, texts_of}
+use Rattle.asg_doc.specs.Text.{text_of}
+use Rattle.asg_brief.specs.BriefLines.{AreBriefLines, IsBriefLine}
 use Rattle.asg_edits.specs.Editors.{EditorOf, Edits, GoesTo}
 use Rattle.asg_io.specs.Laws.{Puts-append, PutsPrefix-append}
 use Rattle.asg_io.specs.Shelf.{Rose}
 use Rattle.asg_io.specs.Sink.{Puts, PutsPrefix}
-use Rattle.asg_scripts.specs.Scripts.{after_line}
+use Rattle.asg_scripts.specs.Scripts.{after_line, solved_instances}
 use Rattle.asg_text.specs.declared.script_lines.Line.{Line}
 use Rattle.asg_text.specs.declared.script_lines.Line.TheVariants.{Edit as Edits_line, Solve}
 use Rattle.asg_answers.specs.declared.edited.Halt.{Halt}
@@ -27,7 +27,8 @@ use Rattle.asg_answers.specs.EditDocuments.{AreEditDocuments, ClaimGoesOn, at_fi
 use Rattle.asg_answers.specs.WrittenLines.{HaltsIn, WritesAll, WritesFront, WritesLine}
 use Rattle.asg_check.specs.declared.verdicts.Form.TheVariants as forms
 use Rattle.asg_answers.specs.WrittenDocument.{IsWritten}
-use Rattle.asg_answers.specs.Standings.{AreSure, ClaimsBy, GoesOnTo, IsEditDocument, IsFollowed, KeepsStanding, Stands}
+use Rattle.asg_answers.specs.Standings.{AreSure, ClaimsBy, GoesOnTo, IsEditDocument, IsFollowed, IsTold, KeepsStanding, Stands}
+use Rattle.asg_answers.specs.Tellings.{TellsEdits, TellsScript}
 
 -- ---- an edit
 
@@ -53,12 +54,12 @@ IsLeft-edited objective old new edit same did edits (Some words) stands =
     }
 
 -- an edit is followed
-pub WritesLine-edit : (objective : Objective) (standing : Standing) (old new : EditorOf) (edit : Edit) (before : Option (List ℕ)) → old.objective ≡ objective → Edits old edit new → Stands objective standing old → Puts before before []
-    → WritesLine objective old.instance standing (Edits_line edit) new before before
-WritesLine-edit objective standing old new edit before same did stands puts =
+pub WritesLine-edit : (brief : Bool) (objective : Objective) (standing : Standing) (old new : EditorOf) (edit : Edit) (before : Option (List ℕ)) → old.objective ≡ objective → Edits old edit new → Stands objective standing old → Puts before before []
+    → WritesLine brief objective old.instance standing (Edits_line edit) new before before
+WritesLine-edit brief objective standing old new edit before same did stands puts =
     let is = IsLeft-edited objective old new edit same did standing.edits standing.kept stands in
     record {
-      documents = [];
+      text = [];
       after = edited_standing standing old.instance new.instance is.left;
       followed = (refl, is.left, is.keeps, refl, is.stands);
       stands = is.stands;
@@ -94,91 +95,107 @@ claim_stands objective editor (Nothing rows) claims = tt
 claim_stands objective editor (Ranked count answers nodes) claims = tt
 
 -- the document of an editor's answer goes on from what was kept
-pub GoesOnTo-answered : (objective : Objective) (standing : Standing) (old new : EditorOf) (document : Document) → GoesTo old new → IsEditDocument objective new document → Stands objective standing old → GoesOnTo objective standing new document
+GoesOnTo-answered : (objective : Objective) (standing : Standing) (old new : EditorOf) (document : Document) → GoesTo old new → IsEditDocument objective new document → Stands objective standing old → GoesOnTo objective standing new document
 GoesOnTo-answered objective standing old new document go is stands = record {
   written = is.written;
   goes = claim_goes objective standing old new document.claim go is.claims stands;
   stands = claim_stands objective new document.claim is.claims;
 }
 
--- the text of one document
-pub one_text : (document : Document) → text_of document ≡ texts_of (document ∷ [])
-one_text document = sym (append-nil (text_of document))
+pub IsTold-answered : (objective : Objective) (standing : Standing) (old new : EditorOf) (document sheet : Document) → sheet ≡ document → GoesTo old new → IsEditDocument objective new document → Stands objective standing old → IsTold false objective standing new (text_of sheet)
+IsTold-answered objective standing old new document sheet same go is stands =
+    let goes = GoesOnTo-answered objective standing old new document go is stands in
+    record { after = standing_of document; tells = (document, ap text_of same, refl, goes); stands = goes.stands }
 
--- a document is written
-pub WritesLine-solve : (objective : Objective) (standing : Standing) (X : Problem) (new : EditorOf) (before now : Option (List ℕ)) → (document : Document) × GoesOnTo objective standing new document × Puts before now (text_of document)
-    → WritesLine objective X standing Solve new before now
-WritesLine-solve objective standing X new before now (document, goes, puts) = record {
-  documents = document ∷ [];
-  after = standing_of document;
-  followed = (document, refl, refl, goes);
-  stands = goes.stands;
-  puts = subst (Puts before now) (one_text document) puts;
+-- a brief line goes on from anything
+pub IsTold-briefly : (objective : Objective) (standing : Standing) (editor : EditorOf) (text : List ℕ) → IsBriefLine objective editor.instance text → IsTold true objective standing editor text
+IsTold-briefly objective standing editor text line = record { after = at_first; tells = (line, refl); stands = tt }
+
+-- an answer is written
+pub WritesLine-solve : (brief : Bool) (objective : Objective) (standing : Standing) (X : Problem) (new : EditorOf) (before now : Option (List ℕ)) → (text : List ℕ) × IsTold brief objective standing new text × Puts before now text
+    → WritesLine brief objective X standing Solve new before now
+WritesLine-solve brief objective standing X new before now (text, told, puts) = record {
+  text = text;
+  after = told.after;
+  followed = told.tells;
+  stands = told.stands;
+  puts = puts;
 }
 
 -- or a part of it
-pub HaltsIn-solve : (objective : Objective) (standing : Standing) (X : Problem) (new : EditorOf) (before now : Option (List ℕ)) (halt : Halt) → new.instance ≡ X → (halt ≡ WriteFault → (document : Document) × GoesOnTo objective standing new document × PutsPrefix before now (text_of document)) → (halt ≡ NoMemory → now ≡ before)
-    → HaltsIn objective X standing Solve before now halt
-HaltsIn-solve objective standing X new before now WriteFault same put unwritten =
-    let (document, goes, puts) = put refl in
-    (document ∷ [], standing_of document, new, same, (document, refl, refl, goes), subst (PutsPrefix before now) (one_text document) puts)
-HaltsIn-solve objective standing X new before now NoMemory same put unwritten = unwritten refl
+pub HaltsIn-solve : (brief : Bool) (objective : Objective) (standing : Standing) (X : Problem) (new : EditorOf) (before now : Option (List ℕ)) (halt : Halt) → new.instance ≡ X → (halt ≡ WriteFault → (text : List ℕ) × IsTold brief objective standing new text × PutsPrefix before now text) → (halt ≡ NoMemory → now ≡ before)
+    → HaltsIn brief objective X standing Solve before now halt
+HaltsIn-solve brief objective standing X new before now WriteFault same put unwritten =
+    let (text, told, puts) = put refl in
+    (text, told.after, new, same, told.tells, puts)
+HaltsIn-solve brief objective standing X new before now NoMemory same put unwritten = unwritten refl
 
 -- ---- lines
 
 -- the first lines were followed
-pub record AreFollowed (objective : Objective) (X : Problem) (lines : List (ℕ × Line)) (place : ℕ) (editor : EditorOf) (before now : Option (List ℕ)) : Type 0 where
-  pub documents : List Document
+pub record AreFollowed (brief : Bool) (objective : Objective) (X : Problem) (lines : List (ℕ × Line)) (place : ℕ) (editor : EditorOf) (before now : Option (List ℕ)) : Type 0 where
+  pub text : List ℕ
   pub standing : Standing
   pub stands : Stands objective standing editor
-  pub puts : Puts before now (texts_of documents)
-  pub rest : (later : List (ℕ × Line)) (others : List Document) → AreEditDocuments objective editor.instance standing later others → AreEditDocuments objective X at_first (take place lines ++ later) (documents ++ others)
+  pub puts : Puts before now text
+  pub rest : (later : List (ℕ × Line)) (other : List ℕ) → TellsEdits brief objective editor.instance standing later other → TellsEdits brief objective X at_first (take place lines ++ later) (text ++ other)
 
-pub AreFollowed-none : (objective : Objective) (lines : List (ℕ × Line)) (editor : EditorOf) (before : Option (List ℕ)) → Puts before before [] → AreFollowed objective editor.instance lines 0 editor before before
-AreFollowed-none objective lines editor before puts = record { documents = []; standing = at_first; stands = tt; puts = puts; rest = λ later others are. are }
+pub AreFollowed-none : (brief : Bool) (objective : Objective) (lines : List (ℕ × Line)) (editor : EditorOf) (before : Option (List ℕ)) → Puts before before [] → AreFollowed brief objective editor.instance lines 0 editor before before
+AreFollowed-none brief objective lines editor before puts = record { text = []; standing = at_first; stands = tt; puts = puts; rest = λ later other told. told }
 
--- one line more, in the words of documents
-line_rest : (objective : Objective) (X : Problem) (standing after : Standing) (number : ℕ) (line : Line) (documents : List Document) (editor : EditorOf) → editor.instance ≡ after_line X line → IsFollowed objective X standing line documents after editor
-    → (later : List (ℕ × Line)) (others : List Document) → AreEditDocuments objective editor.instance after later others → AreEditDocuments objective X standing ((number, line) ∷ later) (documents ++ others)
-line_rest objective X standing after number (Edits_line edit) documents editor is (none, left, keeps, leaves, stands) later others are =
+-- nothing more is told of no lines
+tells_none : (brief : Bool) (objective : Objective) (X : Problem) (standing : Standing) → TellsEdits brief objective X standing [] []
+tells_none false objective X standing = ([], tt, refl)
+tells_none true objective X standing = refl
+
+-- one line more
+line_rest : (brief : Bool) (objective : Objective) (X : Problem) (standing after : Standing) (number : ℕ) (line : Line) (text : List ℕ) (editor : EditorOf) → editor.instance ≡ after_line X line → IsFollowed brief objective X standing line text after editor
+    → (later : List (ℕ × Line)) (other : List ℕ) → TellsEdits brief objective editor.instance after later other → TellsEdits brief objective X standing ((number, line) ∷ later) (text ++ other)
+line_rest false objective X standing after number (Edits_line edit) text editor is (none, left, keeps, leaves, stands) later other (others, are, told) =
     let keeps' : KeepsOn objective (edited X edit) standing.kept left = subst (λ Z. KeepsOn objective Z standing.kept left) is keeps in
     let are' = subst (λ s. AreEditDocuments objective editor.instance s later others) leaves are in
     let are'' : AreEditDocuments objective (edited X edit) (edited_standing standing X (edited X edit) left) later others = subst (λ Z. AreEditDocuments objective Z (edited_standing standing X Z left) later others) is are' in
-    subst (λ ds. AreEditDocuments objective X standing ((number, Edits_line edit) ∷ later) (ds ++ others)) (sym none) (left, keeps', are'')
-line_rest objective X standing after number Solve documents editor is (document, one, leaves, goes) later others are =
-    let are' = subst (λ s. AreEditDocuments objective editor.instance s later others) leaves are in
-    subst (λ ds. AreEditDocuments objective X standing ((number, Solve) ∷ later) (ds ++ others)) (sym one)
-    (subst (λ Z. IsWritten objective Z forms.Edit document) is goes.written, goes.goes, subst (λ Z. AreEditDocuments objective Z (standing_of document) later others) is are')
-
-texts_more : (documents others : List Document) → texts_of documents ++ texts_of others ≡ texts_of (documents ++ others)
-texts_more documents others = sym (flat_map-append text_of documents others)
+    (others, (left, keeps', are''), ap (λ t. t ++ other) none ∙ told)
+line_rest false objective X standing after number Solve text editor is (document, one, leaves, goes) later other (others, are, told) =
+    let are' = subst (λ s. AreEditDocuments objective editor.instance s later others) leaves are in (
+      document ∷ others,
+      (subst (λ Z. IsWritten objective Z forms.Edit document) is goes.written, goes.goes, subst (λ Z. AreEditDocuments objective Z (standing_of document) later others) is are'),
+      λ i. one i ++ told i,
+    )
+line_rest true objective X standing after number (Edits_line edit) text editor is (none, left, keeps, leaves, stands) later other told =
+    subst (AreBriefLines objective (solved_instances (edited X edit) later)) (sym (ap (λ t. t ++ other) none)) (subst (λ Z. AreBriefLines objective (solved_instances Z later) other) is told)
+line_rest true objective X standing after number Solve text editor is (line, leaves) later other told =
+    (text, other, subst (λ Z. IsBriefLine objective Z text) is line, subst (λ Z. AreBriefLines objective (solved_instances Z later) other) is told, refl)
 
 firsts_more : (lines : List (ℕ × Line)) (place : ℕ) (d : ℕ × Line) → place < length lines → (later : List (ℕ × Line)) → take (place + 1) lines ++ later ≡ take place lines ++ get_or lines place d ∷ later
 firsts_more lines place d within later = ap (λ ls. ls ++ later) (take_more lines place d within) ∙ append_assoc (take place lines) (get_or lines place d ∷ []) later
 
-pub AreFollowed-more : (objective : Objective) (X : Problem) (lines : List (ℕ × Line)) (place : ℕ) (d : ℕ × Line) (old new : EditorOf) (before now after : Option (List ℕ)) → place < length lines
-    → (so_far : AreFollowed objective X lines place old before now) → WritesLine objective old.instance so_far.standing (get_or lines place d).1 new now after → new.instance ≡ after_line old.instance (get_or lines place d).1
-    → AreFollowed objective X lines (place + 1) new before after
-AreFollowed-more objective X lines place d old new before now after within so_far writes follows =
+pub AreFollowed-more : (brief : Bool) (objective : Objective) (X : Problem) (lines : List (ℕ × Line)) (place : ℕ) (d : ℕ × Line) (old new : EditorOf) (before now after : Option (List ℕ)) → place < length lines
+    → (so_far : AreFollowed brief objective X lines place old before now) → WritesLine brief objective old.instance so_far.standing (get_or lines place d).1 new now after → new.instance ≡ after_line old.instance (get_or lines place d).1
+    → AreFollowed brief objective X lines (place + 1) new before after
+AreFollowed-more brief objective X lines place d old new before now after within so_far writes follows =
     let next = get_or lines place d in
     record {
-      documents = so_far.documents ++ writes.documents;
+      text = so_far.text ++ writes.text;
       standing = writes.after;
       stands = writes.stands;
-      puts = subst (Puts before after) (texts_more so_far.documents writes.documents) (Puts-append so_far.puts writes.puts);
-      rest = λ later others are.
-          let all = so_far.rest (next ∷ later) (writes.documents ++ others) (line_rest objective old.instance so_far.standing writes.after next.0 next.1 writes.documents new follows writes.followed later others are) in
-          subst (λ ls. AreEditDocuments objective X at_first ls ((so_far.documents ++ writes.documents) ++ others)) (sym (firsts_more lines place d within later))
-          (subst (AreEditDocuments objective X at_first (take place lines ++ next ∷ later)) (sym (append_assoc so_far.documents writes.documents others)) all);
+      puts = Puts-append so_far.puts writes.puts;
+      rest = λ later other told.
+          let all = so_far.rest (next ∷ later) (writes.text ++ other) (line_rest brief objective old.instance so_far.standing writes.after next.0 next.1 writes.text new follows writes.followed later other told) in
+          subst (λ ls. TellsEdits brief objective X at_first ls ((so_far.text ++ writes.text) ++ other)) (sym (firsts_more lines place d within later))
+          (subst (TellsEdits brief objective X at_first (take place lines ++ next ∷ later)) (sym (append_assoc so_far.text writes.text other)) all);
     }
 
+-- what the first lines tell
+tells_firsts : (brief : Bool) (objective : Objective) (X : Problem) (lines : List (ℕ × Line)) (place : ℕ) (editor : EditorOf) (before now : Option (List ℕ)) → (so_far : AreFollowed brief objective X lines place editor before now) → TellsScript brief objective X (take place lines) so_far.text
+tells_firsts brief objective X lines place editor before now so_far =
+    subst (λ ls. TellsScript brief objective X ls so_far.text) (append-nil (take place lines))
+    (subst (TellsScript brief objective X (take place lines ++ [])) (append-nil so_far.text) (so_far.rest [] [] (tells_none brief objective editor.instance so_far.standing)))
+
 -- all lines
-pub WritesAll-followed : (objective : Objective) (X : Problem) (lines : List (ℕ × Line)) (place : ℕ) (editor : EditorOf) (before now : Option (List ℕ)) → length lines ≤ place → AreFollowed objective X lines place editor before now → WritesAll objective X lines before now
-WritesAll-followed objective X lines place editor before now past so_far =
-    let are = so_far.rest [] [] tt in
-    let lines_are : take place lines ++ [] ≡ lines = append-nil (take place lines) ∙ take_all place lines past in
-    let documents_are : so_far.documents ++ [] ≡ so_far.documents = append-nil so_far.documents in
-    (so_far.documents, subst (λ ls. AreEditDocuments objective X at_first ls so_far.documents) lines_are (subst (AreEditDocuments objective X at_first (take place lines ++ [])) documents_are are), so_far.puts)
+pub WritesAll-followed : (brief : Bool) (objective : Objective) (X : Problem) (lines : List (ℕ × Line)) (place : ℕ) (editor : EditorOf) (before now : Option (List ℕ)) → length lines ≤ place → AreFollowed brief objective X lines place editor before now → WritesAll brief objective X lines before now
+WritesAll-followed brief objective X lines place editor before now past so_far =
+    (so_far.text, subst (λ ls. TellsScript brief objective X ls so_far.text) (take_all place lines past) (tells_firsts brief objective X lines place editor before now so_far), so_far.puts)
 
 -- what is put whole is put in part
 pub PutsPrefix-whole : (before now : Option (List ℕ)) (text : List ℕ) → Puts before now text → PutsPrefix before now text
@@ -189,30 +206,29 @@ PutsPrefix-whole before now text puts = record {
 }
 
 -- the first lines, where the next one halts
-pub WritesFront-halted : (objective : Objective) (X : Problem) (lines : List (ℕ × Line)) (place : ℕ) (d : ℕ × Line) (old : EditorOf) (before now after : Option (List ℕ)) (halt : Halt) → place < length lines
-    → (so_far : AreFollowed objective X lines place old before now) → HaltsIn objective old.instance so_far.standing (get_or lines place d).1 now after halt
-    → WritesFront objective X lines before after
-WritesFront-halted objective X lines place d old before now after NoMemory within so_far halts =
-    let are = so_far.rest [] [] tt in
-    let documents_are : so_far.documents ++ [] ≡ so_far.documents = append-nil so_far.documents in (
-      take place lines,
-      drop place lines,
-      sym (take-append-drop place lines),
-      so_far.documents,
-      subst (λ ls. AreEditDocuments objective X at_first ls so_far.documents) (append-nil (take place lines)) (subst (AreEditDocuments objective X at_first (take place lines ++ [])) documents_are are),
-      subst (λ w. PutsPrefix before w (texts_of so_far.documents)) (sym halts) (PutsPrefix-whole before now (texts_of so_far.documents) so_far.puts),
-    )
-WritesFront-halted objective X lines place d old before now after WriteFault within so_far (documents, standing, editor, follows, followed, puts) =
+pub WritesFront-halted : (brief : Bool) (objective : Objective) (X : Problem) (lines : List (ℕ × Line)) (place : ℕ) (d : ℕ × Line) (old : EditorOf) (before now after : Option (List ℕ)) (halt : Halt) → place < length lines
+    → (so_far : AreFollowed brief objective X lines place old before now) → HaltsIn brief objective old.instance so_far.standing (get_or lines place d).1 now after halt
+    → WritesFront brief objective X lines before after
+WritesFront-halted brief objective X lines place d old before now after NoMemory within so_far halts = (
+  take place lines,
+  drop place lines,
+  sym (take-append-drop place lines),
+  so_far.text,
+  tells_firsts brief objective X lines place old before now so_far,
+  subst (λ w. PutsPrefix before w so_far.text) (sym halts) (PutsPrefix-whole before now so_far.text so_far.puts),
+)
+WritesFront-halted brief objective X lines place d old before now after WriteFault within so_far (text, standing, editor, follows, followed, puts) =
     let next = get_or lines place d in
-    let one = subst (AreEditDocuments objective old.instance so_far.standing (next ∷ [])) (append-nil documents) (line_rest objective old.instance so_far.standing standing next.0 next.1 documents editor follows followed [] [] tt) in
-    let all = so_far.rest (next ∷ []) documents one in
+    let none = tells_none brief objective editor.instance standing in
+    let one = subst (TellsEdits brief objective old.instance so_far.standing (next ∷ [])) (append-nil text) (line_rest brief objective old.instance so_far.standing standing next.0 next.1 text editor follows followed [] [] none) in
+    let all = so_far.rest (next ∷ []) text one in
     let firsts : take place lines ++ next ∷ [] ≡ take (place + 1) lines = sym (take_more lines place d within) in (
       take (place + 1) lines,
       drop (place + 1) lines,
       sym (take-append-drop (place + 1) lines),
-      so_far.documents ++ documents,
-      subst (λ ls. AreEditDocuments objective X at_first ls (so_far.documents ++ documents)) firsts all,
-      subst (PutsPrefix before after) (texts_more so_far.documents documents) (PutsPrefix-append so_far.puts puts),
+      so_far.text ++ text,
+      subst (λ ls. TellsScript brief objective X ls (so_far.text ++ text)) firsts all,
+      PutsPrefix-append so_far.puts puts,
     )
 
 -- a count of faults that rose in a line rose over all lines

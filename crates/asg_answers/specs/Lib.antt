@@ -6,6 +6,7 @@ pub mod SolverLimits
 pub mod SolverRefusals
 pub mod Standings
 pub mod Statuses
+pub mod Tellings
 pub mod Texts
 pub mod WrittenDocument
 pub mod WrittenLines

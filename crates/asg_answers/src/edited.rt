@@ -1,9 +1,8 @@
-//! The documents of a script: each is written as soon as it is made.
+//! What is written for a script: a document or in brief a line at a time, as soon as it is made.
 
-ghost use Rattle.std.specs.Prelude.{◌≡◌, ◌≤◌, IfErr, IfOk, IsTrue, None, OnErr, OnOk};
-ghost use Rattle.asg_doc.specs.Text.{text_of};
+ghost use Rattle.std.specs.Prelude.{◌≡◌, ◌≤◌, ℕ, IfErr, IfOk, IsTrue, List, None, OnErr, OnOk, false};
+ghost use Rattle.asg_brief.specs.BriefLines.{IsBriefLine};
 ghost use Rattle.asg_doc.specs.Words.{HasWord};
-ghost use Rattle.asg_doc.specs.declared.documents.Document.{Document as Answered};
 ghost use Rattle.asg_io.specs.Shelf.{Rose};
 ghost use Rattle.asg_io.specs.Sink.{Puts, PutsPrefix};
 ghost use Rattle.asg_edits.specs.Editors.{Edits};
@@ -14,12 +13,15 @@ ghost use Rattle.asg_model.specs.Refused.{PassesNegative};
 ghost use Rattle.asg_model.specs.Shapes.{square_side};
 ghost use Rattle.asg_proof.specs.KeptWords.{Standing};
 ghost use Rattle.asg_scripts.specs.Scripts.{after_line, first_refused, line_refusal};
-ghost use Rattle.asg_answers.specs.Standings.{GoesOnTo, Stands};
+ghost use Rattle.asg_answers.specs.Replies.{bytes_of};
+ghost use Rattle.asg_answers.specs.Standings.{IsTold, Stands};
 ghost use Rattle.asg_answers.specs.WrittenLines.{HaltsIn, WritesAll, WritesFront, WritesLine};
 ghost use Rattle.asg_answers.specs.declared.edited.Halt.TheVariants.{WriteFault};
 
 use crate::documents::edit_document;
+use crate::replies::{Text, put_text};
 use crate::sheets::Sheet;
+use crate::tellings::choice_line;
 use asg_edits::Editor;
 use asg_io::{PutFault, Sink};
 use asg_model::{Edit, NoMemory, Objective};
@@ -27,7 +29,7 @@ use asg_scripts::laws::edited_law;
 use asg_text::Line;
 use std::alloc::Global;
 
-/// What halts the writing of documents.
+/// What halts the writing for a script.
 #[derive(Clone, Copy, PartialEq, Eq, Debug)]
 pub enum Halt {
     /// The sink had a fault.
@@ -36,8 +38,9 @@ pub enum Halt {
     NoMemory,
 }
 
-// The next document of an editor, which goes on from what was kept. The error is want of memory.
-fn next_sheet(alloc: Global, objective: Objective, editor: &mut Editor) -> Result<Sheet, NoMemory>
+// The text of the next document of an editor, which goes on from what was kept. The error is want
+// of memory.
+fn next_document(alloc: Global, objective: Objective, editor: &mut Editor) -> Result<Text, NoMemory>
     requires word { HasWord objective }
     requires algebraic { IsTrue (is_algebraic objective) }
     requires side { square_side editor.old.instance ≤ most_side }
@@ -45,33 +48,72 @@ fn next_sheet(alloc: Global, objective: Objective, editor: &mut Editor) -> Resul
     requires objective { editor.old.objective ≡ objective }
     ensures objective { editor.new.objective ≡ editor.old.objective }
     ensures instance { editor.new.instance ≡ editor.old.instance }
-    ensures goes { (standing : Standing) → Stands objective standing editor.old →
-        IfOk result (GoesOnTo objective standing editor.new) }
+    ensures told { (standing : Standing) → Stands objective standing editor.old →
+        IfOk result (λ text. IsTold false objective standing editor.new (bytes_of text)) }
 {
     let outcome = editor.answer(alloc)?;
     let document = edit_document(alloc, objective, editor, outcome)?;
-    Sheet::of(alloc, document)
+    let sheet = Sheet::of(alloc, document)?;
+    Ok(Text::Sheet(sheet))
 }
 
-// Writes a document.
-fn put_sheet<K: Sink>(sheet: Sheet, out: &mut K) -> Result<(), Halt>
-    ensures whole { OnOk result (Puts (K.written out.old) (K.written out.new) (text_of sheet)) }
+// The next brief line of an editor, for which no phase is written out. The error is want of memory.
+fn next_line(alloc: Global, objective: Objective, editor: &mut Editor) -> Result<Text, NoMemory>
+    requires passes { PassesNegative objective editor.old.instance }
+    requires objective { editor.old.objective ≡ objective }
+    ensures objective { editor.new.objective ≡ editor.old.objective }
+    ensures instance { editor.new.instance ≡ editor.old.instance }
+    ensures told { IfOk result (λ text. IsBriefLine objective editor.new.instance (bytes_of text)) }
+{
+    let choice = editor.best_choice(alloc)?;
+    let line = choice_line(alloc, objective, editor.instance(), &choice)?;
+    Ok(Text::Brief(line))
+}
+
+// What tells the next answer of an editor. The error is want of memory.
+fn next_text(
+    alloc: Global,
+    objective: Objective,
+    brief: bool,
+    editor: &mut Editor,
+) -> Result<Text, NoMemory>
+    requires word { HasWord objective }
+    requires algebraic { IsTrue (is_algebraic objective) }
+    requires side { square_side editor.old.instance ≤ most_side }
+    requires passes { PassesNegative objective editor.old.instance }
+    requires objective { editor.old.objective ≡ objective }
+    ensures objective { editor.new.objective ≡ editor.old.objective }
+    ensures instance { editor.new.instance ≡ editor.old.instance }
+    ensures told { (standing : Standing) → Stands objective standing editor.old →
+        IfOk result (λ text. IsTold brief objective standing editor.new (bytes_of text)) }
+{
+    if brief {
+        next_line(alloc, objective, editor)
+    } else {
+        next_document(alloc, objective, editor)
+    }
+}
+
+// Writes a text.
+fn put_told<K: Sink>(text: Text, out: &mut K) -> Result<(), Halt>
+    ensures whole { OnOk result (Puts (K.written out.old) (K.written out.new) (bytes_of text)) }
     ensures prefix { OnErr result
-        (PutsPrefix (K.written out.old) (K.written out.new) (text_of sheet)) }
+        (PutsPrefix (K.written out.old) (K.written out.new) (bytes_of text)) }
     ensures cause { OnErr result (Rose (K.faults out.old) (K.faults out.new)) }
     ensures never_falls { K.faults out.old ≤ K.faults out.new }
     ensures fault { IfErr result (λ halt. halt ≡ WriteFault) }
 {
-    match sheet.send(out) {
+    match put_text(text, out) {
         Ok(()) => Ok(()),
         Err(PutFault) => Err(Halt::WriteFault),
     }
 }
 
-// Writes the next document of an editor.
-fn put_document<K: Sink>(
+// Writes what tells the next answer of an editor.
+fn put_answer<K: Sink>(
     alloc: Global,
     objective: Objective,
+    brief: bool,
     editor: &mut Editor,
     out: &mut K,
 ) -> Result<(), Halt>
@@ -83,20 +125,20 @@ fn put_document<K: Sink>(
     ensures objective { editor.new.objective ≡ editor.old.objective }
     ensures instance { editor.new.instance ≡ editor.old.instance }
     ensures written { (standing : Standing) → Stands objective standing editor.old →
-        OnOk result ((document : Answered) × GoesOnTo objective standing editor.new document
-        × Puts (K.written out.old) (K.written out.new) (text_of document)) }
+        OnOk result ((text : List ℕ) × IsTold brief objective standing editor.new text
+        × Puts (K.written out.old) (K.written out.new) text) }
     ensures halted { (standing : Standing) → Stands objective standing editor.old →
-        IfErr result (λ halt. halt ≡ WriteFault → (document : Answered)
-        × GoesOnTo objective standing editor.new document
-        × PutsPrefix (K.written out.old) (K.written out.new) (text_of document)) }
+        IfErr result (λ halt. halt ≡ WriteFault → (text : List ℕ)
+        × IsTold brief objective standing editor.new text
+        × PutsPrefix (K.written out.old) (K.written out.new) text) }
     ensures unwritten { IfErr result (λ halt. halt ≡ Halt.NoMemory →
         K.written out.new ≡ K.written out.old) }
     ensures cause { IfErr result (λ halt. halt ≡ WriteFault →
         Rose (K.faults out.old) (K.faults out.new)) }
     ensures never_falls { K.faults out.old ≤ K.faults out.new }
 {
-    match next_sheet(alloc, objective, editor) {
-        Ok(sheet) => put_sheet(sheet, out),
+    match next_text(alloc, objective, brief, editor) {
+        Ok(text) => put_told(text, out),
         Err(_) => Err(Halt::NoMemory),
     }
 }
@@ -114,10 +156,11 @@ fn edit_line(editor: &mut Editor, edit: Edit) -> Result<(), Halt>
     }
 }
 
-// Follows a line: the instance is edited, or the next document is written.
+// Follows a line: the instance is edited, or what tells the next answer is written.
 fn put_line<K: Sink>(
     alloc: Global,
     objective: Objective,
+    brief: bool,
     editor: &mut Editor,
     line: Line,
     out: &mut K,
@@ -134,10 +177,10 @@ fn put_line<K: Sink>(
     ensures side { OnOk result (square_side editor.new.instance ≤ most_side) }
     ensures passes { OnOk result (PassesNegative objective editor.new.instance) }
     ensures written { (standing : Standing) → Stands objective standing editor.old →
-        OnOk result (WritesLine objective editor.old.instance standing line
+        OnOk result (WritesLine brief objective editor.old.instance standing line
         editor.new (K.written out.old) (K.written out.new)) }
     ensures halted { (standing : Standing) → Stands objective standing editor.old →
-        IfErr result (HaltsIn objective editor.old.instance standing line
+        IfErr result (HaltsIn brief objective editor.old.instance standing line
         (K.written out.old) (K.written out.new)) }
     ensures cause { IfErr result (λ halt. halt ≡ WriteFault →
         Rose (K.faults out.old) (K.faults out.new)) }
@@ -146,20 +189,23 @@ fn put_line<K: Sink>(
     edited_law();
     let _inst = editor.instance();
     match line {
-        Line::Solve => put_document(alloc, objective, editor, out),
+        Line::Solve => put_answer(alloc, objective, brief, editor, out),
         Line::Edit(edit) => edit_line(editor, edit),
     }
 }
 
 /// Follows the lines of a script in order, from the instance of an editor on: each edit is carried
-/// out, and for each `solve` line a document is written, whole before the next line is followed. No
-/// edit of the lines is refused. Memory is taken between two documents, never while one is written.
+/// out, and for each `solve` line a document or in brief a line is written, whole before the next
+/// line is followed. No edit of the lines is refused. In brief no document is made, and the editor
+/// keeps its phases as it does for documents. Memory is taken between two texts, never while one is
+/// written.
 ///
-/// Errors: `WriteFault` where the sink had a fault, after a prefix of the documents of the first
-/// lines; `NoMemory` where memory ran out, after whole documents of the first lines.
+/// Errors: `WriteFault` where the sink had a fault, after a prefix of the text of the first lines;
+/// `NoMemory` where memory ran out, after the whole text of the first lines.
 pub fn put_lines<K: Sink>(
     alloc: Global,
     objective: Objective,
+    brief: bool,
     editor: &mut Editor,
     lines: &[(u32, Line)],
     out: &mut K,
@@ -170,9 +216,9 @@ pub fn put_lines<K: Sink>(
     requires passes { PassesNegative objective editor.old.instance }
     requires objective { editor.old.objective ≡ objective }
     requires tried { first_refused objective editor.old.instance lines.now ≡ None }
-    ensures written { OnOk result (WritesAll objective editor.old.instance lines.now
+    ensures written { OnOk result (WritesAll brief objective editor.old.instance lines.now
         (K.written out.old) (K.written out.new)) }
-    ensures halted { IfErr result (λ _. WritesFront objective editor.old.instance lines.now
+    ensures halted { IfErr result (λ _. WritesFront brief objective editor.old.instance lines.now
         (K.written out.old) (K.written out.new)) }
     ensures cause { IfErr result (λ halt. halt ≡ WriteFault →
         Rose (K.faults out.old) (K.faults out.new)) }
@@ -180,7 +226,7 @@ pub fn put_lines<K: Sink>(
 {
     'lines: for place in 0..lines.len() {
         let (_, line) = lines[place];
-        match put_line(alloc, objective, editor, line, out) {
+        match put_line(alloc, objective, brief, editor, line, out) {
             Ok(()) => {}
             Err(halt) => return Err(halt),
         }

@@ -1,6 +1,6 @@
 //! What is answered, and how its text is put.
 
-ghost use Rattle.std.specs.Prelude.{IfOk, OnOk, OnErr, string_bytes};
+ghost use Rattle.std.specs.Prelude.{◌≤◌, IfOk, OnOk, OnErr, string_bytes};
 ghost use Rattle.asg_doc.specs.HasText.{HasText};
 ghost use Rattle.asg_doc.specs.Text.{text_of};
 ghost use Rattle.asg_io.specs.Shelf.{Rose};
@@ -10,6 +10,7 @@ ghost use Rattle.asg_answers.specs.Replies.{IsReply, bytes_of};
 use crate::pages::Pages;
 use crate::sheets::Sheet;
 use crate::status::Status;
+use asg_brief::BriefLine;
 use asg_doc::Document;
 use asg_io::{PutFault, Sink};
 use asg_model::NoMemory;
@@ -24,6 +25,8 @@ pub enum Text {
     Sheet(Sheet),
     /// The bytes of a file.
     File(Pages),
+    /// A brief line.
+    Brief(BriefLine),
 }
 
 /// What a run answers: its status, and what is to be written. All memory for it is taken.
@@ -50,6 +53,16 @@ impl Reply {
         Reply {
             status,
             text: Text::Line(line),
+        }
+    }
+
+    /// The reply of a brief line. It takes no memory.
+    pub fn brief(status: Status, line: BriefLine) -> Reply
+        ensures { IsReply result status line }
+    {
+        Reply {
+            status,
+            text: Text::Brief(line),
         }
     }
 
@@ -82,10 +95,12 @@ pub fn put_text<K: Sink>(text: Text, out: &mut K) -> Result<(), PutFault>
     ensures prefix { OnErr result
         (PutsPrefix (K.written out.old) (K.written out.new) (bytes_of text)) }
     ensures cause { OnErr result (Rose (K.faults out.old) (K.faults out.new)) }
+    ensures never_falls { K.faults out.old ≤ K.faults out.new }
 {
     match text {
         Text::Line(line) => out.put(line.as_bytes()),
         Text::Sheet(sheet) => sheet.send(out),
         Text::File(pages) => pages.send(out),
+        Text::Brief(line) => out.put(line.as_bytes()),
     }
 }

@@ -1,14 +1,7 @@
-use Rattle.std.proofs.Common.{◌≡◌, sym, subst}
-use Rattle.std.proofs.lemmas.Result.{IfOk-weaker}
-use Rattle.asg_answers.specs.Standings.{GoesOnTo}
-use Rattle.asg_answers.proofs.EditLines.{GoesOnTo-answered}
-use Rattle.asg_answers.proofs.edited.next_sheet.Goals as goal
+use Rattle.asg_answers.proofs.EditLines.{IsTold-answered}
+use Rattle.asg_answers.proofs.edited.next_document.Goals as goal
 
-pub returns-clause-goes : goal.returns-clause-goes
-returns-clause-goes c = λ standing stands.
+pub returns-clause-told : goal.returns-clause-told
+returns-clause-told c = λ standing stands.
     let objective = c.args.objective in
-    let new = c.answer.new.self in
-    let document = c.in_ok-document.document in
-    IfOk-weaker c.of.result (λ sheet. sheet ≡ document) (GoesOnTo objective standing new)
-    (λ sheet is. subst (GoesOnTo objective standing new) (sym is) (GoesOnTo-answered objective standing c.args.editor.now new document c.answer.ensures.goes c.in_ok-document.ensures stands))
-    c.of.ensures
+    IsTold-answered objective standing c.args.editor.now c.answer.new.self c.in_ok-document.document c.in_ok-sheet.sheet c.in_ok-sheet.ensures c.answer.ensures.goes c.in_ok-document.ensures stands

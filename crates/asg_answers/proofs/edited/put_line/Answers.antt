@@ -19,35 +19,35 @@ use Rattle.asg_answers.proofs.edited.put_line.Goals as goal
 pub returns-in-Solve-clause-instance : goal.returns-in-Solve-clause-instance
 returns-in-Solve-clause-instance g c =
     let X = c.args.editor.now.instance in
-    on_ok_always c.put_document.result (c.put_document.new.editor.instance ≡ after_line X c.args.line) (c.put_document.ensures.instance ∙ ap (after_line X) (sym c.in-Solve.is))
+    on_ok_always c.put_answer.result (c.put_answer.new.editor.instance ≡ after_line X c.args.line) (c.put_answer.ensures.instance ∙ ap (after_line X) (sym c.in-Solve.is))
 
 pub returns-in-Solve-clause-side : goal.returns-in-Solve-clause-side
 returns-in-Solve-clause-side g c =
-    on_ok_always c.put_document.result (square_side c.put_document.new.editor.instance ≤ most_side) (subst (λ Z. square_side Z ≤ most_side) (sym c.put_document.ensures.instance) c.requires.side)
+    on_ok_always c.put_answer.result (square_side c.put_answer.new.editor.instance ≤ most_side) (subst (λ Z. square_side Z ≤ most_side) (sym c.put_answer.ensures.instance) c.requires.side)
 
 pub returns-in-Solve-clause-passes : goal.returns-in-Solve-clause-passes
 returns-in-Solve-clause-passes g c =
-    on_ok_always c.put_document.result (PassesNegative c.args.objective c.put_document.new.editor.instance) (subst (PassesNegative c.args.objective) (sym c.put_document.ensures.instance) c.requires.passes)
+    on_ok_always c.put_answer.result (PassesNegative c.args.objective c.put_answer.new.editor.instance) (subst (PassesNegative c.args.objective) (sym c.put_answer.ensures.instance) c.requires.passes)
 
 pub returns-in-Solve-clause-written : goal.returns-in-Solve-clause-written
 returns-in-Solve-clause-written g c = λ standing stands.
     let X = c.args.editor.now.instance in
-    let new = c.put_document.new.editor in
+    let new = c.put_answer.new.editor in
     let before = g.K.Sink.written c.args.out.now in
-    let now = g.K.Sink.written c.put_document.new.out in
-    on_ok_weaker {Q = WritesLine c.args.objective X standing c.args.line new before now} c.put_document.result
-    (λ did. subst (λ line. WritesLine c.args.objective X standing line new before now) (sym c.in-Solve.is) (WritesLine-solve c.args.objective standing X new before now did))
-    (c.put_document.ensures.written standing stands)
+    let now = g.K.Sink.written c.put_answer.new.out in
+    on_ok_weaker {Q = WritesLine c.args.brief c.args.objective X standing c.args.line new before now} c.put_answer.result
+    (λ did. subst (λ line. WritesLine c.args.brief c.args.objective X standing line new before now) (sym c.in-Solve.is) (WritesLine-solve c.args.brief c.args.objective standing X new before now did))
+    (c.put_answer.ensures.written standing stands)
 
 pub returns-in-Solve-clause-halted : goal.returns-in-Solve-clause-halted
 returns-in-Solve-clause-halted g c = λ standing stands.
     let X = c.args.editor.now.instance in
-    let new = c.put_document.new.editor in
+    let new = c.put_answer.new.editor in
     let before = g.K.Sink.written c.args.out.now in
-    let now = g.K.Sink.written c.put_document.new.out in
-    if_err_both c.put_document.result _ _ (HaltsIn c.args.objective X standing c.args.line before now)
-    (λ halt put unwritten. subst (λ line. HaltsIn c.args.objective X standing line before now halt) (sym c.in-Solve.is) (HaltsIn-solve c.args.objective standing X new before now halt c.put_document.ensures.instance put unwritten))
-    (c.put_document.ensures.halted standing stands) c.put_document.ensures.unwritten
+    let now = g.K.Sink.written c.put_answer.new.out in
+    if_err_both c.put_answer.result _ _ (HaltsIn c.args.brief c.args.objective X standing c.args.line before now)
+    (λ halt put unwritten. subst (λ line. HaltsIn c.args.brief c.args.objective X standing line before now halt) (sym c.in-Solve.is) (HaltsIn-solve c.args.brief c.args.objective standing X new before now halt c.put_answer.ensures.instance put unwritten))
+    (c.put_answer.ensures.halted standing stands) c.put_answer.ensures.unwritten
 
 -- ---- the instance is edited
 
@@ -85,18 +85,18 @@ returns-in-Edit-clause-written g c = λ standing stands.
     let X = c.args.editor.now.instance in
     let new = c.edit_line.new.editor in
     let before = g.K.Sink.written c.args.out.now in
-    on_ok_weaker {P = Edits c.args.editor.now c.in-Edit.edit new} {Q = WritesLine c.args.objective X standing c.args.line new before before} c.edit_line.result
+    on_ok_weaker {P = Edits c.args.editor.now c.in-Edit.edit new} {Q = WritesLine c.args.brief c.args.objective X standing c.args.line new before before} c.edit_line.result
     (λ did.
-    subst (λ line. WritesLine c.args.objective X standing line new before before) (sym c.in-Edit.is)
-    (WritesLine-edit c.args.objective standing c.args.editor.now new c.in-Edit.edit before c.requires.objective did stands (Puts-nil before)))
+    subst (λ line. WritesLine c.args.brief c.args.objective X standing line new before before) (sym c.in-Edit.is)
+    (WritesLine-edit c.args.brief c.args.objective standing c.args.editor.now new c.in-Edit.edit before c.requires.objective did stands (Puts-nil before)))
     c.edit_line.ensures.edits
 
 pub returns-in-Edit-clause-halted : goal.returns-in-Edit-clause-halted
 returns-in-Edit-clause-halted g c = λ standing stands.
     let X = c.args.editor.now.instance in
     let before = g.K.Sink.written c.args.out.now in
-    IfErr-weaker c.edit_line.result (λ halt. halt ≡ NoMemory) (HaltsIn c.args.objective X standing c.args.line before before)
-    (λ halt is. subst (HaltsIn c.args.objective X standing c.args.line before before) (sym is) refl)
+    IfErr-weaker c.edit_line.result (λ halt. halt ≡ NoMemory) (HaltsIn c.args.brief c.args.objective X standing c.args.line before before)
+    (λ halt is. subst (HaltsIn c.args.brief c.args.objective X standing c.args.line before before) (sym is) refl)
     c.edit_line.ensures.fault
 
 pub returns-in-Edit-clause-cause : goal.returns-in-Edit-clause-cause

@@ -7,7 +7,7 @@ use Rattle.asg_answers.proofs.edited.put_lines.Goals as goal
 
 pub lines-init : goal.lines-init
 lines-init g c = record {
-  followed = AreFollowed-none c.args.objective c.args.lines.now c.args.editor.now (g.K.Sink.written c.args.out.now) (Puts-nil (g.K.Sink.written c.args.out.now));
+  followed = AreFollowed-none c.args.brief c.args.objective c.args.lines.now c.args.editor.now (g.K.Sink.written c.args.out.now) (Puts-nil (g.K.Sink.written c.args.out.now));
   tried = c.requires.tried;
   objective = c.requires.objective;
   side = c.requires.side;
@@ -28,7 +28,7 @@ lines-preserved g c =
     let so_far = l.invariant.followed in
     let passing = line_at_passes c.args.objective l.editor.instance lines l.place _ c.lines-test.true l.invariant.tried in
     record {
-      followed = AreFollowed-more c.args.objective c.args.editor.now.instance lines l.place _ l.editor new (g.K.Sink.written c.args.out.now) (g.K.Sink.written l.out) (g.K.Sink.written c.put_line.new.out) c.lines-test.true so_far
+      followed = AreFollowed-more c.args.brief c.args.objective c.args.editor.now.instance lines l.place _ l.editor new (g.K.Sink.written c.args.out.now) (g.K.Sink.written l.out) (g.K.Sink.written c.put_line.new.out) c.lines-test.true so_far
           (c.in-Ok.ensures.written so_far.standing so_far.stands) c.in-Ok.ensures.instance;
       tried = subst (λ Z. first_refused c.args.objective Z (drop (l.place + 1) lines) ≡ None) (sym c.in-Ok.ensures.instance) passing.1;
       objective = c.put_line.ensures.objective ∙ l.invariant.objective;
@@ -41,7 +41,7 @@ pub returns-in-Err-clause-halted : goal.returns-in-Err-clause-halted
 returns-in-Err-clause-halted g c =
     let l = c.lines in
     let so_far = l.invariant.followed in
-    WritesFront-halted c.args.objective c.args.editor.now.instance c.args.lines.now l.place _ l.editor (g.K.Sink.written c.args.out.now) (g.K.Sink.written l.out) (g.K.Sink.written c.put_line.new.out) c.in-Err.halt c.lines-test.true so_far
+    WritesFront-halted c.args.brief c.args.objective c.args.editor.now.instance c.args.lines.now l.place _ l.editor (g.K.Sink.written c.args.out.now) (g.K.Sink.written l.out) (g.K.Sink.written c.put_line.new.out) c.in-Err.halt c.lines-test.true so_far
     (c.in-Err.ensures.halted so_far.standing so_far.stands)
 
 pub returns-in-Err-clause-cause : goal.returns-in-Err-clause-cause
@@ -49,4 +49,4 @@ returns-in-Err-clause-cause g c = λ is. Rose-over (g.K.Sink.faults c.args.out.n
 
 pub returns-clause-written : goal.returns-clause-written
 returns-clause-written g c =
-    WritesAll-followed c.args.objective c.args.editor.now.instance c.args.lines.now c.lines.place c.lines.editor (g.K.Sink.written c.args.out.now) (g.K.Sink.written c.lines.out) c.lines-test.false c.lines.invariant.followed
+    WritesAll-followed c.args.brief c.args.objective c.args.editor.now.instance c.args.lines.now c.lines.place c.lines.editor (g.K.Sink.written c.args.out.now) (g.K.Sink.written c.lines.out) c.lines-test.false c.lines.invariant.followed

@@ -1,5 +1,5 @@
 -- What a request to solve or to rank writes is accepted by a request to check.
-use Rattle.std.proofs.Common.{◌≡◌, ℕ, ◌≤◌, List, [], ◌∷◌, length, Option, Some, None, refl, sym, ◌∙◌, subst, inl, inr, arith}
+use Rattle.std.proofs.Common.{◌≡◌, ℕ, ◌≤◌, List, [], ◌∷◌, length, Option, Some, None, false, refl, sym, ◌∙◌, subst, inl, inr, arith}
 use Rattle.std.specs.Prelude.{◌⊎◌, IfSome}
 use Rattle.std.proofs.lemmas.List.Elements.{All-nil, All-cons}
 use Rattle.asg_model.specs.Instances.{IsInstance}
@@ -20,8 +20,9 @@ use Rattle.asg_app.specs.Due.{Due, DueForAsked, DueForJob, DueForTask, Held}
 use Rattle.asg_app.specs.DueToCheck.{DueToCheck, Certified, form_asked}
 use Rattle.asg_model.specs.Limits.{longest_file}
 use Rattle.asg_app.specs.Fetches.{MayHold, MayHoldAll}
-use Rattle.asg_app.specs.Requests.{files_of, job_of}
+use Rattle.asg_app.specs.Requests.{files_of, AsksFor}
 use Rattle.asg_requests.specs.Requests.{files_of_task}
+use Rattle.asg_requests.specs.declared.requests.Request.TheVariants.{Work}
 use Rattle.asg_app.specs.Promised.{AskAlike, HasShortProofs, IsNeverLong, IsRanked, IsSolved, IsUnsolvable, IsCertified}
 use Rattle.asg_app.specs.Sources.{AreShort, content_at}
 use Rattle.asg_app.specs.InstanceFile.{Holds, held_by, instance_in}
@@ -62,7 +63,7 @@ certified-from_unsolvable job other form bytes text alike solved = certified job
 -- for an answer's file that certifies `yes` is due
 accepted : (told : List ℕ → Option (List ℕ)) (job : Job) (count : Option ℕ) (answer bytes spoken : List ℕ) → job.task ≡ Check answer None count → MayHold told job.instance bytes → MayHold told answer spoken
     → length bytes ≤ longest_file → length spoken ≤ longest_file → IsCertified job (form_asked count) bytes spoken
-    → (contents : List (List ℕ)) × MayHoldAll told (files_of (Some job)) contents × DueForJob job contents Done (yes_text 1)
+    → (contents : List (List ℕ)) × MayHoldAll told (files_of (Some (Work job))) contents × DueForJob job contents Done (yes_text 1)
 accepted told job count answer bytes spoken is may may_speak few within certified =
     let contents : List (List ℕ) = bytes ∷ spoken ∷ [] in
     let all : MayHoldAll told (job.instance ∷ answer ∷ []) contents = (may, (may_speak, tt)) in
@@ -92,10 +93,10 @@ record IsWrittenFor (told : List ℕ → Option (List ℕ)) (job other : Job) (f
   short : AreShort contents
   within : length text ≤ longest_file
 
-written_only : AreWithin → (told : List ℕ → Option (List ℕ)) (job other : Job) → HoldsInstances job → (status : Status) (text : List ℕ) (contents : List (List ℕ)) → job.task ≡ Solve → (status ≡ Done) ⊎ (status ≡ NothingValid)
-    → (length text ≤ longest_file) ⊎ IsNeverLong job status → MayHoldAll told (files_of (Some job)) contents → DueForJob job contents status text → AskAlike job other → IsWrittenFor told job other forms.Solve text contents
-written_only are told job other keeps status text contents solves (inl e) short may due alike =
-    let found = solved_only job keeps told contents text solves may (subst (λ s. DueForJob job contents s text) e due) in
+written_only : AreWithin → (told : List ℕ → Option (List ℕ)) (job other : Job) → job.brief ≡ false → HoldsInstances job → (status : Status) (text : List ℕ) (contents : List (List ℕ)) → job.task ≡ Solve → (status ≡ Done) ⊎ (status ≡ NothingValid)
+    → (length text ≤ longest_file) ⊎ IsNeverLong job status → MayHoldAll told (files_of (Some (Work job))) contents → DueForJob job contents status text → AskAlike job other → IsWrittenFor told job other forms.Solve text contents
+written_only are told job other whole keeps status text contents solves (inl e) short may due alike =
+    let found = solved_only job whole keeps told contents text solves may (subst (λ s. DueForJob job contents s text) e due) in
     record {
       may = found.0;
       certified_for = certified-from_solved job other (content_at contents 0) text alike found.1;
@@ -106,9 +107,9 @@ written_only are told job other keeps status text contents solves (inl e) short 
     by_length : (length text ≤ longest_file) ⊎ IsNeverLong job status → length text ≤ longest_file
     by_length (inl within) = within
     by_length (inr (inl nothing)) = let both = sym e ∙ nothing in cc
-    by_length (inr (inr bottleneck)) = are job forms.Solve (content_at contents 0) text (inl (bottleneck, (solved_only job keeps told contents text solves may (subst (λ s. DueForJob job contents s text) e due)).1))
-written_only are told job other keeps status text contents solves (inr e) short may due alike =
-    let found = unsolvable_only job keeps told contents text solves may (subst (λ s. DueForJob job contents s text) e due) in
+    by_length (inr (inr bottleneck)) = are job forms.Solve (content_at contents 0) text (inl (bottleneck, (solved_only job whole keeps told contents text solves may (subst (λ s. DueForJob job contents s text) e due)).1))
+written_only are told job other whole keeps status text contents solves (inr e) short may due alike =
+    let found = unsolvable_only job whole keeps told contents text solves may (subst (λ s. DueForJob job contents s text) e due) in
     record {
       may = found.0;
       certified_for = certified-from_unsolvable job other forms.Solve (content_at contents 0) text alike found.1;
@@ -116,10 +117,10 @@ written_only are told job other keeps status text contents solves (inr e) short 
       within = are job forms.Solve (content_at contents 0) text (inr found.1);
     }
 
-ranking_only : AreWithin → (told : List ℕ → Option (List ℕ)) (job other : Job) (count : ℕ) → HoldsInstances job → (status : Status) (text : List ℕ) (contents : List (List ℕ)) → job.task ≡ Rank count → (status ≡ Done) ⊎ (status ≡ NothingValid)
-    → (length text ≤ longest_file) ⊎ (status ≡ NothingValid) → MayHoldAll told (files_of (Some job)) contents → DueForJob job contents status text → AskAlike job other → IsWrittenFor told job other (forms.Rank count) text contents
-ranking_only are told job other count keeps status text contents ranks (inl e) short may due alike =
-    let found = ranked_only job count keeps told contents text ranks may (subst (λ s. DueForJob job contents s text) e due) in
+ranking_only : AreWithin → (told : List ℕ → Option (List ℕ)) (job other : Job) (count : ℕ) → job.brief ≡ false → HoldsInstances job → (status : Status) (text : List ℕ) (contents : List (List ℕ)) → job.task ≡ Rank count → (status ≡ Done) ⊎ (status ≡ NothingValid)
+    → (length text ≤ longest_file) ⊎ (status ≡ NothingValid) → MayHoldAll told (files_of (Some (Work job))) contents → DueForJob job contents status text → AskAlike job other → IsWrittenFor told job other (forms.Rank count) text contents
+ranking_only are told job other count whole keeps status text contents ranks (inl e) short may due alike =
+    let found = ranked_only job count whole keeps told contents text ranks may (subst (λ s. DueForJob job contents s text) e due) in
     record {
       may = found.0;
       certified_for = certified-from_ranked job other count (content_at contents 0) text alike found.1;
@@ -130,8 +131,8 @@ ranking_only are told job other count keeps status text contents ranks (inl e) s
     by_length : (length text ≤ longest_file) ⊎ (status ≡ NothingValid) → length text ≤ longest_file
     by_length (inl within) = within
     by_length (inr nothing) = let both = sym e ∙ nothing in cc
-ranking_only are told job other count keeps status text contents ranks (inr e) short may due alike =
-    let found = unrankable_only job count keeps told contents text ranks may (subst (λ s. DueForJob job contents s text) e due) in
+ranking_only are told job other count whole keeps status text contents ranks (inr e) short may due alike =
+    let found = unrankable_only job count whole keeps told contents text ranks may (subst (λ s. DueForJob job contents s text) e due) in
     record {
       may = found.0;
       certified_for = certified-from_unsolvable job other (forms.Rank count) (content_at contents 0) text alike found.1;
@@ -142,7 +143,7 @@ ranking_only are told job other count keeps status text contents ranks (inr e) s
 -- what was written is accepted
 accepted_text : (told later : List ℕ → Option (List ℕ)) (job check : Job) (count : Option ℕ) (text answer : List ℕ) (contents : List (List ℕ)) → IsWrittenFor told job check (form_asked count) text contents
     → check.task ≡ Check answer None count → later check.instance ≡ told job.instance → later answer ≡ Some text
-    → (checking : List (List ℕ)) → job_of checking ≡ Some check → Due checking later Done (yes_text 1)
+    → (checking : List (List ℕ)) → AsksFor checking check → Due checking later Done (yes_text 1)
 accepted_text told later job check count text answer contents found checks same written checking is_check =
     let bytes = content_at contents 0 in
     let may_again = subst (λ held. IfSome held (λ h. bytes ≡ h)) (sym same) found.may in
@@ -150,18 +151,18 @@ accepted_text told later job check count text answer contents found checks same 
     let done = accepted later check count answer bytes text checks may_again may_speak (short_at contents found.short) found.within found.certified_for in
     (done.0, subst (λ a. MayHoldAll later (files_of a) done.0) (sym is_check) done.1, subst (λ a. DueForAsked a done.0 Done (yes_text 1)) (sym is_check) done.2)
 
-pub accepted_later : AreWithin → (told later : List ℕ → Option (List ℕ)) (solve check : Job) → HoldsInstances solve → (status : Status) (text answer : List ℕ) (contents : List (List ℕ)) → solve.task ≡ Solve
-    → (status ≡ Done) ⊎ (status ≡ NothingValid) → (length text ≤ longest_file) ⊎ IsNeverLong solve status → MayHoldAll told (files_of (Some solve)) contents → DueForJob solve contents status text
+pub accepted_later : AreWithin → (told later : List ℕ → Option (List ℕ)) (solve check : Job) → solve.brief ≡ false → HoldsInstances solve → (status : Status) (text answer : List ℕ) (contents : List (List ℕ)) → solve.task ≡ Solve
+    → (status ≡ Done) ⊎ (status ≡ NothingValid) → (length text ≤ longest_file) ⊎ IsNeverLong solve status → MayHoldAll told (files_of (Some (Work solve))) contents → DueForJob solve contents status text
     → check.task ≡ Check answer None None → AskAlike solve check → later check.instance ≡ told solve.instance → later answer ≡ Some text
-    → (checking : List (List ℕ)) → job_of checking ≡ Some check → Due checking later Done (yes_text 1)
-accepted_later are told later solve check keeps status text answer contents solves ends length_within may due checks alike same written checking is_check =
-    let found = written_only are told solve check keeps status text contents solves ends length_within may due alike in
+    → (checking : List (List ℕ)) → AsksFor checking check → Due checking later Done (yes_text 1)
+accepted_later are told later solve check whole keeps status text answer contents solves ends length_within may due checks alike same written checking is_check =
+    let found = written_only are told solve check whole keeps status text contents solves ends length_within may due alike in
     accepted_text told later solve check None text answer contents found checks same written checking is_check
 
-pub accepted_ranking : AreWithin → (told later : List ℕ → Option (List ℕ)) (rank check : Job) (count : ℕ) → HoldsInstances rank → (status : Status) (text answer : List ℕ) (contents : List (List ℕ)) → rank.task ≡ Rank count
-    → (status ≡ Done) ⊎ (status ≡ NothingValid) → (length text ≤ longest_file) ⊎ (status ≡ NothingValid) → MayHoldAll told (files_of (Some rank)) contents → DueForJob rank contents status text
+pub accepted_ranking : AreWithin → (told later : List ℕ → Option (List ℕ)) (rank check : Job) (count : ℕ) → rank.brief ≡ false → HoldsInstances rank → (status : Status) (text answer : List ℕ) (contents : List (List ℕ)) → rank.task ≡ Rank count
+    → (status ≡ Done) ⊎ (status ≡ NothingValid) → (length text ≤ longest_file) ⊎ (status ≡ NothingValid) → MayHoldAll told (files_of (Some (Work rank))) contents → DueForJob rank contents status text
     → check.task ≡ Check answer None (Some count) → AskAlike rank check → later check.instance ≡ told rank.instance → later answer ≡ Some text
-    → (checking : List (List ℕ)) → job_of checking ≡ Some check → Due checking later Done (yes_text 1)
-accepted_ranking are told later rank check count keeps status text answer contents ranks ends length_within may due checks alike same written checking is_check =
-    let found = ranking_only are told rank check count keeps status text contents ranks ends length_within may due alike in
+    → (checking : List (List ℕ)) → AsksFor checking check → Due checking later Done (yes_text 1)
+accepted_ranking are told later rank check count whole keeps status text answer contents ranks ends length_within may due checks alike same written checking is_check =
+    let found = ranking_only are told rank check count whole keeps status text contents ranks ends length_within may due alike in
     accepted_text told later rank check (Some count) text answer contents found checks same written checking is_check

@@ -31,6 +31,7 @@ use Rattle.asg_app.proofs.StageLaws.{AllShort, first_held, reached}
 use Rattle.asg_app.proofs.TaskCases.{may_be_asked}
 use Rattle.asg_app.proofs.ToldFiles.{held}
 use Rattle.asg_requests.specs.Bounds.{IsJob}
+use Rattle.asg_requests.specs.declared.requests.Request.TheVariants.{Work}
 use Rattle.asg_model.specs.Refused.{PassesNegative}
 
 -- what certifies claims truly
@@ -43,7 +44,7 @@ own : (job : Job) (contents : List (List ℕ)) (X : Problem) (status : Status) (
 own job contents X status text answer count is due = subst (λ task. DueForTask task job contents X status text) is due
 
 -- the contents of the answer's file
-second_held : (told : List ℕ → Option (List ℕ)) (job : Job) (contents : List (List ℕ)) (answer : List ℕ) (count : Option ℕ) → job.task ≡ Check answer None count → MayHoldAll told (files_of (Some job)) contents
+second_held : (told : List ℕ → Option (List ℕ)) (job : Job) (contents : List (List ℕ)) (answer : List ℕ) (count : Option ℕ) → job.task ≡ Check answer None count → MayHoldAll told (files_of (Some (Work job))) contents
     → MayHold told answer (content_at contents 1)
 second_held told job contents answer count is may = second contents (subst (λ task. MayHoldAll told (job.instance ∷ files_of_task task) contents) is may)
   where
@@ -73,13 +74,13 @@ check_statuses job contents status text answer count is (Held short X holds due)
 
 -- the answer's contents where they are told
 said : (job : Job) (told : List ℕ → Option (List ℕ)) (contents : List (List ℕ)) (answer spoken : List ℕ) (count : Option ℕ) → job.task ≡ Check answer None count → told answer ≡ Some spoken
-    → MayHoldAll told (files_of (Some job)) contents → content_at contents 1 ≡ spoken
+    → MayHoldAll told (files_of (Some (Work job))) contents → content_at contents 1 ≡ spoken
 said job told contents answer spoken count is heard may = held (told answer) (content_at contents 1) spoken heard (second_held told job contents answer count is may)
 
 -- with 5 where the answer isn't one document
-pub check_unread : (job : Job) (told : List ℕ → Option (List ℕ)) (contents : List (List ℕ)) (status : Status) (text answer bytes spoken : List ℕ) (count : Option ℕ) (X : Problem) → AllShort told (Some job)
+pub check_unread : (job : Job) (told : List ℕ → Option (List ℕ)) (contents : List (List ℕ)) (status : Status) (text answer bytes spoken : List ℕ) (count : Option ℕ) (X : Problem) → AllShort told (Some (Work job))
     → job.task ≡ Check answer None count → told job.instance ≡ Some bytes → told answer ≡ Some spoken → instance_in job bytes ≡ Holds X → IsNotOne spoken
-    → MayHoldAll told (files_of (Some job)) contents → DueForJob job contents status text → status ≡ Unread
+    → MayHoldAll told (files_of (Some (Work job))) contents → DueForJob job contents status text → status ≡ Unread
 check_unread job told contents status text answer bytes spoken count X shorts is found heard holds not_one may due =
     by_ending (own job contents X status text answer count is (reached job told contents status text bytes X shorts found holds may due))
   where
@@ -89,9 +90,9 @@ check_unread job told contents status text answer bytes spoken count X shorts is
     by_ending (Read document has_text read owed) = absurd (not_one document has_text (sym (said job told contents answer spoken count is heard may) ∙ read))
 
 -- with 0 or 6 where it is
-pub check_judged : ReadsOnce → (job : Job) (told : List ℕ → Option (List ℕ)) (contents : List (List ℕ)) (status : Status) (text answer bytes : List ℕ) (count : Option ℕ) (X : Problem) (document : Document) → AllShort told (Some job)
+pub check_judged : ReadsOnce → (job : Job) (told : List ℕ → Option (List ℕ)) (contents : List (List ℕ)) (status : Status) (text answer bytes : List ℕ) (count : Option ℕ) (X : Problem) (document : Document) → AllShort told (Some (Work job))
     → job.task ≡ Check answer None count → told job.instance ≡ Some bytes → told answer ≡ Some (text_of document) → instance_in job bytes ≡ Holds X → HasText document
-    → MayHoldAll told (files_of (Some job)) contents → DueForJob job contents status text → IsVerdict job (form_asked count) X document status
+    → MayHoldAll told (files_of (Some (Work job))) contents → DueForJob job contents status text → IsVerdict job (form_asked count) X document status
 check_judged once job told contents status text answer bytes count X document shorts is found heard holds has_text may due =
     by_ending (own job contents X status text answer count is (reached job told contents status text bytes X shorts found holds may due))
   where
@@ -113,7 +114,7 @@ check_judged once job told contents status text answer bytes count X document sh
         by_verdict (subst (λ d. DueToCheck job (form_asked count) X d status text) same owed)
 
 -- `yes` is due only for a document that certifies, whose claim is then true
-pub checked_only : IsSound → (job : Job) → HoldsInstances job → IsJob job → (told : List ℕ → Option (List ℕ)) (contents : List (List ℕ)) (text answer : List ℕ) (count : Option ℕ) → job.task ≡ Check answer None count → MayHoldAll told (files_of (Some job)) contents
+pub checked_only : IsSound → (job : Job) → HoldsInstances job → IsJob job → (told : List ℕ → Option (List ℕ)) (contents : List (List ℕ)) (text answer : List ℕ) (count : Option ℕ) → job.task ≡ Check answer None count → MayHoldAll told (files_of (Some (Work job))) contents
     → DueForJob job contents Done text
     → MayHold told job.instance (content_at contents 0) × MayHold told answer (content_at contents 1) × IsCertified job (form_asked count) (content_at contents 0) (content_at contents 1) × (text ≡ yes_text 1)
 checked_only sound job keeps within told contents text answer count is may due =
@@ -148,7 +149,7 @@ checked_only sound job keeps within told contents text answer count is may due =
     by_case (Held short X holds owed) = by_ending X holds (own job contents X Done text answer count is owed)
 
 -- `no` is due only for a document that doesn't certify
-pub denied_only : (job : Job) (told : List ℕ → Option (List ℕ)) (contents : List (List ℕ)) (text answer : List ℕ) (count : Option ℕ) → job.task ≡ Check answer None count → MayHoldAll told (files_of (Some job)) contents
+pub denied_only : (job : Job) (told : List ℕ → Option (List ℕ)) (contents : List (List ℕ)) (text answer : List ℕ) (count : Option ℕ) → job.task ≡ Check answer None count → MayHoldAll told (files_of (Some (Work job))) contents
     → DueForJob job contents No text
     → MayHold told job.instance (content_at contents 0) × MayHold told answer (content_at contents 1) × IsDenied job (form_asked count) (content_at contents 0) (content_at contents 1) text
 denied_only job told contents text answer count is may due = (first_held told job contents may, second_held told job contents answer count is may, by_case due)
@@ -181,7 +182,7 @@ denied_only job told contents text answer count is may due = (first_held told jo
     by_case (Held short X holds owed) = by_ending X holds (own job contents X No text answer count is owed)
 
 -- an answer's file is refused only where it isn't the text of one document
-pub unread_only : (job : Job) (told : List ℕ → Option (List ℕ)) (contents : List (List ℕ)) (text answer : List ℕ) (count : Option ℕ) → job.task ≡ Check answer None count → MayHoldAll told (files_of (Some job)) contents
+pub unread_only : (job : Job) (told : List ℕ → Option (List ℕ)) (contents : List (List ℕ)) (text answer : List ℕ) (count : Option ℕ) → job.task ≡ Check answer None count → MayHoldAll told (files_of (Some (Work job))) contents
     → DueForJob job contents Unread text
     → MayHold told job.instance (content_at contents 0) × MayHold told answer (content_at contents 1) × (X : Problem) × (instance_in job (content_at contents 0) ≡ Holds X) × IsUnread (content_at contents 1) text
 unread_only job told contents text answer count is may due =

@@ -1,6 +1,6 @@
--- What is due has one status, and one text where no document is written.
-use Rattle.std.proofs.Common.{◌≡◌, ℕ, ◌+◌, ◌<◌, inl, inr, List, [], ◌∷◌, length, Option, Some, None, IsSome, All, sym, ap, ◌∙◌, subst, arith}
-use Rattle.std.specs.Prelude.{ℤ}
+-- What is due has one status, and one text where no document is written, or in brief.
+use Rattle.std.proofs.Common.{◌≡◌, ℕ, ◌+◌, ◌<◌, Bool, true, false, inl, inr, List, [], ◌∷◌, length, Option, Some, None, IsSome, All, sym, ap, ◌∙◌, subst, arith}
+use Rattle.std.specs.Prelude.{◌⊎◌, ℤ}
 use Rattle.std.proofs.lemmas.List.{append-nil}
 use Rattle.std.proofs.lemmas.List.Elements.{All-nil, All-cons}
 use Rattle.asg_model.specs.declared.objectives.Objective.{Objective}
@@ -9,15 +9,17 @@ use Rattle.asg_doc.specs.declared.documents.Document.{Document}
 use Rattle.asg_doc.specs.HasText.{HasText}
 use Rattle.asg_doc.specs.RefusedLine.{AllHaveText, IsRefusedLine}
 use Rattle.asg_doc.specs.Text.{text_of, texts_of}
-use Rattle.asg_proof.specs.Nodes.{answer_at}
+use Rattle.asg_brief.specs.BriefLines.{AreBriefLines, IsBestLine, IsBriefLine, IsNoneLine, IsRankedLine}
 use Rattle.asg_check.specs.declared.verdicts.Form.{Form}
 use Rattle.asg_check.specs.declared.verdicts.Form.TheVariants as forms
 use Rattle.asg_check.specs.Reasons.{IsFirstReason}
+use Rattle.asg_requests.specs.declared.requests.Request.{Request}
+use Rattle.asg_requests.specs.declared.requests.Request.TheVariants.{Work, Make}
 use Rattle.asg_requests.specs.declared.requests.Job.{Job}
 use Rattle.asg_requests.specs.declared.requests.Task.{Task}
 use Rattle.asg_requests.specs.declared.requests.Task.TheVariants.{Solve, Rank, Edit, Check}
 use Rattle.asg_answers.specs.declared.status.Status.{Status}
-use Rattle.asg_answers.specs.declared.status.Status.TheVariants.{Done, Usage, Script, Document as Unread, TooLong}
+use Rattle.asg_answers.specs.declared.status.Status.TheVariants.{Done, Nothing, Usage, Script, Document as Unread, TooLong}
 use Rattle.asg_app.specs.AnswerStage.{UnlessUnread, NotRead, Miscounted, Read}
 use Rattle.asg_app.specs.Due.{DueForAsked, DueForJob, DueForTask, Long, Refused, Held}
 use Rattle.asg_app.specs.DueToCheck.{DueToCheck, Certified, Denied, form_asked}
@@ -30,8 +32,7 @@ use Rattle.asg_app.specs.ScriptStage.{DueForScript}
 use Rattle.asg_app.specs.DueToRank.{DueToRank, Ranked, TooMuch, Unrankable}
 use Rattle.asg_app.specs.DueToSolve.{DueToSolve, Solved, TooLarge, Unsolvable}
 use Rattle.asg_app.specs.InstanceFile.{InstanceFile, Holds, Refuses}
-use Rattle.asg_answers.specs.WrittenDocument.{IsBestDocument, IsNoneDocument, IsRankedDocument}
-use Rattle.asg_check.specs.TrueClaim.{IsTrueClaim}
+use Rattle.asg_answers.specs.Tellings.{TellsBest, TellsNone, TellsRanking, TellsScript}
 use Rattle.asg_model.specs.Limits.{longest_file}
 use Rattle.asg_app.specs.Fetches.{MayHoldAll}
 use Rattle.asg_app.specs.Requests.{files_of}
@@ -40,6 +41,7 @@ use Rattle.asg_answers.specs.Statuses.{HasOneText}
 use Rattle.asg_answers.specs.Texts.{refused_document_text, refused_instance_text, refused_script_text, no_text, yes_text}
 use Rattle.asg_answers.specs.SolverLimits.{limit_number}
 use Rattle.asg_app.proofs.SolverLimits.{refused_once, taken_apart}
+use Rattle.asg_app.proofs.TellingLaws.{best_valid, none_valid, ranking_valid}
 use Rattle.asg_app.proofs.ToldFiles.{held_once}
 
 -- no two lists of documents have one text
@@ -56,19 +58,34 @@ DeniesOnce = (objective : Objective) (X : Problem) (form : Form) (document : Doc
     → IsFirstReason objective X form document number place → IsFirstReason objective X form document other elsewhere
     → (number ≡ other) × (place ≡ elsewhere)
 
+-- an instance has one brief line
+abbrev pub LineOnce : Type 0
+LineOnce = (objective : Objective) (X : Problem) (line other : List ℕ) → IsBriefLine objective X line → IsBriefLine objective X other → line ≡ other
+
+-- so instances have one text of them
+abbrev pub LinesOnce : Type 0
+LinesOnce = (objective : Objective) (instances : List Problem) (text other : List ℕ) → AreBriefLines objective instances text → AreBriefLines objective instances other → text ≡ other
+
+-- and the rankings of so many choices one line
+abbrev pub RankedOnce : Type 0
+RankedOnce = (objective : Objective) (X : Problem) (count : ℕ) (line other : List ℕ) → IsRankedLine objective X count line → IsRankedLine objective X count other → line ≡ other
+
 -- the laws of the crates below on which all this rests
 pub record Known : Type 0 where
   pub reads : ReadsOnce
   pub refuses : RefusesOnce
   pub denies : DeniesOnce
+  pub line : LineOnce
+  pub lines : LinesOnce
+  pub ranked : RankedOnce
 
--- one status, and one text where no document is written
-abbrev pub AreOne : Status → List ℕ → Status → List ℕ → Type 0
-AreOne status text other more = (status ≡ other) × (HasOneText status → text ≡ more)
+-- one status, and one text where no document is written, or in brief
+abbrev pub AreOne : Bool → Status → List ℕ → Status → List ℕ → Type 0
+AreOne brief status text other more = (status ≡ other) × (HasOneText status ⊎ (brief ≡ true) → text ≡ more)
 
 -- a status that has one text, written twice
-fixed : (due status other : Status) (text more line : List ℕ) → status ≡ due → other ≡ due → text ≡ line → more ≡ line → AreOne status text other more
-fixed due status other text more line is also told again = (is ∙ sym also, λ one. told ∙ sym again)
+fixed : (brief : Bool) (due status other : Status) (text more line : List ℕ) → status ≡ due → other ≡ due → text ≡ line → more ≡ line → AreOne brief status text other more
+fixed brief due status other text more line is also told again = (is ∙ sym also, λ one. told ∙ sym again)
 
 -- the text of one document is that of a list
 pub one_text : (document : Document) (bytes : List ℕ) → bytes ≡ text_of document → bytes ≡ texts_of (document ∷ [])
@@ -77,53 +94,60 @@ one_text document bytes is = is ∙ sym (append-nil (text_of document))
 pub one_has_text : (document : Document) → HasText document → AllHaveText (document ∷ [])
 one_has_text document has_text = All-cons HasText document [] has_text (All-nil HasText)
 
--- no instance has both a best answer and none
-apart : {P : Type 0} (job : Job) (X : Problem) (document other : Document) → IsBestDocument job.objective X forms.Solve document → IsNoneDocument job.objective X forms.Solve other → P
-apart job X document other best none =
-    let truly = subst (IsTrueClaim job.objective X) best.claims best.written.truly in
-    let none_is = subst (IsTrueClaim job.objective X) none.claims none.written.truly in
-    absurd (none_is truly.choice truly.best.valid)
+-- a text of a status that has one, or that is told in brief
+told_once : (brief : Bool) (status due : Status) (text more : List ℕ) → status ≡ due → ¬ HasOneText due → (brief ≡ true → text ≡ more) → HasOneText status ⊎ (brief ≡ true) → text ≡ more
+told_once brief status due text more is many once (inl one) = absurd (many (subst HasOneText is one))
+told_once brief status due text more is many once (inr short) = once short
 
 -- a request to solve
-solve_once : (job : Job) (X : Problem) (status other : Status) (text more : List ℕ) → DueToSolve job X status text → DueToSolve job X other more → AreOne status text other more
-solve_once job X status other text more (Solved takes document best is told) (Solved takes' document' best' also told') =
-    (is ∙ sym also, λ one. absurd (subst HasOneText is one))
-solve_once job X status other text more (Unsolvable takes document none is told) (Unsolvable takes' document' none' also told') =
-    (is ∙ sym also, λ one. absurd (subst HasOneText is one))
-solve_once job X status other text more (Solved takes document best is told) (Unsolvable takes' document' none also told') = apart job X document document' best none
-solve_once job X status other text more (Unsolvable takes document none is told) (Solved takes' document' best also told') = apart job X document' document best none
-solve_once job X status other text more (TooLarge count refuses is told) (TooLarge count' refuses' also told') =
+solve_once : Known → (job : Job) (X : Problem) (status other : Status) (text more : List ℕ) → DueToSolve job X status text → DueToSolve job X other more → AreOne job.brief status text other more
+solve_once known job X status other text more (Solved takes tells is) (Solved takes' again also) =
+    (is ∙ sym also, told_once job.brief status Done text more is (λ one. one) (λ brief. known.line job.objective X text more (inl (in_brief brief text tells)) (inl (in_brief brief more again))))
+  where
+    in_brief : job.brief ≡ true → (line : List ℕ) → TellsBest job.brief job.objective X line → IsBestLine job.objective X line
+    in_brief brief line told = subst (λ b. TellsBest b job.objective X line) brief told
+solve_once known job X status other text more (Unsolvable takes tells is) (Unsolvable takes' again also) =
+    (is ∙ sym also, told_once job.brief status Nothing text more is (λ one. one) (λ brief. known.line job.objective X text more (inr (in_brief brief text tells)) (inr (in_brief brief more again))))
+  where
+    in_brief : job.brief ≡ true → (line : List ℕ) → TellsNone job.brief job.objective X forms.Solve line → IsNoneLine job.objective X line
+    in_brief brief line told = subst (λ b. TellsNone b job.objective X forms.Solve line) brief told
+solve_once known job X status other text more (Solved takes tells is) (Unsolvable takes' none also) =
+    let some = best_valid job.brief job.objective X text tells in absurd (none_valid job.brief job.objective X forms.Solve more none some.0 some.1)
+solve_once known job X status other text more (Unsolvable takes none is) (Solved takes' tells also) =
+    let some = best_valid job.brief job.objective X more tells in absurd (none_valid job.brief job.objective X forms.Solve text none some.0 some.1)
+solve_once known job X status other text more (TooLarge count refuses is told) (TooLarge count' refuses' also told') =
     (is ∙ sym also, λ one. told ∙ ap (λ n. refused_instance_text (limit_number job.objective ∷ n ∷ [])) (refused_once job.objective X count count' refuses refuses') ∙ sym told')
-solve_once job X status other text more (Solved takes document best is told) (TooLarge count refuses also told') = taken_apart job.objective X count takes refuses
-solve_once job X status other text more (Unsolvable takes document none is told) (TooLarge count refuses also told') = taken_apart job.objective X count takes refuses
-solve_once job X status other text more (TooLarge count refuses is told) (Solved takes document best also told') = taken_apart job.objective X count takes refuses
-solve_once job X status other text more (TooLarge count refuses is told) (Unsolvable takes document none also told') = taken_apart job.objective X count takes refuses
-
--- nor a ranking and none
-ranked_apart : {P : Type 0} (job : Job) (count : ℕ) (X : Problem) (document other : Document) → IsRankedDocument job.objective X count document → IsNoneDocument job.objective X (forms.Rank count) other → P
-ranked_apart job count X document other ranked none =
-    let truly = subst (IsTrueClaim job.objective X) ranked.claims ranked.written.truly in
-    let none_is = subst (IsTrueClaim job.objective X) none.claims none.written.truly in
-    absurd (none_is (answer_at truly.choices 1) (truly.ranking.valid 0 [] (omega (arith, truly.ranking.listed.some))))
+solve_once known job X status other text more (Solved takes tells is) (TooLarge count refuses also told') = taken_apart job.objective X count takes refuses
+solve_once known job X status other text more (Unsolvable takes tells is) (TooLarge count refuses also told') = taken_apart job.objective X count takes refuses
+solve_once known job X status other text more (TooLarge count refuses is told) (Solved takes tells also) = taken_apart job.objective X count takes refuses
+solve_once known job X status other text more (TooLarge count refuses is told) (Unsolvable takes tells also) = taken_apart job.objective X count takes refuses
 
 -- a request to rank
-rank_once : (job : Job) (count : ℕ) (X : Problem) (status other : Status) (text more : List ℕ) → DueToRank job count X status text → DueToRank job count X other more → AreOne status text other more
-rank_once job count X status other text more (Ranked few document ranked is told) (Ranked few' document' ranked' also told') =
-    (is ∙ sym also, λ one. absurd (subst HasOneText is one))
-rank_once job count X status other text more (Unrankable few document none is told) (Unrankable few' document' none' also told') =
-    (is ∙ sym also, λ one. absurd (subst HasOneText is one))
-rank_once job count X status other text more (Ranked few document ranked is told) (Unrankable few' document' none also told') = ranked_apart job count X document document' ranked none
-rank_once job count X status other text more (Unrankable few document none is told) (Ranked few' document' ranked also told') = ranked_apart job count X document' document ranked none
-rank_once job count X status other text more (TooMuch over is told) (TooMuch over' also told') = (is ∙ sym also, λ one. told ∙ sym told')
-rank_once job count X status other text more (Ranked few document ranked is told) (TooMuch over also told') = absurd (omega (arith, few, over))
-rank_once job count X status other text more (Unrankable few document none is told) (TooMuch over also told') = absurd (omega (arith, few, over))
-rank_once job count X status other text more (TooMuch over is told) (Ranked few document ranked also told') = absurd (omega (arith, few, over))
-rank_once job count X status other text more (TooMuch over is told) (Unrankable few document none also told') = absurd (omega (arith, few, over))
+rank_once : Known → (job : Job) (count : ℕ) (X : Problem) (status other : Status) (text more : List ℕ) → DueToRank job count X status text → DueToRank job count X other more → AreOne job.brief status text other more
+rank_once known job count X status other text more (Ranked few tells is) (Ranked few' again also) =
+    (is ∙ sym also, told_once job.brief status Done text more is (λ one. one) (λ brief. known.ranked job.objective X count text more (in_brief brief text tells) (in_brief brief more again)))
+  where
+    in_brief : job.brief ≡ true → (line : List ℕ) → TellsRanking job.brief job.objective X count line → IsRankedLine job.objective X count line
+    in_brief brief line told = subst (λ b. TellsRanking b job.objective X count line) brief told
+rank_once known job count X status other text more (Unrankable few tells is) (Unrankable few' again also) =
+    (is ∙ sym also, told_once job.brief status Nothing text more is (λ one. one) (λ brief. known.line job.objective X text more (inr (in_brief brief text tells)) (inr (in_brief brief more again))))
+  where
+    in_brief : job.brief ≡ true → (line : List ℕ) → TellsNone job.brief job.objective X (forms.Rank count) line → IsNoneLine job.objective X line
+    in_brief brief line told = subst (λ b. TellsNone b job.objective X (forms.Rank count) line) brief told
+rank_once known job count X status other text more (Ranked few tells is) (Unrankable few' none also) =
+    let some = ranking_valid job.brief job.objective X count text tells in absurd (none_valid job.brief job.objective X (forms.Rank count) more none some.0 some.1)
+rank_once known job count X status other text more (Unrankable few none is) (Ranked few' tells also) =
+    let some = ranking_valid job.brief job.objective X count more tells in absurd (none_valid job.brief job.objective X (forms.Rank count) text none some.0 some.1)
+rank_once known job count X status other text more (TooMuch over is told) (TooMuch over' also told') = (is ∙ sym also, λ one. told ∙ sym told')
+rank_once known job count X status other text more (Ranked few tells is) (TooMuch over also told') = absurd (omega (arith, few, over))
+rank_once known job count X status other text more (Unrankable few tells is) (TooMuch over also told') = absurd (omega (arith, few, over))
+rank_once known job count X status other text more (TooMuch over is told) (Ranked few tells also) = absurd (omega (arith, few, over))
+rank_once known job count X status other text more (TooMuch over is told) (Unrankable few tells also) = absurd (omega (arith, few, over))
 
 -- a request to check
 check_once : DeniesOnce → (job : Job) (form : Form) (X : Problem) (document : Document) (status other : Status) (text more : List ℕ)
-    → DueToCheck job form X document status text → DueToCheck job form X document other more → AreOne status text other more
-check_once once job form X document status other text more (Certified certifies is told) (Certified certifies' also told') = fixed Done status other text more _ is also told told'
+    → DueToCheck job form X document status text → DueToCheck job form X document other more → AreOne job.brief status text other more
+check_once once job form X document status other text more (Certified certifies is told) (Certified certifies' also told') = fixed job.brief Done status other text more _ is also told told'
 check_once once job form X document status other text more (Certified certifies is told) (Denied number place fails first also told') = absurd (fails certifies)
 check_once once job form X document status other text more (Denied number place fails first is told) (Certified certifies also told') = absurd (fails certifies)
 check_once once job form X document status other text more (Denied number place fails first is told) (Denied number' place' fails' first' also told') =
@@ -131,91 +155,95 @@ check_once once job form X document status other text more (Denied number place 
     (is ∙ sym also, λ one. told ∙ (λ k. no_text 1 (same.0 k) (same.1 k)) ∙ sym told')
 
 -- the stage of the answer
-unread_once : Known → (bytes : List ℕ) (Owed : Document → Status → List ℕ → Type 0) (status other : Status) (text more : List ℕ)
-    → ((document : Document) → Owed document status text → Owed document other more → AreOne status text other more)
-    → UnlessUnread bytes Owed status text → UnlessUnread bytes Owed other more → AreOne status text other more
-unread_once known bytes Owed status other text more once (NotRead line none at is told) (NotRead line' none' at' also told') =
+unread_once : (brief : Bool) → Known → (bytes : List ℕ) (Owed : Document → Status → List ℕ → Type 0) (status other : Status) (text more : List ℕ)
+    → ((document : Document) → Owed document status text → Owed document other more → AreOne brief status text other more)
+    → UnlessUnread bytes Owed status text → UnlessUnread bytes Owed other more → AreOne brief status text other more
+unread_once brief known bytes Owed status other text more once (NotRead line none at is told) (NotRead line' none' at' also told') =
     (is ∙ sym also, λ one. told ∙ ap refused_document_text (known.refuses bytes line line' at at') ∙ sym told')
-unread_once known bytes Owed status other text more once (NotRead line none at is told) (Miscounted documents have_text read count also told') = absurd (none documents have_text read)
-unread_once known bytes Owed status other text more once (NotRead line none at is told) (Read document has_text read owed) =
+unread_once brief known bytes Owed status other text more once (NotRead line none at is told) (Miscounted documents have_text read count also told') = absurd (none documents have_text read)
+unread_once brief known bytes Owed status other text more once (NotRead line none at is told) (Read document has_text read owed) =
     absurd (none (document ∷ []) (one_has_text document has_text) (one_text document bytes read))
-unread_once known bytes Owed status other text more once (Miscounted documents have_text read count is told) (NotRead line none at also told') = absurd (none documents have_text read)
-unread_once known bytes Owed status other text more once (Miscounted documents have_text read count is told) (Miscounted others have_text' read' count' also told') =
-    fixed Unread status other text more _ is also told told'
-unread_once known bytes Owed status other text more once (Miscounted documents have_text read count is told) (Read document has_text read' owed) =
+unread_once brief known bytes Owed status other text more once (Miscounted documents have_text read count is told) (NotRead line none at also told') = absurd (none documents have_text read)
+unread_once brief known bytes Owed status other text more once (Miscounted documents have_text read count is told) (Miscounted others have_text' read' count' also told') =
+    fixed brief Unread status other text more _ is also told told'
+unread_once brief known bytes Owed status other text more once (Miscounted documents have_text read count is told) (Read document has_text read' owed) =
     absurd (count (ap length (known.reads documents (document ∷ []) have_text (one_has_text document has_text) (sym read ∙ one_text document bytes read'))))
-unread_once known bytes Owed status other text more once (Read document has_text read owed) (NotRead line none at also told') =
+unread_once brief known bytes Owed status other text more once (Read document has_text read owed) (NotRead line none at also told') =
     absurd (none (document ∷ []) (one_has_text document has_text) (one_text document bytes read))
-unread_once known bytes Owed status other text more once (Read document has_text read owed) (Miscounted others have_text read' count also told') =
+unread_once brief known bytes Owed status other text more once (Read document has_text read owed) (Miscounted others have_text read' count also told') =
     absurd (count (ap length (known.reads others (document ∷ []) have_text (one_has_text document has_text) (sym read' ∙ one_text document bytes read))))
-unread_once known bytes Owed status other text more once (Read document has_text read owed) (Read document' has_text' read' owed') =
+unread_once brief known bytes Owed status other text more once (Read document has_text read owed) (Read document' has_text' read' owed') =
     let lists = known.reads (document ∷ []) (document' ∷ []) (one_has_text document has_text) (one_has_text document' has_text')
     (sym (one_text document bytes read) ∙ one_text document' bytes read') in
     let same : document ≡ document' = cc in
     once document owed (subst (λ d. Owed d other more) (sym same) owed')
 
 -- the same where several documents are due
-miscounted_once : Known → (bytes : List ℕ) (due : ℕ) (Owed : List Document → Status → List ℕ → Type 0) (status other : Status) (text more : List ℕ)
-    → ((documents : List Document) → Owed documents status text → Owed documents other more → AreOne status text other more)
-    → UnlessMiscounted bytes due Owed status text → UnlessMiscounted bytes due Owed other more → AreOne status text other more
-miscounted_once known bytes due Owed status other text more once (Unreadable line none at is told) (Unreadable line' none' at' also told') =
+miscounted_once : (brief : Bool) → Known → (bytes : List ℕ) (due : ℕ) (Owed : List Document → Status → List ℕ → Type 0) (status other : Status) (text more : List ℕ)
+    → ((documents : List Document) → Owed documents status text → Owed documents other more → AreOne brief status text other more)
+    → UnlessMiscounted bytes due Owed status text → UnlessMiscounted bytes due Owed other more → AreOne brief status text other more
+miscounted_once brief known bytes due Owed status other text more once (Unreadable line none at is told) (Unreadable line' none' at' also told') =
     (is ∙ sym also, λ one. told ∙ ap refused_document_text (known.refuses bytes line line' at at') ∙ sym told')
-miscounted_once known bytes due Owed status other text more once (Unreadable line none at is told) (OtherCount documents have_text read count also told') = absurd (none documents have_text read)
-miscounted_once known bytes due Owed status other text more once (Unreadable line none at is told) (AllRead documents have_text read count owed) = absurd (none documents have_text read)
-miscounted_once known bytes due Owed status other text more once (OtherCount documents have_text read count is told) (Unreadable line none at also told') = absurd (none documents have_text read)
-miscounted_once known bytes due Owed status other text more once (OtherCount documents have_text read count is told) (OtherCount others have_text' read' count' also told') =
-    fixed Unread status other text more _ is also told told'
-miscounted_once known bytes due Owed status other text more once (OtherCount documents have_text read count is told) (AllRead others have_text' read' count' owed) =
+miscounted_once brief known bytes due Owed status other text more once (Unreadable line none at is told) (OtherCount documents have_text read count also told') = absurd (none documents have_text read)
+miscounted_once brief known bytes due Owed status other text more once (Unreadable line none at is told) (AllRead documents have_text read count owed) = absurd (none documents have_text read)
+miscounted_once brief known bytes due Owed status other text more once (OtherCount documents have_text read count is told) (Unreadable line none at also told') = absurd (none documents have_text read)
+miscounted_once brief known bytes due Owed status other text more once (OtherCount documents have_text read count is told) (OtherCount others have_text' read' count' also told') =
+    fixed brief Unread status other text more _ is also told told'
+miscounted_once brief known bytes due Owed status other text more once (OtherCount documents have_text read count is told) (AllRead others have_text' read' count' owed) =
     absurd (count (ap length (known.reads documents others have_text have_text' (sym read ∙ read')) ∙ count'))
-miscounted_once known bytes due Owed status other text more once (AllRead documents have_text read count owed) (Unreadable line none at also told') = absurd (none documents have_text read)
-miscounted_once known bytes due Owed status other text more once (AllRead documents have_text read count owed) (OtherCount others have_text' read' count' also told') =
+miscounted_once brief known bytes due Owed status other text more once (AllRead documents have_text read count owed) (Unreadable line none at also told') = absurd (none documents have_text read)
+miscounted_once brief known bytes due Owed status other text more once (AllRead documents have_text read count owed) (OtherCount others have_text' read' count' also told') =
     absurd (count' (ap length (known.reads others documents have_text' have_text (sym read' ∙ read)) ∙ count))
-miscounted_once known bytes due Owed status other text more once (AllRead documents have_text read count owed) (AllRead others have_text' read' count' owed') =
+miscounted_once brief known bytes due Owed status other text more once (AllRead documents have_text read count owed) (AllRead others have_text' read' count' owed') =
     once documents owed (subst (λ ds. Owed ds other more) (sym (known.reads documents others have_text have_text' (sym read ∙ read'))) owed')
 
 -- documents that are judged in turn
-judge_once : DeniesOnce → (objective : Objective) (count : ℕ) (instances : List Problem) (documents : List Document) (status other : Status) (text more : List ℕ)
-    → DueToJudge objective count instances documents status text → DueToJudge objective count instances documents other more → AreOne status text other more
-judge_once once objective count [] [] status other text more first second = fixed Done status other text more (yes_text count) first.0 second.0 first.1 second.1
-judge_once once objective count [] (document ∷ documents) status other text more first second = absurd first
-judge_once once objective count (X ∷ instances) [] status other text more first second = absurd first
-judge_once once objective count (X ∷ instances) (document ∷ documents) status other text more (inl first) (inl second) =
-    judge_once once objective (count + 1) instances documents status other text more first.2 second.2
-judge_once once objective count (X ∷ instances) (document ∷ documents) status other text more (inl first) (inr denied) = absurd (denied.fails first.0)
-judge_once once objective count (X ∷ instances) (document ∷ documents) status other text more (inr denied) (inl second) = absurd (denied.fails second.0)
-judge_once once objective count (X ∷ instances) (document ∷ documents) status other text more (inr denied) (inr also) =
+judge_once : (brief : Bool) → DeniesOnce → (objective : Objective) (count : ℕ) (instances : List Problem) (documents : List Document) (status other : Status) (text more : List ℕ)
+    → DueToJudge objective count instances documents status text → DueToJudge objective count instances documents other more → AreOne brief status text other more
+judge_once brief once objective count [] [] status other text more first second = fixed brief Done status other text more (yes_text count) first.0 second.0 first.1 second.1
+judge_once brief once objective count [] (document ∷ documents) status other text more first second = absurd first
+judge_once brief once objective count (X ∷ instances) [] status other text more first second = absurd first
+judge_once brief once objective count (X ∷ instances) (document ∷ documents) status other text more (inl first) (inl second) =
+    judge_once brief once objective (count + 1) instances documents status other text more first.2 second.2
+judge_once brief once objective count (X ∷ instances) (document ∷ documents) status other text more (inl first) (inr denied) = absurd (denied.fails first.0)
+judge_once brief once objective count (X ∷ instances) (document ∷ documents) status other text more (inr denied) (inl second) = absurd (denied.fails second.0)
+judge_once brief once objective count (X ∷ instances) (document ∷ documents) status other text more (inr denied) (inr also) =
     let same = once objective X forms.Edit document denied.number also.number denied.place also.place denied.reason also.reason in
     (denied.ended ∙ sym also.ended, λ one. denied.told ∙ (λ k. no_text (count + 1) (same.0 k) (same.1 k)) ∙ sym also.told)
 
 -- the stage of the script
-script_once : (file : ScriptFile) (Owed : List (ℕ × Line) → Status → List ℕ → Type 0) (status other : Status) (text more : List ℕ)
-    → ((lines : List (ℕ × Line)) → Owed lines status text → Owed lines other more → AreOne status text other more)
-    → DueForScript file Owed status text → DueForScript file Owed other more → AreOne status text other more
-script_once (RefusesLines numbers) Owed status other text more once first second = fixed Script status other text more (refused_script_text numbers) first.0 second.0 first.1 second.1
-script_once (HoldsLines lines) Owed status other text more once first second = once lines first second
+script_once : (brief : Bool) (file : ScriptFile) (Owed : List (ℕ × Line) → Status → List ℕ → Type 0) (status other : Status) (text more : List ℕ)
+    → ((lines : List (ℕ × Line)) → Owed lines status text → Owed lines other more → AreOne brief status text other more)
+    → DueForScript file Owed status text → DueForScript file Owed other more → AreOne brief status text other more
+script_once brief (RefusesLines numbers) Owed status other text more once first second = fixed brief Script status other text more (refused_script_text numbers) first.0 second.0 first.1 second.1
+script_once brief (HoldsLines lines) Owed status other text more once first second = once lines first second
 
 -- a request to edit
-edit_once : (job : Job) (X : Problem) (lines : List (ℕ × Line)) (status other : Status) (text more : List ℕ) → DueToEdit job X lines status text → DueToEdit job X lines other more → AreOne status text other more
-edit_once job X lines status other text more (Followed documents are is told) (Followed documents' are' also told') = (is ∙ sym also, λ one. absurd (subst HasOneText is one))
+edit_once : Known → (job : Job) (X : Problem) (lines : List (ℕ × Line)) (status other : Status) (text more : List ℕ) → DueToEdit job X lines status text → DueToEdit job X lines other more → AreOne job.brief status text other more
+edit_once known job X lines status other text more (Followed tells is) (Followed again also) =
+    (is ∙ sym also, told_once job.brief status Done text more is (λ one. one) (λ brief. known.lines job.objective (solved_instances X lines) text more (in_brief brief text tells) (in_brief brief more again)))
+  where
+    in_brief : job.brief ≡ true → (lined : List ℕ) → TellsScript job.brief job.objective X lines lined → AreBriefLines job.objective (solved_instances X lines) lined
+    in_brief brief lined told = subst (λ b. TellsScript b job.objective X lines lined) brief told
 
 -- each command
 task_once : Known → (task : Task) (job : Job) (contents : List (List ℕ)) (X : Problem) (status other : Status) (text more : List ℕ)
-    → DueForTask task job contents X status text → DueForTask task job contents X other more → AreOne status text other more
-task_once known Solve job contents X status other text more first second = solve_once job X status other text more first second
+    → DueForTask task job contents X status text → DueForTask task job contents X other more → AreOne job.brief status text other more
+task_once known Solve job contents X status other text more first second = solve_once known job X status other text more first second
 task_once known (Check answer None count) job contents X status other text more first second =
-    unread_once known (content_at contents 1) (DueToCheck job (form_asked count) X) status other text more
+    unread_once job.brief known (content_at contents 1) (DueToCheck job (form_asked count) X) status other text more
     (λ document. check_once known.denies job (form_asked count) X document status other text more)
     first second
 task_once known (Check answer (Some script) None) job contents X status other text more first second =
-    script_once (script_in job.objective X (content_at contents 1)) (λ lines. UnlessMiscounted (content_at contents 2) (length (solved_instances X lines)) (DueToJudge job.objective 0 (solved_instances X lines))) status other text more
+    script_once job.brief (script_in job.objective X (content_at contents 1)) (λ lines. UnlessMiscounted (content_at contents 2) (length (solved_instances X lines)) (DueToJudge job.objective 0 (solved_instances X lines))) status other text more
     (λ lines.
-    miscounted_once known (content_at contents 2) (length (solved_instances X lines)) (DueToJudge job.objective 0 (solved_instances X lines)) status other text more
-    (λ documents. judge_once known.denies job.objective 0 (solved_instances X lines) documents status other text more))
+    miscounted_once job.brief known (content_at contents 2) (length (solved_instances X lines)) (DueToJudge job.objective 0 (solved_instances X lines)) status other text more
+    (λ documents. judge_once job.brief known.denies job.objective 0 (solved_instances X lines) documents status other text more))
     first second
 task_once known (Check answer (Some script) (Some count)) job contents X status other text more first second = absurd first
-task_once known (Rank count) job contents X status other text more first second = rank_once job count X status other text more first second
+task_once known (Rank count) job contents X status other text more first second = rank_once known job count X status other text more first second
 task_once known (Edit script) job contents X status other text more first second =
-    script_once (script_in job.objective X (content_at contents 1)) (DueToEdit job X) status other text more (λ lines. edit_once job X lines status other text more) first second
+    script_once job.brief (script_in job.objective X (content_at contents 1)) (DueToEdit job X) status other text more (λ lines. edit_once known job X lines status other text more) first second
 
 -- no file of those is too long
 pub not_long : {P : Type 0} (contents : List (List ℕ)) (place : ℕ) → AreShort contents → place < length contents → longest_file < length (content_at contents place) → P
@@ -227,8 +255,8 @@ refused_apart refused holds = let both = sym refused ∙ holds in cc
 
 -- a job
 job_once : Known → (job : Job) (contents : List (List ℕ)) (status other : Status) (text more : List ℕ)
-    → DueForJob job contents status text → DueForJob job contents other more → AreOne status text other more
-job_once known job contents status other text more (Long place within long is told) (Long place' within' long' also told') = fixed TooLong status other text more [] is also told told'
+    → DueForJob job contents status text → DueForJob job contents other more → AreOne job.brief status text other more
+job_once known job contents status other text more (Long place within long is told) (Long place' within' long' also told') = fixed job.brief TooLong status other text more [] is also told told'
 job_once known job contents status other text more (Long place within long is told) (Refused short numbers refused also told') = not_long contents place short within long
 job_once known job contents status other text more (Long place within long is told) (Held short X holds due) = not_long contents place short within long
 job_once known job contents status other text more (Refused short numbers refused is told) (Long place within long also told') = not_long contents place short within long
@@ -244,17 +272,24 @@ job_once known job contents status other text more (Held short X holds due) (Hel
     let same : X ≡ X' = cc in
     task_once known job.task job contents X status other text more due (subst (λ Y. DueForTask job.task job contents Y other more) (sym same) due')
 
-asked_once : Known → (asked : Option Job) (contents : List (List ℕ)) (status other : Status) (text more : List ℕ)
-    → DueForAsked asked contents status text → DueForAsked asked contents other more → AreOne status text other more
-asked_once known None contents status other text more first second = fixed Usage status other text more _ first.0 second.0 first.1 second.1
-asked_once known (Some job) contents status other text more first second = job_once known job contents status other text more first second
+-- the request is told in brief
+abbrev pub is_brief : Option Request → Bool
+is_brief None = false
+is_brief (Some (Make seed side)) = false
+is_brief (Some (Work job)) = job.brief
+
+asked_once : Known → (asked : Option Request) (contents : List (List ℕ)) (status other : Status) (text more : List ℕ)
+    → DueForAsked asked contents status text → DueForAsked asked contents other more → AreOne (is_brief asked) status text other more
+asked_once known None contents status other text more first second = fixed false Usage status other text more _ first.0 second.0 first.1 second.1
+asked_once known (Some (Make seed side)) contents status other text more first second = fixed false Done status other text more _ first.0 second.0 first.1 second.1
+asked_once known (Some (Work job)) contents status other text more first second = job_once known job contents status other text more first second
 
 -- what is due
-pub due_once : Known → (asked : Option Job) (told : List ℕ → Option (List ℕ)) (status other : Status) (text more : List ℕ)
+pub due_once : Known → (asked : Option Request) (told : List ℕ → Option (List ℕ)) (status other : Status) (text more : List ℕ)
     → All (λ name. IsSome (told name)) (files_of asked)
     → (contents : List (List ℕ)) × MayHoldAll told (files_of asked) contents × DueForAsked asked contents status text
     → (contents : List (List ℕ)) × MayHoldAll told (files_of asked) contents × DueForAsked asked contents other more
-    → AreOne status text other more
+    → AreOne (is_brief asked) status text other more
 due_once known asked told status other text more tells (contents, may, due) (others, may', due') =
     let same = held_once told (files_of asked) contents others tells may may' in
     asked_once known asked contents status other text more due (subst (λ cs. DueForAsked asked cs other more) (sym same) due')

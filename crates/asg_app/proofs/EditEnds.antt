@@ -2,13 +2,13 @@
 use Rattle.std.proofs.Common.{◌≡◌, ℕ, Bool, true, false, List, ◌++◌, Option, Some, None, refl, sym, ap, ◌∙◌, subst, inl, inr, Global}
 use Rattle.std.specs.Prelude.{IfOk, IsSome, IsTrue, Result, Ok, Err, Vec}
 use Rattle.asg_io.specs.Shelf.{Rose}
-use Rattle.asg_doc.specs.declared.documents.Document.{Document}
-use Rattle.asg_doc.specs.Text.{texts_of}
 use Rattle.asg_model.specs.Problem.{Problem}
+use Rattle.asg_requests.specs.declared.requests.Request.{Request}
 use Rattle.asg_requests.specs.Bounds.{IsJob, script_edited}
 use Rattle.asg_requests.specs.declared.requests.Job.{Job}
 use Rattle.asg_requests.specs.declared.requests.Task.{Task}
 use Rattle.asg_requests.specs.declared.requests.Task.TheVariants.{Solve, Rank, Edit, Check}
+use Rattle.asg_requests.specs.declared.requests.Request.TheVariants as requests
 use Rattle.asg_model.specs.Objectives.{is_algebraic}
 use Rattle.asg_scripts.specs.Scripts.{HoldsLines, script_in}
 use Rattle.asg_text.specs.declared.script_lines.Line.{Line}
@@ -22,7 +22,7 @@ use Rattle.asg_app.specs.Due.{DueForAsked, DueForFront, DueForJob, DueForPart, D
 use Rattle.asg_app.specs.DueToEdit.{DueToEdit, Followed}
 use Rattle.asg_answers.specs.WrittenLines.{WritesAll, WritesFront}
 use Rattle.asg_app.specs.Edits.{IsStarted, StopsJob}
-use Rattle.asg_answers.specs.EditDocuments.{AreEditDocuments, at_first}
+use Rattle.asg_answers.specs.Tellings.{TellsScript}
 use Rattle.asg_app.specs.Ends.{Ends, WritesInPart}
 use Rattle.asg_app.specs.InstanceFile.{Holds, instance_in}
 use Rattle.asg_answers.specs.Replies.{Answers, IsReply, bytes_of}
@@ -74,15 +74,15 @@ wanting_stop job contents stop is = subst (StopsJob job contents) (sym is) tt
 -- ---- what is due for what was started
 
 module _ (job : Job) (contents : List (List ℕ)) (work : Work) (is : is_edit job.task ≡ true) (started : IsStarted job contents work) where
-  -- the documents of all lines
-  all_due : (documents : List Document) → AreEditDocuments job.objective work.editor.instance at_first work.lines.items documents → DueForJob job contents Done (texts_of documents)
-  all_due documents are =
-      script_due job contents work.editor.instance Done (texts_of documents) is started.short started.held
-      (subst (λ file. DueForScript file (DueToEdit job work.editor.instance) Done (texts_of documents)) (sym started.lines) (Followed documents are refl refl))
+  -- what tells all lines
+  all_due : (text : List ℕ) → TellsScript job.brief job.objective work.editor.instance work.lines.items text → DueForJob job contents Done text
+  all_due text told =
+      script_due job contents work.editor.instance Done text is started.short started.held
+      (subst (λ file. DueForScript file (DueToEdit job work.editor.instance) Done text) (sym started.lines) (Followed told refl))
 
-  -- those of the first ones
-  front_due : (front rest : List (ℕ × Line)) → work.lines.items ≡ front ++ rest → (documents : List Document) → AreEditDocuments job.objective work.editor.instance at_first front documents → DueForFront job contents Done (texts_of documents)
-  front_due front rest lines documents are =
+  -- and the first ones
+  front_due : (front rest : List (ℕ × Line)) → work.lines.items ≡ front ++ rest → (text : List ℕ) → TellsScript job.brief job.objective work.editor.instance front text → DueForFront job contents Done text
+  front_due front rest lines text told =
       let of = edit_of job.task is in
       record {
         script = of.0;
@@ -92,34 +92,34 @@ module _ (job : Job) (contents : List (List ℕ)) (work : Work) (is : is_edit jo
         front = front;
         rest = rest;
         lines = started.lines ∙ ap HoldsLines lines;
-        due = Followed documents are refl refl;
+        due = Followed told refl;
       }
 
   module _ {K : Type 0} (written : K → Option (List ℕ)) (faults : K → ℕ) (before after : K) where
-    pub Ends-done : WritesAll job.objective work.editor.instance work.lines.items (written before) (written after) → Ends written faults before after true (DueForJob job contents) (DueForPart (Some job) contents) Done
-    Ends-done (documents, are, puts) = record {
-      answered = λ _. (texts_of documents, all_due documents are, puts);
+    pub Ends-done : WritesAll job.brief job.objective work.editor.instance work.lines.items (written before) (written after) → Ends written faults before after true (DueForJob job contents) (DueForPart (Some (requests.Work job)) contents) Done
+    Ends-done (text, told, puts) = record {
+      answered = λ _. (text, all_due text told, puts);
       write_fault = λ e. cc;
       write_fault_cause = λ e. cc;
       no_memory = λ e. cc;
       no_read_fault = λ e. cc;
     }
 
-    pub Ends-fault : WritesFront job.objective work.editor.instance work.lines.items (written before) (written after) → Rose (faults before) (faults after) → Ends written faults before after true (DueForJob job contents) (DueForPart (Some job) contents) WriteFault
-    Ends-fault (front, rest, lines, documents, are, puts) rose = record {
+    pub Ends-fault : WritesFront job.brief job.objective work.editor.instance work.lines.items (written before) (written after) → Rose (faults before) (faults after) → Ends written faults before after true (DueForJob job contents) (DueForPart (Some (requests.Work job)) contents) WriteFault
+    Ends-fault (front, rest, lines, text, told, puts) rose = record {
       answered = λ answer. absurd answer;
-      write_fault = λ e. (Done, texts_of documents, inr (front_due front rest lines documents are), puts);
+      write_fault = λ e. (Done, text, inr (front_due front rest lines text told), puts);
       write_fault_cause = λ e. rose;
       no_memory = λ e. cc;
       no_read_fault = λ e. cc;
     }
 
-    pub Ends-wanting : WritesFront job.objective work.editor.instance work.lines.items (written before) (written after) → Ends written faults before after true (DueForJob job contents) (DueForPart (Some job) contents) NoMemory
-    Ends-wanting (front, rest, lines, documents, are, puts) = record {
+    pub Ends-wanting : WritesFront job.brief job.objective work.editor.instance work.lines.items (written before) (written after) → Ends written faults before after true (DueForJob job contents) (DueForPart (Some (requests.Work job)) contents) NoMemory
+    Ends-wanting (front, rest, lines, text, told, puts) = record {
       answered = λ answer. absurd answer;
       write_fault = λ e. cc;
       write_fault_cause = λ e. cc;
-      no_memory = λ e. inr (refl, Done, texts_of documents, inr (front_due front rest lines documents are), puts);
+      no_memory = λ e. inr (refl, Done, text, inr (front_due front rest lines text told), puts);
       no_read_fault = λ e. cc;
     }
 
@@ -161,12 +161,13 @@ IsStarted-opened job contents X lines (Err stop) short holds follows objective i
 
 -- the reply of a stop is an answer
 pub stopped_answer : (job : Job) (contents : List (List ℕ)) (reply : Reply) → StopsJob job contents (Stopped reply) → IsAnswer reply.status
-stopped_answer job contents reply owed = asked_answer (Some job) contents reply.status (bytes_of reply.text) owed
+stopped_answer job contents reply owed = asked_answer (Some (requests.Work job)) contents reply.status (bytes_of reply.text) owed
 
 -- what is due is due in part
-pub part_of : (asked : Option Job) (contents : List (List ℕ)) (status : Status) (text : List ℕ) → DueForAsked asked contents status text → DueForPart asked contents status text
+pub part_of : (asked : Option Request) (contents : List (List ℕ)) (status : Status) (text : List ℕ) → DueForAsked asked contents status text → DueForPart asked contents status text
 part_of None contents status text due = due
-part_of (Some job) contents status text due = inl due
+part_of (Some (requests.Make seed side)) contents status text due = due
+part_of (Some (requests.Work job)) contents status text due = inl due
 
 pub Ends-part : {K : Type 0} (written : K → Option (List ℕ)) (faults : K → ℕ) (before after : K) (streamed : Bool) (Owed InPart : Status → List ℕ → Type 0) (status : Status) → ((due : Status) (text : List ℕ) → Owed due text → InPart due text)
     → Ends written faults before after streamed Owed Owed status → Ends written faults before after streamed Owed InPart status

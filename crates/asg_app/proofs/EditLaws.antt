@@ -1,5 +1,5 @@
 -- What each due status says of a request to edit.
-use Rattle.std.proofs.Common.{◌≡◌, ◌∙◌, ℕ, ◌+◌, ◌≤◌, List, [], ◌∷◌, length, Option, Some, None, refl, sym, ap, subst, inl, inr, arith}
+use Rattle.std.proofs.Common.{◌≡◌, ◌∙◌, ℕ, ◌+◌, ◌≤◌, false, List, [], ◌∷◌, length, Option, Some, None, refl, sym, ap, subst, inl, inr, arith}
 use Rattle.std.specs.Prelude.{◌⊎◌, IfSome}
 use Rattle.std.proofs.lemmas.List.Elements.{All-nil, All-cons, All-head, All-tail}
 use Rattle.asg_model.specs.declared.objectives.Objective.{Objective}
@@ -9,10 +9,12 @@ use Rattle.asg_model.specs.Problem.{Problem}
 use Rattle.asg_doc.specs.declared.documents.Document.{Document}
 use Rattle.asg_doc.specs.HasText.{HasText}
 use Rattle.asg_doc.specs.RefusedLine.{AllHaveText}
+use Rattle.asg_doc.specs.Text.{texts_of}
 use Rattle.asg_proof.specs.KeptWords.{Standing}
 use Rattle.asg_requests.specs.declared.requests.Job.{Job}
 use Rattle.asg_requests.specs.declared.requests.Task.TheVariants.{Edit, Check}
 use Rattle.asg_requests.specs.Requests.{files_of_task}
+use Rattle.asg_requests.specs.declared.requests.Request.TheVariants.{Work}
 use Rattle.asg_scripts.specs.Scripts.{ScriptFile, HoldsLines, RefusesLines, script_in, solved_instances}
 use Rattle.asg_text.specs.declared.script_lines.Line.{Line}
 use Rattle.asg_text.specs.declared.script_lines.Line.TheVariants.{Edit as Edits_line, Solve}
@@ -26,10 +28,11 @@ use Rattle.asg_answers.specs.EditDocuments.{AreEditDocuments, at_first, edited_s
 use Rattle.asg_app.specs.Fetches.{MayHold, MayHoldAll}
 use Rattle.asg_text.specs.Texts.{reading_of}
 use Rattle.asg_app.specs.InstanceFile.{Holds, held_by, instance_in}
-use Rattle.asg_app.specs.Promised.{AreCertified, AreTrue, AskAlike, IsEdited}
+use Rattle.asg_app.specs.Promised.{AreCertified, AreTrue, AskAlike, IsEdited, IsToldOfScript}
 use Rattle.asg_app.specs.Requests.{files_of}
 use Rattle.asg_app.specs.ScriptStage.{DueForScript}
 use Rattle.asg_app.specs.Sources.{AreShort, content_at}
+use Rattle.asg_answers.specs.Tellings.{TellsScript}
 use Rattle.asg_answers.specs.Texts.{refused_script_text, yes_text}
 use Rattle.asg_app.proofs.StageLaws.{AllShort, first_held, reached}
 use Rattle.asg_app.proofs.ToldFiles.{held}
@@ -40,7 +43,7 @@ own : (job : Job) (contents : List (List ℕ)) (X : Problem) (status : Status) (
 own job contents X status text script is due = subst (λ task. DueForTask task job contents X status text) is due
 
 -- the contents of the script's file
-script_held : (told : List ℕ → Option (List ℕ)) (job : Job) (contents : List (List ℕ)) (script : List ℕ) → job.task ≡ Edit script → MayHoldAll told (files_of (Some job)) contents → MayHold told script (content_at contents 1)
+script_held : (told : List ℕ → Option (List ℕ)) (job : Job) (contents : List (List ℕ)) (script : List ℕ) → job.task ≡ Edit script → MayHoldAll told (files_of (Some (Work job))) contents → MayHold told script (content_at contents 1)
 script_held told job contents script is may = second contents (subst (λ task. MayHoldAll told (job.instance ∷ files_of_task task) contents) is may)
   where
     second : (cs : List (List ℕ)) → MayHoldAll told (job.instance ∷ script ∷ []) cs → MayHold told script (content_at cs 1)
@@ -54,7 +57,7 @@ IsEnding status = (status ≡ Done) ⊎ ((status ≡ Instance) ⊎ ((status ≡ 
 
 script_ends : (job : Job) (X : Problem) (file : ScriptFile) (status : Status) (text : List ℕ) → DueForScript file (DueToEdit job X) status text → IsEnding status
 script_ends job X (RefusesLines numbers) status text due = inr (inr (inl due.0))
-script_ends job X (HoldsLines lines) status text (Followed documents are e told) = inl e
+script_ends job X (HoldsLines lines) status text (Followed told e) = inl e
 
 pub edit_statuses : (job : Job) (contents : List (List ℕ)) (status : Status) (text script : List ℕ) → job.task ≡ Edit script → DueForJob job contents status text → (status ≡ Done) ⊎ ((status ≡ Instance) ⊎ ((status ≡ Script) ⊎ (status ≡ TooLong)))
 edit_statuses job contents status text script is (Long place within long e told) = inr (inr (inr e))
@@ -62,23 +65,23 @@ edit_statuses job contents status text script is (Refused short numbers none e t
 edit_statuses job contents status text script is (Held short X holds due) = script_ends job X (script_in job.objective X (content_at contents 1)) status text (own job contents X status text script is due)
 
 -- what is due for the script that is told
-reached_script : (job : Job) (told : List ℕ → Option (List ℕ)) (contents : List (List ℕ)) (status : Status) (text script bytes says : List ℕ) (X : Problem) → AllShort told (Some job) → job.task ≡ Edit script → told job.instance ≡ Some bytes → told script ≡ Some says
-    → instance_in job bytes ≡ Holds X → MayHoldAll told (files_of (Some job)) contents → DueForJob job contents status text → DueForScript (script_in job.objective X says) (DueToEdit job X) status text
+reached_script : (job : Job) (told : List ℕ → Option (List ℕ)) (contents : List (List ℕ)) (status : Status) (text script bytes says : List ℕ) (X : Problem) → AllShort told (Some (Work job)) → job.task ≡ Edit script → told job.instance ≡ Some bytes → told script ≡ Some says
+    → instance_in job bytes ≡ Holds X → MayHoldAll told (files_of (Some (Work job))) contents → DueForJob job contents status text → DueForScript (script_in job.objective X says) (DueToEdit job X) status text
 reached_script job told contents status text script bytes says X shorts is found heard holds may due =
     let same : content_at contents 1 ≡ says = held (told script) (content_at contents 1) says heard (script_held told job contents script is may) in
     subst (λ spoken. DueForScript (script_in job.objective X spoken) (DueToEdit job X) status text) same
     (own job contents X status text script is (reached job told contents status text bytes X shorts found holds may due))
 
-pub edit_refused : (job : Job) (told : List ℕ → Option (List ℕ)) (contents : List (List ℕ)) (status : Status) (text script bytes says numbers : List ℕ) (X : Problem) → AllShort told (Some job) → job.task ≡ Edit script → told job.instance ≡ Some bytes → told script ≡ Some says
-    → instance_in job bytes ≡ Holds X → script_in job.objective X says ≡ RefusesLines numbers → MayHoldAll told (files_of (Some job)) contents → DueForJob job contents status text → (status ≡ Script) × (text ≡ refused_script_text numbers)
+pub edit_refused : (job : Job) (told : List ℕ → Option (List ℕ)) (contents : List (List ℕ)) (status : Status) (text script bytes says numbers : List ℕ) (X : Problem) → AllShort told (Some (Work job)) → job.task ≡ Edit script → told job.instance ≡ Some bytes → told script ≡ Some says
+    → instance_in job bytes ≡ Holds X → script_in job.objective X says ≡ RefusesLines numbers → MayHoldAll told (files_of (Some (Work job))) contents → DueForJob job contents status text → (status ≡ Script) × (text ≡ refused_script_text numbers)
 edit_refused job told contents status text script bytes says numbers X shorts is found heard holds refuses may due =
     subst (λ file. DueForScript file (DueToEdit job X) status text) refuses (reached_script job told contents status text script bytes says X shorts is found heard holds may due)
 
 followed_done : (job : Job) (X : Problem) (lines : List (ℕ × Line)) (status : Status) (text : List ℕ) → DueToEdit job X lines status text → status ≡ Done
-followed_done job X lines status text (Followed documents are e told) = e
+followed_done job X lines status text (Followed told e) = e
 
-pub edit_followed : (job : Job) (told : List ℕ → Option (List ℕ)) (contents : List (List ℕ)) (status : Status) (text script bytes says : List ℕ) (X : Problem) (lines : List (ℕ × Line)) → AllShort told (Some job) → job.task ≡ Edit script → told job.instance ≡ Some bytes → told script ≡ Some says
-    → instance_in job bytes ≡ Holds X → script_in job.objective X says ≡ HoldsLines lines → MayHoldAll told (files_of (Some job)) contents → DueForJob job contents status text → status ≡ Done
+pub edit_followed : (job : Job) (told : List ℕ → Option (List ℕ)) (contents : List (List ℕ)) (status : Status) (text script bytes says : List ℕ) (X : Problem) (lines : List (ℕ × Line)) → AllShort told (Some (Work job)) → job.task ≡ Edit script → told job.instance ≡ Some bytes → told script ≡ Some says
+    → instance_in job bytes ≡ Holds X → script_in job.objective X says ≡ HoldsLines lines → MayHoldAll told (files_of (Some (Work job))) contents → DueForJob job contents status text → status ≡ Done
 edit_followed job told contents status text script bytes says X lines shorts is found heard holds follows may due =
     followed_done job X lines status text (subst (λ file. DueForScript file (DueToEdit job X) status text) follows (reached_script job told contents status text script bytes says X shorts is found heard holds may due))
 
@@ -93,28 +96,41 @@ AreTrue-edited objective X standing ((number, Solve) ∷ lines) (document ∷ do
     (written.has_text, written.certifies, written.truly, AreTrue-edited objective X (standing_of document) lines documents are)
 
 -- what is due with status 0
-edited_by : (job : Job) (bytes says text : List ℕ) (X : Problem) (file : ScriptFile) → instance_in job bytes ≡ Holds X → script_in job.objective X says ≡ file → DueForScript file (DueToEdit job X) Done text → IsEdited job bytes says text
-edited_by job bytes says text X (RefusesLines numbers) holds is due = let e = due.0 in cc
-edited_by job bytes says text X (HoldsLines lines) holds is (Followed documents are e told) = record {
-  problem = X;
-  lines = lines;
-  documents = documents;
-  held = holds;
-  followed = is;
-  are_true = AreTrue-edited job.objective X at_first lines documents are;
-  going_on = are;
-  written = told;
-}
+followed_by : (job : Job) (bytes says text : List ℕ) (X : Problem) (file : ScriptFile) → instance_in job bytes ≡ Holds X → script_in job.objective X says ≡ file → DueForScript file (DueToEdit job X) Done text → IsToldOfScript job bytes says text
+followed_by job bytes says text X (RefusesLines numbers) holds is due = let e = due.0 in cc
+followed_by job bytes says text X (HoldsLines lines) holds is (Followed told e) = record { problem = X; lines = lines; held = holds; followed = is; tells = told }
 
-pub edited_only : (job : Job) (told : List ℕ → Option (List ℕ)) (contents : List (List ℕ)) (text script : List ℕ) → job.task ≡ Edit script → MayHoldAll told (files_of (Some job)) contents → DueForJob job contents Done text
-    → MayHold told job.instance (content_at contents 0) × MayHold told script (content_at contents 1) × IsEdited job (content_at contents 0) (content_at contents 1) text × AreShort contents
-edited_only job told contents text script is may due = by_case due
+pub followed_told : (job : Job) (told : List ℕ → Option (List ℕ)) (contents : List (List ℕ)) (text script : List ℕ) → job.task ≡ Edit script → MayHoldAll told (files_of (Some (Work job))) contents → DueForJob job contents Done text
+    → MayHold told job.instance (content_at contents 0) × MayHold told script (content_at contents 1) × IsToldOfScript job (content_at contents 0) (content_at contents 1) text × AreShort contents
+followed_told job told contents text script is may due = by_case due
   where
-    by_case : DueForJob job contents Done text → MayHold told job.instance (content_at contents 0) × MayHold told script (content_at contents 1) × IsEdited job (content_at contents 0) (content_at contents 1) text × AreShort contents
+    by_case : DueForJob job contents Done text → MayHold told job.instance (content_at contents 0) × MayHold told script (content_at contents 1) × IsToldOfScript job (content_at contents 0) (content_at contents 1) text × AreShort contents
     by_case (Long place within long e told') = cc
     by_case (Refused short numbers none e told') = cc
     by_case (Held short X holds owed) =
-        (first_held told job contents may, script_held told job contents script is may, edited_by job (content_at contents 0) (content_at contents 1) text X (script_in job.objective X (content_at contents 1)) holds refl (own job contents X Done text script is owed), short)
+        (first_held told job contents may, script_held told job contents script is may, followed_by job (content_at contents 0) (content_at contents 1) text X (script_in job.objective X (content_at contents 1)) holds refl (own job contents X Done text script is owed), short)
+
+-- the documents
+pub edited_only : (job : Job) → job.brief ≡ false → (told : List ℕ → Option (List ℕ)) (contents : List (List ℕ)) (text script : List ℕ) → job.task ≡ Edit script → MayHoldAll told (files_of (Some (Work job))) contents → DueForJob job contents Done text
+    → MayHold told job.instance (content_at contents 0) × MayHold told script (content_at contents 1) × IsEdited job (content_at contents 0) (content_at contents 1) text × AreShort contents
+edited_only job whole told contents text script is may due =
+    let found = followed_told job told contents text script is may due in
+    let did = found.2 in
+    let tells = subst (λ brief. TellsScript brief job.objective did.problem did.lines text) whole did.tells in (
+      found.0,
+      found.1,
+      record {
+        problem = did.problem;
+        lines = did.lines;
+        documents = tells.0;
+        held = did.held;
+        followed = did.followed;
+        are_true = AreTrue-edited job.objective did.problem at_first did.lines tells.0 tells.1;
+        going_on = tells.1;
+        written = tells.2;
+      },
+      found.3,
+    )
 
 -- ---- what was written is accepted
 
@@ -150,11 +166,11 @@ short_second [] short = omega arith
 short_second (bytes ∷ []) short = omega arith
 short_second (bytes ∷ says ∷ contents) short = short 1 [] (omega arith)
 
-pub accepted_documents : (told later : List ℕ → Option (List ℕ)) (edit check : Job) (text script says answer : List ℕ) (contents : List (List ℕ)) → edit.task ≡ Edit script → MayHoldAll told (files_of (Some edit)) contents → DueForJob edit contents Done text
+pub accepted_documents : (told later : List ℕ → Option (List ℕ)) (edit check : Job) (text script says answer : List ℕ) (contents : List (List ℕ)) → edit.brief ≡ false → edit.task ≡ Edit script → MayHoldAll told (files_of (Some (Work edit))) contents → DueForJob edit contents Done text
     → check.task ≡ Check answer (Some says) None → AskAlike edit check → length text ≤ longest_file → later check.instance ≡ told edit.instance → later says ≡ told script → later answer ≡ Some text
-    → (count : ℕ) × (held : List (List ℕ)) × MayHoldAll later (files_of (Some check)) held × DueForJob check held Done (yes_text count)
-accepted_documents told later edit check text script says answer contents is may due checks alike within same_file same_script written =
-    let found = edited_only edit told contents text script is may due in
+    → (documents : List Document) × AllHaveText documents × (text ≡ texts_of documents) × (held : List (List ℕ)) × MayHoldAll later (files_of (Some (Work check))) held × DueForJob check held Done (yes_text (length documents))
+accepted_documents told later edit check text script says answer contents whole is may due checks alike within same_file same_script written =
+    let found = edited_only edit whole told contents text script is may due in
     let bytes = content_at contents 0 in
     let spoken = content_at contents 1 in
     let did = found.2 in
@@ -165,11 +181,14 @@ accepted_documents told later edit check text script says answer contents is may
     let holds : instance_in check bytes ≡ Holds did.problem = same_instance alike bytes ∙ did.held in
     let follows : script_in check.objective did.problem spoken ≡ HoldsLines did.lines = ap (λ o. script_in o did.problem spoken) alike.of_objective ∙ did.followed in
     let are = subst (λ o. AreTrue o (solved_instances did.problem did.lines) did.documents) (sym alike.of_objective) did.are_true in
+    let texts = have_text check.objective (solved_instances did.problem did.lines) did.documents are in
     let owed : UnlessMiscounted text (length (solved_instances did.problem did.lines)) (DueToJudge check.objective 0 (solved_instances did.problem did.lines)) Done (yes_text count) =
-    AllRead did.documents (have_text check.objective (solved_instances did.problem did.lines) did.documents are) did.written (as_many check.objective (solved_instances did.problem did.lines) did.documents are)
+    AllRead did.documents texts did.written (as_many check.objective (solved_instances did.problem did.lines) did.documents are)
     (judged_true check.objective 0 count (solved_instances did.problem did.lines) did.documents (omega arith) are) in
     let three = bytes ∷ spoken ∷ text ∷ [] in (
-      count,
+      did.documents,
+      texts,
+      did.written,
       three,
       subst (λ task. MayHoldAll later (check.instance ∷ files_of_task task) three) (sym checks) (may_again, (may_follow, (may_speak, tt))),
       Held (three_short bytes spoken text (short_first contents found.3) (short_second contents found.3) within) did.problem holds
@@ -183,7 +202,7 @@ accepted_documents told later edit check text script says answer contents is may
 -- ---- documents that are judged
 
 -- the contents of the script's and of the answer's files
-judged_held : (told : List ℕ → Option (List ℕ)) (job : Job) (contents : List (List ℕ)) (script answer : List ℕ) → job.task ≡ Check answer (Some script) None → MayHoldAll told (files_of (Some job)) contents
+pub judged_held : (told : List ℕ → Option (List ℕ)) (job : Job) (contents : List (List ℕ)) (script answer : List ℕ) → job.task ≡ Check answer (Some script) None → MayHoldAll told (files_of (Some (Work job))) contents
     → MayHold told script (content_at contents 1) × MayHold told answer (content_at contents 2)
 judged_held told job contents script answer is may = both contents (subst (λ task. MayHoldAll told (job.instance ∷ files_of_task task) contents) is may)
   where
@@ -225,7 +244,7 @@ accepted_by : (job : Job) (bytes says spoken text : List ℕ) (X : Problem) (fil
 accepted_by job bytes says spoken text X (RefusesLines numbers) holds is due = let e = due.0 in cc
 accepted_by job bytes says spoken text X (HoldsLines lines) holds is due = accepted_read job bytes says spoken text X lines holds is due
 
-pub certified_only : (job : Job) (told : List ℕ → Option (List ℕ)) (contents : List (List ℕ)) (text script answer : List ℕ) → job.task ≡ Check answer (Some script) None → MayHoldAll told (files_of (Some job)) contents → DueForJob job contents Done text
+pub certified_only : (job : Job) (told : List ℕ → Option (List ℕ)) (contents : List (List ℕ)) (text script answer : List ℕ) → job.task ≡ Check answer (Some script) None → MayHoldAll told (files_of (Some (Work job))) contents → DueForJob job contents Done text
     → (bytes says spoken : List ℕ) × MayHold told job.instance bytes × MayHold told script says × MayHold told answer spoken × (certified : AreCertified job bytes says spoken) × (text ≡ yes_text (length certified.documents))
 certified_only job told contents text script answer is may due = by_case due
   where

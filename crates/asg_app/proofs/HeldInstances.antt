@@ -15,13 +15,13 @@ use Rattle.asg_text.specs.Readings.{Reading, Spells, Refuses as RefusesText}
 use Rattle.asg_text.specs.Texts.{reading_of}
 use Rattle.asg_requests.specs.declared.requests.Job.{Job}
 use Rattle.asg_requests.specs.declared.requests.Request.{Request}
-use Rattle.asg_requests.specs.declared.requests.Request.TheVariants.{Work, Make}
+use Rattle.asg_requests.specs.declared.requests.Request.TheVariants.{Work}
 use Rattle.asg_requests.specs.Bounds.{IsJob, IsRequest}
 use Rattle.asg_words.specs.Requests.{request_of}
 use Rattle.asg_app.specs.InstanceFile.{Holds, Refuses, fitted, held_by, instance_in, passed, passed_by, rows_asked, sided}
 use Rattle.asg_app.specs.RefusedCosts.{first_refused}
 use Rattle.asg_app.proofs.RefusedCosts.{passes_none}
-use Rattle.asg_app.specs.Requests.{built_job, is_built, job_of}
+use Rattle.asg_app.specs.Requests.{AsksFor, built_request, is_built_request}
 
 -- whatever bytes the job's file has, what they hold is an instance
 abbrev pub HoldsInstances : Job → Type 0
@@ -34,19 +34,18 @@ pub record InstanceLaws : Type 0 where
   pub stays : (X : Problem) (place : Place) (each : ℕ) → IsInstance X → 1 ≤ each → each ≤ most_capacity → IsPlaceInRange (shaped X place each) place → IsInstance (shaped X place each)
   pub in_range : (X : Problem) (place : Place) → is_range_of place (length X.rows) (total_capacity X) ≡ true → IsPlaceInRange X place
 
--- a job that is built is that of a request
-asked : (request : Option Request) (job : Job) → built_job request ≡ Some job → request ≡ Some (Work job)
-asked None job is = cc
-asked (Some (Make seed side)) job is = cc
-asked (Some (Work work)) job is = by_test (is_built work) is
+-- what the words ask for is the request that they make
+pub asked_request : (request : Option Request) (asked : Request) → built_request request ≡ Some asked → request ≡ Some asked
+asked_request None asked is = cc
+asked_request (Some request) asked is = by_test (is_built_request request) is
   where
-    by_test : (test : Bool) → cond test (Some work) None ≡ Some job → Some (Work work) ≡ Some (Work job)
-    by_test true is = cc
+    by_test : (test : Bool) → cond test (Some request) None ≡ Some asked → Some request ≡ Some asked
+    by_test true is = is
     by_test false is = cc
 
 -- a job of words is within its bounds
-pub job_within : ((words : List (List ℕ)) (request : Request) → request_of words ≡ Some request → IsRequest request) → (words : List (List ℕ)) (job : Job) → job_of words ≡ Some job → IsJob job
-job_within requests words job is = requests words (Work job) (asked (request_of words) job is)
+pub job_within : ((words : List (List ℕ)) (request : Request) → request_of words ≡ Some request → IsRequest request) → (words : List (List ℕ)) (job : Job) → AsksFor words job → IsJob job
+job_within requests words job is = requests words (Work job) (asked_request (request_of words) (Work job) is)
 
 -- what the stages behind the options hold is the instance itself; the objective refuses no live
 -- cost of it, and its square isn't too large
@@ -111,6 +110,6 @@ module _ (laws : InstanceLaws) (job : Job) (within : IsJob job) where
   read_instance (RefusesText fault) Y spelled is = cc
 
 -- what the file of a request's job holds is an instance
-pub holds_instances : InstanceLaws → (words : List (List ℕ)) (job : Job) → job_of words ≡ Some job → HoldsInstances job
+pub holds_instances : InstanceLaws → (words : List (List ℕ)) (job : Job) → AsksFor words job → HoldsInstances job
 holds_instances laws words job is bytes X holds =
-    read_instance laws job (laws.requests words (Work job) (asked (request_of words) job is)) (reading_of job.format bytes) X (laws.spelled job.format bytes) holds
+    read_instance laws job (laws.requests words (Work job) (asked_request (request_of words) (Work job) is)) (reading_of job.format bytes) X (laws.spelled job.format bytes) holds

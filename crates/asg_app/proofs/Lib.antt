@@ -1,5 +1,7 @@
 pub mod AcceptedLaws
 pub mod AnswerLemmas
+pub mod BriefLaws
+pub mod BriefReplies
 pub mod CheckLaws
 pub mod Counting
 pub mod DocumentLength
@@ -9,6 +11,7 @@ pub mod EditLaws
 pub mod Fetching
 pub mod HeldInstances
 pub mod InstanceLemmas
+pub mod JudgeLaws
 pub mod JudgeLemmas
 pub mod JudgeStops
 pub mod LevelLengths
@@ -23,4 +26,6 @@ pub mod SolveLaws
 pub mod SolverLimits
 pub mod StageLaws
 pub mod TaskCases
+pub mod TellingLaws
 pub mod ToldFiles
+pub mod MadeLaws

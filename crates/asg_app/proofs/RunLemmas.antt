@@ -4,7 +4,8 @@ use Rattle.std.specs.Prelude.{◌⊎◌, IfSome, IsTrue, slice_get}
 use Rattle.asg_io.specs.Shelf.{Rose}
 use Rattle.asg_io.specs.declared.shelf.FetchFault.{FetchFault}
 use Rattle.asg_io.specs.declared.shelf.FetchFault.TheVariants as faults
-use Rattle.asg_requests.specs.declared.requests.Job.{Job}
+use Rattle.asg_requests.specs.declared.requests.Request.{Request}
+use Rattle.asg_requests.specs.declared.requests.Request.TheVariants.{Work, Make}
 use Rattle.asg_answers.specs.declared.status.Status.{Status}
 use Rattle.asg_answers.specs.declared.status.Status.TheVariants.{Done, Usage, Instance, Script, Document, No, ReadFault, WriteFault, NoMemory, TooLong}
 use Rattle.asg_answers.specs.declared.status.Status.TheVariants as statuses
@@ -36,36 +37,37 @@ answer_without_fault NoMemory status answer write read = inr refl
 answer_without_fault TooLong status answer write read = inl (answer tt)
 
 -- where a file is too long, that is due
-pub due_too_long : {F : Type 0} (told : F → List ℕ → Option (List ℕ)) (asked : F → List (List ℕ)) (counts : F → ℕ) (job : Option Job) (before after : F)
-    → StopsAt told asked counts (files_of job) faults.TooLong before after
-    → (contents : List (List ℕ)) × MayHoldAll (told before) (files_of job) contents × DueForAsked job contents TooLong []
-due_too_long told asked counts job before after stop = by_job job (long_all (told before) (files_of job) stop.contents stop.count stop.name may (next stop.next) long)
+pub due_too_long : {F : Type 0} (told : F → List ℕ → Option (List ℕ)) (asked : F → List (List ℕ)) (counts : F → ℕ) (asking : Option Request) (before after : F)
+    → StopsAt told asked counts (files_of asking) faults.TooLong before after
+    → (contents : List (List ℕ)) × MayHoldAll (told before) (files_of asking) contents × DueForAsked asking contents TooLong []
+due_too_long told asked counts asking before after stop = by_request asking (long_all (told before) (files_of asking) stop.contents stop.count stop.name may (next stop.next) long)
   where
     kept : told stop.last ≡ told before
-    kept = given_kept told asked counts (take stop.count (files_of job)) stop.contents before stop.last stop.given
+    kept = given_kept told asked counts (take stop.count (files_of asking)) stop.contents before stop.last stop.given
 
-    may : MayHoldAll (told before) (take stop.count (files_of job)) stop.contents
-    may = given_held told asked counts (take stop.count (files_of job)) stop.contents before stop.last stop.given
+    may : MayHoldAll (told before) (take stop.count (files_of asking)) stop.contents
+    may = given_held told asked counts (take stop.count (files_of asking)) stop.contents before stop.last stop.given
 
-    next : (slice_get (files_of job) stop.count ≡ Some stop.name) ⊎ (faults.TooLong ≡ faults.NoMemory) → slice_get (files_of job) stop.count ≡ Some stop.name
+    next : (slice_get (files_of asking) stop.count ≡ Some stop.name) ⊎ (faults.TooLong ≡ faults.NoMemory) → slice_get (files_of asking) stop.count ≡ Some stop.name
     next (inl is) = is
     next (inr e) = cc
 
     long : IfSome (told before stop.name) (λ held. longest_file < length held)
     long = subst (λ tells. IfSome (tells stop.name) (λ held. longest_file < length held)) kept (stop.fails.too_long refl)
 
-    by_job : (job : Option Job) → AreLong (told before) (files_of job)
-        → (contents : List (List ℕ)) × MayHoldAll (told before) (files_of job) contents × DueForAsked job contents TooLong []
-    by_job None are = absurd (none_held (told before) are.contents are.place are.may are.there)
-    by_job (Some job) are = (are.contents, are.may, Long are.place are.there are.long refl refl)
+    by_request : (asking : Option Request) → AreLong (told before) (files_of asking)
+        → (contents : List (List ℕ)) × MayHoldAll (told before) (files_of asking) contents × DueForAsked asking contents TooLong []
+    by_request None are = absurd (none_held (told before) are.contents are.place are.may are.there)
+    by_request (Some (Make seed side)) are = absurd (none_held (told before) are.contents are.place are.may are.there)
+    by_request (Some (Work job)) are = (are.contents, are.may, Long are.place are.there are.long refl refl)
 
 -- what is due of a run that was stopped
-pub stopped_answer : {F : Type 0} (told : F → List ℕ → Option (List ℕ)) (asked : F → List (List ℕ)) (counts : F → ℕ) (job : Option Job) (before after : F) (fault : FetchFault)
-    → StopsAt told asked counts (files_of job) fault before after → IsAnswer (status_of fault)
-    → (contents : List (List ℕ)) × MayHoldAll (told before) (files_of job) contents × DueForAsked job contents (status_of fault) []
-stopped_answer told asked counts job before after faults.Failed stop answer = absurd answer
-stopped_answer told asked counts job before after faults.TooLong stop answer = due_too_long told asked counts job before after stop
-stopped_answer told asked counts job before after faults.NoMemory stop answer = absurd answer
+pub stopped_answer : {F : Type 0} (told : F → List ℕ → Option (List ℕ)) (asked : F → List (List ℕ)) (counts : F → ℕ) (asking : Option Request) (before after : F) (fault : FetchFault)
+    → StopsAt told asked counts (files_of asking) fault before after → IsAnswer (status_of fault)
+    → (contents : List (List ℕ)) × MayHoldAll (told before) (files_of asking) contents × DueForAsked asking contents (status_of fault) []
+stopped_answer told asked counts asking before after faults.Failed stop answer = absurd answer
+stopped_answer told asked counts asking before after faults.TooLong stop answer = due_too_long told asked counts asking before after stop
+stopped_answer told asked counts asking before after faults.NoMemory stop answer = absurd answer
 
 -- a fault of the shelf was counted
 pub stopped_fault : {F : Type 0} (told : F → List ℕ → Option (List ℕ)) (asked : F → List (List ℕ)) (counts : F → ℕ) (names : List (List ℕ)) (before after : F) (fault : FetchFault)
@@ -81,11 +83,11 @@ status_of_no_write faults.TooLong e = cc
 status_of_no_write faults.NoMemory e = cc
 
 -- what a command that writes as it goes wrote, said of the words
-pub written_in_part : (told : List ℕ → Option (List ℕ)) (asked job : Option Job) (contents : List (List ℕ)) (before after : Option (List ℕ)) → asked ≡ job → MayHoldAll told (files_of asked) contents
+pub written_in_part : (told : List ℕ → Option (List ℕ)) (asked asking : Option Request) (contents : List (List ℕ)) (before after : Option (List ℕ)) → asked ≡ asking → MayHoldAll told (files_of asked) contents
     → WritesInPart (is_streamed asked) (DueForPart asked contents) before after
-    → WritesInPart (is_streamed job) (λ status text. (held : List (List ℕ)) × MayHoldAll told (files_of job) held × DueForPart job held status text) before after
-written_in_part told asked job contents before after same may (inl nothing) = inl nothing
-written_in_part told asked job contents before after same may (inr (streamed, due, text, owed, puts)) =
+    → WritesInPart (is_streamed asking) (λ status text. (held : List (List ℕ)) × MayHoldAll told (files_of asking) held × DueForPart asking held status text) before after
+written_in_part told asked asking contents before after same may (inl nothing) = inl nothing
+written_in_part told asked asking contents before after same may (inr (streamed, due, text, owed, puts)) =
     inr (
       subst (λ j. IsTrue (is_streamed j)) same streamed,
       due,

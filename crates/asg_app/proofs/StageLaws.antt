@@ -5,9 +5,11 @@ use Rattle.std.proofs.lemmas.List.{get_or_default}
 use Rattle.asg_model.specs.Problem.{Problem}
 use Rattle.asg_doc.specs.declared.documents.Document.{Document}
 use Rattle.asg_check.specs.declared.verdicts.Form.{Form}
+use Rattle.asg_requests.specs.declared.requests.Request.{Request}
 use Rattle.asg_requests.specs.declared.requests.Job.{Job}
 use Rattle.asg_requests.specs.declared.requests.Task.{Task}
 use Rattle.asg_requests.specs.declared.requests.Task.TheVariants.{Solve, Rank, Edit, Check}
+use Rattle.asg_requests.specs.declared.requests.Request.TheVariants.{Work, Make}
 use Rattle.asg_answers.specs.declared.status.Status.{Status}
 use Rattle.asg_answers.specs.declared.status.Status.TheVariants.{Usage, Instance, TooLong}
 use Rattle.asg_answers.specs.declared.status.Status.TheVariants as statuses
@@ -60,13 +62,13 @@ unread_decides bytes Owed status text decides (Miscounted documents have_text re
 unread_decides bytes Owed status text decides (Read document has_text read owed) = decides document owed
 
 solve_decides : (job : Job) (X : Problem) (status : Status) (text : List ℕ) → DueToSolve job X status text → IsDecided status
-solve_decides job X status text (Solved takes document best is told) = decided statuses.Done status is tt
-solve_decides job X status text (Unsolvable takes document none is told) = decided statuses.Nothing status is tt
+solve_decides job X status text (Solved takes told is) = decided statuses.Done status is tt
+solve_decides job X status text (Unsolvable takes told is) = decided statuses.Nothing status is tt
 solve_decides job X status text (TooLarge count refuses is told) = decided statuses.Instance status is tt
 
 rank_decides : (job : Job) (count : ℕ) (X : Problem) (status : Status) (text : List ℕ) → DueToRank job count X status text → IsDecided status
-rank_decides job count X status text (Ranked few document ranked is told) = decided statuses.Done status is tt
-rank_decides job count X status text (Unrankable few document none is told) = decided statuses.Nothing status is tt
+rank_decides job count X status text (Ranked few told is) = decided statuses.Done status is tt
+rank_decides job count X status text (Unrankable few told is) = decided statuses.Nothing status is tt
 rank_decides job count X status text (TooMuch over is told) = decided statuses.Instance status is tt
 
 miscounted_decides : (bytes : List ℕ) (count : ℕ) (Owed : List Document → Status → List ℕ → Type 0) (status : Status) (text : List ℕ)
@@ -88,7 +90,7 @@ script_decides (RefusesLines numbers) Owed status text decides due = decided sta
 script_decides (HoldsLines lines) Owed status text decides due = decides lines due
 
 edit_decides : (job : Job) (X : Problem) (lines : List (ℕ × Line)) (status : Status) (text : List ℕ) → DueToEdit job X lines status text → IsDecided status
-edit_decides job X lines status text (Followed documents are is told) = decided statuses.Done status is tt
+edit_decides job X lines status text (Followed told is) = decided statuses.Done status is tt
 
 -- what a command answers is a status of its own
 pub task_decides : (task : Task) (job : Job) (contents : List (List ℕ)) (X : Problem) (status : Status) (text : List ℕ) → DueForTask task job contents X status text → IsDecided status
@@ -114,8 +116,8 @@ record IsOverLimit (job : Job) (bytes text : List ℕ) : Type 0 where
   told : text ≡ refused_instance_text numbers
 
 solve_refuses : (job : Job) (bytes : List ℕ) (X : Problem) (text : List ℕ) → instance_in job bytes ≡ Holds X → job.task ≡ Solve → DueToSolve job X Instance text → IsOverLimit job bytes text
-solve_refuses job bytes X text holds solves (Solved takes document best is told) = cc
-solve_refuses job bytes X text holds solves (Unsolvable takes document none is told) = cc
+solve_refuses job bytes X text holds solves (Solved takes told is) = cc
+solve_refuses job bytes X text holds solves (Unsolvable takes told is) = cc
 solve_refuses job bytes X text holds solves (TooLarge count refuses is told) = record {
   numbers = limit_number job.objective ∷ count ∷ [];
   over = inl (record { solves = solves; problem = X; held = holds; count = count; refused = refuses; told = refl });
@@ -123,8 +125,8 @@ solve_refuses job bytes X text holds solves (TooLarge count refuses is told) = r
 }
 
 rank_refuses : (job : Job) (bytes : List ℕ) (count : ℕ) (X : Problem) (text : List ℕ) → instance_in job bytes ≡ Holds X → job.task ≡ Rank count → DueToRank job count X Instance text → IsOverLimit job bytes text
-rank_refuses job bytes count X text holds ranks (Ranked few document ranked is told) = cc
-rank_refuses job bytes count X text holds ranks (Unrankable few document none is told) = cc
+rank_refuses job bytes count X text holds ranks (Ranked few told is) = cc
+rank_refuses job bytes count X text holds ranks (Unrankable few told is) = cc
 rank_refuses job bytes count X text holds ranks (TooMuch over is told) = record {
   numbers = 18 ∷ ranking_work X count ∷ [];
   over = inr (record { count = count; ranks = ranks; problem = X; held = holds; refused = over; told = refl });
@@ -157,7 +159,7 @@ script_passes (RefusesLines numbers) Owed text passes due = let is = due.0 in cc
 script_passes (HoldsLines lines) Owed text passes due = passes lines due
 
 edit_passes : (job : Job) (X : Problem) (lines : List (ℕ × Line)) (text : List ℕ) → DueToEdit job X lines Instance text → ⊥
-edit_passes job X lines text (Followed documents are is told) = cc
+edit_passes job X lines text (Followed told is) = cc
 
 task_refuses : (task : Task) (job : Job) (contents : List (List ℕ)) (bytes : List ℕ) (X : Problem) (text : List ℕ) → instance_in job bytes ≡ Holds X → job.task ≡ task → DueForTask task job contents X Instance text
     → IsOverLimit job bytes text
@@ -189,60 +191,65 @@ decided_answer statuses.WriteFault one = one
 decided_answer statuses.NoMemory one = one
 decided_answer statuses.TooLong one = tt
 
-pub asked_answer : (asked : Option Job) (contents : List (List ℕ)) (status : Status) (text : List ℕ) → DueForAsked asked contents status text → IsAnswer status
+pub asked_answer : (asked : Option Request) (contents : List (List ℕ)) (status : Status) (text : List ℕ) → DueForAsked asked contents status text → IsAnswer status
 asked_answer None contents status text due = subst IsAnswer (sym due.0) tt
-asked_answer (Some job) contents status text (Long place within long is told) = subst IsAnswer (sym is) tt
-asked_answer (Some job) contents status text (Refused short numbers none is told) = subst IsAnswer (sym is) tt
-asked_answer (Some job) contents status text (Held short X holds due) = decided_answer status (task_decides job.task job contents X status text due)
+asked_answer (Some (Make seed side)) contents status text due = subst IsAnswer (sym due.0) tt
+asked_answer (Some (Work job)) contents status text (Long place within long is told) = subst IsAnswer (sym is) tt
+asked_answer (Some (Work job)) contents status text (Refused short numbers none is told) = subst IsAnswer (sym is) tt
+asked_answer (Some (Work job)) contents status text (Held short X holds due) = decided_answer status (task_decides job.task job contents X status text due)
 
 -- where no file is too long, that status isn't due
-pub short_answer : (asked : Option Job) (contents : List (List ℕ)) (text : List ℕ) → AreShort contents → DueForAsked asked contents TooLong text → ⊥
+pub short_answer : (asked : Option Request) (contents : List (List ℕ)) (text : List ℕ) → AreShort contents → DueForAsked asked contents TooLong text → ⊥
 short_answer None contents text short due = let e = due.0 in cc
-short_answer (Some job) contents text short (Long place within long is told) = not_long contents place short within long
-short_answer (Some job) contents text short (Refused few numbers none is told) = cc
-short_answer (Some job) contents text short (Held few X holds due) = task_decides job.task job contents X TooLong text due
+short_answer (Some (Make seed side)) contents text short due = let e = due.0 in cc
+short_answer (Some (Work job)) contents text short (Long place within long is told) = not_long contents place short within long
+short_answer (Some (Work job)) contents text short (Refused few numbers none is told) = cc
+short_answer (Some (Work job)) contents text short (Held few X holds due) = task_decides job.task job contents X TooLong text due
 
 -- the usage line is due only for words that are no request
-pub usage_only : (asked : Option Job) (contents : List (List ℕ)) (text : List ℕ) → DueForAsked asked contents Usage text → (asked ≡ None) × (text ≡ usage_text)
+pub usage_only : (asked : Option Request) (contents : List (List ℕ)) (text : List ℕ) → DueForAsked asked contents Usage text → (asked ≡ None) × (text ≡ usage_text)
 usage_only None contents text due = (refl, due.1)
-usage_only (Some job) contents text (Long place within long is told) = cc
-usage_only (Some job) contents text (Refused short numbers none is told) = cc
-usage_only (Some job) contents text (Held short X holds due) = absurd (task_decides job.task job contents X Usage text due)
+usage_only (Some (Make seed side)) contents text due = let e = due.0 in cc
+usage_only (Some (Work job)) contents text (Long place within long is told) = cc
+usage_only (Some (Work job)) contents text (Refused short numbers none is told) = cc
+usage_only (Some (Work job)) contents text (Held short X holds due) = absurd (task_decides job.task job contents X Usage text due)
 
 -- a file is called too long only where it is longer than the longest that is read
-pub too_long_only : (asked : Option Job) (told : List ℕ → Option (List ℕ)) (contents : List (List ℕ)) (text : List ℕ) → MayHoldAll told (files_of asked) contents
+pub too_long_only : (asked : Option Request) (told : List ℕ → Option (List ℕ)) (contents : List (List ℕ)) (text : List ℕ) → MayHoldAll told (files_of asked) contents
     → DueForAsked asked contents TooLong text → (name bytes : List ℕ) × Contains (files_of asked) name × MayHold told name bytes × (longest_file < length bytes) × (text ≡ [])
 too_long_only None told contents text may due = let e = due.0 in cc
-too_long_only (Some job) told contents text may (Long place within long is told_text) =
-    let names = files_of (Some job) in
+too_long_only (Some (Make seed side)) told contents text may due = let e = due.0 in cc
+too_long_only (Some (Work job)) told contents text may (Long place within long is told_text) =
+    let names = files_of (Some (Work job)) in
     let there : place < length names = omega (arith, held_count told names contents may) in
     (get_or names place [], content_at contents place, (place, there, get_or_default names place (get_or names place []) [] there), held_at told names contents place [] may there, long, told_text)
-too_long_only (Some job) told contents text may (Refused short numbers none is told_text) = cc
-too_long_only (Some job) told contents text may (Held short X holds due) = absurd (task_decides job.task job contents X TooLong text due)
+too_long_only (Some (Work job)) told contents text may (Refused short numbers none is told_text) = cc
+too_long_only (Some (Work job)) told contents text may (Held short X holds due) = absurd (task_decides job.task job contents X TooLong text due)
 
 -- the contents of the instance's file
-pub first_held : (told : List ℕ → Option (List ℕ)) (job : Job) (contents : List (List ℕ)) → MayHoldAll told (files_of (Some job)) contents → MayHold told job.instance (content_at contents 0)
+pub first_held : (told : List ℕ → Option (List ℕ)) (job : Job) (contents : List (List ℕ)) → MayHoldAll told (files_of (Some (Work job))) contents → MayHold told job.instance (content_at contents 0)
 first_held told job [] may = absurd may
 first_held told job (bytes ∷ contents) may = may.0
 
 -- the refusal of an instance is due only for a file that holds none, for one that is too large to
 -- solve, or for one of which so many choices are too much to rank
-pub refused_only : (asked : Option Job) (told : List ℕ → Option (List ℕ)) (contents : List (List ℕ)) (text : List ℕ) → MayHoldAll told (files_of asked) contents
+pub refused_only : (asked : Option Request) (told : List ℕ → Option (List ℕ)) (contents : List (List ℕ)) (text : List ℕ) → MayHoldAll told (files_of asked) contents
     → DueForAsked asked contents Instance text
-    → (job : Job) × (bytes numbers : List ℕ) × (asked ≡ Some job) × MayHold told job.instance bytes × IsRefusedInstance job bytes numbers × (text ≡ refused_instance_text numbers)
+    → (job : Job) × (bytes numbers : List ℕ) × (asked ≡ Some (Work job)) × MayHold told job.instance bytes × IsRefusedInstance job bytes numbers × (text ≡ refused_instance_text numbers)
 refused_only None told contents text may due = let e = due.0 in cc
-refused_only (Some job) told contents text may (Long place within long is told_text) = cc
-refused_only (Some job) told contents text may (Refused short numbers none is told_text) = (job, content_at contents 0, numbers, refl, first_held told job contents may, inl none, told_text)
-refused_only (Some job) told contents text may (Held short X holds due) =
+refused_only (Some (Make seed side)) told contents text may due = let e = due.0 in cc
+refused_only (Some (Work job)) told contents text may (Long place within long is told_text) = cc
+refused_only (Some (Work job)) told contents text may (Refused short numbers none is told_text) = (job, content_at contents 0, numbers, refl, first_held told job contents may, inl none, told_text)
+refused_only (Some (Work job)) told contents text may (Held short X holds due) =
     let own = task_refuses job.task job contents (content_at contents 0) X text holds refl due in
     (job, content_at contents 0, own.numbers, refl, first_held told job contents may, inr own.over, own.told)
 
 -- each file of a request is told, and isn't too long
-abbrev pub AllShort : (List ℕ → Option (List ℕ)) → Option Job → Type 0
+abbrev pub AllShort : (List ℕ → Option (List ℕ)) → Option Request → Type 0
 AllShort told asked = All (λ name. IsShort (told name)) (files_of asked)
 
 -- so the contents that may be held aren't too long
-pub short_held : (told : List ℕ → Option (List ℕ)) (asked : Option Job) (contents : List (List ℕ)) → AllShort told asked → MayHoldAll told (files_of asked) contents → AreShort contents
+pub short_held : (told : List ℕ → Option (List ℕ)) (asked : Option Request) (contents : List (List ℕ)) → AllShort told asked → MayHoldAll told (files_of asked) contents → AreShort contents
 short_held told asked contents shorts may = λ place d within.
     let names = files_of asked in
     let there : place < length names = omega (arith, held_count told names contents may) in
@@ -256,18 +263,19 @@ short_held told asked contents shorts may = λ place d within.
     at (bytes ∷ contents) (suc place) d within few = at contents place d (omega arith) few
 
 -- words that are no request
-pub exact_usage : (asked : Option Job) (contents : List (List ℕ)) (status : Status) (text : List ℕ) → asked ≡ None → DueForAsked asked contents status text → status ≡ Usage
+pub exact_usage : (asked : Option Request) (contents : List (List ℕ)) (status : Status) (text : List ℕ) → asked ≡ None → DueForAsked asked contents status text → status ≡ Usage
 exact_usage asked contents status text none due = let due' = subst (λ a. DueForAsked a contents status text) none due in due'.0
 
 -- a file that is too long
-pub exact_too_long : (asked : Option Job) (told : List ℕ → Option (List ℕ)) (contents : List (List ℕ)) (status : Status) (text name bytes : List ℕ) → Contains (files_of asked) name
+pub exact_too_long : (asked : Option Request) (told : List ℕ → Option (List ℕ)) (contents : List (List ℕ)) (status : Status) (text name bytes : List ℕ) → Contains (files_of asked) name
     → told name ≡ Some bytes → longest_file < length bytes → MayHoldAll told (files_of asked) contents → DueForAsked asked contents status text → status ≡ TooLong
 exact_too_long None told contents status text name bytes (place, within, is) found long may due = absurd (omega arith)
-exact_too_long (Some job) told contents status text name bytes (place, within, is) found long may due = by_case due
+exact_too_long (Some (Make seed side)) told contents status text name bytes (place, within, is) found long may due = absurd (omega arith)
+exact_too_long (Some (Work job)) told contents status text name bytes (place, within, is) found long may due = by_case due
   where
     too_long : AreShort contents → ⊥
     too_long short =
-        let names = files_of (Some job) in
+        let names = files_of (Some (Work job)) in
         let same : content_at contents place ≡ bytes = held (told (get_or names place name)) (content_at contents place) bytes (ap told is ∙ found) (held_at told names contents place name may within) in
         not_long contents place short (omega (arith, held_count told names contents may)) (subst (λ b. longest_file < length b) (sym same) long)
 
@@ -277,12 +285,12 @@ exact_too_long (Some job) told contents status text name bytes (place, within, i
     by_case (Held short X holds owed) = absurd (too_long short)
 
 -- an instance file that is refused
-pub exact_refused : (job : Job) (told : List ℕ → Option (List ℕ)) (contents : List (List ℕ)) (status : Status) (text bytes numbers : List ℕ) → AllShort told (Some job)
-    → told job.instance ≡ Some bytes → instance_in job bytes ≡ Refuses numbers → MayHoldAll told (files_of (Some job)) contents → DueForJob job contents status text → status ≡ Instance
+pub exact_refused : (job : Job) (told : List ℕ → Option (List ℕ)) (contents : List (List ℕ)) (status : Status) (text bytes numbers : List ℕ) → AllShort told (Some (Work job))
+    → told job.instance ≡ Some bytes → instance_in job bytes ≡ Refuses numbers → MayHoldAll told (files_of (Some (Work job))) contents → DueForJob job contents status text → status ≡ Instance
 exact_refused job told contents status text bytes numbers shorts found none may due = by_case due
   where
     by_case : DueForJob job contents status text → status ≡ Instance
-    by_case (Long place within long e told') = not_long contents place (short_held told (Some job) contents shorts may) within long
+    by_case (Long place within long e told') = not_long contents place (short_held told (Some (Work job)) contents shorts may) within long
     by_case (Refused short numbers' none' e told') = e
     by_case (Held short X holds owed) =
         let same = held (told job.instance) (content_at contents 0) bytes found (first_held told job contents may) in
@@ -290,8 +298,8 @@ exact_refused job told contents status text bytes numbers shorts found none may 
 
 -- where the files are told, the first one holds an instance, and none is too long, the command
 -- decides
-pub reached : (job : Job) (told : List ℕ → Option (List ℕ)) (contents : List (List ℕ)) (status : Status) (text bytes : List ℕ) (X : Problem) → AllShort told (Some job)
-    → told job.instance ≡ Some bytes → instance_in job bytes ≡ Holds X → MayHoldAll told (files_of (Some job)) contents → DueForJob job contents status text
+pub reached : (job : Job) (told : List ℕ → Option (List ℕ)) (contents : List (List ℕ)) (status : Status) (text bytes : List ℕ) (X : Problem) → AllShort told (Some (Work job))
+    → told job.instance ≡ Some bytes → instance_in job bytes ≡ Holds X → MayHoldAll told (files_of (Some (Work job))) contents → DueForJob job contents status text
     → DueForTask job.task job contents X status text
 reached job told contents status text bytes X shorts found holds may due = by_case due
   where
@@ -299,7 +307,7 @@ reached job told contents status text bytes X shorts found holds may due = by_ca
     same = held (told job.instance) (content_at contents 0) bytes found (first_held told job contents may)
 
     by_case : DueForJob job contents status text → DueForTask job.task job contents X status text
-    by_case (Long place within long e told') = not_long contents place (short_held told (Some job) contents shorts may) within long
+    by_case (Long place within long e told') = not_long contents place (short_held told (Some (Work job)) contents shorts may) within long
     by_case (Refused short numbers none e told') = refused_apart none (ap (instance_in job) same ∙ holds)
     by_case (Held short Y holds' owed) =
         let both = sym holds' ∙ ap (instance_in job) same ∙ holds in

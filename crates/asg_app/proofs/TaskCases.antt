@@ -1,10 +1,9 @@
 -- What is due by the command of a job that is built.
 use Rattle.std.proofs.Common.{◌≡◌, ◌∙◌, ap, ℕ, true, false, Bool, cond, refl, List, length, Option, Some, None, sym, subst, arith}
-use Rattle.std.specs.Prelude.{IfSome, IsSome, not}
+use Rattle.std.specs.Prelude.{IfSome, IsSome}
 use Rattle.asg_check.specs.declared.verdicts.Form.TheVariants.{Rank as RankForm}
 use Rattle.asg_check.specs.DocumentForm.{MayBeAsked}
 use Rattle.asg_model.specs.Limits.{most_ranked}
-use Rattle.std.proofs.lemmas.Bool.{and_parts}
 use Rattle.asg_model.specs.Problem.{Problem}
 use Rattle.asg_model.specs.declared.objectives.Objective.{Objective}
 use Rattle.asg_model.specs.declared.objectives.Objective.TheVariants.{Sum, SumMax, SumPair, Capped, Bottleneck, BottleneckMax, TimeCost, Balanced, Lex}
@@ -12,8 +11,6 @@ use Rattle.asg_doc.specs.Words.{HasWord, IsAsked}
 use Rattle.asg_requests.specs.Bounds.{IsJob, IsWithin, cap_of, choices_ranked}
 use Rattle.asg_model.specs.Objectives.{most_cap}
 use Rattle.asg_requests.specs.declared.requests.Job.{Job}
-use Rattle.asg_requests.specs.declared.requests.Request.{Request}
-use Rattle.asg_requests.specs.declared.requests.Request.TheVariants.{Work, Make}
 use Rattle.asg_requests.specs.declared.requests.Task.{Task}
 use Rattle.asg_requests.specs.declared.requests.Task.TheVariants.{Rank, Check}
 use Rattle.asg_scripts.specs.Scripts.{script_in, solved_instances}
@@ -22,13 +19,13 @@ use Rattle.asg_app.specs.AnswersStage.{UnlessMiscounted}
 use Rattle.asg_app.specs.Due.{DueForTask}
 use Rattle.asg_app.specs.DueToCheck.{form_asked}
 use Rattle.asg_app.specs.DueToJudge.{DueToJudge}
-use Rattle.asg_app.specs.Requests.{built_job, is_built, is_built_task}
+use Rattle.asg_app.specs.Requests.{is_built, is_built_task}
 use Rattle.asg_app.specs.ScriptStage.{DueForScript}
 use Rattle.asg_app.specs.Sources.{content_at}
 
 -- the parts of a job that is built
 pub built_task : (job : Job) → is_built job ≡ true → is_built_task job.task ≡ true
-built_task job built = (and_parts (is_built_task job.task) (not job.brief) built).0
+built_task job built = built
 
 -- an objective has a word, where its cap is within its bounds
 pub built_word : (job : Job) → is_built job ≡ true → IsJob job → HasWord job.objective
@@ -44,16 +41,6 @@ built_word job built within = by_objective job.objective within.capped
     by_objective TimeCost capped = tt
     by_objective Balanced capped = tt
     by_objective Lex capped = tt
-
--- what the words ask for is built
-pub asked_built : (request : Option Request) (job : Job) → built_job request ≡ Some job → is_built job ≡ true
-asked_built None job is = absurd (cc)
-asked_built (Some (Make seed side)) job is = absurd (cc)
-asked_built (Some (Work work)) job is = by_test (is_built work) refl is
-  where
-    by_test : (test : Bool) → is_built work ≡ test → cond test (Some work) None ≡ Some job → is_built job ≡ true
-    by_test true built is = let same : work ≡ job = cc in subst (λ j. is_built j ≡ true) same built
-    by_test false built is = absurd (cc)
 
 -- a ranking of a job that asks for one may be asked of an instance with the job's place rule
 ranks_asked : (job : Job) (count : ℕ) (X : Problem) → choices_ranked job.task ≡ Some count → IsJob job → X.place ≡ job.place → MayBeAsked (RankForm count) job.objective X

@@ -4,6 +4,8 @@ use Rattle.std.specs.Prelude.{◌≡◌, ◌⊎◌, ◌<◌, ◌≤◌, ℕ, ◌
 use Rattle.asg_model.specs.Limits.{longest_file}
 use Rattle.asg_model.specs.Problem.{Problem}
 use Rattle.asg_requests.specs.declared.requests.Job.{Job}
+use Rattle.asg_requests.specs.declared.requests.Request.{Request}
+use Rattle.asg_requests.specs.declared.requests.Request.TheVariants.{Work, Make}
 use Rattle.asg_requests.specs.declared.requests.Task.{Task}
 use Rattle.asg_requests.specs.declared.requests.Task.TheVariants.{Solve, Rank, Edit, Check}
 use Rattle.asg_answers.specs.declared.status.Status.{Status}
@@ -15,11 +17,12 @@ use Rattle.asg_app.specs.AnswersStage.{UnlessMiscounted}
 use Rattle.asg_app.specs.DueToCheck.{DueToCheck, form_asked}
 use Rattle.asg_app.specs.DueToEdit.{DueToEdit}
 use Rattle.asg_app.specs.DueToJudge.{DueToJudge}
+use Rattle.asg_app.specs.DueToMake.{DueToMake}
 use Rattle.asg_app.specs.DueToRank.{DueToRank}
 use Rattle.asg_app.specs.DueToSolve.{DueToSolve}
 use Rattle.asg_app.specs.Fetches.{MayHoldAll}
 use Rattle.asg_app.specs.InstanceFile.{Holds, Refuses, instance_in}
-use Rattle.asg_app.specs.Requests.{files_of, job_of}
+use Rattle.asg_app.specs.Requests.{asked_of, files_of}
 use Rattle.asg_app.specs.ScriptStage.{DueForScript}
 use Rattle.asg_app.specs.Sources.{AreShort, content_at}
 use Rattle.asg_answers.specs.Texts.{usage_text, refused_instance_text}
@@ -53,16 +56,17 @@ pub data DueForJob (job : Job) (contents : List (List ℕ)) (status : Status)
       → DueForTask job.task job contents X status text → DueForJob job contents status text
 
 -- what is due for what the words ask, and the contents of the files that they name
-abbrev pub DueForAsked : Option Job → List (List ℕ) → Status → List ℕ → Type 0
+abbrev pub DueForAsked : Option Request → List (List ℕ) → Status → List ℕ → Type 0
 DueForAsked None contents status text = (status ≡ Usage) × (text ≡ usage_text)
-DueForAsked (Some job) contents status text = DueForJob job contents status text
+DueForAsked (Some (Make seed side)) contents status text = DueToMake seed side status text
+DueForAsked (Some (Work job)) contents status text = DueForJob job contents status text
 
 -- the status and the text that are due for the words after the program's name, where the files have
 -- the contents that are told
 abbrev pub Due : List (List ℕ) → (List ℕ → Option (List ℕ)) → Status → List ℕ → Type 0
 Due words told status text =
-    (contents : List (List ℕ)) × MayHoldAll told (files_of (job_of words)) contents
-    × DueForAsked (job_of words) contents status text
+    (contents : List (List ℕ)) × MayHoldAll told (files_of (asked_of words)) contents
+    × DueForAsked (asked_of words) contents status text
 
 -- what a job to edit owes for the first lines of its script alone
 pub record DueForFront (job : Job) (contents : List (List ℕ)) (status : Status)
@@ -77,21 +81,21 @@ pub record DueForFront (job : Job) (contents : List (List ℕ)) (status : Status
   pub due : DueToEdit job problem front status text
 
 -- what is due for what the words ask, or of a request to edit for the first lines of its script
-abbrev pub DueForPart : Option Job → List (List ℕ) → Status → List ℕ → Type 0
-DueForPart None contents status text = DueForAsked None contents status text
-DueForPart (Some job) contents status text =
+abbrev pub DueForPart : Option Request → List (List ℕ) → Status → List ℕ → Type 0
+DueForPart (Some (Work job)) contents status text =
     DueForJob job contents status text ⊎ DueForFront job contents status text
+DueForPart asked contents status text = DueForAsked asked contents status text
 
 -- the status and the text of which a run that is cut short may have written a part: those that are
 -- due, or of a request to edit those for the first lines of its script
 abbrev pub DueInPart : List (List ℕ) → (List ℕ → Option (List ℕ)) → Status → List ℕ → Type 0
 DueInPart words told status text =
-    (contents : List (List ℕ)) × MayHoldAll told (files_of (job_of words)) contents
-    × DueForPart (job_of words) contents status text
+    (contents : List (List ℕ)) × MayHoldAll told (files_of (asked_of words)) contents
+    × DueForPart (asked_of words) contents status text
 
 -- the contents of each file that the words name are told
 abbrev pub Tells : List (List ℕ) → (List ℕ → Option (List ℕ)) → Type 0
-Tells words told = All (λ name. IsSome (told name)) (files_of (job_of words))
+Tells words told = All (λ name. IsSome (told name)) (files_of (asked_of words))
 
 -- the contents of a file are told, and it isn't too long
 abbrev pub IsShort : Option (List ℕ) → Type 0
@@ -99,4 +103,4 @@ IsShort told = (contents : List ℕ) × (told ≡ Some contents) × (length cont
 
 -- so each file that the words name
 abbrev pub TellsShort : List (List ℕ) → (List ℕ → Option (List ℕ)) → Type 0
-TellsShort words told = All (λ name. IsShort (told name)) (files_of (job_of words))
+TellsShort words told = All (λ name. IsShort (told name)) (files_of (asked_of words))

@@ -4,6 +4,7 @@ pub mod Due
 pub mod DueToCheck
 pub mod DueToEdit
 pub mod DueToJudge
+pub mod DueToMake
 pub mod DueToRank
 pub mod DueToSolve
 pub mod Edits

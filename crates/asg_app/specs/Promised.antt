@@ -13,6 +13,7 @@ use Rattle.asg_check.specs.declared.verdicts.Form.TheVariants.{Solve, Edit}
 use Rattle.asg_scripts.specs.Scripts.{HoldsLines, script_in, solved_instances}
 use Rattle.asg_text.specs.declared.script_lines.Line.{Line}
 use Rattle.asg_answers.specs.EditDocuments.{AreEditDocuments, at_first}
+use Rattle.asg_brief.specs.BriefLines.{AreBriefLines}
 use Rattle.asg_check.specs.Certifies.{Certifies}
 use Rattle.asg_check.specs.Reasons.{IsFirstReason}
 use Rattle.asg_check.specs.TrueClaim.{ClaimsTruly}
@@ -25,6 +26,7 @@ use Rattle.asg_answers.specs.declared.status.Status.{Status}
 use Rattle.asg_answers.specs.declared.status.Status.TheVariants.{Done, No, Nothing}
 use Rattle.asg_answers.specs.SolverLimits.{SolverRefuses, limit_number}
 use Rattle.asg_app.specs.InstanceFile.{Holds, Refuses, instance_in}
+use Rattle.asg_answers.specs.Tellings.{TellsScript}
 use Rattle.asg_answers.specs.Texts.{refused_document_text, no_text}
 use Rattle.asg_answers.specs.WrittenDocument.{IsBestDocument, IsNoneDocument, IsRankedDocument}
 
@@ -35,6 +37,32 @@ pub record AskAlike (job other : Job) : Type 0 where
   pub of_format : other.format ≡ job.format
   pub of_place : other.place ≡ job.place
   pub of_each : other.each ≡ job.each
+
+-- the bytes hold an instance, of which the text tells so
+pub record IsToldOf (job : Job) (bytes text : List ℕ) (Tells : Problem → List ℕ → Type 0)
+    : Type 0 where
+  pub problem : Problem
+  pub held : instance_in job bytes ≡ Holds problem
+  pub instance : IsInstance problem
+  pub tells : Tells problem text
+
+-- the bytes hold an instance, and the script's lines that may be followed from it; the text tells
+-- an answer for each `solve` line, by documents or in brief by lines
+pub record IsToldOfScript (job : Job) (bytes script text : List ℕ) : Type 0 where
+  pub problem : Problem
+  pub lines : List (ℕ × Line)
+  pub held : instance_in job bytes ≡ Holds problem
+  pub followed : script_in job.objective problem script ≡ HoldsLines lines
+  pub tells : TellsScript job.brief job.objective problem lines text
+
+-- the bytes hold an instance, and the script's lines that may be followed from it; the text is that
+-- of the brief lines of the instances for which the script asks
+pub record IsBriefScript (job : Job) (bytes script text : List ℕ) : Type 0 where
+  pub problem : Problem
+  pub lines : List (ℕ × Line)
+  pub held : instance_in job bytes ≡ Holds problem
+  pub followed : script_in job.objective problem script ≡ HoldsLines lines
+  pub told : AreBriefLines job.objective (solved_instances problem lines) text
 
 -- the bytes hold an instance, and the text is that of a document with a best answer for it
 pub record IsSolved (job : Job) (bytes text : List ℕ) : Type 0 where
@@ -155,6 +183,26 @@ abbrev pub IsVerdict : Job → Form → Problem → Document → Status → Type
 IsVerdict job form X document status =
     ((status ≡ Done) × Certifies job.objective X form document)
     ⊎ ((status ≡ No) × ¬ Certifies job.objective X form document)
+
+-- the bytes aren't the text of so many documents
+abbrev pub AreNotSoMany : ℕ → List ℕ → Type 0
+AreNotSoMany count bytes =
+    (documents : List Document) → AllHaveText documents → length documents ≡ count
+    → bytes ≢ texts_of documents
+
+-- documents certify each for its instance
+abbrev pub CertifyEach : Objective → List Problem → List Document → Type 0
+CertifyEach objective [] [] = Unit {0}
+CertifyEach objective [] (document ∷ documents) = ⊥
+CertifyEach objective (X ∷ instances) [] = ⊥
+CertifyEach objective (X ∷ instances) (document ∷ documents) =
+    Certifies objective X Edit document × CertifyEach objective instances documents
+
+-- the status tells whether each document certifies for its instance
+abbrev pub AreJudged : Objective → List Problem → List Document → Status → Type 0
+AreJudged objective instances documents status =
+    ((status ≡ Done) × CertifyEach objective instances documents)
+    ⊎ ((status ≡ No) × ¬ CertifyEach objective instances documents)
 
 -- documents that certify each for its instance, with a claim that is true of it
 abbrev pub AreTrue : Objective → List Problem → List Document → Type 0

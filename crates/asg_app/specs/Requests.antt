@@ -1,5 +1,5 @@
 -- Which requests the program does, and what they name.
-use Rattle.std.specs.Prelude.{ℕ, Bool, true, false, ◌&&◌, not, if◌then◌else◌, List, []}
+use Rattle.std.specs.Prelude.{◌≡◌, ℕ, Bool, true, false, if◌then◌else◌, List, []}
 use Rattle.std.specs.Prelude.{Option, Some, None}
 use Rattle.asg_requests.specs.declared.requests.Job.{Job}
 use Rattle.asg_requests.specs.declared.requests.Request.{Request}
@@ -19,25 +19,34 @@ is_built_task (Check answer None count) = true
 is_built_task (Check answer (Some script) None) = true
 is_built_task _ = false
 
--- the jobs that are built: a task that is, and whole documents
+-- the jobs that are built: those with such a task
 abbrev pub is_built : Job → Bool
-is_built job = is_built_task job.task && not job.brief
+is_built job = is_built_task job.task
 
--- the job that a request asks for, where it is built
-abbrev pub built_job : Option Request → Option Job
-built_job None = None
-built_job (Some (Make seed side)) = None
-built_job (Some (Work job)) = if is_built job then Some job else None
+-- the requests that are built: to make an instance, and jobs that are
+abbrev pub is_built_request : Request → Bool
+is_built_request (Make seed side) = true
+is_built_request (Work job) = is_built job
 
--- the job that the words after the program's name ask for; none where they are no request, or one
--- that isn't built
-abbrev pub job_of : List (List ℕ) → Option Job
-job_of words = built_job (request_of words)
+-- a request, where it is built
+abbrev pub built_request : Option Request → Option Request
+built_request None = None
+built_request (Some request) = if is_built_request request then Some request else None
 
--- the files that a job names, in the order in which they are fetched: the instance's is the first
-abbrev pub files_of : Option Job → List (List ℕ)
+-- what the words after the program's name ask for; none where they are no request, or one that
+-- isn't built
+abbrev pub asked_of : List (List ℕ) → Option Request
+asked_of words = built_request (request_of words)
+
+-- the words ask for the job
+abbrev pub AsksFor : List (List ℕ) → Job → Type 0
+AsksFor words job = asked_of words ≡ Some (Work job)
+
+-- the files that a request names, in the order in which they are fetched: the instance's is the
+-- first
+abbrev pub files_of : Option Request → List (List ℕ)
 files_of None = []
-files_of (Some job) = files_of_request (Work job)
+files_of (Some request) = files_of_request request
 
 -- the task edits
 abbrev pub is_edit : Task → Bool
@@ -45,6 +54,6 @@ is_edit (Edit script) = true
 is_edit _ = false
 
 -- a command that writes its documents as it makes them: the one that edits
-abbrev pub is_streamed : Option Job → Bool
-is_streamed None = false
-is_streamed (Some job) = is_edit job.task
+abbrev pub is_streamed : Option Request → Bool
+is_streamed (Some (Work job)) = is_edit job.task
+is_streamed _ = false

@@ -3,7 +3,7 @@
 ghost use Rattle.std.specs.Prelude.{◌≡◌, false, true, IfSome};
 ghost use Rattle.asg_app.specs.Due.{DueForAsked, DueForPart};
 ghost use Rattle.asg_app.specs.Ends.{Ends};
-ghost use Rattle.asg_app.specs.Readiness.{IsReady};
+ghost use Rattle.asg_app.specs.Readiness.{IsReadyRequest};
 ghost use Rattle.asg_app.specs.Requests.{is_edit, is_streamed};
 
 use crate::commands::edit;
@@ -12,7 +12,7 @@ use crate::replies::put;
 use crate::stages::reply_to;
 use asg_answers::Status;
 use asg_io::Sink;
-use asg_requests::Task;
+use asg_requests::{Request, Task};
 use std::alloc::Global;
 
 // Whether a task edits.
@@ -24,21 +24,21 @@ fn is_edit(task: &Task) -> bool
 
 // Whether a command is asked for that writes its documents as it makes them.
 fn is_streamed(asked: &Asked) -> bool
-    ensures { result ≡ is_streamed asked.now.job }
+    ensures { result ≡ is_streamed asked.now.request }
 {
-    match &asked.job {
-        Some(job) => is_edit(&job.task),
-        None => false,
+    match &asked.request {
+        Some(Request::Work(job)) => is_edit(&job.task),
+        Some(Request::Make { .. }) | None => false,
     }
 }
 
 // Makes the reply to what was asked, and puts it. All memory is taken before the put.
 fn answer_whole<K: Sink>(alloc: Global, asked: &Asked, out: &mut K) -> Status
-    requires ready { IfSome asked.now.job IsReady }
-    requires whole { is_streamed asked.now.job ≡ false }
+    requires ready { IfSome asked.now.request IsReadyRequest }
+    requires whole { is_streamed asked.now.request ≡ false }
     ensures { Ends K.written K.faults out.old out.new false
-        (DueForAsked asked.now.job asked.now.sources)
-        (DueForAsked asked.now.job asked.now.sources) result }
+        (DueForAsked asked.now.request asked.now.sources)
+        (DueForAsked asked.now.request asked.now.sources) result }
 {
     match reply_to(alloc, asked) {
         Ok(reply) => put(reply, out),
@@ -48,24 +48,24 @@ fn answer_whole<K: Sink>(alloc: Global, asked: &Asked, out: &mut K) -> Status
 
 // Answers a command that writes its documents as it makes them.
 fn answer_streamed<K: Sink>(alloc: Global, asked: &Asked, out: &mut K) -> Status
-    requires ready { IfSome asked.now.job IsReady }
-    requires streamed { is_streamed asked.now.job ≡ true }
+    requires ready { IfSome asked.now.request IsReadyRequest }
+    requires streamed { is_streamed asked.now.request ≡ true }
     ensures { Ends K.written K.faults out.old out.new true
-        (DueForAsked asked.now.job asked.now.sources)
-        (DueForPart asked.now.job asked.now.sources) result }
+        (DueForAsked asked.now.request asked.now.sources)
+        (DueForPart asked.now.request asked.now.sources) result }
 {
-    match &asked.job {
-        Some(job) => edit::answer(alloc, job, &asked.sources, out),
-        None => unreachable!(),
+    match &asked.request {
+        Some(Request::Work(job)) => edit::answer(alloc, job, &asked.sources, out),
+        Some(Request::Make { .. }) | None => unreachable!(),
     }
 }
 
 // Answers what was asked.
 pub(crate) fn answer<K: Sink>(alloc: Global, asked: &Asked, out: &mut K) -> Status
-    requires { IfSome asked.now.job IsReady }
-    ensures { Ends K.written K.faults out.old out.new (is_streamed asked.now.job)
-        (DueForAsked asked.now.job asked.now.sources)
-        (DueForPart asked.now.job asked.now.sources) result }
+    requires { IfSome asked.now.request IsReadyRequest }
+    ensures { Ends K.written K.faults out.old out.new (is_streamed asked.now.request)
+        (DueForAsked asked.now.request asked.now.sources)
+        (DueForPart asked.now.request asked.now.sources) result }
 {
     if is_streamed(asked) {
         answer_streamed(alloc, asked, out)

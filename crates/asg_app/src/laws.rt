@@ -1,7 +1,7 @@
 //! Laws over the program's specification: each is the contract of a function that at most calls
 //! laws.
 
-ghost use Rattle.std.specs.Prelude.{◌≡◌, ◌↔◌, ◌<◌, ◌≤◌, ℕ, List, [], Option, Some, None, length};
+ghost use Rattle.std.specs.Prelude.{◌≡◌, ◌↔◌, ◌<◌, ◌≤◌, ℕ, List, [], Option, Some, None, length, true};
 ghost use Rattle.std.specs.List.{Contains};
 ghost use Rattle.asg_model.specs.declared.objectives.Objective.{Objective};
 ghost use Rattle.asg_model.specs.Instances.{IsInstance};
@@ -17,22 +17,26 @@ ghost use Rattle.asg_app.specs.Fetches.{MayHold};
 ghost use Rattle.asg_app.specs.InstanceFile.{Holds, Refuses, instance_in};
 ghost use Rattle.asg_app.specs.Promised.{IsRefusedInstance};
 ghost use Rattle.asg_app.specs.RefusedCosts.{first_refused};
-ghost use Rattle.asg_app.specs.Requests.{files_of, job_of};
+ghost use Rattle.asg_app.specs.Requests.{files_of, asked_of, AsksFor};
 ghost use Rattle.asg_answers.specs.Statuses.{HasOneText};
 ghost use Rattle.asg_answers.specs.Texts.{usage_text, refused_instance_text};
 
+use asg_brief::laws::brief_line_law;
 use asg_check::laws::one_reason;
 use asg_doc::{refused_line, unique_reading};
 use asg_model::laws::shape_law;
 use asg_words::laws::request_law;
 
+pub mod brief_laws;
 pub mod check_laws;
 pub mod edit_laws;
+pub mod make_laws;
 pub mod rank_laws;
 pub mod solve_laws;
 
 /// Where the files are told, what is due has one status, and one text with it, but where a document
-/// is written, of which there may be several that serve.
+/// is written, of which there may be several that serve. In brief it has one text whatever the
+/// status: the lines are a function of the request and the files.
 pub fn due_law()
     ensures status { (words : List (List ℕ)) (told : List ℕ → Option (List ℕ))
         (status other : Ended) (text more : List ℕ) →
@@ -42,7 +46,12 @@ pub fn due_law()
         (status : Ended) (text more : List ℕ) →
         Tells words told → HasOneText status →
         Due words told status text → Due words told status more → text ≡ more }
+    ensures brief { (words : List (List ℕ)) (told : List ℕ → Option (List ℕ))
+        (status other : Ended) (text more : List ℕ) (job : Job) →
+        Tells words told → AsksFor words job → job.brief ≡ true →
+        Due words told status text → Due words told other more → text ≡ more }
 {
+    brief_line_law();
     one_reason();
     refused_line();
     unique_reading();
@@ -53,7 +62,7 @@ pub fn due_law()
 /// isn't too large, and its place rule is that of the request.
 pub fn instance_law()
     ensures instance { (words : List (List ℕ)) (bytes : List ℕ) (job : Job) (X : Problem) →
-        job_of words ≡ Some job → instance_in job bytes ≡ Holds X → IsInstance X }
+        AsksFor words job → instance_in job bytes ≡ Holds X → IsInstance X }
     ensures passes { (bytes : List ℕ) (job : Job) (X : Problem) →
         instance_in job bytes ≡ Holds X → PassesNegative job.objective X }
     ensures side { (bytes : List ℕ) (job : Job) (X : Problem) →
@@ -78,7 +87,7 @@ pub fn refused_cost_law()
 /// The usage line is due only for words that are no request, or one that isn't built.
 pub fn usage_law()
     ensures { (words : List (List ℕ)) (told : List ℕ → Option (List ℕ)) (text : List ℕ) →
-        Due words told Usage text → (job_of words ≡ None) × (text ≡ usage_text) }
+        Due words told Usage text → (asked_of words ≡ None) × (text ≡ usage_text) }
 {}
 
 /// A file is called too long only where the words name one that is longer than the longest that is
@@ -86,7 +95,7 @@ pub fn usage_law()
 pub fn too_long_law()
     ensures { (words : List (List ℕ)) (told : List ℕ → Option (List ℕ)) (text : List ℕ) →
         Due words told TooLong text →
-        (name bytes : List ℕ) × Contains (files_of (job_of words)) name × MayHold told name bytes
+        (name bytes : List ℕ) × Contains (files_of (asked_of words)) name × MayHold told name bytes
         × (longest_file < length bytes) × (text ≡ []) }
 {}
 
@@ -98,7 +107,7 @@ pub fn too_long_law()
 pub fn refused_law()
     ensures { (words : List (List ℕ)) (told : List ℕ → Option (List ℕ)) (text : List ℕ) →
         Due words told Instance text →
-        (job : Job) × (bytes numbers : List ℕ) × (job_of words ≡ Some job)
+        (job : Job) × (bytes numbers : List ℕ) × AsksFor words job
         × MayHold told job.instance bytes × IsRefusedInstance job bytes numbers
         × (text ≡ refused_instance_text numbers) }
 {}
@@ -109,13 +118,13 @@ pub fn refused_law()
 pub fn exact_law()
     ensures usage { (words : List (List ℕ)) (told : List ℕ → Option (List ℕ))
         (status : Ended) (text : List ℕ) →
-        job_of words ≡ None → Due words told status text → status ≡ Usage }
+        asked_of words ≡ None → Due words told status text → status ≡ Usage }
     ensures too_long { (words : List (List ℕ)) (told : List ℕ → Option (List ℕ))
         (status : Ended) (text name bytes : List ℕ) →
-        Contains (files_of (job_of words)) name → told name ≡ Some bytes →
+        Contains (files_of (asked_of words)) name → told name ≡ Some bytes →
         longest_file < length bytes → Due words told status text → status ≡ TooLong }
     ensures refused { (words : List (List ℕ)) (told : List ℕ → Option (List ℕ))
         (status : Ended) (text bytes numbers : List ℕ) (job : Job) →
-        TellsShort words told → job_of words ≡ Some job → told job.instance ≡ Some bytes →
+        TellsShort words told → AsksFor words job → told job.instance ≡ Some bytes →
         instance_in job bytes ≡ Refuses numbers → Due words told status text → status ≡ Instance }
 {}

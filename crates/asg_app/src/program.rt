@@ -6,7 +6,7 @@ ghost use Rattle.asg_io.specs.Sink.{Puts, PutsPrefix};
 ghost use Rattle.asg_app.specs.Due.{Due, DueInPart, Tells};
 ghost use Rattle.asg_app.specs.Ends.{WritesInPart};
 ghost use Rattle.asg_app.specs.Fetches.{AsksOf, AsksInTurn};
-ghost use Rattle.asg_app.specs.Requests.{job_of, files_of, is_streamed};
+ghost use Rattle.asg_app.specs.Requests.{files_of, is_streamed, asked_of};
 ghost use Rattle.asg_answers.specs.Statuses.{IsAnswer, HasRead};
 
 use crate::answers::answer;
@@ -51,18 +51,18 @@ pub fn run<F: Shelf, K: Sink>(alloc: Global, words: &[String], shelf: &mut F, ou
     // Where memory is wanting nothing was written, or by a command that writes as it goes a prefix
     // of what is due, or due for the first lines of a script.
     ensures no_memory { result ≡ Status.NoMemory →
-        WritesInPart (is_streamed (job_of (map string_bytes words.now)))
+        WritesInPart (is_streamed (asked_of (map string_bytes words.now)))
         (DueInPart (map string_bytes words.now) (F.told shelf.old))
         (K.written out.old) (K.written out.new) }
 
     // The files that the words name are asked for, in order, and nothing else; each only after the
     // ones before it were given.
     ensures asked { AsksOf (F.asked shelf.old) (F.asked shelf.new)
-        (files_of (job_of (map string_bytes words.now))) }
+        (files_of (asked_of (map string_bytes words.now))) }
     ensures asked_all { HasRead result →
-        F.asked shelf.new ≡ F.asked shelf.old ++ files_of (job_of (map string_bytes words.now)) }
+        F.asked shelf.new ≡ F.asked shelf.old ++ files_of (asked_of (map string_bytes words.now)) }
     ensures in_turn { AsksInTurn F.told F.asked F.faults shelf.old shelf.new
-        (files_of (job_of (map string_bytes words.now))) result }
+        (files_of (asked_of (map string_bytes words.now))) result }
 
     // Where the contents are told and no fault comes, what is due is answered, unless memory is
     // wanting.

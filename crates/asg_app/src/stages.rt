@@ -5,12 +5,12 @@ ghost use Rattle.asg_model.specs.Limits.{most_side};
 ghost use Rattle.asg_model.specs.Refused.{PassesNegative};
 ghost use Rattle.asg_model.specs.Shapes.{square_side};
 ghost use Rattle.asg_app.specs.Due.{DueForAsked, DueForJob, DueForTask};
-ghost use Rattle.asg_app.specs.Readiness.{IsReady};
+ghost use Rattle.asg_app.specs.Readiness.{IsReady, IsReadyRequest};
 ghost use Rattle.asg_answers.specs.Replies.{Answers};
 ghost use Rattle.asg_app.specs.Requests.{is_edit, is_streamed};
 
 use crate::commands::check::form_asked;
-use crate::commands::{check, judge, rank, solve};
+use crate::commands::{check, judge, make, rank, solve};
 use crate::files::Asked;
 use crate::instances::instance;
 use crate::laws::instance_law;
@@ -18,7 +18,7 @@ use crate::sources::Sources;
 use crate::stops::stop_reply;
 use asg_answers::{Reply, Status};
 use asg_model::{Instance, NoMemory};
-use asg_requests::{Job, Task};
+use asg_requests::{Job, Request, Task};
 use std::alloc::Global;
 
 /// The line for words that are no request.
@@ -71,12 +71,13 @@ fn job_reply(alloc: Global, job: &Job, sources: &Sources) -> Result<Reply, NoMem
 
 // The reply to what was asked, where that isn't to edit. The error is want of memory.
 pub(crate) fn reply_to(alloc: Global, asked: &Asked) -> Result<Reply, NoMemory>
-    requires ready { IfSome asked.now.job IsReady }
-    requires whole { is_streamed asked.now.job ≡ false }
-    ensures { IfOk result (Answers (DueForAsked asked.now.job asked.now.sources)) }
+    requires ready { IfSome asked.now.request IsReadyRequest }
+    requires whole { is_streamed asked.now.request ≡ false }
+    ensures { IfOk result (Answers (DueForAsked asked.now.request asked.now.sources)) }
 {
-    match &asked.job {
+    match &asked.request {
         None => Reply::line(alloc, Status::Usage, USAGE),
-        Some(job) => job_reply(alloc, job, &asked.sources),
+        Some(Request::Make { seed, side }) => make::reply(alloc, *seed, *side),
+        Some(Request::Work(job)) => job_reply(alloc, job, &asked.sources),
     }
 }

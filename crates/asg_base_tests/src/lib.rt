@@ -4,6 +4,8 @@
 #[cfg(test)]
 mod of_io;
 #[cfg(test)]
+mod of_make;
+#[cfg(test)]
 mod of_model;
 #[cfg(test)]
 mod of_parts;

@@ -1,5 +1,6 @@
 //! Tests of `asg_text`.
 
+mod rect_texts;
 mod refused_files;
 mod scripts;
 mod tests;

@@ -1,4 +1,4 @@
-//! Requests to edit: each document is written as soon as it is made.
+//! Requests to edit: each document, or in brief each line, is written as soon as it is made.
 
 ghost use Rattle.std.specs.Prelude.{◌≡◌, ◌≤◌, ℕ, true, List, Some, IfErr, IfOk, IsTrue};
 ghost use Rattle.asg_model.specs.Limits.{most_side};
@@ -6,6 +6,7 @@ ghost use Rattle.asg_model.specs.Objectives.{is_algebraic};
 ghost use Rattle.asg_model.specs.Refused.{PassesNegative};
 ghost use Rattle.asg_model.specs.Shapes.{square_side};
 ghost use Rattle.asg_requests.specs.declared.requests.Job.{Job as Editing};
+ghost use Rattle.asg_requests.specs.declared.requests.Request.TheVariants as requests;
 ghost use Rattle.asg_app.specs.Due.{DueForJob, DueForPart};
 ghost use Rattle.asg_app.specs.Edits.{IsStarted, StopsJob};
 ghost use Rattle.asg_app.specs.Ends.{Ends};
@@ -79,17 +80,24 @@ fn started(alloc: Global, job: &Job, sources: &Sources) -> Result<Work, Stop>
     }
 }
 
-// Writes the documents of a job to edit.
+// Writes the documents of a job to edit, or in brief their lines.
 fn put_edits<K: Sink>(alloc: Global, job: &Job, work: &mut Work, out: &mut K) -> Status
     requires ready { IsReady job.now }
     requires edits { IsTrue (is_edit job.now.task) }
     requires started { (contents : List (List ℕ)) × IsStarted job.now contents work.old }
     ensures { (contents : List (List ℕ)) → IsStarted job.now contents work.old →
         Ends K.written K.faults out.old out.new true (DueForJob job.now contents)
-        (DueForPart (Some job.now) contents) result }
+        (DueForPart (Some (requests.Work job.now)) contents) result }
 {
     instance_law();
-    match put_lines(alloc, job.objective, &mut work.editor, &work.lines, out) {
+    match put_lines(
+        alloc,
+        job.objective,
+        job.brief,
+        &mut work.editor,
+        &work.lines,
+        out,
+    ) {
         Ok(()) => Status::Done,
         Err(Halt::WriteFault) => Status::WriteFault,
         Err(Halt::NoMemory) => Status::NoMemory,
@@ -101,7 +109,7 @@ fn put_stop<K: Sink>(stop: Stop, out: &mut K) -> Status
     requires { (job : Editing) × (contents : List (List ℕ)) × StopsJob job contents stop }
     ensures { (job : Editing) (contents : List (List ℕ)) → StopsJob job contents stop →
         Ends K.written K.faults out.old out.new true (DueForJob job contents)
-        (DueForPart (Some job) contents) result }
+        (DueForPart (Some (requests.Work job)) contents) result }
 {
     match stop_reply(stop) {
         Ok(reply) => put(reply, out),
@@ -109,13 +117,14 @@ fn put_stop<K: Sink>(stop: Stop, out: &mut K) -> Status
     }
 }
 
-// Answers a job to edit: its documents are written, one after the other, or the refusal of one of
-// its files.
+// Answers a job to edit: its documents are written, or in brief their lines, one after the other,
+// or the refusal of one of its files.
 pub(crate) fn answer<K: Sink>(alloc: Global, job: &Job, sources: &Sources, out: &mut K) -> Status
     requires ready { IsReady job.now }
     requires edits { IsTrue (is_edit job.now.task) }
     ensures { Ends K.written K.faults out.old out.new true
-        (DueForJob job.now sources.now) (DueForPart (Some job.now) sources.now) result }
+        (DueForJob job.now sources.now)
+        (DueForPart (Some (requests.Work job.now)) sources.now) result }
 {
     match started(alloc, job, sources) {
         Ok(mut work) => {

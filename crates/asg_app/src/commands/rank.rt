@@ -1,6 +1,7 @@
 //! Requests to rank.
 
-ghost use Rattle.std.specs.Prelude.{◌≡◌, ◌≤◌, IfOk, IsTrue};
+ghost use Rattle.std.specs.Prelude.{◌≡◌, ◌≤◌, IfErr, IfOk, false, true};
+ghost use Rattle.asg_brief.specs.BriefLines.{IsBriefRanking};
 ghost use Rattle.asg_check.specs.declared.verdicts.Form.TheVariants.{Rank};
 ghost use Rattle.asg_check.specs.DocumentForm.{MayBeAsked};
 ghost use Rattle.asg_doc.specs.Words.{HasWord, IsAsked};
@@ -10,12 +11,13 @@ ghost use Rattle.asg_model.specs.Limits.{most_side};
 ghost use Rattle.asg_model.specs.Refused.{PassesNegative};
 ghost use Rattle.asg_model.specs.Shapes.{square_side};
 ghost use Rattle.asg_rank.specs.RankOutcomes.{IsProvedRanking, IsRankOutcome};
-ghost use Rattle.asg_rank.specs.Rankings.{ranking_work};
+ghost use Rattle.asg_rank.specs.Rankings.{IsRefusal, ranking_work};
 ghost use Rattle.asg_rank.specs.Rooms.{most_work};
 ghost use Rattle.asg_app.specs.DueToRank.{DueToRank};
 ghost use Rattle.asg_answers.specs.Replies.{Answers};
 
-use asg_answers::{Reply, Status, none_document, ranked_document, refusal};
+use asg_answers::{Reply, Status, none_text, ranked_document, refusal};
+use asg_brief::{BriefRanking, brief_ranking};
 use asg_check::Form;
 use asg_model::{Instance, NoMemory};
 use asg_proof::{Ids, Nodes};
@@ -32,6 +34,7 @@ fn ranked_reply(
     choices: &Choices,
     nodes: Nodes,
 ) -> Result<Reply, NoMemory>
+    requires whole { job.now.brief ≡ false }
     requires word { HasWord job.now.objective }
     requires count { IsAsked count }
     requires side { square_side inst.now ≤ most_side }
@@ -60,8 +63,18 @@ fn none_reply(
     requires few { ranking_work inst.now count ≤ most_work }
     ensures { IfOk result (Answers (DueToRank job.now count inst.now)) }
 {
-    let document = none_document(job.objective, inst, Form::Rank(count), rows);
-    Reply::sheet(alloc, Status::Nothing, document)
+    let text = none_text(
+        alloc,
+        job.brief,
+        job.objective,
+        inst,
+        Form::Rank(count),
+        rows,
+    )?;
+    Ok(Reply {
+        status: Status::Nothing,
+        text,
+    })
 }
 
 // The reply with what the ranking gave. The error is want of memory.
@@ -72,6 +85,7 @@ fn outcome_reply(
     count: u32,
     outcome: RankOutcome,
 ) -> Result<Reply, NoMemory>
+    requires whole { job.now.brief ≡ false }
     requires word { HasWord job.now.objective }
     requires count { IsAsked count }
     requires side { square_side inst.now ≤ most_side }
@@ -89,6 +103,68 @@ fn outcome_reply(
     }
 }
 
+// The reply with the document of a ranking, or that no choice is valid. The errors: so many choices
+// are too much to rank, or want of memory.
+fn whole_reply(alloc: Global, job: &Job, inst: &Instance, count: u32) -> Result<Reply, RankRefusal>
+    requires whole { job.now.brief ≡ false }
+    requires word { HasWord job.now.objective }
+    requires count { IsAsked count }
+    requires side { square_side inst.now ≤ most_side }
+    requires passes { PassesNegative job.now.objective inst.now }
+    requires asked { MayBeAsked (Rank count) job.now.objective inst.now }
+    ensures answers { IfOk result (Answers (DueToRank job.now count inst.now)) }
+    ensures refusal { IfErr result (IsRefusal inst.now count) }
+{
+    let outcome = ranking(alloc, job.objective, inst, count)?;
+    Ok(outcome_reply(alloc, job, inst, count, outcome)?)
+}
+
+// The reply with a line that was made. It takes no memory.
+fn line_reply(job: &Job, inst: &Instance, count: u32, told: BriefRanking) -> Reply
+    requires brief { job.now.brief ≡ true }
+    requires told { IsBriefRanking job.now.objective inst.now count told }
+    requires few { ranking_work inst.now count ≤ most_work }
+    ensures { Answers (DueToRank job.now count inst.now) result }
+{
+    match told {
+        BriefRanking::Ranked(line) => Reply::brief(Status::Done, line),
+        BriefRanking::Nothing(line) => Reply::brief(Status::Nothing, line),
+    }
+}
+
+// The reply with the line of a ranking, or that no choice is valid: no document is made, and no
+// search tree. The errors: so many choices are too much to rank, or want of memory.
+fn brief_reply(alloc: Global, job: &Job, inst: &Instance, count: u32) -> Result<Reply, RankRefusal>
+    requires brief { job.now.brief ≡ true }
+    requires count { IsAsked count }
+    requires side { square_side inst.now ≤ most_side }
+    requires passes { PassesNegative job.now.objective inst.now }
+    requires asked { MayBeAsked (Rank count) job.now.objective inst.now }
+    ensures answers { IfOk result (Answers (DueToRank job.now count inst.now)) }
+    ensures refusal { IfErr result (IsRefusal inst.now count) }
+{
+    let told = brief_ranking(alloc, job.objective, inst, count)?;
+    Ok(line_reply(job, inst, count, told))
+}
+
+// The reply with a ranking, or that no choice is valid. The errors: so many choices are too much to
+// rank, or want of memory.
+fn told_reply(alloc: Global, job: &Job, inst: &Instance, count: u32) -> Result<Reply, RankRefusal>
+    requires word { HasWord job.now.objective }
+    requires count { IsAsked count }
+    requires side { square_side inst.now ≤ most_side }
+    requires passes { PassesNegative job.now.objective inst.now }
+    requires asked { MayBeAsked (Rank count) job.now.objective inst.now }
+    ensures answers { IfOk result (Answers (DueToRank job.now count inst.now)) }
+    ensures refusal { IfErr result (IsRefusal inst.now count) }
+{
+    if job.brief {
+        brief_reply(alloc, job, inst, count)
+    } else {
+        whole_reply(alloc, job, inst, count)
+    }
+}
+
 // The reply to a request to rank so many choices of an instance. The error is want of memory.
 pub(crate) fn reply(
     alloc: Global,
@@ -103,8 +179,8 @@ pub(crate) fn reply(
     requires asked { MayBeAsked (Rank count) job.now.objective inst.now }
     ensures { IfOk result (Answers (DueToRank job.now count inst.now)) }
 {
-    match ranking(alloc, job.objective, inst, count) {
-        Ok(outcome) => outcome_reply(alloc, job, inst, count, outcome),
+    match told_reply(alloc, job, inst, count) {
+        Ok(reply) => Ok(reply),
         Err(RankRefusal::RankTooLarge(work)) => refusal(alloc, &[18, work]),
         Err(RankRefusal::NoMemory) => Err(AllocError),
     }

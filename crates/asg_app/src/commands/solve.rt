@@ -11,7 +11,7 @@ ghost use Rattle.asg_app.specs.Readiness.{IsReady};
 ghost use Rattle.asg_answers.specs.Replies.{Answers};
 ghost use Rattle.asg_answers.specs.WrittenDocument.{IsPromisedOutcome, IsPromisedProof};
 
-use asg_answers::{Reply, SolverRefusal, Status, best_document, none_document, outcome, refusal};
+use asg_answers::{Reply, SolverRefusal, Status, best_text, none_text, outcome, refusal};
 use asg_check::Form;
 use asg_model::{Choice, Instance, NoMemory, Objective};
 use asg_proof::{Ids, Outcome, Proof};
@@ -44,8 +44,11 @@ fn best_reply(
     requires takes { SolverTakes job.now.objective inst.now }
     ensures { IfOk result (Answers (DueToSolve job.now inst.now)) }
 {
-    let document = best_document(alloc, job.objective, inst, choice, proof)?;
-    Reply::sheet(alloc, Status::Done, document)
+    let text = best_text(alloc, job.brief, job.objective, inst, choice, proof)?;
+    Ok(Reply {
+        status: Status::Done,
+        text,
+    })
 }
 
 // The reply with a Hall set. The error is want of memory.
@@ -56,8 +59,11 @@ fn none_reply(alloc: Global, job: &Job, inst: &Instance, rows: Ids) -> Result<Re
     requires takes { SolverTakes job.now.objective inst.now }
     ensures { IfOk result (Answers (DueToSolve job.now inst.now)) }
 {
-    let document = none_document(job.objective, inst, Form::Solve, rows);
-    Reply::sheet(alloc, Status::Nothing, document)
+    let text = none_text(alloc, job.brief, job.objective, inst, Form::Solve, rows)?;
+    Ok(Reply {
+        status: Status::Nothing,
+        text,
+    })
 }
 
 // The reply with an outcome. The error is want of memory.

@@ -1,6 +1,6 @@
 //! Laws of requests to check.
 
-ghost use Rattle.std.specs.Prelude.{◌≡◌, ◌≤◌, ◌⊎◌, ℕ, List, Option, Some, None, length};
+ghost use Rattle.std.specs.Prelude.{◌≡◌, ◌≤◌, ◌⊎◌, ℕ, List, Option, Some, None, false, length};
 ghost use Rattle.asg_model.specs.Limits.{longest_file};
 ghost use Rattle.asg_model.specs.Problem.{Problem};
 ghost use Rattle.asg_doc.specs.declared.documents.Document.{Document as Answered};
@@ -18,7 +18,7 @@ ghost use Rattle.asg_app.specs.InstanceFile.{Holds, instance_in};
 ghost use Rattle.asg_app.specs.Promised.{AskAlike, IsSolved, IsUnsolvable, IsCertified};
 ghost use Rattle.asg_app.specs.Promised.{IsNeverLong};
 ghost use Rattle.asg_app.specs.Promised.{IsDenied, IsNotOne, IsUnread, IsVerdict};
-ghost use Rattle.asg_app.specs.Requests.{job_of};
+ghost use Rattle.asg_app.specs.Requests.{AsksFor};
 ghost use Rattle.asg_answers.specs.Texts.{yes_text};
 
 use super::instance_law;
@@ -34,20 +34,20 @@ use asg_words::laws::request_law;
 pub fn check_law()
     ensures statuses { (words : List (List ℕ)) (told : List ℕ → Option (List ℕ))
         (status : Ended) (text answer : List ℕ) (count : Option ℕ) (job : Job) →
-        job_of words ≡ Some job → job.task ≡ Check answer None count → Due words told status text →
+        AsksFor words job → job.task ≡ Check answer None count → Due words told status text →
         (status ≡ statuses.Done) ⊎ ((status ≡ statuses.Instance) ⊎ ((status ≡ statuses.Document)
         ⊎ ((status ≡ statuses.No) ⊎ (status ≡ statuses.TooLong)))) }
     ensures unread { (words : List (List ℕ)) (told : List ℕ → Option (List ℕ))
         (status : Ended) (text answer bytes spoken : List ℕ) (count : Option ℕ) (job : Job)
         (X : Problem) →
-        TellsShort words told → job_of words ≡ Some job → job.task ≡ Check answer None count →
+        TellsShort words told → AsksFor words job → job.task ≡ Check answer None count →
         told job.instance ≡ Some bytes → told answer ≡ Some spoken →
         instance_in job bytes ≡ Holds X → IsNotOne spoken →
         Due words told status text → status ≡ statuses.Document }
     ensures judged { (words : List (List ℕ)) (told : List ℕ → Option (List ℕ))
         (status : Ended) (text answer bytes : List ℕ) (count : Option ℕ) (job : Job) (X : Problem)
         (document : Answered) →
-        TellsShort words told → job_of words ≡ Some job → job.task ≡ Check answer None count →
+        TellsShort words told → AsksFor words job → job.task ≡ Check answer None count →
         told job.instance ≡ Some bytes → told answer ≡ Some (text_of document) →
         instance_in job bytes ≡ Holds X → HasText document →
         Due words told status text → IsVerdict job (form_asked count) X document status }
@@ -60,7 +60,7 @@ pub fn check_law()
 pub fn checked_law()
     ensures { (words : List (List ℕ)) (told : List ℕ → Option (List ℕ))
         (text answer : List ℕ) (count : Option ℕ) (job : Job) →
-        job_of words ≡ Some job → job.task ≡ Check answer None count →
+        AsksFor words job → job.task ≡ Check answer None count →
         Due words told statuses.Done text →
         (bytes spoken : List ℕ) × MayHold told job.instance bytes × MayHold told answer spoken
         × IsCertified job (form_asked count) bytes spoken × (text ≡ yes_text 1) }
@@ -75,7 +75,7 @@ pub fn checked_law()
 pub fn denied_law()
     ensures { (words : List (List ℕ)) (told : List ℕ → Option (List ℕ))
         (text answer : List ℕ) (count : Option ℕ) (job : Job) →
-        job_of words ≡ Some job → job.task ≡ Check answer None count →
+        AsksFor words job → job.task ≡ Check answer None count →
         Due words told statuses.No text →
         (bytes spoken : List ℕ) × MayHold told job.instance bytes × MayHold told answer spoken
         × IsDenied job (form_asked count) bytes spoken text }
@@ -87,13 +87,13 @@ pub fn denied_law()
 pub fn unread_law()
     ensures { (words : List (List ℕ)) (told : List ℕ → Option (List ℕ))
         (text answer : List ℕ) (count : Option ℕ) (job : Job) →
-        job_of words ≡ Some job → job.task ≡ Check answer None count →
+        AsksFor words job → job.task ≡ Check answer None count →
         Due words told statuses.Document text →
         (bytes spoken : List ℕ) × MayHold told job.instance bytes × MayHold told answer spoken
         × (X : Problem) × (instance_in job bytes ≡ Holds X) × IsUnread spoken text }
 {}
 
-/// What a request to solve writes certifies, with status 0 as with status 1, for each job that asks
+/// What a request to solve that isn't brief writes certifies, with status 0 as with status 1, for each job that asks
 /// alike. Where a request to check that asks alike names the same instance's file, and as the
 /// answer a file with what was written, status 0 is due, and the text `yes 1`: for phases and
 /// windows provided that what was written is no longer than the longest file that is read; a text
@@ -106,9 +106,9 @@ pub fn accepted_law()
         IsCertified other forms.Solve bytes text }
     ensures accepted { (solving checking : List (List ℕ)) (told later : List ℕ → Option (List ℕ))
         (status : Ended) (text answer : List ℕ) (solve check : Job) →
-        job_of solving ≡ Some solve → solve.task ≡ Solve →
+        AsksFor solving solve → solve.brief ≡ false → solve.task ≡ Solve →
         (status ≡ statuses.Done) ⊎ (status ≡ statuses.Nothing) → Due solving told status text →
-        job_of checking ≡ Some check → check.task ≡ Check answer None None → AskAlike solve check →
+        AsksFor checking check → check.task ≡ Check answer None None → AskAlike solve check →
         (length text ≤ longest_file) ⊎ IsNeverLong solve status →
         later check.instance ≡ told solve.instance → later answer ≡ Some text →
         Due checking later statuses.Done (yes_text 1) }

@@ -1,6 +1,6 @@
 //! Laws of requests to solve.
 
-ghost use Rattle.std.specs.Prelude.{◌≡◌, ◌≤◌, ◌⊎◌, ℕ, List, [], ◌∷◌, Option, Some, length};
+ghost use Rattle.std.specs.Prelude.{◌≡◌, ◌≤◌, ◌⊎◌, ℕ, List, [], ◌∷◌, Option, Some, false, length};
 ghost use Rattle.asg_model.specs.Limits.{longest_file};
 ghost use Rattle.asg_model.specs.Problem.{Problem};
 ghost use Rattle.asg_model.specs.ValidChoice.{IsValid};
@@ -15,7 +15,7 @@ ghost use Rattle.asg_app.specs.Due.{Due, TellsShort};
 ghost use Rattle.asg_app.specs.Fetches.{MayHold};
 ghost use Rattle.asg_app.specs.InstanceFile.{Holds, instance_in};
 ghost use Rattle.asg_app.specs.Promised.{HasShortProofs, IsSolved, IsUnsolvable};
-ghost use Rattle.asg_app.specs.Requests.{job_of};
+ghost use Rattle.asg_app.specs.Requests.{AsksFor};
 ghost use Rattle.asg_answers.specs.Texts.{refused_instance_text};
 
 use super::instance_law;
@@ -28,33 +28,33 @@ use asg_model::laws::hall_rows_law;
 pub fn solve_law()
     ensures statuses { (words : List (List ℕ)) (told : List ℕ → Option (List ℕ))
         (status : Ended) (text : List ℕ) (job : Job) →
-        job_of words ≡ Some job → job.task ≡ Solve → Due words told status text →
+        AsksFor words job → job.task ≡ Solve → Due words told status text →
         (status ≡ statuses.Done) ⊎ ((status ≡ statuses.Nothing)
         ⊎ ((status ≡ statuses.Instance) ⊎ (status ≡ statuses.TooLong))) }
     ensures valid { (words : List (List ℕ)) (told : List ℕ → Option (List ℕ))
         (status : Ended) (text bytes : List ℕ) (job : Job) (X : Problem)
         (choice : List (Option ℕ)) →
-        TellsShort words told → job_of words ≡ Some job → job.task ≡ Solve →
+        TellsShort words told → AsksFor words job → job.task ≡ Solve →
         told job.instance ≡ Some bytes → instance_in job bytes ≡ Holds X →
         SolverTakes job.objective X → IsValid X choice →
         Due words told status text → status ≡ statuses.Done }
     ensures nothing { (words : List (List ℕ)) (told : List ℕ → Option (List ℕ))
         (status : Ended) (text bytes : List ℕ) (job : Job) (X : Problem) →
-        TellsShort words told → job_of words ≡ Some job → job.task ≡ Solve →
+        TellsShort words told → AsksFor words job → job.task ≡ Solve →
         told job.instance ≡ Some bytes → instance_in job bytes ≡ Holds X →
         SolverTakes job.objective X → ((choice : List (Option ℕ)) → ¬ IsValid X choice) →
         Due words told status text → status ≡ statuses.Nothing }
     ensures too_large { (words : List (List ℕ)) (told : List ℕ → Option (List ℕ))
         (status : Ended) (text bytes : List ℕ) (job : Job) (X : Problem) (count : ℕ) →
-        TellsShort words told → job_of words ≡ Some job → job.task ≡ Solve →
+        TellsShort words told → AsksFor words job → job.task ≡ Solve →
         told job.instance ≡ Some bytes → instance_in job bytes ≡ Holds X →
         SolverRefuses job.objective X count → Due words told status text →
         (status ≡ statuses.Instance) × (text ≡ refused_instance_text
         (limit_number job.objective ∷ count ∷ [])) }
 {}
 
-/// For a request to solve, status 0 is due only with the text of a document that solves the file's
-/// instance: it certifies, it claims a best choice with its value and cells, and its proof is a
+/// For a request to solve that isn't brief, status 0 is due only with the text of a document that
+/// solves the file's instance: it certifies, it claims a best choice with its value and cells, and its proof is a
 /// Hall set of the cells strictly better for the two bottleneck objectives, windows of costs for
 /// `balanced`, levels of at most 200 phases of one step in all for `lex`, and for the others at
 /// most as many phases as the side of the instance's square, each of at most as many steps. Status
@@ -64,11 +64,13 @@ pub fn solve_law()
 pub fn solved_law()
     ensures solved { (words : List (List ℕ)) (told : List ℕ → Option (List ℕ))
         (text : List ℕ) (job : Job) →
-        job_of words ≡ Some job → job.task ≡ Solve → Due words told statuses.Done text →
+        AsksFor words job → job.brief ≡ false → job.task ≡ Solve →
+        Due words told statuses.Done text →
         (bytes : List ℕ) × MayHold told job.instance bytes × IsSolved job bytes text }
     ensures unsolvable { (words : List (List ℕ)) (told : List ℕ → Option (List ℕ))
         (text : List ℕ) (job : Job) →
-        job_of words ≡ Some job → job.task ≡ Solve → Due words told statuses.Nothing text →
+        AsksFor words job → job.brief ≡ false → job.task ≡ Solve →
+        Due words told statuses.Nothing text →
         (bytes : List ℕ) × MayHold told job.instance bytes
         × IsUnsolvable job forms.Solve bytes text }
     ensures within { (job : Job) (form : Form) (bytes text : List ℕ) →

@@ -95,13 +95,13 @@ static NO_REQUESTS: [&[&str]; 20] = [
     &["solve", "sum"],
     &["check", "lex", "f", "g", "--count", "1"],
     &["solve", "capped=0", "f"],
-    &["solve", "bottleneck", "f", "--brief"],
+    &["solve", "bottleneck", "f", "--brief="],
     &["rank", "balanced", "f", "--count", "1"],
-    &["rank", "sum", "f", "--count", "1", "--brief"],
-    &["edit", "sum", "f", "g", "--brief"],
+    &["rank", "sum", "f", "--count", "1", "--brief", "--brief"],
+    &["check", "sum", "f", "g", "--brief"],
     &["check", "lex", "f", "g", "--script", "s"],
     &["solve", "bottleneck", "f", "--place", "0"],
-    &["make", "1", "1"],
+    &["make", "1", "0"],
 ];
 
 // These words, for a caller that needn't know them.

@@ -4,6 +4,7 @@ use Rattle.std.proofs.lemmas.List.{take_all, take_more}
 use Rattle.std.proofs.lemmas.Result.{err_from_is_err_and}
 use Rattle.asg_io.specs.Shelf.{asked_after}
 use Rattle.asg_model.specs.Limits.{longest_file}
+use Rattle.asg_requests.specs.declared.requests.Request.TheVariants.{Work}
 use Rattle.asg_app.specs.Fetches.{AreGiven, Fails, Gives, MayHold, StopsAt}
 use Rattle.asg_app.specs.Requests.{files_of}
 use Rattle.asg_app.proofs.Fetching.{asked_same, given_more, if_err, stop_at, stop_short}
@@ -18,7 +19,7 @@ returns-in_err-file-clause-stopped g c =
     let told = g.F.Shelf.told in
     let asked = g.F.Shelf.asked in
     let faults = g.F.Shelf.faults in
-    let names = files_of (Some c.args.job.now) in
+    let names = files_of (Some (Work c.args.job.now)) in
     let place = c.loop-place.place in
     let fault = c.in_err-file.field-0.0 in
     let there : place < length names = omega (arith, c.loop-place-test.true, c.file_count-place-end.ensures) in
@@ -40,7 +41,7 @@ returns-in_err-push-clause-stopped g c =
     let told = g.F.Shelf.told in
     let asked = g.F.Shelf.asked in
     let faults = g.F.Shelf.faults in
-    let names = files_of (Some c.args.job.now) in
+    let names = files_of (Some (Work c.args.job.now)) in
     let place = c.loop-place.place in
     let there : place < length names = omega (arith, c.loop-place-test.true, c.file_count-place-end.ensures) in
     let p = err_from_is_err_and c.from_residual-in_err-push.result c.from_residual-in_err-push.ensures.1 in
@@ -62,7 +63,7 @@ loop-place-preserved g c =
     let told = g.F.Shelf.told in
     let asked = g.F.Shelf.asked in
     let faults = g.F.Shelf.faults in
-    let names = files_of (Some c.args.job.now) in
+    let names = files_of (Some (Work c.args.job.now)) in
     let place = c.loop-place.place in
     let there : place < length names = omega (arith, c.loop-place-test.true, c.file_count-place-end.ensures) in
     let gives : Gives told asked faults (get_or names place []) c.in_ok-file.file.items c.loop-place.shelf c.fetch.new.self = record {
@@ -78,6 +79,6 @@ loop-place-preserved g c =
 
 pub returns-clause-given : goal.returns-clause-given
 returns-clause-given g c =
-    let names = files_of (Some c.args.job.now) in
+    let names = files_of (Some (Work c.args.job.now)) in
     let all : take c.loop-place.place names ≡ names = take_all c.loop-place.place names (omega (arith, c.loop-place-test.false, c.file_count-place-end.ensures)) in
     subst (λ list. AreGiven g.F.Shelf.told g.F.Shelf.asked g.F.Shelf.faults list c.loop-place.sources c.args.shelf.now c.loop-place.shelf) all c.loop-place.invariant

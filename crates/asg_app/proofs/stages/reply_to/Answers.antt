@@ -1,9 +1,17 @@
-use Rattle.std.proofs.Common.{sym, subst}
+use Rattle.std.proofs.Common.{Some, sym, ap, ◌∙◌, subst}
 use Rattle.std.specs.Prelude.{IfOk}
 use Rattle.asg_app.specs.Due.{DueForAsked}
 use Rattle.asg_answers.specs.Replies.{Answers}
 use Rattle.asg_app.proofs.stages.reply_to.Goals as goal
 
-pub returns-in-Some : goal.returns-in-Some
-returns-in-Some c =
-    subst (λ asked. IfOk c.job_reply.result (Answers (DueForAsked asked c.args.asked.now.sources))) (sym c.in-Some.is) c.job_reply.ensures
+pub returns-in-Some-Work : goal.returns-in-Some-Work
+returns-in-Some-Work c =
+    let here = c.in-Some-Work in
+    let work = rw here.is at here.field-0-is in
+    subst (λ asked. IfOk c.job_reply.result (Answers (DueForAsked asked c.args.asked.now.sources))) (sym (here.is ∙ ap Some work)) c.job_reply.ensures
+
+pub returns-in-Some-Make : goal.returns-in-Some-Make
+returns-in-Some-Make c =
+    let here = c.in-Some-Make in
+    let made = rw here.is at here.field-0-is in
+    subst (λ asked. IfOk c.reply.result (Answers (DueForAsked asked c.args.asked.now.sources))) (sym (here.is ∙ ap Some made)) c.reply.ensures

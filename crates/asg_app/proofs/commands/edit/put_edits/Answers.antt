@@ -28,7 +28,7 @@ returns-in-Ok g c = λ contents started.
     let before = g.K.Sink.written c.args.out.now in
     let after = g.K.Sink.written c.put_lines.new.out in
     Ends-done job contents c.args.work.now c.requires.edits started g.K.Sink.written g.K.Sink.faults c.args.out.now c.put_lines.new.out
-    (subst (λ lines. WritesAll job.objective c.args.work.now.editor.instance lines before after) c.deref.ensures.value c.in-Ok.ensures.written)
+    (subst (λ lines. WritesAll job.brief job.objective c.args.work.now.editor.instance lines before after) c.deref.ensures.value c.in-Ok.ensures.written)
 
 pub returns-in-Err-WriteFault : goal.returns-in-Err-WriteFault
 returns-in-Err-WriteFault g c = λ contents started.
@@ -36,7 +36,7 @@ returns-in-Err-WriteFault g c = λ contents started.
     let before = g.K.Sink.written c.args.out.now in
     let after = g.K.Sink.written c.put_lines.new.out in
     Ends-fault job contents c.args.work.now c.requires.edits started g.K.Sink.written g.K.Sink.faults c.args.out.now c.put_lines.new.out
-    (subst (λ lines. WritesFront job.objective c.args.work.now.editor.instance lines before after) c.deref.ensures.value c.in-Err-WriteFault.ensures.halted)
+    (subst (λ lines. WritesFront job.brief job.objective c.args.work.now.editor.instance lines before after) c.deref.ensures.value c.in-Err-WriteFault.ensures.halted)
     (c.in-Err-WriteFault.ensures.cause c.in-Err-WriteFault.field-0-is)
 
 pub returns-in-Err-NoMemory : goal.returns-in-Err-NoMemory
@@ -45,4 +45,4 @@ returns-in-Err-NoMemory g c = λ contents started.
     let before = g.K.Sink.written c.args.out.now in
     let after = g.K.Sink.written c.put_lines.new.out in
     Ends-wanting job contents c.args.work.now c.requires.edits started g.K.Sink.written g.K.Sink.faults c.args.out.now c.put_lines.new.out
-    (subst (λ lines. WritesFront job.objective c.args.work.now.editor.instance lines before after) c.deref.ensures.value c.in-Err-NoMemory.ensures.halted)
+    (subst (λ lines. WritesFront job.brief job.objective c.args.work.now.editor.instance lines before after) c.deref.ensures.value c.in-Err-NoMemory.ensures.halted)

@@ -1,4 +1,5 @@
 use Rattle.std.proofs.Common.{inl, true, Some, subst}
+use Rattle.asg_requests.specs.declared.requests.Request.TheVariants.{Work}
 use Rattle.asg_app.specs.Due.{DueForJob, DueForPart}
 use Rattle.asg_app.specs.Edits.{StopsJob}
 use Rattle.asg_app.proofs.EditEnds.{Ends-nothing, Ends-owed, stopped_answer}
@@ -12,8 +13,8 @@ put-requires g c =
 
 pub returns-in-Ok : goal.returns-in-Ok
 returns-in-Ok g c = λ job contents stops.
-    Ends-owed g.K.Sink.written g.K.Sink.faults c.args.out.now c.put.new.out true (DueForJob job contents) (DueForPart (Some job) contents) c.in-Ok.reply c.put.result
+    Ends-owed g.K.Sink.written g.K.Sink.faults c.args.out.now c.put.new.out true (DueForJob job contents) (DueForPart (Some (Work job)) contents) c.in-Ok.reply c.put.result
     (λ due text owed. inl owed) (subst (StopsJob job contents) c.in-Ok.ensures stops) c.put.ensures
 
 pub returns-in-Err : goal.returns-in-Err
-returns-in-Err g c = λ job contents stops. Ends-nothing g.K.Sink.written g.K.Sink.faults c.args.out.now true (DueForJob job contents) (DueForPart (Some job) contents)
+returns-in-Err g c = λ job contents stops. Ends-nothing g.K.Sink.written g.K.Sink.faults c.args.out.now true (DueForJob job contents) (DueForPart (Some (Work job)) contents)

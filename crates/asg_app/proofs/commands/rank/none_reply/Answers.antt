@@ -1,11 +1,6 @@
 use Rattle.std.proofs.Common.{refl}
-use Rattle.asg_doc.specs.Text.{text_of}
-use Rattle.asg_answers.specs.declared.status.Status.TheVariants.{Nothing}
-use Rattle.asg_app.specs.DueToRank.{DueToRank, Unrankable}
-use Rattle.asg_app.proofs.ReplyLemmas.{replied}
+use Rattle.asg_app.specs.DueToRank.{Unrankable}
 use Rattle.asg_app.proofs.commands.rank.none_reply.Goals as goal
 
 pub returns : goal.returns
-returns c =
-    let document = c.none_document-document.result in
-    replied (DueToRank c.args.job.now c.args.count c.args.inst.now) Nothing (text_of document) c.sheet.result (Unrankable c.requires.few document c.none_document-document.ensures refl refl) c.sheet.ensures
+returns c = Unrankable c.requires.few c.in_ok-text.ensures refl

@@ -13,8 +13,8 @@ pub returns-clause-unsolvable : goal.returns-clause-unsolvable
 returns-clause-unsolvable c = λ job other bytes text alike solved. certified-from_unsolvable job other Solve bytes text alike solved
 
 pub returns-clause-accepted : goal.returns-clause-accepted
-returns-clause-accepted c = λ solving checking told later status text answer solve check is solves ends due is_check checks alike within same written.
-    accepted_later c.solved_law.ensures.within told later solve check (λ bytes X holds. c.instance_law.ensures.instance solving bytes solve X is holds) status text answer due.0 solves ends within
+returns-clause-accepted c = λ solving checking told later status text answer solve check is whole solves ends due is_check checks alike within same written.
+    accepted_later c.solved_law.ensures.within told later solve check whole (λ bytes X holds. c.instance_law.ensures.instance solving bytes solve X is holds) status text answer due.0 solves ends within
     (subst (λ a. MayHoldAll told (files_of a) due.0) is due.1)
     (subst (λ a. DueForAsked a due.0 status text) is due.2)
     checks alike same written checking is_check

@@ -13,8 +13,8 @@ pub returns-clause-unrankable : goal.returns-clause-unrankable
 returns-clause-unrankable c = λ job other count bytes text alike none. certified-from_unsolvable job other (Rank count) bytes text alike none
 
 pub returns-clause-accepted : goal.returns-clause-accepted
-returns-clause-accepted c = λ ranking checking told later status text answer count rank check is ranks ends due is_check checks alike within same written.
-    accepted_ranking c.solved_law.ensures.within told later rank check count (λ bytes X holds. c.instance_law.ensures.instance ranking bytes rank X is holds) status text answer due.0 ranks ends within
+returns-clause-accepted c = λ ranking checking told later status text answer count rank check is whole ranks ends due is_check checks alike within same written.
+    accepted_ranking c.solved_law.ensures.within told later rank check count whole (λ bytes X holds. c.instance_law.ensures.instance ranking bytes rank X is holds) status text answer due.0 ranks ends within
     (subst (λ a. MayHoldAll told (files_of a) due.0) is due.1)
     (subst (λ a. DueForAsked a due.0 status text) is due.2)
     checks alike same written checking is_check

@@ -9,13 +9,13 @@ use Rattle.asg_app.proofs.SolveLaws.{solved_only, unsolvable_only}
 use Rattle.asg_app.proofs.laws.solve_laws.solved_law.Goals as goal
 
 pub returns-clause-solved : goal.returns-clause-solved
-returns-clause-solved c = λ words told text job is solves due.
-    let found = solved_only job (λ bytes X holds. c.instance_law.ensures.instance words bytes job X is holds) told due.0 text solves (subst (λ a. MayHoldAll told (files_of a) due.0) is due.1) (subst (λ a. DueForAsked a due.0 Done text) is due.2) in
+returns-clause-solved c = λ words told text job is whole solves due.
+    let found = solved_only job whole (λ bytes X holds. c.instance_law.ensures.instance words bytes job X is holds) told due.0 text solves (subst (λ a. MayHoldAll told (files_of a) due.0) is due.1) (subst (λ a. DueForAsked a due.0 Done text) is due.2) in
     (content_at due.0 0, found.0, found.1)
 
 pub returns-clause-unsolvable : goal.returns-clause-unsolvable
-returns-clause-unsolvable c = λ words told text job is solves due.
-    let found = unsolvable_only job (λ bytes X holds. c.instance_law.ensures.instance words bytes job X is holds) told due.0 text solves (subst (λ a. MayHoldAll told (files_of a) due.0) is due.1) (subst (λ a. DueForAsked a due.0 Nothing text) is due.2) in
+returns-clause-unsolvable c = λ words told text job is whole solves due.
+    let found = unsolvable_only job whole (λ bytes X holds. c.instance_law.ensures.instance words bytes job X is holds) told due.0 text solves (subst (λ a. MayHoldAll told (files_of a) due.0) is due.1) (subst (λ a. DueForAsked a due.0 Nothing text) is due.2) in
     (content_at due.0 0, found.0, found.1)
 
 pub returns-clause-within : goal.returns-clause-within

@@ -1,0 +1,7 @@
+use Rattle.std.proofs.Common.{◌≡◌, ap, ◌∙◌, refl, subst, sym}
+use Rattle.asg_text.specs.RectTexts.{IsPlain, rect_text}
+use Rattle.asg_app.proofs.MadeLaws.{generated_is_plain}
+use Rattle.asg_app.proofs.commands.make.reply.Goals as goal
+
+pub write_rect-requires : goal.write_rect-requires
+write_rect-requires c = subst IsPlain (sym c.in_ok-inst.ensures) (generated_is_plain c.args.seed c.args.side)

@@ -1,0 +1,3 @@
+//! Tests of `asg_make`.
+
+mod tests;

@@ -9,10 +9,11 @@ HERE = os.path.dirname(os.path.realpath(__file__))
 
 
 class Case(NamedTuple):
-    """A request, and the script that makes its file, with the arguments of the script."""
+    """A request, and the script that makes its file, with the arguments of the script. A request to
+    make a file has no maker, and its numbers in place of an objective."""
     command: str
     objective: str
-    maker: str
+    maker: str = ""
     options: str = ""
     edits: int = 0  # how many changes the script has, each with an answer after it
     greatest: int = 0  # the greatest cost that it gives a cell
@@ -31,6 +32,8 @@ class Case(NamedTuple):
     @property
     def title(self):
         """What the file is."""
+        if not self.maker:
+            return "-"
         script, kind, *rest = self.maker.split()
         if script == "long_file.py":
             return f"{kind}, {rest[0]} MiB, refused at the end"
@@ -39,6 +42,8 @@ class Case(NamedTuple):
 
     def write(self, seed, file, script):
         """Writes the file, and for edits the script, which gives random cells random costs."""
+        if not self.maker:
+            return
         maker, *arguments = self.maker.split()
         if maker == "instance.py":
             arguments.append(str(seed))
@@ -62,6 +67,7 @@ def square(kind, side):
 def few_cases(side, edits):
     """A case for each command and objective."""
     return [
+        Case("make", f"7 {side}"),
         Case("solve", "sum", square("uniform", side)),
         Case("solve", "sum-max", square("uniform", side)),
         Case("solve", "pair", square("pair", side // 2)),

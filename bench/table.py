@@ -2,12 +2,14 @@
 """Times `asg` on files that it makes, and prints one Markdown table: bench/table.py [OPTIONS]
 
 A line has a request and its file; the seconds and the peak memory of the program, and the bytes
-that it wrote; then the seconds and the peak memory of `asg check` of the document. Seconds are
-those of the wall clock for the whole process, medians of --runs runs. Memory is the most of them,
-in MB of 2^20 bytes; it is about 16 at least, since the process that starts the program counts too.
+that it wrote; then the seconds and the peak memory of `asg check` of the document, and the seconds
+of the request with `--brief`. Seconds are those of the wall clock for the whole process, medians of
+--runs runs. Memory is the most of them, in MB of 2^20 bytes; it is about 16 at least, since the
+process that starts the program counts too.
 
-With --peers DIR a line also has the best peer, and the program's seconds over its seconds. A peer
-is a method of DIR/bin/dense, which `make` builds in DIR where it isn't built. It is called as
+With --peers DIR a line also has the best peer, and the program's seconds with `--brief` over its
+seconds. A peer is a method of DIR/bin/dense, which `make` builds in DIR where it isn't built. It is
+called as
 
     dense METHOD FILE --format FORMAT [--place K] [--each C] [--count K] [--script SCRIPT]
 
@@ -31,9 +33,10 @@ from timed import Timed
 
 TOP = os.path.dirname(os.path.dirname(os.path.realpath(__file__)))
 THREE = os.path.join(TOP, "examples", "three.square")
-HEAD = ("Request", "File", "Seconds", "MB", "Bytes", "Check, seconds", "Check, MB")
+HEAD = ("Request", "File", "Seconds", "MB", "Bytes", "Check, seconds", "Check, MB",
+        "Brief, seconds")
 PEER_HEAD = ("Best peer", "Ratio")
-OWN = ("asg", "check")
+OWN = ("asg", "check", "brief")
 PEERS = {
     "solve sum": ("jv", "sap"),
     "solve sum asn": ("jv", "sap", "spjv"),
@@ -65,6 +68,8 @@ def commands(case, program, dense, folder):
         return [*first, "--format", case.form, *case.options.split()]
 
     file, document = named("file"), named("document")
+    if case.command == "make":
+        return {"asg": Timed([program, "make", *case.objective.split()], document)}
     if case.command == "check":
         judged = [program, "check", case.objective, THREE, file]
         return {"asg": Timed(judged, document, case.status)}
@@ -75,6 +80,7 @@ def commands(case, program, dense, folder):
         option = ["--script", *script] if script else []
         judged = words(program, "check", case.objective, file, document) + option
         found["check"] = Timed(judged, named("said"))
+        found["brief"] = Timed([*asked, "--brief"], named("brief"))
         for method in methods_of(case) if dense else ():
             found[method] = Timed(words(dense, method, file) + option, named(method))
     return found
@@ -82,21 +88,23 @@ def commands(case, program, dense, folder):
 
 def cells_of(case, found):
     """The cells of a case's line, without those of the peers."""
-    asg, check = found["asg"], found.get("check")
+    asg, check, brief = (found.get(name) for name in OWN)
     cells = [f"`{case.request}`", case.title, f"{asg.seconds():.3g}", f"{asg.memory():.0f}",
              f"{asg.size():,}"]
-    return cells + ([f"{check.seconds():.3g}", f"{check.memory():.0f}"] if check else ["-"] * 2)
+    if not check:
+        return cells + ["-"] * 3
+    return cells + [f"{check.seconds():.3g}", f"{check.memory():.0f}", f"{brief.seconds():.3g}"]
 
 
 def peer_cells(found):
     """The best peer with the program's value, and the ratio to it."""
-    asg = found["asg"]
+    value = found["asg"].value()
     equals = [(timed.seconds(), name) for name, timed in found.items()
-              if name not in OWN and timed.ended() and timed.value() == asg.value()]
+              if name not in OWN and timed.ended() and timed.value() == value]
     if not equals:
         return ["-", "-"]
     seconds, name = min(equals)
-    return [name, f"{asg.seconds() / seconds:.2f}"]
+    return [name, f"{found['brief'].seconds() / seconds:.2f}"]
 
 
 def faults(found):

@@ -14,6 +14,15 @@ class Run(NamedTuple):
     status: int
 
 
+def brief_value(words):
+    """The value that a brief line tells, as a peer writes it."""
+    if words[0] == "none":
+        return "none"
+    if words[0] == "best":
+        return " ".join(words[3:])
+    return " ".join([words[2], *words[4:]])
+
+
 @dataclass
 class Timed:
     """A command, the file that it writes to, the status that it should end with, and its runs."""
@@ -61,6 +70,8 @@ class Timed:
                 word, _, rest = line.strip().partition(" ")
                 if word == "value" or (word, rest) == ("status", "none"):
                     values.append(rest)
+                elif word in ("best", "none", "ranked"):
+                    values.append(brief_value(line.split()))
                 elif word == "answer":
                     answers.append(rest)
         return f"{len(answers)} {answers[0]} {answers[-1]}" if answers else " ".join(values)

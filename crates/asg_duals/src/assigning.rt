@@ -26,6 +26,26 @@ fn tested_found(square: &Square<u64>, found: Found) -> Option<Duals>
     tested(square, Duals::of(columns, falls, rises), rows.as_slice())
 }
 
+// What a search finds first that is tight; `None` where it finds nothing so.
+fn first_tight(
+    alloc: Global,
+    square: &Square<u64>,
+    search: &mut Search<'_>,
+) -> Result<Option<Duals>, NoMemory>
+    ensures { IfOk result (λ found. IfSome found (AreTight square.now)) }
+{
+    'found: for _ in 0..MOST_FOUND {
+        let Some(found) = search.next(alloc)? else {
+            return Ok(None);
+        };
+        let tight = tested_found(square, found);
+        if tight.is_some() {
+            return Ok(tight);
+        }
+    }
+    Ok(None)
+}
+
 /// An assignment of a square of sums with dual variables that are tight on it, so that no other has
 /// a lesser sum; `None` where none was found. That is mostly where the square has none, but no
 /// clause says so.
@@ -49,14 +69,5 @@ pub fn tight_duals(alloc: Global, square: &Square<u64>) -> Result<Option<Duals>,
     ensures { IfOk result (λ found. IfSome found (AreTight square.now)) }
 {
     let mut search = Search::of_square(alloc, square)?;
-    'found: for _ in 0..MOST_FOUND {
-        let Some(found) = search.next(alloc)? else {
-            return Ok(None);
-        };
-        let tight = tested_found(square, found);
-        if tight.is_some() {
-            return Ok(tight);
-        }
-    }
-    Ok(None)
+    first_tight(alloc, square, &mut search)
 }

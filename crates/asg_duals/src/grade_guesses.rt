@@ -31,6 +31,33 @@ fn grade_bound(alloc: Global, square: &Square<(u64, u128)>) -> Result<Option<Bou
     Ok(Some(bound))
 }
 
+// The phase to the grade of a bound, where it is above 0, and plain phases at this grade.
+fn phases_at(
+    alloc: Global,
+    bound: &Bound,
+    plain: &[Phase<u64>],
+) -> Result<Vec<Phase<(u64, u128)>>, NoMemory> {
+    let grade = bound.limit;
+    let mut phases = Vec::new(alloc);
+    if grade > 0 {
+        let step: (u64, u128) = (grade, 0);
+        phases.push(bound_phase(alloc, step, bound)?)?;
+    }
+    append_graded(alloc, &mut phases, plain, grade)?;
+    Ok(phases)
+}
+
+// The phases to the grade of a bound and at it, with the assignment of a plain guess.
+fn guess_at(
+    alloc: Global,
+    bound: &Bound,
+    plain: &Guess<u64>,
+) -> Result<Guess<(u64, u128)>, NoMemory> {
+    let columns = Vec::from_slice(alloc, plain.columns())?;
+    let phases = phases_at(alloc, bound, plain.phases())?;
+    Ok(Guess::of(phases, columns))
+}
+
 /// Phases and an assignment of least graded sum; `None` where none is guessed.
 ///
 /// The greatest grade of such an assignment is the least one within which each row has a column of
@@ -46,17 +73,10 @@ pub fn grade_guess(
         return Ok(None);
     };
     let grade = bound.limit;
-    let Some(plain) = plain_guess(alloc, square, &AtGrade { grade })? else {
-        return Ok(None);
-    };
-    let mut phases = Vec::new(alloc);
-    if grade > 0 {
-        let step: (u64, u128) = (grade, 0);
-        phases.push(bound_phase(alloc, step, &bound)?)?;
+    match plain_guess(alloc, square, &AtGrade { grade })? {
+        Some(plain) => Ok(Some(guess_at(alloc, &bound, &plain)?)),
+        None => Ok(None),
     }
-    append_graded(alloc, &mut phases, plain.phases(), grade)?;
-    let columns = Vec::from_slice(alloc, plain.columns())?;
-    Ok(Some(Guess::of(phases, columns)))
 }
 
 /// A phase of one step to the greatest number of an assignment, and an assignment by which it is

@@ -48,6 +48,36 @@ fn guess_of(alloc: Global, found: Found) -> Result<Guess<u64>, NoMemory> {
     Ok(Guess::of(phases, columns))
 }
 
+// What a search finds first that is tight on the numbers; `None` where it finds nothing so.
+fn tight_found(
+    alloc: Global,
+    numbers: &Numbers,
+    search: &mut Search<'_>,
+) -> Result<Option<Found>, NoMemory> {
+    for _ in 0..MOST_FOUND {
+        let Some(found) = search.next(alloc)? else {
+            return Ok(None);
+        };
+        if are_tight_on(numbers, &found) {
+            return Ok(Some(found));
+        }
+    }
+    Ok(None)
+}
+
+// The phases and the assignment of what a search finds first that is tight on the numbers; `None`
+// where it finds nothing so.
+fn searched_guess(
+    alloc: Global,
+    numbers: &Numbers,
+    mut search: Search<'_>,
+) -> Result<Option<Guess<u64>>, NoMemory> {
+    match tight_found(alloc, numbers, &mut search)? {
+        Some(found) => Ok(Some(guess_of(alloc, found)?)),
+        None => Ok(None),
+    }
+}
+
 // Phases of plain sums and an assignment of least sum of the numbers as which cells are read;
 // `None` where none is guessed. The error is want of memory.
 pub(crate) fn plain_guess<R: Reading>(
@@ -56,14 +86,6 @@ pub(crate) fn plain_guess<R: Reading>(
     reading: &R,
 ) -> Result<Option<Guess<u64>>, NoMemory> {
     let numbers = numbers_of(alloc, square, reading)?;
-    let mut search = Search::of_numbers(alloc, square, &numbers)?;
-    for _ in 0..MOST_FOUND {
-        let Some(found) = search.next(alloc)? else {
-            return Ok(None);
-        };
-        if are_tight_on(&numbers, &found) {
-            return Ok(Some(guess_of(alloc, found)?));
-        }
-    }
-    Ok(None)
+    let search = Search::of_numbers(alloc, square, &numbers)?;
+    searched_guess(alloc, &numbers, search)
 }

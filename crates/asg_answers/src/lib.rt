@@ -2,8 +2,9 @@
 //! documents of a script, written as they are made.
 //!
 //! A document is made of an outcome that its contract says is proved, and so has a text, certifies,
-//! and claims what is true. In its place a brief line (`asg_brief`) may be written. A reply is a status and what is to be written, for which all memory is
-//! taken before it is put. The commands of the program (`asg_app`) stand on it.
+//! and claims what is true. In its place a brief line (`asg_brief`) may be written. A reply is a
+//! status and what is to be written, for which all memory is taken before it is put. The commands
+//! of the program (`asg_app`) stand on it.
 #![tactic(auto)]
 
 mod documents;

@@ -93,11 +93,11 @@ pub fn unread_law()
         × (X : Problem) × (instance_in job bytes ≡ Holds X) × IsUnread spoken text }
 {}
 
-/// What a request to solve that isn't brief writes certifies, with status 0 as with status 1, for each job that asks
-/// alike. Where a request to check that asks alike names the same instance's file, and as the
-/// answer a file with what was written, status 0 is due, and the text `yes 1`: for phases and
-/// windows provided that what was written is no longer than the longest file that is read; a text
-/// with status 1, or for a bottleneck objective or `lex`, never is.
+/// What a request to solve that isn't brief writes certifies, with status 0 as with status 1, for
+/// each job that asks alike. Where a request to check that asks alike names the same instance's
+/// file, and as the answer a file with what was written, status 0 is due, and the text `yes 1`: for
+/// phases and windows provided that what was written is no longer than the longest file that is
+/// read; a text with status 1, or for a bottleneck objective or `lex`, never is.
 pub fn accepted_law()
     ensures solved { (job other : Job) (bytes text : List ℕ) →
         AskAlike job other → IsSolved job bytes text → IsCertified other forms.Solve bytes text }

@@ -46,10 +46,10 @@ pub fn edit_law()
         Due words told status text → status ≡ statuses.Done }
 {}
 
-/// For a request to edit that isn't brief, status 0 is due only with the texts of documents, one for each `solve`
-/// line of the script: each certifies for the instance as edited then, and claims truly a best
-/// choice of it, or that none is valid; and its phases go on from those that the edits since the
-/// document before have kept of that one's.
+/// For a request to edit that isn't brief, status 0 is due only with the texts of documents, one
+/// for each `solve` line of the script: each certifies for the instance as edited then, and claims
+/// truly a best choice of it, or that none is valid; and its phases go on from those that the edits
+/// since the document before have kept of that one's.
 pub fn edited_documents_law()
     ensures { (words : List (List ℕ)) (told : List ℕ → Option (List ℕ))
         (text script : List ℕ) (job : Job) →
@@ -72,8 +72,8 @@ pub fn certified_documents_law()
         × (text ≡ yes_text (length certified.documents)) }
 {}
 
-/// A request to check with a script ends with the status 0, 3, 4, 5, 6 or 10, unless a fault or want
-/// of memory cuts it short. Where the files are told, none is too long and the first holds an
+/// A request to check with a script ends with the status 0, 3, 4, 5, 6 or 10, unless a fault or
+/// want of memory cuts it short. Where the files are told, none is too long and the first holds an
 /// instance, it is 4 where the script is refused, by its text or by an edit, with the number and
 /// the line; else 5 where the answer's file isn't the text of as many documents as the script has
 /// `solve` lines; else 0 where each of these certifies for the instance as edited then, and 6 where

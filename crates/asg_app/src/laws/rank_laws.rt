@@ -54,11 +54,11 @@ pub fn rank_law()
 {}
 
 /// For a request to rank that isn't brief, status 0 is due only with the text of a document that
-/// ranks the choices of the file's instance: it certifies, it claims a ranking of as many choices as were asked for,
-/// or of all valid ones where they are fewer, with the values and the cells of these, and in its
-/// tree every node but the root has at most one phase of its own, of at most as many steps as the
-/// side of the instance's square. Status 1 is due only with the text of a document that certifies
-/// with a Hall set of the instance, so that no choice is valid.
+/// ranks the choices of the file's instance: it certifies, it claims a ranking of as many choices
+/// as were asked for, or of all valid ones where they are fewer, with the values and the cells of
+/// these, and in its tree every node but the root has at most one phase of its own, of at most as
+/// many steps as the side of the instance's square. Status 1 is due only with the text of a
+/// document that certifies with a Hall set of the instance, so that no choice is valid.
 pub fn ranked_law()
     ensures ranked { (words : List (List ℕ)) (told : List ℕ → Option (List ℕ))
         (text : List ℕ) (count : ℕ) (job : Job) →
@@ -75,11 +75,11 @@ pub fn ranked_law()
     instance_law();
 }
 
-/// What a request to rank that isn't brief writes certifies, with status 0 as with status 1, for each job that asks
-/// alike. Where a request to check with the same count that asks alike names the same instance's
-/// file, and as the answer a file with what was written, status 0 is due, and the text `yes 1`: for
-/// rankings provided that what was written is no longer than the longest file that is read; a text
-/// with status 1 never is.
+/// What a request to rank that isn't brief writes certifies, with status 0 as with status 1, for
+/// each job that asks alike. Where a request to check with the same count that asks alike names the
+/// same instance's file, and as the answer a file with what was written, status 0 is due, and the
+/// text `yes 1`: for rankings provided that what was written is no longer than the longest file
+/// that is read; a text with status 1 never is.
 pub fn accepted_ranking_law()
     ensures ranked { (job other : Job) (count : ℕ) (bytes text : List ℕ) →
         AskAlike job other → IsRanked job count bytes text →

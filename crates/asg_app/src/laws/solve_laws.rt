@@ -54,13 +54,13 @@ pub fn solve_law()
 {}
 
 /// For a request to solve that isn't brief, status 0 is due only with the text of a document that
-/// solves the file's instance: it certifies, it claims a best choice with its value and cells, and its proof is a
-/// Hall set of the cells strictly better for the two bottleneck objectives, windows of costs for
-/// `balanced`, levels of at most 200 phases of one step in all for `lex`, and for the others at
-/// most as many phases as the side of the instance's square, each of at most as many steps. Status
-/// 1 is due only with the text of a document that certifies with a Hall set of the instance, so
-/// that no choice is valid. This text, whichever the form, and that for a bottleneck objective or
-/// for `lex`, is no longer than the longest file that is read.
+/// solves the file's instance: it certifies, it claims a best choice with its value and cells, and
+/// its proof is a Hall set of the cells strictly better for the two bottleneck objectives, windows
+/// of costs for `balanced`, levels of at most 200 phases of one step in all for `lex`, and for the
+/// others at most as many phases as the side of the instance's square, each of at most as many
+/// steps. Status 1 is due only with the text of a document that certifies with a Hall set of the
+/// instance, so that no choice is valid. This text, whichever the form, and that for a bottleneck
+/// objective or for `lex`, is no longer than the longest file that is read.
 pub fn solved_law()
     ensures solved { (words : List (List ℕ)) (told : List ℕ → Option (List ℕ))
         (text : List ℕ) (job : Job) →

@@ -9,9 +9,9 @@ use Rattle.asg_answers.specs.SolverLimits.{SolverRefuses, SolverTakes, limit_num
 use Rattle.asg_answers.specs.Tellings.{TellsBest, TellsNone}
 use Rattle.asg_answers.specs.Texts.{refused_instance_text}
 
--- how a request to solve ends for the instance: where the objective's solver takes it, a best choice
--- is told, or that no choice is valid, by a document or in brief by a line; else its refusal, 16
--- with the number of different costs, or 17 with the number of rows
+-- how a request to solve ends for the instance: where the objective's solver takes it, a best
+-- choice is told, or that no choice is valid, by a document or in brief by a line; else its refusal,
+-- 16 with the number of different costs, or 17 with the number of rows
 pub data DueToSolve (job : Job) (X : Problem) (status : Status) (text : List ℕ) : Type 0 where
   Solved : SolverTakes job.objective X
       → TellsBest job.brief job.objective X text

@@ -20,11 +20,12 @@ use std::alloc::Global;
 /// from the shelf, and writes what is due to the sink. It answers how the run ended.
 ///
 /// The status is `Done` where a document with a best choice or a ranking was written, or those of a
-/// script, or where each document that was to be checked certifies, and `No` where one doesn't;
-/// `Nothing` where a document says that no choice is valid; `Usage` where the words ask for nothing
-/// that the program does; `TooLong` where one of the files is longer than 268,435,456 bytes;
-/// `Instance` where the instance's file is refused, by its text, by the options or by a cost that
-/// the objective doesn't take, is too large to be solved, with too many different costs for
+/// script, or in brief a line in place of each, or the text of an instance that was made, or where
+/// each document that was to be checked certifies, and `No` where one doesn't; `Nothing` where a
+/// document, or in brief a line, says that no choice is valid; `Usage` where the words ask for
+/// nothing that the program does; `TooLong` where one of the files is longer than 268,435,456
+/// bytes; `Instance` where the instance's file is refused, by its text, by the options or by a cost
+/// that the objective doesn't take, is too large to be solved, with too many different costs for
 /// `balanced` or too many rows for `lex`, or where so many of its choices are too much to rank;
 /// `Script` where the script's file is refused, by its text or by an edit; `Document` where the
 /// answer's file isn't the text of as many documents as are due; `ReadFault` where the shelf had a

@@ -1,6 +1,6 @@
 //! Bytes with the page over which they are written.
 
-ghost use Rattle.std.specs.Prelude.{◌≡◌, IfOk, OnOk, OnErr};
+ghost use Rattle.std.specs.Prelude.{◌≡◌, ◌≤◌, IfOk, OnOk, OnErr};
 ghost use Rattle.asg_doc.specs.PageState.{blank};
 ghost use Rattle.asg_io.specs.Shelf.{Rose};
 ghost use Rattle.asg_io.specs.Sink.{Puts, PutsPrefix};
@@ -43,6 +43,7 @@ impl Pages {
         ensures whole { OnOk result (Puts (K.written out.old) (K.written out.new) self) }
         ensures prefix { OnErr result (PutsPrefix (K.written out.old) (K.written out.new) self) }
         ensures cause { OnErr result (Rose (K.faults out.old) (K.faults out.new)) }
+        ensures never_falls { K.faults out.old ≤ K.faults out.new }
     {
         let Pages { bytes, mut page } = self;
         send_bytes(&bytes, &mut page, out)
@@ -55,6 +56,7 @@ fn send_bytes<K: Sink>(bytes: &[u8], page: &mut Page, out: &mut K) -> Result<(),
     ensures whole { OnOk result (Puts (K.written out.old) (K.written out.new) bytes.now) }
     ensures prefix { OnErr result (PutsPrefix (K.written out.old) (K.written out.new) bytes.now) }
     ensures cause { OnErr result (Rose (K.faults out.old) (K.faults out.new)) }
+    ensures never_falls { K.faults out.old ≤ K.faults out.new }
 {
     line(bytes, page, out)?;
     finish(page, out)

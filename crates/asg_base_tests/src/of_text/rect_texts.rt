@@ -34,8 +34,10 @@ fn rewritten(alloc: Global, file: &[u8]) -> Option<Vec<u8>> {
         return None;
     }
     plain_law();
-    let inst = read(alloc, Format::Rect, file).ok()?;
-    write_rect(alloc, &inst).ok()
+    match read(alloc, Format::Rect, file) {
+        Ok(inst) => write_rect(alloc, &inst).ok(),
+        Err(_) => None,
+    }
 }
 
 // Whether this is the text of the instance of a rect file.

@@ -118,7 +118,9 @@ where
     ensures { IfOk result (IsBriefRanking objective inst.now count) }
 {
     let mut spent = ranker;
-    brief_of(alloc, objective, &mut spent, inst, count)
+    let brief = brief_of(alloc, objective, &mut spent, inst, count);
+    drop(spent);
+    brief
 }
 
 // The brief ranking by a kind.

@@ -137,8 +137,7 @@ pub fn frontier_law<M: DMonoid>(m: &M)
 {}
 
 /// The law of proved rankings: listed answers whose nodes are a search tree in the monoid of an
-/// algebraic objective are a ranking, and each is best among the valid choices that those before it
-/// left.
+/// algebraic objective are a ranking.
 pub fn proved_ranking_law()
     ensures ranking { (objective : Objective) (X : Problem) (count : ℕ) (answers : List (List (Option ℕ)))
         (nodes : List Node)

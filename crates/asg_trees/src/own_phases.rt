@@ -16,8 +16,11 @@ use asg_replays::{first_bad, read_steps};
 use asg_square::{BitRows, Square};
 use std::alloc::Global;
 
-// Whether the steps of a phase times the rows that enter are at most four times the side, so that
-// it is tested cell by cell in a time that is in proportion to the cells, as that of a copy is.
+// Up to so many times the side are tested cell by cell; more take longer than a copy of the square.
+const SHORT: usize = 16;
+
+// Whether the steps of a phase times the rows that enter are few times the side, so that it is
+// tested cell by cell in a time that is in proportion to the cells, as that of a copy is.
 fn is_short(phase: &WrittenPhase, side: u32) -> bool {
     let steps = phase.steps().len();
     let entering = phase
@@ -25,7 +28,7 @@ fn is_short(phase: &WrittenPhase, side: u32) -> bool {
         .iter()
         .filter(|mark| (**mark as usize) < steps)
         .count();
-    entering.saturating_mul(steps) <= 4 * side as usize
+    entering.saturating_mul(steps) <= SHORT * side as usize
 }
 
 // The index of one phase after another, where it is admitted from the kept cells of a square, which

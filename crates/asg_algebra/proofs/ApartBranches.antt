@@ -1,6 +1,6 @@
 -- What the growth of one tree without the columns of rows that keep one cell each comes to, where
 -- these rows enter and their columns leave before the first step.
-use Rattle.std.proofs.Common.{◌≡◌, ◌⊎◌, inl, inr, ℕ, ◌+◌, ◌<◌, ◌≤◌, ◌^◌, min, List, length, map, get_or, set, Option, refl, sym, ◌∙◌, ap, subst, arith, ⊎_elim}
+use Rattle.std.proofs.Common.{◌≡◌, ℕ, ◌+◌, ◌<◌, ◌≤◌, ◌^◌, min, List, length, get_or, set, Option, refl, sym, ◌∙◌, ap, subst, arith, ⊎_elim}
 use Rattle.std.specs.Prelude.{vec_len, slice_index}
 use Rattle.std.proofs.lemmas.List.{length-map, length-set, get_or-set_other}
 use Rattle.std.proofs.lemmas.Bool.{cases_eq, cases_lt}
@@ -27,7 +27,7 @@ use Rattle.asg_algebra.specs.Rest.{IsRest, IsRestOf, cut}
 use Rattle.asg_algebra.specs.Served.{made_of}
 use Rattle.asg_algebra.specs.Solved.{ArePushed}
 use Rattle.asg_algebra.proofs.ApartPhases.{AreEarly, lifted_phase, lifted_rest}
-use Rattle.asg_algebra.proofs.ApartWords.{in_from, from_in, not_from_in, IsWithout-apart}
+use Rattle.asg_algebra.proofs.ApartWords.{from_in, not_from_in, IsWithout-apart}
 use Rattle.asg_algebra.proofs.BranchLaws.{few_led, led_index}
 use Rattle.asg_algebra.proofs.FinishLaws.{finished_phase}
 use Rattle.asg_algebra.proofs.PhaseEnds.{get_or-cut, phase_so_far}

@@ -1,10 +1,7 @@
 -- Rows and columns that are apart are as many.
-use Rattle.std.proofs.Common.{◌≡◌, ℕ, zero, suc, ◌+◌, ◌<◌, Bool, true, cond, List, [], ◌∷◌, Option, Some, refl, sym, ◌∙◌, ap, arith}
+use Rattle.std.proofs.Common.{◌≡◌, ℕ, zero, suc, ◌+◌, ◌<◌, Bool, true, cond, List, [], ◌∷◌, refl, ap, arith}
 use Rattle.std.specs.Prelude.{count_by}
-use Rattle.std.specs.Option.{unwrap_or}
 use Rattle.std.proofs.lemmas.List.Sums.{sum_by-cons}
-use Rattle.std.proofs.lemmas.Option.{same_Some}
-use Rattle.asg_match.specs.Matching.{column_at, Matches, IsMatching}
 use Rattle.asg_model.specs.Sums.{count_below as counted}
 use Rattle.asg_proof.specs.Steps.{count_below}
 use Rattle.asg_proof.specs.laws.CountsBelow.{count_below-more}

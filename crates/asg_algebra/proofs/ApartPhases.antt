@@ -1,14 +1,14 @@
 -- A phase that is admitted from a square without the columns of rows that keep one cell each is
 -- admitted from the whole square, where these rows enter and their columns leave before its first
 -- step.
-use Rattle.std.proofs.Common.{◌≡◌, ℕ, zero, suc, ◌+◌, ◌<◌, ◌≤◌, Bool, true, false, cond, not, leb, ltb, List, length, get_or, Option, Some, None, is_some, refl, sym, ◌∙◌, ap, subst, arith, ⊎_elim}
+use Rattle.std.proofs.Common.{◌≡◌, ℕ, zero, suc, ◌+◌, ◌<◌, ◌≤◌, Bool, true, false, cond, not, leb, ltb, List, length, get_or, Option, Some, None, is_some, refl, sym, ◌∙◌, ap, arith, ⊎_elim}
 use Rattle.std.specs.Prelude.{IsSome}
 use Rattle.std.specs.Option.{option_map}
 use Rattle.std.specs.List.{range_with_len}
 use Rattle.std.proofs.lemmas.Bool.{cases_Bool, true≢false, false≢true, le-leb, lt-leb, lt-ltb, le-ltb}
 use Rattle.asg_order.specs.Monoid.{Monoid, IsOrderedMonoid}
 use Rattle.asg_order.specs.Differences.{HasDifferences}
-use Rattle.asg_proof.specs.Steps.{moved, count_below, IsAdmittedStep, HasValues}
+use Rattle.asg_proof.specs.Steps.{moved, count_below, HasValues}
 use Rattle.asg_proof.specs.Phases.{phase_of, entered_at, staying_at, square_after, after_phase, AreAdmittedSteps, IsAdmittedPhase}
 use Rattle.asg_proof.specs.laws.PhaseSteps.{is_some-after, HasValues-after}
 use Rattle.asg_algebra.specs.Rest.{IsRest}

@@ -1,6 +1,6 @@
 -- The square without the columns of rows that keep one cell each, by its rows of bits.
-use Rattle.std.proofs.Common.{◌≡◌, ◌⊎◌, inl, inr, ℕ, ◌+◌, ◌*◌, ◌/◌, ◌%◌, ◌^◌, ◌<◌, ◌≤◌, Bool, is_some, true, false, cond, not, ◌&&◌, List, length, get_or, Option, Some, None, refl, sym, ◌∙◌, ap, subst, arith, ⊎_elim, w64}
-use Rattle.std.specs.Prelude.{IsSome, All, ◌==◌, nat_lt}
+use Rattle.std.proofs.Common.{◌≡◌, ◌⊎◌, inl, inr, ℕ, ◌+◌, ◌*◌, ◌/◌, ◌%◌, ◌^◌, ◌<◌, ◌≤◌, Bool, is_some, true, false, cond, not, List, length, get_or, Option, refl, sym, ◌∙◌, ap, subst, arith, ⊎_elim, w64}
+use Rattle.std.specs.Prelude.{nat_lt}
 use Rattle.std.specs.Int.{bit_at, bit_not}
 use Rattle.std.proofs.lemmas.Bool.{cases_Bool, cases_lt, true≢false, false≢true, and_parts, and_from, lt-ltb, ltb-true, ne_eqb}
 use Rattle.std.proofs.lemmas.List.{get_or_past}
@@ -19,10 +19,9 @@ use Rattle.asg_square.specs.Masked.{keeps, masked_grid}
 use Rattle.asg_square.specs.laws.Masks.{some_kept, kept_some}
 use Rattle.asg_square.specs.laws.Words.{bit_of, of_bit}
 use Rattle.std.specs.Option.{unwrap_or}
-use Rattle.asg_proof.specs.Steps.{count_below}
 use Rattle.asg_algebra.specs.Apart.{is_in, AreApart, apart_words, apart_reduced}
 use Rattle.asg_algebra.specs.Masked.{masked_reduced}
-use Rattle.asg_algebra.specs.Rest.{IsRest, IsRestOf}
+use Rattle.asg_algebra.specs.Rest.{IsRestOf}
 use Rattle.asg_algebra.proofs.ApartCounts.{count_paired}
 use Rattle.asg_algebra.proofs.ApartPhases.{IsWithout}
 

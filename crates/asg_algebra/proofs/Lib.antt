@@ -18,6 +18,7 @@ pub mod BranchLaws
 pub mod BranchStarts
 pub mod ApartRows
 pub mod ApartCounts
+pub mod ApartGrowths
 pub mod ApartPhases
 pub mod ApartWords
 pub mod ApartBranches

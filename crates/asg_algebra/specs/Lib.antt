@@ -14,3 +14,4 @@ pub mod Benches
 pub mod Ended
 pub mod Branches
 pub mod Apart
+pub mod ApartGrowths

@@ -1,4 +1,4 @@
-use Rattle.std.proofs.Common.{◌*◌, length, sym, subst}
+use Rattle.std.proofs.Common.{◌*◌, sym, subst}
 use Rattle.asg_square.specs.Grid.{cell_at}
 use Rattle.asg_square.specs.Masked.{masked_grid, AreBoth}
 use Rattle.asg_square.specs.laws.Masks.{AreValuesOf-masked, AreWordsOf-masked}

@@ -1,0 +1,28 @@
+"""Sentences: what is wrong, and things that are listed or counted."""
+
+
+class Wrong(Exception):
+    """What is wrong with the words, the table or an answer, in words."""
+
+
+def listed(names, most=12):
+    """The names as a list in a sentence; of more than `most` the last ones are counted."""
+    names = list(names)
+    if len(names) > most:
+        names = names[:most - 1] + [f'{len(names) - most + 1:,} more']
+    if len(names) < 2:
+        return names[0] if names else 'none'
+    return ', '.join(names[:-1]) + ' and ' + names[-1]
+
+
+def counted(number, noun):
+    """The noun with its number: 1 place, 5 places."""
+    return f'{number:,} {noun}{"s" * (number != 1)}'
+
+
+def at(where, call, *given):
+    """Calls, and tells the place too where something is wrong."""
+    try:
+        return call(*given)
+    except Wrong as wrong:
+        raise Wrong(f'{where}: {wrong}') from None

@@ -94,8 +94,8 @@ def solve(args):
     outputs.look_at_paths(question.table, args)
     with Program(program_path(args.asg), args.keep) as program:
         solved = solving.solve(program, question)
-    print('\n'.join(texts.solved_lines(solved, args.keep)))
     outputs.write_all(solved, args)
+    print('\n'.join(texts.solved_lines(solved, args.keep)))
     return SHOWN if solved.answer else NOTHING
 
 

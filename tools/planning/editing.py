@@ -5,9 +5,8 @@ from dataclasses import dataclass, replace
 from . import looks, texts
 from .changes import apply, copied, script_of, told
 from .documents import Answer, read_documents
-from .objectives import Objective
 from .program import ending
-from .solving import Question, document_of, explained, refusal, total_reasons, worst_reason
+from .solving import Question, document_of, explained, refusal, worst_reason
 from .words import Wrong, counted, listed
 
 
@@ -55,7 +54,7 @@ def left_question(question, number):
     """The same question over what is left of the table."""
     table, rows, columns = compacted(question.table)
     if question.place > len(rows):
-        raise Wrong(f'--place {question.place}: {counted(len(rows), table.row_title)} are left')
+        raise Wrong(f'--place {question.place} is more than what is left: {counted(len(rows), table.row_title)}')
     return Question(table, question.objective, question.place, name=f'table-{number}'), rows, columns
 
 
@@ -82,8 +81,8 @@ def repaired(program, question, blocks, path):
     answers = program.write('answer.document', done.text)
     verdict = program.check('asg checks the answers', word, table, answers, '--script', script, *options)
     steps = []
-    documents = read_documents(done.text, question.instance.columns)
-    for number, ((name, words, asks), document) in enumerate(zip(questions(question, blocks), documents, strict=True)):
+    documents = read_documents(done.text, len(blocks) + 1, len(question.table.rows), question.instance.columns)
+    for number, ((name, words, asks), document) in enumerate(zip(questions(question, blocks), documents)):
         if document.answers:
             looks.look_at_answer(asks.table, asks.objective, document.answers[0], asks.place)
         steps.append(Step(name, words, asks, document, why_of(program, asks, document, number)))

@@ -19,8 +19,11 @@ class Ranked:
     verdict: str
 
 
-def different(answers):
-    """The answers without those whose roster stands there before: by other places of the same columns."""
+def different(question, answers):
+    """The answers without those whose roster stands there before, by other places of the same columns."""
+    columns = question.instance.columns
+    if len(set(columns)) == len(columns):
+        return answers
     return list({frozenset(answer.cells): answer for answer in reversed(answers)}.values())[::-1]
 
 
@@ -34,7 +37,7 @@ def rank(program, question, count):
         document, verdict = document_of(program, question, 'rank', '--count', str(asked))
         if document.status == 'none':
             return Ranked(question, [], True, reasons.none_reasons(question.table, document, 0), verdict)
-        answers = different(document.answers)
+        answers = different(question, document.answers)
         has_all = len(document.answers) < asked
         if len(answers) >= count or has_all:
             looks.look_at_ranking(question.objective, answers)

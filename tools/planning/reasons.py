@@ -44,12 +44,20 @@ def below_reason(table, is_greater, value, rows, out):
     return f'{"above" if is_greater else "below"} {table.scale.show(value)}: ' + shortage(table, rows, holds, out)
 
 
+def band(scale, low, high):
+    """A band of costs in words."""
+    if low == high:
+        return f'at {scale.show(low)}'
+    if low <= -REACH:
+        return f'up to {scale.show(high)}' if high < REACH else 'at any cost'
+    return f'from {scale.show(low)} on' if high >= REACH else f'from {scale.show(low)} to {scale.show(high)}'
+
+
 def window_reasons(table, windows, out):
     """Why no choice lies within the bands of costs; the first few."""
     told = []
     for low, high, rows in windows[:SHOWN]:
-        band = f'from {table.scale.show(max(low, -REACH))} to {table.scale.show(min(high, REACH))}'
-        told.append(f'{band}: ' + shortage(table, rows, lambda cost, low=low, high=high: low <= cost <= high, out))
+        told.append(f'{band(table.scale, low, high)}: ' + shortage(table, rows, lambda cost, low=low, high=high: low <= cost <= high, out))
     if len(windows) > SHOWN:
         told.append(f'and {len(windows) - SHOWN:,} more such bands')
     return told or ['all chosen costs are alike']
@@ -57,8 +65,10 @@ def window_reasons(table, windows, out):
 
 def level_reasons(table, levels):
     """Why the sorted costs can't be less; the first few."""
-    told = [f'{"then " if place else ""}every choice has at least {count} that cost{"s" * (count == 1)} '
-            f'{table.scale.show(cost)}' for place, (cost, count) in enumerate(levels[:SHOWN])]
+    told = [('one with just so many has at least' if place else
+             f'a choice with no cost above {table.scale.show(cost)} has at least')
+            + f' {count} that cost{"s" * (count == 1)} {table.scale.show(cost)}'
+            for place, (cost, count) in enumerate(levels[:SHOWN])]
     if len(levels) > SHOWN:
         told.append(f'and so on, {len(levels) - SHOWN:,} more costs')
     return told

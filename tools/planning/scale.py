@@ -10,10 +10,10 @@ NUMBER = re.compile(r'([-+\u2212]?)([0-9]+)(?:([.,])([0-9]+))?')
 
 @dataclass
 class Scale:
-    """How many decimals are moved, and the mark before them, as the table has it."""
+    """How many decimals are moved, and the mark before them, as the table has it first."""
 
     decimals: int = 0
-    mark: str = '.'
+    mark: str = ''
 
     def read(self, text, with_comma):
         """The whole number that stands for a field's text."""
@@ -25,8 +25,7 @@ class Scale:
         if len(part) > self.decimals:
             raise Wrong(f'{text} has more than {self.decimals} decimals: say --decimals {len(part)}'
                         if self.decimals else f'{text} has decimals: say --decimals {len(part)}')
-        if mark:
-            self.mark = mark
+        self.mark = self.mark or mark or ''
         value = int(whole + part.ljust(self.decimals, '0'))
         return -value if sign and sign != '+' else value
 
@@ -42,7 +41,7 @@ class Scale:
         if not self.decimals:
             return str(value)
         digits = str(abs(value)).rjust(self.decimals + 1, '0')
-        return '-' * (value < 0) + digits[:-self.decimals] + self.mark + digits[-self.decimals:]
+        return '-' * (value < 0) + digits[:-self.decimals] + (self.mark or '.') + digits[-self.decimals:]
 
     def show_all(self, values):
         """The parts of a cost or a value, joined as they are written in a table."""

@@ -91,7 +91,7 @@ def document_of(program, question, command='solve', *options):
     path = program.write(f'{question.name}.{question.objective.kind}.document', text)
     verdict = program.check('asg checks the answer', question.objective.word, table, path, *options,
                             *question.instance.options)
-    document = read_documents(text, question.instance.columns)[0]
+    document = read_documents(text, 1, len(question.table.rows), question.instance.columns)[0]
     for answer in document.answers:
         looks.look_at_answer(question.table, question.objective, answer, question.place)
     return document, verdict

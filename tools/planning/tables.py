@@ -4,7 +4,7 @@ from dataclasses import dataclass, field
 
 from .scale import MOST, Scale
 from .sheets import read_sheet
-from .words import Wrong, at
+from .words import Wrong, at, counted
 
 HOLES = ('', '-', 'x', 'X', '\u2013', '\u2014')
 MOST_CAPACITY = 1000
@@ -90,7 +90,8 @@ def cells_of(table, where, fields):
     while len(cells) > wanted and not cells[-1]:
         cells.pop()
     if len(cells) != wanted:
-        raise Wrong(f'{where}: {fields[0] or "the line"} has {len(cells)} cells, and there are {wanted} columns')
+        raise Wrong(f'{where}: {fields[0] or "the line"} has {counted(len(cells), "cell")}, and there '
+                    f'{"is" if wanted == 1 else "are"} {counted(wanted, "column")}')
     return cells
 
 

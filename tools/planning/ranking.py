@@ -3,7 +3,7 @@ from dataclasses import dataclass
 
 from . import looks, reasons, texts
 from .solving import document_of
-from .words import Wrong, counted
+from .words import TooMany, Wrong, counted
 
 WIDE = 100
 
@@ -27,23 +27,39 @@ def different(question, answers):
     return list({frozenset(answer.cells): answer for answer in reversed(answers)}.values())[::-1]
 
 
+def asked(program, question, count):
+    """So many choices of asg's ranking, as different rosters; whether they are all; and the document and its check."""
+    document, verdict = document_of(program, question, 'rank', '--count', str(count))
+    answers = different(question, document.answers)
+    looks.look_at_ranking(question.objective, answers)
+    return answers, len(document.answers) < count, document, verdict
+
+
+def more_asked(program, question, count):
+    """Asks for more and more, until there are so many different rosters, or all, or asg ranks no more. Rosters come
+    more than once where columns stand in its file for each of their places."""
+    found = asked(program, question, count)
+    while len(found[0]) < count and not found[1]:
+        try:
+            found = asked(program, question, 2 * len(found[2].answers))
+        except TooMany:
+            break
+    return found
+
+
 def rank(program, question, count):
-    """Has asg rank. Where columns stand in its file for each of their places, rosters come more than once: then more
-    are asked for, until there are enough different ones."""
+    """The best rosters, so many as are asked for."""
     if not question.objective.is_ranked:
         raise Wrong(f'asg ranks by each objective but balanced and lex, and not by {question.objective.kind}')
-    asked = count
-    while True:
-        document, verdict = document_of(program, question, 'rank', '--count', str(asked))
-        if document.status == 'none':
-            return Ranked(question, [], True, reasons.none_reasons(question.table, document, 0), verdict)
-        answers = different(question, document.answers)
-        has_all = len(document.answers) < asked
-        if len(answers) >= count or has_all:
-            looks.look_at_ranking(question.objective, answers)
-            are_all = has_all and len(answers) <= count
-            return Ranked(question, answers[:count], are_all, [last_words(question, answers[:count], are_all)], verdict)
-        asked *= 2
+    answers, has_all, document, verdict = more_asked(program, question, count)
+    if document.status == 'none':
+        return Ranked(question, [], True, reasons.none_reasons(question.table, document, 0), verdict)
+    are_all = has_all and len(answers) <= count
+    why = [last_words(question, answers[:count], are_all)]
+    if len(answers) < count and not has_all:
+        why.append(f'asg ranks no more of this table: columns with different capacities stand in its file once for each '
+                   f'place, so each roster came several times, in {len(document.answers):,} choices')
+    return Ranked(question, answers[:count], are_all, why, verdict)
 
 
 def last_words(question, answers, are_all):

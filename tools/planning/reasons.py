@@ -11,7 +11,7 @@ def shortage(table, rows, holds, out):
     """Why these rows can't all be placed by cells whose first cost holds."""
     columns = looks.reached(table, rows, holds)
     looks.places_short(table, rows, columns, out)
-    names = listed(table.rows[row] for row in rows)
+    names = listed(table.rows[row] for row in sorted(rows))
     stay = f', and {out} may stay out' if out else ''
     if not columns:
         many = f'; these are {len(rows)}{stay}' if out else ''
@@ -26,7 +26,7 @@ def ways_out(table, rows, out):
     columns = looks.reached(table, rows, lambda cost: True)
     short = looks.places_short(table, rows, columns, out)
     more = 'one more' if short == 1 else f'{short} more'
-    names = listed((table.rows[row] for row in rows), 6)
+    names = listed((table.rows[row] for row in sorted(rows)), 6)
     ways = [f'{counted(short, "place")} more in {listed((table.columns[c] for c in columns), 6)}'] if columns else []
     ways += [f'{more} {table.column_title}{"s" * (short > 1)} that {"one of them" if len(rows) > 1 else names} can take',
              f'{short if short > 1 else "one"} of them less' if len(rows) > 1 else f'{names} left out']
@@ -86,6 +86,17 @@ def row_shares(table, objective, found, rows):
     return [(table.rows[row], shares.shown(table, objective, sign * found.rows[row])) for row in rows]
 
 
+def left_out(table, objective, found, placed):
+    """What those who stay out would add: no less than anyone who is placed."""
+    left = set(table.live_rows()) - set(placed)
+    if not left:
+        return []
+    least = min(found.rows[row] for row in left)
+    share = shares.shown(table, objective, -least if objective.is_greater else least)
+    return [f'each {table.row_title} that stays out would {"bring at most" if objective.is_greater else "add at least"} '
+            f'{share}']
+
+
 def share_reasons(table, objective, answer, found):
     """Why no total is better, by what rows add and columns take off."""
     placed = [row for row, _ in answer.cells]
@@ -94,7 +105,7 @@ def share_reasons(table, objective, answer, found):
     columns = listed((f'{name} {share}' for name, share in contested), 10)
     is_gain = objective.is_greater
     who, what, more = table.row_title, table.column_title, 'greater' if is_gain else 'less'
-    told = [f'each {who} {"brings at most" if is_gain else "adds"}: {rows}']
+    told = [f'each {who} {"brings at most" if is_gain else "adds"}: {rows}', *left_out(table, objective, found, placed)]
     if not contested:
         return told + [f'no cell is {more} than the number of its {who}, so no choice has a {more} total']
     both = f'{"and" if is_gain else "less"} that of its {what}{" together" if is_gain else ""}'

@@ -7,7 +7,10 @@ from .instances import Instance, instance_of, text_of
 from .objectives import Objective
 from .program import ending
 from .tables import Table
-from .words import Wrong, counted
+from .words import TooMany, Wrong, counted
+
+
+RANKED = 'the count times the rows times the side of the square is {:,}, and asg ranks up to 4,000,000'
 
 
 @dataclass
@@ -64,12 +67,13 @@ def refusal(question, text):
         row, column = table.rows[rest[0] - 1], table.columns[question.instance.columns[rest[1] - 1]]
         part = 'second cost' if question.objective.kind == 'time-cost' else 'cost'
         return f'{table.path}, row {row}, column {column}: {question.objective.kind} takes no negative {part}'
+    if number == 18:
+        return f'{table.path}: {RANKED.format(rest[0])}'
     return f'{table.path}: ' + {
         13: f'--place {question.place} is more than there are rows or places',
         15: f'rows and places together are too many: {rest[0]:,}, and asg takes 2,000',
         16: f'there are {rest[0]:,} different costs, and balanced takes 20,000',
         17: f'there are {rest[0]:,} rows, and lex takes 200',
-        18: f'the count times the rows times the side of the square is {rest[0]:,}, and asg ranks up to 4,000,000',
     }.get(number, f'asg refuses it: {text.strip()}')
 
 
@@ -78,7 +82,8 @@ def asked(program, question, command, *options):
     done = program.run(f'asg works on {question.size}', command, question.objective.word,
                        program.place(f'{question.name}.rect'), *options, *question.instance.options)
     if done.status == 3:
-        raise Wrong(refusal(question, done.text))
+        kind = TooMany if done.text.startswith('refused instance 18 ') else Wrong
+        raise kind(refusal(question, done.text))
     if done.status not in (0, 1):
         raise Wrong(ending(done.status))
     return done.text

@@ -5,6 +5,10 @@ class Wrong(Exception):
     """What is wrong with the words, the table or an answer, in words."""
 
 
+class TooMany(Wrong):
+    """So many choices that asg doesn't rank them."""
+
+
 def listed(names, most=12):
     """The names as a list in a sentence; of more than `most` the last ones are counted."""
     names = list(names)

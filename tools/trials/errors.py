@@ -22,7 +22,7 @@ def raising_lines():
             tree = ast.parse(file.read())
         for node in ast.walk(tree):
             is_raise = isinstance(node, ast.Raise) and isinstance(node.exc, ast.Call) \
-                and getattr(node.exc.func, 'id', '') == 'Wrong'
+                and getattr(node.exc.func, 'id', '') in ('Wrong', 'kind')
             if is_raise:
                 found[os.path.basename(path), node.lineno] = node.end_lineno
     return found

@@ -33,7 +33,7 @@ def one(bench, made, count, name):
 
 def crowded(bench):
     """A table whose rosters come so often that asg ranks no second one: that is told, and the first one is shown."""
-    text = 'r,a,b\ncapacity,60,59\n' + ''.join(f'r{row},1,2\n' for row in range(60))
+    text = 'r,a,b\ncapacity,20,19\n' + ''.join(f'r{row},1,2\n' for row in range(20))
     shown = bench.plan('rank', 'sum', bench.file('table.csv', text), '--count', '2')
     bench.holds(shown.status == 0 and shown.out.startswith('sum: 1 best roster, in order') and not shown.err
                 and 'asg ranks no more of this table' in shown.out, 'rank: a crowded table', shown)

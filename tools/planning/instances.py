@@ -44,10 +44,6 @@ def instance_of(table, place):
     return made
 
 
-def cell_text(a, b):
-    return '-' if a is None else f'{a}:{b}' if b else str(a)
-
-
 def text_of(table, instance):
     """The rect file. A dropped row has no cell in it, as one that stays away has none to be placed by."""
     lines = [f'{len(table.rows)} {len(instance.columns)}']
@@ -55,8 +51,8 @@ def text_of(table, instance):
     for first, second in zip(table.first, table.second):
         if not is_plain:
             first, second = [first[c] for c in instance.columns], [second[c] for c in instance.columns]
-        if None in first or any(second):
-            lines.append(' '.join(map(cell_text, first, second)))
+        if any(second):
+            lines.append(' '.join(['-' if a is None else f'{a}:{b}' if b else str(a) for a, b in zip(first, second)]))
         else:
-            lines.append(' '.join(map(str, first)))
+            lines.append(' '.join(['-' if a is None else str(a) for a in first]))
     return '\n'.join(lines) + '\n'

@@ -4,6 +4,7 @@ from itertools import accumulate
 
 REACH = 10**9
 HALF = 2**41
+UNIT = 2 * HALF
 
 
 @dataclass
@@ -19,7 +20,7 @@ def numbers_of(table, objective, row):
     is one number."""
     first = table.first[row]
     if objective.kind == 'pair':
-        return [None if a is None else a * 2 * HALF + b for a, b in zip(first, table.second[row])]
+        return [None if a is None else a * UNIT + b for a, b in zip(first, table.second[row])]
     if objective.kind == 'sum-max':
         return [None if a is None else -a for a in first]
     return first
@@ -27,7 +28,7 @@ def numbers_of(table, objective, row):
 
 def shift_of(objective):
     """What is added to each cost before the phases."""
-    return {'pair': REACH * 2 * HALF + REACH, 'capped': 0}.get(objective.kind, REACH)
+    return {'pair': REACH * UNIT + REACH, 'capped': 0}.get(objective.kind, REACH)
 
 
 def sums_from(phases, side, marks):
@@ -62,5 +63,5 @@ def shown(table, objective, share):
     """A share as numbers of the table."""
     if objective.kind != 'pair':
         return table.scale.show(share)
-    first = (share + HALF) // (2 * HALF)
-    return table.scale.show_all((first, share - first * 2 * HALF))
+    first = (share + HALF) // (UNIT)
+    return table.scale.show_all((first, share - first * UNIT))

@@ -38,11 +38,16 @@ def text_of(path):
 
 def cleaned(field):
     """A field without what no name can be shown with: control characters, and blanks in a row."""
-    if field.isprintable() and '  ' not in field:
-        return field.strip()
     kept = ''.join(' ' if unicodedata.category(sign) in ('Cc', 'Zl', 'Zp', 'Cs') else sign
                    for sign in field if sign not in '\ufeff\ufffe\uffff')
     return ' '.join(kept.split())
+
+
+def all_cleaned(fields):
+    """The fields of a line, cleaned."""
+    joined = ''.join(fields)
+    return [field.strip() for field in fields] if joined.isprintable() and '  ' not in joined \
+        else list(map(cleaned, fields))
 
 
 def delimiter_of(text):
@@ -63,7 +68,7 @@ def read_sheet(path):
     lines = []
     try:
         for fields in reader:
-            fields = list(map(cleaned, fields))
+            fields = all_cleaned(fields)
             if any(fields) and not fields[0].startswith('#'):
                 lines.append((reader.line_num, fields))
     except csv.Error as error:

@@ -2,18 +2,17 @@
 import re
 from dataclasses import dataclass, field
 
-from .scale import MOST, Scale
+from .cells import HOLES, read_plain
+from .scale import Scale
 from .sheets import read_sheet
 from .words import Wrong, at, counted
 
-HOLES = ('', '-', 'x', 'X', '\u2013', '\u2014')
 MOST_CAPACITY = 1000
 
 
 @dataclass
 class Table:
-    """Rows and columns by name. A cell has its first and its second cost, or None and 0 where it can't be chosen.
-    `known` has the costs of each text that a cell had."""
+    """Rows and columns by name. A cell has its first and its second cost, or None and 0 where it can't be chosen."""
 
     path: str
     delimiter: str
@@ -28,7 +27,6 @@ class Table:
     second: list = field(default_factory=list)
     dropped: set = field(default_factory=set)
     closed: set = field(default_factory=set)
-    known: dict = field(default_factory=dict)
 
     @property
     def with_comma(self):
@@ -51,8 +49,6 @@ def read_cell(text, table):
     """The two parts of a cell's cost, or None and 0."""
     if text in HOLES:
         return None, 0
-    if text.isdecimal() and text.isascii() and not table.scale.decimals and len(text) < 10:
-        return int(text), 0
     first, is_pair, second = text.partition(':')
     return (table.scale.read_cost(first.strip(), table.with_comma),
             table.scale.read_cost(second.strip(), table.with_comma) if is_pair else 0)
@@ -96,16 +92,12 @@ def cells_of(table, where, fields):
 
 
 def read_cells(table, where, cells):
-    """The costs of a row: plain numbers at once, other cells one by one."""
-    if not table.scale.decimals and all(map(str.isdecimal, cells)) and ''.join(cells).isascii():
-        numbers = list(map(int, cells))
-        if max(numbers) <= MOST:
-            return numbers, [0] * len(numbers)
-    known = table.known
-    for name, text in zip(table.columns, cells):
-        if text not in known:
-            known[text] = at(f'{where}, column {name}', read_cell, text, table)
-    return [known[text][0] for text in cells], [known[text][1] for text in cells]
+    """The costs of a row: plain ones at once, others one by one."""
+    plain = read_plain(cells, table.scale, table.with_comma)
+    if plain:
+        return plain
+    found = [at(f'{where}, column {name}', read_cell, text, table) for name, text in zip(table.columns, cells)]
+    return [a for a, _ in found], [b for _, b in found]
 
 
 def take_row(table, where, fields, seen):

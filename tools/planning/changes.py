@@ -4,7 +4,7 @@ from dataclasses import dataclass, field
 
 from .sheets import read_sheet
 from .tables import read_cell
-from .words import Wrong, at
+from .words import Wrong, at, named
 
 FORMS = {
     'cost': 'cost,ROW,COLUMN,COST',
@@ -138,8 +138,8 @@ def script_of(blocks, instance, path):
 
 def told(change, table):
     """A change in words."""
-    row = '' if change.row is None else table.rows[change.row]
-    column = '' if change.column is None else table.columns[change.column]
+    row = '' if change.row is None else named(table.rows[change.row])
+    column = '' if change.column is None else named(table.columns[change.column])
     if change.word == 'cost':
         cost = table.scale.show_all(change.cost) if change.cost[1] else table.scale.show(change.cost[0])
         return f'{row}, {column} costs {cost}'

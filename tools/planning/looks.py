@@ -54,13 +54,14 @@ def places_short(table, rows, columns, out):
 def look_at_shares(table, objective, answer, shares, place):
     """That no cell costs less than its row's share less its column's, that the chosen ones cost just that, and that
     no row that stays out has a lesser share than one that is placed. So no choice is better."""
+    total, chosen = 0, dict(answer.cells)
     for row in table.live_rows():
-        sums = [number + price for number, price in zip(numbers_of(table, objective, row), shares.columns)
-                if number is not None]
+        numbers = numbers_of(table, objective, row)
+        sums = [number + price for number, price in zip(numbers, shares.columns) if number is not None]
         if sums and min(sums) < shares.rows[row]:
             raise Wrong(f'the shares of the proof do not hold for {table.rows[row]}; {FAULT}')
-    placed = [row for row, _ in answer.cells]
-    total = sum(numbers_of(table, objective, row)[column] for row, column in answer.cells)
+        total += numbers[chosen[row]] if row in chosen else 0
+    placed = list(chosen)
     most = (min(count, len(table.rows)) for count in table.capacity)
     told = sum(shares.rows[row] for row in placed) - sum(map(mul, shares.columns, most))
     left = set(table.live_rows()) - set(placed) if place else ()

@@ -1,5 +1,4 @@
 """The table as a picture: darker is dearer, a ring is chosen, a bar marks the rows of the proof."""
-import unicodedata
 from html import escape
 
 from .texts import width
@@ -9,21 +8,23 @@ MOST_TITLES = 10000
 MOST_NAME = 34
 HEIGHT = 22
 LETTER = 6.6
-LOW, HIGH = (235, 243, 251), (33, 102, 172)
+LOW, HIGH = (216, 230, 244), (33, 102, 172)
 SHADES = 16
-STYLE = ('text{font:11px sans-serif}.n{text-anchor:end}.h{fill:#fff;stroke:#ddd}.c{fill:none;stroke:#d95f02;'
+STYLE = ('text{font:11px sans-serif;unicode-bidi:plaintext}.n{text-anchor:end}.h{fill:#fff;stroke:#ddd}.c{fill:none;stroke:#d95f02;'
          'stroke-width:2.5}.b{fill:#b30000}.t{text-anchor:middle;font-size:10px}.l{fill:#fff}')
 
 
 def short(name):
-    """A name that is cut where it is too long for a picture."""
-    return name if width(name) <= MOST_NAME else name[:MOST_NAME - 1].rstrip() + '\u2026'
+    """A name without its middle where it is too long for a picture; its end often tells it from others."""
+    while width(name) > MOST_NAME:
+        half = min(len(name) - 2, MOST_NAME - 2) * 2 // 3
+        name = name[:half].rstrip() + '\u2026' + name[-(half // 2):].lstrip()
+    return name
 
 
 def room(names):
     """How long the longest of the names is, drawn."""
-    return LETTER * max(width(short(name)) + sum(unicodedata.east_asian_width(s) in 'WF' for s in name[:MOST_NAME])
-                        for name in names)
+    return LETTER * max(width(short(name)) for name in names)
 
 
 class Plot:

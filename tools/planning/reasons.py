@@ -1,6 +1,6 @@
 """Why nothing is better, or why nothing is valid, in sentences: each is held against the table before it is shown."""
 from . import looks, shares
-from .words import counted, listed
+from .words import counted, listed, named
 
 SHOWN = 5
 REACH = 10**9
@@ -11,13 +11,13 @@ def shortage(table, rows, holds, out):
     """Why these rows can't all be placed by cells whose first cost holds."""
     columns = looks.reached(table, rows, holds)
     looks.places_short(table, rows, columns, out)
-    names = listed(table.rows[row] for row in sorted(rows))
+    names = listed(named(table.rows[row]) for row in sorted(rows))
     stay = f', and {out} may stay out' if out else ''
     if not columns:
         many = f'; these are {len(rows)}{stay}' if out else ''
         return f'{names} can take no {table.column_title} at all{many}'
     places = sum(table.capacity[column] for column in columns)
-    return (f'{names} can only take {listed(table.columns[column] for column in columns)}: '
+    return (f'{names} can only take {listed(named(table.columns[column]) for column in columns)}: '
             f'{counted(places, "place")} for {len(rows)}{stay}')
 
 
@@ -26,8 +26,8 @@ def ways_out(table, rows, out):
     columns = looks.reached(table, rows, lambda cost: True)
     short = looks.places_short(table, rows, columns, out)
     more = 'one more' if short == 1 else f'{short} more'
-    names = listed((table.rows[row] for row in sorted(rows)), 6)
-    ways = [f'{counted(short, "place")} more in {listed((table.columns[c] for c in columns), 6)}'] if columns else []
+    names = listed((named(table.rows[row]) for row in sorted(rows)), 6)
+    ways = [f'{counted(short, "place")} more in {listed((named(table.columns[c]) for c in columns), 6)}'] if columns else []
     ways += [f'{more} {table.column_title}{"s" * (short > 1)} that {"one of them" if len(rows) > 1 else names} can take',
              f'{short if short > 1 else "one"} of them less' if len(rows) > 1 else f'{names} left out']
     return f'{counted(short, "place")} short; what would do: ' + ', or '.join(ways)
@@ -77,13 +77,13 @@ def level_reasons(table, levels):
 def most_contested(table, objective, found):
     """The columns whose share is above 0, the greatest first, each with its share."""
     order = sorted((c for c in range(len(table.columns)) if found.columns[c]), key=lambda c: -found.columns[c])
-    return [(table.columns[c], shares.shown(table, objective, found.columns[c])) for c in order]
+    return [(named(table.columns[c]), shares.shown(table, objective, found.columns[c])) for c in order]
 
 
 def row_shares(table, objective, found, rows):
     """What each of these rows adds; for gains what it can bring."""
     sign = -1 if objective.is_greater else 1
-    return [(table.rows[row], shares.shown(table, objective, sign * found.rows[row])) for row in rows]
+    return [(named(table.rows[row]), shares.shown(table, objective, sign * found.rows[row])) for row in rows]
 
 
 def left_out(table, objective, found, placed):

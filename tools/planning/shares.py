@@ -63,5 +63,5 @@ def shown(table, objective, share):
     """A share as numbers of the table."""
     if objective.kind != 'pair':
         return table.scale.show(share)
-    first = (share + HALF) // (UNIT)
+    first = (share + HALF) // UNIT
     return table.scale.show_all((first, share - first * UNIT))

@@ -1,6 +1,8 @@
 """What is shown on a terminal."""
 import unicodedata
 
+from .words import is_rightward
+
 OUT = '(stays out)'
 
 
@@ -8,11 +10,6 @@ def width(text):
     """How many places of a terminal a text takes."""
     return sum(0 if unicodedata.combining(sign) or unicodedata.category(sign) in ('Cf', 'Mn', 'Me')
                else 2 if unicodedata.east_asian_width(sign) in 'WF' else 1 for sign in text)
-
-
-def is_rightward(text):
-    """Whether a text has letters that run from right to left."""
-    return any(unicodedata.bidirectional(sign) in ('R', 'AL') for sign in text)
 
 
 def padded(text, wide, to_right=False):

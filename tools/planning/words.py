@@ -1,4 +1,5 @@
-"""Sentences: what is wrong, and things that are listed or counted."""
+"""Sentences: what is wrong, and things that are named, listed or counted."""
+import unicodedata
 
 
 class Wrong(Exception):
@@ -17,6 +18,16 @@ def listed(names, most=12):
     if len(names) < 2:
         return names[0] if names else 'none'
     return ', '.join(names[:-1]) + ' and ' + names[-1]
+
+
+def is_rightward(text):
+    """Whether a text has letters that run from right to left."""
+    return not text.isascii() and any(unicodedata.bidirectional(sign) in ('R', 'AL') for sign in text)
+
+
+def named(name):
+    """A name within a sentence: marks keep one that runs to the left from what stands beside it."""
+    return f'\u2068{name}\u2069' if is_rightward(name) else name
 
 
 def counted(number, noun):

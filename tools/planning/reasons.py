@@ -100,9 +100,9 @@ def left_out(table, objective, found, placed):
 def share_reasons(table, objective, answer, found):
     """Why no total is better, by what rows add and columns take off."""
     placed = [row for row, _ in answer.cells]
-    rows = listed((f'{name} {share}' for name, share in row_shares(table, objective, found, placed)), 10)
+    rows = listed((f'{name} ({share})' for name, share in row_shares(table, objective, found, placed)), 10)
     contested = most_contested(table, objective, found)
-    columns = listed((f'{name} {share}' for name, share in contested), 10)
+    columns = listed((f'{name} ({share})' for name, share in contested), 10)
     is_gain = objective.is_greater
     who, what, more = table.row_title, table.column_title, 'greater' if is_gain else 'less'
     told = [f'each {who} {"brings at most" if is_gain else "adds"}: {rows}', *left_out(table, objective, found, placed)]

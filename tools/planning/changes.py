@@ -120,7 +120,8 @@ def script_lines(change, instance):
     row = '' if change.row is None else f' {change.row + 1}'
     if change.column is None:
         return [f'{change.word}{row}']
-    cost = '' if change.cost is None else ' ' + (f'{change.cost[0]}:{change.cost[1]}' if change.cost[1] else f'{change.cost[0]}')
+    a, b = change.cost or (None, 0)
+    cost = '' if a is None else f' {a}:{b}' if b else f' {a}'
     return [f'{change.word}{row} {copy_of}{cost}' for copy_of in instance.copies(change.column)]
 
 

@@ -77,8 +77,8 @@ def take_line(document, word, rest, rows, columns):
 
 
 def read_documents(text, wanted, rows, columns):
-    """The documents of a text, so many as are wanted. There are so many rows, and `columns` tells for each column of the
-    file which one of the table it is."""
+    """The documents of a text, so many as are wanted. There are so many rows, and `columns` tells for each column of
+    the file which one of the table it is."""
     documents = []
     try:
         for line in text.splitlines():

@@ -36,7 +36,9 @@ def shares_part(solved):
             for row in table.live_rows()]
     columns = [[table.columns[c], shares.shown(table, objective, share)]
                for c, share in enumerate(solved.shares.columns)]
-    adds, off = ('brings at most', 'a place brings at most') if objective.is_greater else ('adds', 'a place is contested by')
+    adds, off = 'adds', 'a place is contested by'
+    if objective.is_greater:
+        adds, off = 'brings at most', 'a place brings at most'
     return (f'<details><summary>The number of each {escape(table.row_title)} and each {escape(table.column_title)}'
             f'</summary>\n{grid([table.row_title, adds], rows, (1,))}'
             f'{grid([table.column_title, off], columns, (1,))}</details>\n')

@@ -10,8 +10,8 @@ HEIGHT = 22
 LETTER = 6.6
 LOW, HIGH = (216, 230, 244), (33, 102, 172)
 SHADES = 16
-STYLE = ('text{font:11px sans-serif;unicode-bidi:plaintext}.n{text-anchor:end}.h{fill:#fff;stroke:#ddd}.c{fill:none;stroke:#d95f02;'
-         'stroke-width:2.5}.b{fill:#b30000}.t{text-anchor:middle;font-size:10px}.l{fill:#fff}')
+STYLE = ('text{font:11px sans-serif;unicode-bidi:plaintext}.n{text-anchor:end}.h{fill:#fff;stroke:#ddd}'
+         '.c{fill:none;stroke:#d95f02;stroke-width:2.5}.b{fill:#b30000}.t{text-anchor:middle;font-size:10px}.l{fill:#fff}')
 
 
 def short(name):

@@ -27,8 +27,10 @@ def ways_out(table, rows, out):
     short = looks.places_short(table, rows, columns, out)
     more = 'one more' if short == 1 else f'{short} more'
     names = listed((named(table.rows[row]) for row in sorted(rows)), 6)
-    ways = [f'{counted(short, "place")} more in {listed((named(table.columns[c]) for c in columns), 6)}'] if columns else []
-    ways += [f'{more} {table.column_title}{"s" * (short > 1)} that {"one of them" if len(rows) > 1 else names} can take',
+    where = listed((named(table.columns[c]) for c in columns), 6, 'or')
+    ways = [f'{counted(short, "place")} more in {where}'] if columns else []
+    who = 'one of them' if len(rows) > 1 else names
+    ways += [f'{more} {table.column_title}{"s" * (short > 1)} that {who} can take',
              f'{short if short > 1 else "one"} of them less' if len(rows) > 1 else f'{names} left out']
     return f'{counted(short, "place")} short; what would do: ' + ', or '.join(ways)
 
@@ -57,7 +59,8 @@ def window_reasons(table, windows, out):
     """Why no choice lies within the bands of costs; the first few."""
     told = []
     for low, high, rows in windows[:SHOWN]:
-        told.append(f'{band(table.scale, low, high)}: ' + shortage(table, rows, lambda cost, low=low, high=high: low <= cost <= high, out))
+        why = shortage(table, rows, lambda cost, low=low, high=high: low <= cost <= high, out)
+        told.append(f'{band(table.scale, low, high)}: {why}')
     if len(windows) > SHOWN:
         told.append(f'and {len(windows) - SHOWN:,} more such bands')
     return told or ['all chosen costs are alike']
@@ -93,8 +96,8 @@ def left_out(table, objective, found, placed):
         return []
     least = min(found.rows[row] for row in left)
     share = shares.shown(table, objective, -least if objective.is_greater else least)
-    return [f'each {table.row_title} that stays out would {"bring at most" if objective.is_greater else "add at least"} '
-            f'{share}']
+    return [f'each {table.row_title} that stays out would '
+            f'{"bring at most" if objective.is_greater else "add at least"} {share}']
 
 
 def share_reasons(table, objective, answer, found):
@@ -105,7 +108,8 @@ def share_reasons(table, objective, answer, found):
     columns = listed((f'{name} ({share})' for name, share in contested), 10)
     is_gain = objective.is_greater
     who, what, more = table.row_title, table.column_title, 'greater' if is_gain else 'less'
-    told = [f'each {who} {"brings at most" if is_gain else "adds"}: {rows}', *left_out(table, objective, found, placed)]
+    told = [f'each {who} {"brings at most" if is_gain else "adds"}: {rows}',
+            *left_out(table, objective, found, placed)]
     if not contested:
         return told + [f'no cell is {more} than the number of its {who}, so no choice has a {more} total']
     both = f'{"and" if is_gain else "less"} that of its {what}{" together" if is_gain else ""}'

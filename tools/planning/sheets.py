@@ -46,12 +46,13 @@ def cleaned(field):
 def all_cleaned(fields):
     """The fields of a line, cleaned."""
     joined = ''.join(fields)
-    return [field.strip() for field in fields] if joined.isprintable() and '  ' not in joined \
-        else list(map(cleaned, fields))
+    if not joined.isprintable() or '  ' in joined:
+        return list(map(cleaned, fields))
+    return [field.strip() for field in fields] if ' ' in joined else fields
 
 
 def delimiter_of(text):
-    """What stands most often, outside quotes, in the first line that says something; and the text that is left."""
+    """What stands most often, outside quotes, in the first line that says something; and the text to be read."""
     told = re.match(r'sep=([,;\t])\r?\n', text)
     if told:
         return told[1], '\n' + text[told.end():]
@@ -72,6 +73,8 @@ def read_sheet(path):
             if any(fields) and not fields[0].startswith('#'):
                 lines.append((reader.line_num, fields))
     except csv.Error as error:
-        why = 'a quoted field does not end' if 'end of data' in str(error) else f'a field is not as spreadsheets save it ({error})'
+        why = f'a field is not as spreadsheets save it ({error})'
+        if 'end of data' in str(error):
+            why = 'a quoted field does not end'
         raise Wrong(f'{path}, line {reader.line_num}: {why}') from None
     return Sheet(path, delimiter, has_mark, lines)

@@ -10,14 +10,14 @@ class TooMany(Wrong):
     """So many choices that asg doesn't rank them."""
 
 
-def listed(names, most=12):
+def listed(names, most=12, last='and'):
     """The names as a list in a sentence; of more than `most` the last ones are counted."""
     names = list(names)
     if len(names) > most:
         names = names[:most - 1] + [f'{len(names) - most + 1:,} more']
     if len(names) < 2:
         return names[0] if names else 'none'
-    return ', '.join(names[:-1]) + ' and ' + names[-1]
+    return f'{", ".join(names[:-1])} {last} {names[-1]}'
 
 
 def is_rightward(text):

@@ -50,6 +50,14 @@ TABLES = [
     table('too many cells', 'crew,a\nAnna,1,2\n', '{folder}/t.csv, line 2: Anna has 2 cells, and there is 1 column'),
     table('no number', 'crew,a\nAnna,soon\n', "{folder}/t.csv, line 2, row Anna, column a: 'soon' is no number"),
     table('half a pair', 'crew,a\nAnna,3:\n', "{folder}/t.csv, line 2, row Anna, column a: '' is no number"),
+    table('a hole in a pair', 'crew,a,b\nAnna,1,x:3\n', "{folder}/t.csv, line 2, row Anna, column b: 'x' is no number"),
+    table('half a number', 'crew,a,b\nAnna,1,1-3\n', "{folder}/t.csv, line 2, row Anna, column b: '1-3' is no number"),
+    table('three parts', 'crew,a,b\nAnna,1:2,1:2:3\n',
+          "{folder}/t.csv, line 2, row Anna, column b: '2:3' is no number"),
+    table('a pair with decimals', 'crew,a,b\nAnna,1:2,1:2.5\n', '{folder}/t.csv, line 2, row Anna, column b: 2.5 has '
+          'decimals: say --decimals 1'),
+    table('a second part out of range', 'crew,a,b\nAnna,1,1:-1000000001\n', '{folder}/t.csv, line 2, row Anna, column b: '
+          '-1000000001 is out of range: costs lie between -1000000000 and 1000000000'),
     table('a comma', 'crew,a\nAnna,"1,5"\n', "{folder}/t.csv, line 2, row Anna, column a: '1,5' is no number"),
     table('decimals', 'crew;a\nAnna;1,5\n', '{folder}/t.csv, line 2, row Anna, column a: 1,5 has decimals: '
           'say --decimals 1'),

@@ -1,8 +1,11 @@
 """A case for each error: what is told, the status 2, and no traceback. Each `raise Wrong` of plan must be tried."""
 import ast
+import contextlib
 import glob
+import io
 import os
 import sys
+import time
 
 from planning import program, words
 from planning.program import TOP
@@ -116,6 +119,16 @@ def unbuilt(bench):
             os.environ['ASG'] = named
 
 
+def ticks(bench):
+    """What takes its time is told."""
+    first, after, told = program.FIRST_TICK, program.NEXT_TICKS, io.StringIO()
+    program.FIRST_TICK, program.NEXT_TICKS = .01, .02
+    with contextlib.redirect_stderr(told), program.Ticks('asg works'):
+        time.sleep(.5)
+    program.FIRST_TICK, program.NEXT_TICKS = first, after
+    bench.holds(told.getvalue().startswith('plan: asg works, 0.01 s\nplan: asg works, 0.03 s\n'), 'progress', told)
+
+
 def trials(bench):
     os.makedirs(f'{bench.folder}/kept/table.rect')
     with Watch() as watch:
@@ -125,4 +138,5 @@ def trials(bench):
             faked(bench, fake)
         by_argparse(bench)
         unbuilt(bench)
+    ticks(bench)
     bench.holds(not watch.missing(), 'each error has a case', *watch.missing())

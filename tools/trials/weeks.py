@@ -48,8 +48,8 @@ def one(bench, made, chance, name):
         return
     changes = bench.file('changes.csv', '\n'.join(lines) + '\n')
     shown = bench.plan('edit', made.objective, table, changes, *made.words())
-    told = re.findall(rf'^(?:{re.escape(made.kind)}\S* (.*?)(?:, .* before; \d+ changes? in the roster)?|No choice is valid\.)$',
-                      shown.out, re.M)
+    before = r'(?:, .* before; \d+ changes? in the roster)?'
+    told = re.findall(rf'^(?:{re.escape(made.kind)}\S* (.*?){before}|No choice is valid\.)$', shown.out, re.M)
     is_so = told == ['' if value is None else told_value(made, value) for value in right] \
         and shown.status == (None in right) and 'Checked by asg check: yes' in shown.out and not shown.err
     bench.holds(is_so, name, made.text(), '\n  '.join(lines), f'{made.objective} {made.words()}: {right} expected', shown)

@@ -21,7 +21,8 @@ class Phase:
 
 @dataclass
 class Document:
-    """The answers, and the proof: its kind, its rows, windows (low, high, rows), levels (cost, count) and phases."""
+    """The answers, of how many were asked for; and the proof: its kind, its rows, windows (low, high, rows), levels
+    (cost, count) and phases."""
 
     status: str
     answers: list = field(default_factory=list)
@@ -30,6 +31,7 @@ class Document:
     windows: list = field(default_factory=list)
     levels: list = field(default_factory=list)
     phases: list = field(default_factory=list)
+    asked: int = 0
 
 
 def read_value(words):
@@ -62,6 +64,8 @@ def take_line(document, word, rest, rows, columns):
         document.answers.append(Answer(read_value(rest), []))
     elif word.isdigit():
         document.answers[-1].cells.append((*places_of([word], rows), columns[int(rest[0]) - 1]))
+    elif word == 'count':
+        document.asked = int(rest[0])
     elif word == 'hall':
         document.kind, document.rows = 'hall', places_of(rest, rows)
     elif word == 'proof':

@@ -9,6 +9,8 @@ from .program import ending
 from .solving import Question, document_of, explained, refusal, worst_reason
 from .words import Wrong, counted, listed
 
+SCRIPT, ANSWERS = 'changes.script', 'week.document'
+
 
 @dataclass
 class Step:
@@ -70,7 +72,7 @@ def why_of(program, question, document, number):
 
 def repaired(program, question, blocks, path):
     """The rosters as asg repairs them, all checked by `asg check` in one go."""
-    script = program.write('changes.script', script_of(blocks, question.instance, path))
+    script = program.write(SCRIPT, script_of(blocks, question.instance, path))
     table = program.write('table.rect', question.file_text())
     options, word = question.instance.options, question.objective.word
     done = program.run(f'asg works on {question.size}', 'edit', word, table, script, *options)
@@ -78,7 +80,7 @@ def repaired(program, question, blocks, path):
         raise Wrong(refusal(question, done.text))
     if done.status:
         raise Wrong(f'{path}: asg refuses the changes: {done.text.strip()}' if done.status == 4 else ending(done.status))
-    answers = program.write('answer.document', done.text)
+    answers = program.write(ANSWERS, done.text)
     verdict = program.check('asg checks the answers', word, table, answers, '--script', script, *options)
     steps = []
     documents = read_documents(done.text, len(blocks) + 1, len(question.table.rows), question.instance.columns)
@@ -139,4 +141,7 @@ def edit_lines(steps, verdict, keep):
     lines = []
     for before, step in zip([None, *steps], steps):
         lines += step_lines(step, before) + ['-' * 20, '']
-    return lines[:-2] + [f'Checked by asg check: {verdict}' + (f'; the files are in {keep}' if keep else '')]
+    question = steps[0].question
+    if question.objective.is_ranked:
+        return lines[:-2] + texts.checked(verdict, question, keep, ANSWERS, '--script', f'{keep}/{SCRIPT}')
+    return lines[:-2] + texts.checked(verdict, question, '', '')

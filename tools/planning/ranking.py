@@ -10,11 +10,11 @@ WIDE = 100
 
 @dataclass
 class Ranked:
-    """The best rosters, in order; whether they are all that are valid; and what the check said."""
+    """The best rosters, in order; of how many choices asg was asked for; and what the check said."""
 
     question: object
     answers: list
-    are_all: bool
+    asked: int
     why: list
     verdict: str
 
@@ -53,13 +53,13 @@ def rank(program, question, count):
         raise Wrong(f'asg ranks by each objective but balanced and lex, and not by {question.objective.kind}')
     answers, has_all, document, verdict = more_asked(program, question, count)
     if document.status == 'none':
-        return Ranked(question, [], True, reasons.none_reasons(question.table, document, 0), verdict)
+        return Ranked(question, [], document.asked or count, reasons.none_reasons(question.table, document, 0), verdict)
     are_all = has_all and len(answers) <= count
     why = [last_words(question, answers[:count], are_all)]
     if len(answers) < count and not has_all:
         why.append(f'asg ranks no more of this table: columns with different capacities stand in its file once for each '
                    f'place, so each roster came several times, in {len(document.answers):,} choices')
-    return Ranked(question, answers[:count], are_all, why, verdict)
+    return Ranked(question, answers[:count], document.asked, why, verdict)
 
 
 def last_words(question, answers, are_all):
@@ -99,14 +99,16 @@ def ranked_lines(ranked, keep):
     """All that is shown of a ranking."""
     table, objective = ranked.question.table, ranked.question.objective
     if not ranked.answers:
-        return ['No choice is valid.', '', 'Why', *(f'  {line}' for line in ranked.why), '', checked(ranked, keep)]
+        return ['No choice is valid.', '', 'Why', *(f'  {line}' for line in ranked.why), '', *checked(ranked, keep)]
     lines = [f'{texts.shown_objective(ranked.question)}: {counted(len(ranked.answers), "best roster")}, in order; '
              '* differs from the first', '']
     left = [table.row_title, *table.rows, 'value']
     for block in blocks(left, columns_of(ranked)):
         lines += texts.table_lines(list(zip(left, *block))) + ['']
-    return lines + ['Why none is missing', *(f'  {line}' for line in ranked.why), '', checked(ranked, keep)]
+    return lines + ['Why none is missing', *(f'  {line}' for line in ranked.why), '', *checked(ranked, keep)]
 
 
 def checked(ranked, keep):
-    return f'Checked by asg check: {ranked.verdict}' + (f'; the files are in {keep}' if keep else '')
+    """What the check said of the ranking, for as many choices as it was asked for."""
+    question = ranked.question
+    return texts.checked(ranked.verdict, question, keep, question.document_name, '--count', str(ranked.asked))

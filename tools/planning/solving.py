@@ -33,6 +33,11 @@ class Question:
         """How many rows may stay out. With a number to be placed, rows that were dropped count among them."""
         return len(self.table.rows) - self.place if self.place else 0
 
+    @property
+    def document_name(self):
+        """The file of the answer."""
+        return f'{self.name}.{self.objective.kind}.document'
+
     def file_text(self):
         """The table as asg reads it."""
         return text_of(self.table, self.instance)
@@ -93,7 +98,7 @@ def document_of(program, question, command='solve', *options):
     """Asks asg, has `asg check` check what it answered, and reads it."""
     table = program.write(f'{question.name}.rect', question.file_text())
     text = asked(program, question, command, *options)
-    path = program.write(f'{question.name}.{question.objective.kind}.document', text)
+    path = program.write(question.document_name, text)
     verdict = program.check('asg checks the answer', question.objective.word, table, path, *options,
                             *question.instance.options)
     document = read_documents(text, 1, len(question.table.rows), question.instance.columns)[0]

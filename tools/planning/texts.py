@@ -1,4 +1,5 @@
 """What is shown on a terminal."""
+import shlex
 import unicodedata
 
 from .words import is_rightward
@@ -71,4 +72,14 @@ def solved_lines(solved, keep):
     if solved.answer:
         lines += table_lines([heads(question.table), *roster(question, solved.answer)], to_right=(2,)) + ['']
     lines += why_lines(solved)
-    return lines + ['', f'Checked by asg check: {solved.verdict}' + (f'; the files are in {keep}' if keep else '')]
+    return lines + ['', *checked(solved.verdict, question, keep, question.document_name)]
+
+
+def checked(verdict, question, keep, document, *options):
+    """What the check said; and where the files are kept, how to check again."""
+    lines = [f'Checked by asg check: {verdict}']
+    if keep:
+        words = ['asg', 'check', question.objective.word, f'{keep}/{question.name}.rect', f'{keep}/{document}', *options,
+                 *question.instance.options]
+        lines.append(f'The files are kept; to check again: {shlex.join(words)}')
+    return lines

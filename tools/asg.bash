@@ -2,9 +2,9 @@
 _asg() {
     local cur=${COMP_WORDS[COMP_CWORD]} before=${COMP_WORDS[COMP_CWORD-1]} options
     case $before in
-        --format) COMPREPLY=($(compgen -W 'asn square rect' -- "$cur")); return ;;
+        --format) mapfile -t COMPREPLY < <(compgen -W 'asn square rect' -- "$cur"); return ;;
         --place | --each | --count) return ;;
-        --script) COMPREPLY=($(compgen -f -- "$cur")); return ;;
+        --script) mapfile -t COMPREPLY < <(compgen -f -- "$cur"); return ;;
     esac
     case ${COMP_WORDS[1]} in
         solve | edit) options='--format --place --each --brief' ;;
@@ -13,17 +13,17 @@ _asg() {
         *) options='' ;;
     esac
     if [ "$COMP_CWORD" = 1 ]; then
-        COMPREPLY=($(compgen -W 'solve rank edit check make' -- "$cur"))
+        mapfile -t COMPREPLY < <(compgen -W 'solve rank edit check make' -- "$cur")
     elif [ -n "$cur" ] && [[ $cur == -* ]]; then
-        COMPREPLY=($(compgen -W "$options" -- "$cur"))
+        mapfile -t COMPREPLY < <(compgen -W "$options" -- "$cur")
     elif [ "${COMP_WORDS[1]}" = make ]; then
         return
     elif [ "$COMP_CWORD" = 2 ]; then
         options='sum sum-max pair capped= bottleneck bottleneck-max time-cost'
         case ${COMP_WORDS[1]} in solve | check) options+=' balanced lex' ;; esac
-        COMPREPLY=($(compgen -W "$options" -- "$cur"))
+        mapfile -t COMPREPLY < <(compgen -W "$options" -- "$cur")
     else
-        COMPREPLY=($(compgen -f -- "$cur"))
+        mapfile -t COMPREPLY < <(compgen -f -- "$cur")
     fi
 }
 complete -o filenames -F _asg asg ./asg

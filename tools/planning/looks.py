@@ -47,7 +47,7 @@ def places_short(table, rows, columns, out):
     """How many places the columns lack for the rows, of which `out` may stay out: above 0, or it proves nothing."""
     short = len(rows) - out - sum(table.capacity[c] for c in columns)
     if len(set(rows)) != len(rows) or short <= 0:
-        raise Wrong(f'the rows of the proof can all be placed; {FAULT}')
+        raise Wrong(f'the rows of the proof have enough places; {FAULT}')
     return short
 
 

@@ -49,7 +49,7 @@ REASONS = {
     2: 'it answers another command or another count, or its proof is of a kind that the objective does not take',
     3: 'the cells{answer} are no valid choice, or not in the order of the rows',
     4: 'the value{answer} is not that of its cells',
-    5: 'the rows{window} can all be placed, so they prove nothing',
+    5: 'the rows{window} have columns with enough places, so they prove nothing',
     6: 'phase {0} has the wrong length or steps, or is not admitted after those before it',
     7: 'the phases come to another value than the costs of the cells',
     8: 'no window covers the costs from {0} on',

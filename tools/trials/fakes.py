@@ -4,7 +4,7 @@ from planning.program import Run
 GOOD = 'crew / duty,early,late,night\nAnna,4,1,3\nBen,2,0,5\nCarla,3,2,2\n'
 STUCK = 'crew / duty,early,late\nAnna,4,\nBen,2,\n'
 FAULT = 'this is a fault of plan or of asg'
-PLACED = f'the rows of the proof can all be placed; {FAULT}'
+PLACED = f'the rows of the proof have enough places; {FAULT}'
 
 
 def changed(*pairs, says='yes 1'):

@@ -34,6 +34,7 @@ def behind(cell):
 def section(text, title):
     """The tabled lines of a section of the manual page."""
     part = text[text.index(f'.SH {title}\n') + 4:].split('\n.SH ')[0].split('.TS\ntab(|);\n')[1].split('.TE')[0]
+    part = part.replace('T{\n', '').replace('\nT}', '')
     return [line.replace('\\-', '-').split('|') for line in part.splitlines()[1:]]
 
 

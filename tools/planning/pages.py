@@ -4,7 +4,7 @@ from html import escape
 from . import shares, texts
 from .pictures import MOST_CELLS, is_drawn, picture
 
-STYLE = ('body{font:15px sans-serif;margin:2em;max-width:70em}table{border-collapse:collapse;margin:1em 0}'
+STYLE = ('body{font:15px sans-serif;margin:2em}ul,p{max-width:70em}table{border-collapse:collapse;margin:1em 0}'
          'td,th{padding:.15em 1.2em .15em 0;text-align:start}td.n,th.n{text-align:end}tr{border-bottom:1px solid #ddd}'
          '.wide{overflow-x:auto}h2{margin-top:1.5em}small{color:#555}')
 

@@ -5,7 +5,6 @@ from functools import lru_cache
 from .scale import MOST
 
 HOLES = frozenset(('', '-', 'x', 'X', '\u2013', '\u2014'))
-MARKS = frozenset('.,')
 MOST_DIGITS = 9
 HALVES = ('\n:', '\n-:', '\nx:', '\nX:', ':\n', ':-\n', ':x\n', ':X\n')
 SIGNS = frozenset('0123456789:-xX\n')
@@ -19,19 +18,19 @@ def plain_decimals(decimals, with_comma):
     return re.compile(rf'(?:(?:{number}(?::{number})?|[-xX]?)\n)*')
 
 
+@lru_cache
+def even_decimals(decimals, with_comma):
+    """A pattern of such rows without holes and pairs, all of whose numbers have just so many decimals."""
+    mark = '[.,]' if with_comma else '[.]'
+    return re.compile(rf'(?:-?[0-9]{{1,{MOST_DIGITS - decimals}}}{mark}[0-9]{{{decimals}}}\n)*')
+
+
 def whole(text, decimals):
     """The whole number that stands for a plain text; a hole has none."""
     if text in HOLES:
         return None
     before, _, after = text.replace(',', '.').partition('.')
     return int(before + after.ljust(decimals, '0'))
-
-
-def decimal_numbers(texts, decimals):
-    """The whole numbers that stand for plain texts: at once where all have as many decimals."""
-    if all(text[-decimals - 1:-decimals] in MARKS for text in texts):
-        return list(map(int, '\n'.join(texts).replace('.', '').replace(',', '').split('\n')))
-    return [whole(text, decimals) for text in texts]
 
 
 def whole_numbers(texts):
@@ -49,7 +48,7 @@ def whole_numbers(texts):
 
 def numbers(texts, decimals):
     """The whole numbers that stand for texts."""
-    return decimal_numbers(texts, decimals) if decimals else whole_numbers(texts)
+    return [whole(text, decimals) for text in texts] if decimals else whole_numbers(texts)
 
 
 def parts_of(cells, joined):
@@ -69,14 +68,21 @@ def is_plain(joined, scale, with_comma):
     return scale.decimals < MOST_DIGITS and plain_decimals(scale.decimals, with_comma).fullmatch(joined)
 
 
+def note_mark(joined, scale, with_comma):
+    """Notes the mark before decimals that comes first."""
+    found = re.search(r'[0-9]([.,])[0-9]' if with_comma else r'[0-9]([.])[0-9]', joined)
+    scale.mark = found[1] if found else ''
+
+
 def read_plain(cells, scale, with_comma):
     """The first and the second costs of a row of plain cells, or None where some cell isn't plain."""
     joined = '\n'.join(['', *cells, ''])
+    if scale.decimals and not scale.mark:
+        note_mark(joined, scale, with_comma)
+    if 0 < scale.decimals < MOST_DIGITS and even_decimals(scale.decimals, with_comma).fullmatch(joined, 1):
+        return list(map(int, joined.replace('.', '').replace(',', '').split())), [0] * len(cells)
     if not is_plain(joined[1:], scale, with_comma):
         return None
-    if scale.decimals and not scale.mark:
-        found = re.search('[.,]', joined)
-        scale.mark = found[0] if found else ''
     try:
         if ':' not in joined:
             return numbers(cells, scale.decimals), [0] * len(cells)

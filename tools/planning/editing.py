@@ -4,7 +4,7 @@ from dataclasses import dataclass, replace
 
 from . import looks, texts
 from .changes import apply, copied, script_of, told
-from .documents import Answer, read_documents
+from .documents import Answer, Document, read_documents
 from .program import ending
 from .solving import Question, document_of, explained, refusal, worst_reason
 from .words import Wrong, counted, listed
@@ -55,8 +55,6 @@ def compacted(table):
 def left_question(question, number):
     """The same question over what is left of the table."""
     table, rows, columns = compacted(question.table)
-    if question.place > len(rows):
-        raise Wrong(f'--place {question.place} is more than what is left: {counted(len(rows), table.row_title)}')
     return Question(table, question.objective, question.place, name=f'table-{number}'), rows, columns
 
 
@@ -91,17 +89,29 @@ def repaired(program, question, blocks, path):
     return steps, verdict
 
 
+def too_few(question):
+    """Why not as many can be placed as are to be, where too few rows or places are left; else nothing."""
+    table, rows, _ = compacted(question.table)
+    places = sum(min(count, len(rows)) for count in table.capacity)
+    if question.place <= min(len(rows), places):
+        return ''
+    return f'{counted(len(rows), "row")} and {counted(places, "place")} are left, and {question.place} are to be placed'
+
+
 def solved_anew(program, question, blocks):
     """The rosters solved one by one, for objectives whose answers asg doesn't repair."""
     steps = []
     for number, (name, words, asks) in enumerate(questions(question, blocks)):
+        if too_few(asks):
+            steps.append(Step(name, words, asks, Document('none'), [too_few(asks)]))
+            continue
         left, rows, columns = left_question(asks, number)
         document, _ = document_of(program, left)
         why, _ = explained(program, left, document)
         document.answers = [Answer(answer.value, [(rows[r], columns[c]) for r, c in answer.cells])
                             for answer in document.answers]
         steps.append(Step(name, words, asks, document, why))
-    return steps, f'yes 1, {len(steps)} times'
+    return steps, 'yes 1, for each roster'
 
 
 def edit(program, question, blocks, path):

@@ -124,8 +124,6 @@ CHANGES = [
     change('below 0', 'cost,Ben,late,-1\n', ', line 1: capped takes no negative cost', 'capped=4'),
     change('second below 0', 'cost,Ben,late,1:-1\n', ', line 1: time-cost takes no negative second cost', 'time-cost'),
     change('too long', 'cost,Ben,late,1\n' * 10000, ': the script for asg has 10,002 lines, and it takes 10,000'),
-    ('too few are left', {'t.csv': GOOD, 'week.csv': 'drop-row,Ben\n'},
-     ['edit', 'lex', '{folder}/t.csv', '{folder}/week.csv', '--place', '2'], '--place 2 is more than what is left: 1 crew'),
 ]
 
 LINES = [

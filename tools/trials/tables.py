@@ -43,8 +43,15 @@ class Sample:
 
     def cell(self, cost):
         if cost is None:
-            return self.chance.choice(['', '-', 'x'])
+            return self.chance.choice(['', '-', 'x', '\u2013'])
         return ':'.join(map(self.show, cost)) if self.kind in PAIRED else self.show(cost[0])
+
+    def written(self, cost):
+        """A cell as somebody may have typed it: with fewer decimals where these are 0."""
+        text = self.cell(cost)
+        if cost is None or not self.decimals or self.chance.random() < .5:
+            return text
+        return ':'.join(part.rstrip('0').rstrip('.,') for part in text.split(':'))
 
     def text(self):
         """The file."""
@@ -54,7 +61,7 @@ class Sample:
         lines = [line(['who / what', *self.columns])]
         if self.capacity != [1] * len(self.capacity) or self.chance.random() < .3:
             lines.append(line(['capacity', *map(str, self.capacity)]))
-        lines += [line([name, *map(self.cell, row)]) for name, row in zip(self.rows, self.costs)]
+        lines += [line([name, *map(self.written, row)]) for name, row in zip(self.rows, self.costs)]
         end = self.chance.choice(['\n', '\r\n'])
         return self.chance.choice(['', '\ufeff']) + end.join(lines) + end
 

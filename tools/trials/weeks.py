@@ -44,8 +44,6 @@ def one(bench, made, chance, name):
         if block < 3:
             lines += [quoted(changed(made, chance, rows, columns)) for _ in range(chance.randint(0, 2))]
             lines.append(f'solve,day {block}')
-    if made.place > len(rows) and made.kind in ('balanced', 'lex'):
-        return
     changes = bench.file('changes.csv', '\n'.join(lines) + '\n')
     shown = bench.plan('edit', made.objective, table, changes, *made.words())
     before = r'(?:, .* before; \d+ changes? in the roster)?'

@@ -76,9 +76,10 @@ def sample(kind, chance, is_whole=False):
     rows, columns = chance.randint(1, 5), chance.randint(1, 4)
     least = 0 if kind in ('time-cost', 'capped') else -6
     most = chance.choice([3, 9, 120])
-    holes = chance.choice([0, .15, .4])
+    holes, decimals = chance.choice([0, .15, .4]), chance.choice([0, 0, 1, 2])
+    unit = 10 if decimals and chance.random() < .5 else 1
     costs = [[None if chance.random() < holes else
-              (chance.randint(least, most), chance.randint(0, 7) if kind in PAIRED else 0)
+              (unit * chance.randint(least, most), chance.randint(0, 7) if kind in PAIRED else 0)
               for _ in range(columns)] for _ in range(rows)]
     capacity = [chance.choice([1, 1, 2, 3]) for _ in range(columns)] if chance.random() < .7 else [1] * columns
     if chance.random() < .2:
@@ -88,5 +89,5 @@ def sample(kind, chance, is_whole=False):
         place = rows
     delimiter = chance.choice(',;\t')
     mark = '.' if delimiter == ',' else chance.choice('.,')
-    return Sample(kind, chance.randint(1, 3 * most), costs, capacity, place, chance.choice([0, 0, 1, 2]), delimiter,
-                  mark, chance)
+    cap = chance.randint(1, 3 * unit * most)
+    return Sample(kind, cap, costs, capacity, place, decimals, delimiter, mark, chance)

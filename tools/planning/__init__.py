@@ -1,0 +1,1 @@
+"""Plans from a spreadsheet, around the proved program asg. Nothing here is proved."""

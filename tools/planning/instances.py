@@ -1,0 +1,58 @@
+"""What asg is given: the table as a rect file, and its options."""
+from dataclasses import dataclass
+
+from .words import Wrong
+
+MOST = 1000
+MOST_SIDE = 2000
+
+
+@dataclass
+class Instance:
+    """The columns of the file by the table's columns, how many rows each of them takes, and the place rule."""
+
+    columns: list
+    each: int
+    place: int
+
+    @property
+    def options(self):
+        """The options of asg that belong to it."""
+        each = ['--each', str(self.each)] if self.each != 1 else []
+        return ['--format', 'rect', *each, *(['--place', str(self.place)] if self.place else [])]
+
+    def copies(self, column):
+        """The file's columns, from 1, that stand for a column of the table."""
+        return [place for place, found in enumerate(self.columns, 1) if found == column]
+
+
+def instance_of(table, place):
+    """The table's instance: a column that takes several rows stands several times, unless all take as many."""
+    most = [min(count, len(table.rows)) for count in table.capacity]
+    if len(set(most)) == 1:
+        made = Instance(list(range(len(table.columns))), most[0], place)
+    else:
+        made = Instance([c for c, count in enumerate(most) for _ in range(count)], 1, place)
+    rows, columns, places = len(table.rows), len(made.columns), sum(table.capacity)
+    if rows > MOST or len(table.columns) > MOST:
+        raise Wrong(f'{table.path}: {rows:,} rows and {len(table.columns):,} columns; asg takes {MOST:,} of each')
+    if columns > MOST:
+        raise Wrong(f'{table.path}: columns with different capacities stand in the file for asg once for each place: '
+                    f'{columns:,} here, and asg takes {MOST:,}')
+    if place and place > min(rows, places):
+        raise Wrong(f'--place {place}: {table.path} has {rows:,} rows and {places:,} places')
+    return made
+
+
+def text_of(table, instance):
+    """The rect file. A dropped row has no cell in it, as one that stays away has none to be placed by."""
+    lines = [f'{len(table.rows)} {len(instance.columns)}']
+    is_plain = instance.columns == list(range(len(table.columns)))
+    for first, second in zip(table.first, table.second):
+        if not is_plain:
+            first, second = [first[c] for c in instance.columns], [second[c] for c in instance.columns]
+        if any(second):
+            lines.append(' '.join(['-' if a is None else f'{a}:{b}' if b else str(a) for a, b in zip(first, second)]))
+        else:
+            lines.append(' '.join(['-' if a is None else str(a) for a in first]))
+    return '\n'.join(lines) + '\n'

@@ -1,0 +1,1 @@
+"""Trials of tools/plan: tools/test runs them."""

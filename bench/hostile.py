@@ -52,8 +52,10 @@ def cases():
 
 
 def table(side, cost):
-    row = b" ".join([b"%d" % cost] * side) + b"\n"
-    return lambda _: [b"%d\n" % side, row * side]
+    """A square file of these cells, or all of whose cells have one cost."""
+    if isinstance(cost, int):
+        cost = (b" ".join([b"%d" % cost] * side) + b"\n") * side
+    return lambda _: [b"%d\n" % side, cost]
 
 
 def written(case, size, folder):

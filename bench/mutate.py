@@ -180,7 +180,7 @@ def tried(asked, number, counts):
 
 
 def report(it, number):
-    print(f"try {number}: {it.command} {it.objective} {it.options}")
+    print(f"try {number}: {it.command} {it.objective} {it.options}", flush=True)
     for fault in it.faults:
         print("  ", *fault)
     for name, text in it.texts.items():

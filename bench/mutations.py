@@ -136,17 +136,59 @@ def drop_block(chance, lines):
             lines[heads[-1]] = b" ".join(words)
 
 
+def numbers_of(lines):
+    """The places of the plain numbers of a text: of the line, and of the word in it."""
+    return [(i, k) for i, line in enumerate(lines)
+            for k, word in enumerate(line.split(b" ")) if word.lstrip(b"-").isdigit()]
+
+
+def put_number(lines, at, number):
+    words = lines[at[0]].split(b" ")
+    words[at[1]] = b"%d" % number
+    lines[at[0]] = b" ".join(words)
+
+
+def number_at(lines, at):
+    return int(lines[at[0]].split(b" ")[at[1]])
+
+
+def change_number(chance, lines):
+    """Another number in the place of one: a near one, one that stands elsewhere, or two that keep
+    their sum or change their places."""
+    found = numbers_of(lines)
+    if not found:
+        return
+    one, other = chance.choice(found), chance.choice(found)
+    if chance.random() < 0.6:
+        near_lines = [at for at in found if abs(at[0] - one[0]) <= 3 and at[1] == one[1]]
+        other = chance.choice(near_lines)
+    first, second = number_at(lines, one), number_at(lines, other)
+    kind, more = chance.randrange(4), chance.choice((1, 1, 1, 2, 3))
+    if kind == 0:
+        put_number(lines, one, max(0, first + chance.choice((-more, more))))
+    elif kind == 1:
+        put_number(lines, one, second)
+    elif kind == 2 and one != other and second >= more:
+        put_number(lines, one, first + more)
+        put_number(lines, other, second - more)
+    else:
+        put_number(lines, one, second)
+        put_number(lines, other, first)
+
+
 def mutated(chance, text):
     """The text with one to three changes."""
     for _ in range(chance.choice((1, 1, 1, 2, 3))):
         lines = text.split(b"\n")
-        kind = chance.randrange(10)
+        kind = chance.randrange(16)
         if kind == 0:
             text = change_byte(chance, text)
             continue
         if kind == 1:
             drop_block(chance, lines)
-        else:
+        elif kind < 6:
             change_line(chance, lines)
+        else:
+            change_number(chance, lines)
         text = b"\n".join(lines)
     return text

@@ -45,14 +45,16 @@ def cases():
     for name, (words, side, cost, pieces) in DOCUMENTS.items():
         objective, *options = words.split()
         files = {"instance": table(side, cost), "answer": pieces}
-        if options == ["--script"]:
+        if "--script" in options:
             files["script"] = lambda _: [SOLVES]
             options.append("script")
         yield Case(f"document: {name}", ["check", objective, "instance", "answer", *options], files)
 
 
 def table(side, cost):
-    """A square file of these cells, or all of whose cells have one cost."""
+    """A square file of these cells, or all of whose cells have one cost; or what a call gives."""
+    if callable(cost):
+        return lambda _: [cost()]
     if isinstance(cost, int):
         cost = (b" ".join([b"%d" % cost] * side) + b"\n") * side
     return lambda _: [b"%d\n" % side, cost]

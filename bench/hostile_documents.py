@@ -3,6 +3,8 @@ in all; what is checked, and for which instance, stands in the table at the end.
 import itertools
 
 from hostile_files import filled, lines_count
+from hostile_rankings import (answer, deep_tree, diagonal, many_answers, nodes_below,
+                              repeated_answers, wide_tree)
 
 HEAD = b"assignment 1\ncommand %b\nobjective %b\nstatus %b\n"
 ONE = b"value %b\ncells 1\n1 1\n"
@@ -38,19 +40,32 @@ def all_rows(count):
     return b" ".join(b"%d" % i for i in range(1, count + 1))
 
 
-def phases(side, step=b"0"):
-    """Phases of one step, by row 1 and all columns, on a square of this side."""
-    enters = spaced(b"1", side - 1)
-    phase = b"steps %b\nenters 0%b\nleaves %b\n" % (
-        step, b" " + enters if side > 1 else b"", spaced(b"1", side))
+def one_step(side, step=b"0"):
+    """A phase of one step, by row 1 and all columns, on a square of this side."""
+    enters = b" ".join([b"0"] + [b"1"] * (side - 1))
+    return b"steps %b\nenters %b\nleaves %b\n" % (step, enters, spaced(b"1", side))
 
+
+def stairs(side, step=b"1"):
+    """A phase of as many steps as the side: at each a row comes and a column goes."""
+    enters = b" ".join(b"%d" % i for i in range(side))
+    leaves = b" ".join(b"%d" % (side - j) for j in range(side))
+    return b"steps %b\nenters %b\nleaves %b\n" % (spaced(step, side), enters, leaves)
+
+
+def phases(side, phase, objective=b"sum", value=b"0"):
+    """The phase again and again."""
     def pieces(size):
-        cells = b"".join(b"%d %d\n" % (i, i) for i in range(1, side + 1))
-        yield best(b"sum", b"value 0\ncells %d\n" % side + cells)
+        yield best(objective, diagonal_cells(side, value))
         yield b"proof phases %d\n" % lines_count(size, phase)
         yield from filled(phase, size)
         yield b"end\n"
     return pieces
+
+
+def diagonal_cells(side, value):
+    cells = b"".join(b"%d %d\n" % (i, i) for i in range(1, side + 1))
+    return b"value %b\ncells %d\n%b" % (value, side, cells)
 
 
 def windows(side):
@@ -58,8 +73,7 @@ def windows(side):
     line = b"window 7 8 " + all_rows(side) + b"\n"
 
     def pieces(size):
-        cells = b"".join(b"%d %d\n" % (i, i) for i in range(1, side + 1))
-        yield best(b"balanced", b"value 0\ncells %d\n" % side + cells)
+        yield best(b"balanced", diagonal_cells(side, b"0"))
         yield b"proof windows %d\n" % lines_count(size, line)
         yield from filled(line, size)
         yield b"end\n"
@@ -76,90 +90,20 @@ def falling_windows(size):
     yield b"end\n"
 
 
-def level_phases(size):
-    """One level with very many phases."""
-    phase = b"steps 0\nenters 0\nleaves 1\n"
-    yield best(b"lex") + b"proof levels 1\nperm 1\n"
-    yield b"level 5 1 %d\n" % (1 + lines_count(size, phase))
-    yield b"steps 1\nenters 0\nleaves 1\n"
-    yield from filled(phase, size)
-    yield b"end\n"
+def column_phase(side, column):
+    """One step by 1, by all rows and a column."""
+    leaves = b" ".join([b"0"] * column + [b"1"] + [b"0"] * (side - 1 - column))
+    return b"steps 1\nenters %b\nleaves %b\n" % (spaced(b"0", side), leaves)
 
 
-# --- Rankings ---
-
-def ranked(answers, nodes, count):
-    return HEAD % (b"rank", b"sum", b"ranked") + b"count 4000000\nanswers %d\n%bproof tree %d\n%b" % (
-        len(answers), b"".join(answers), count, nodes)
-
-
-def answer(columns, value=b"0"):
-    """The answer that gives the rows these columns, by their places."""
-    cells = b"".join(b"%d %d\n" % (i, j + 1) for i, j in enumerate(columns, 1))
-    return b"answer %b\ncells %d\n%b" % (value, len(columns), cells)
-
-
-def wide_tree(size):
-    """Nodes that all name the root."""
-    node = b"node 1 1 open 0\n"
-    yield ranked([answer([0], b"5")], b"node 0 0 answered 1 0\n", 1 + lines_count(size, node))
-    yield from filled(node, size)
-    yield b"end\n"
-
-
-def empty_nodes(size):
-    """The same with the rows of a Hall set."""
-    node = b"node 1 1 empty 1\n"
-    yield ranked([answer([0], b"5")], b"node 0 0 answered 1 0\n", 1 + lines_count(size, node))
-    yield from filled(node, size)
-    yield b"end\n"
-
-
-def many_answers(size):
-    """Different choices of ten rows, and a tree of one node."""
-    count = min(3628800, size // 70)
-    yield HEAD % (b"rank", b"sum", b"ranked") + b"count 4000000\nanswers %d\n" % count
-    chosen = itertools.islice(itertools.permutations(range(10)), count)
-    while piece := b"".join(answer(it) for it in itertools.islice(chosen, 1000)):
-        yield piece
-    yield b"proof tree 1\nnode 0 0 open 0\nend\n"
-
-
-def one_row_answers(size):
-    """The shortest answers: one cell, again and again."""
-    line = b"answer 5\ncells 1\n1 1\n"
-    yield HEAD % (b"rank", b"sum", b"ranked") + b"count 4000000\n"
-    yield b"answers %d\n" % lines_count(size, line)
-    yield from filled(line, size)
-    yield b"proof tree 1\nnode 0 0 open 0\nend\n"
-
-
-def chain(side):
-    """Answers of which each is allowed by a branch of the one before it, as many as there are: the
-    columns of each, and that branch. A row takes its columns from the least up, as the rows behind
-    it do once it has its greatest."""
-    yield list(range(side)), 0
-    before = []
-    for row in range(side - 1):
-        left = [j for j in range(side) if j not in before]
-        for column in left[1:]:
-            yield before + [column] + [j for j in left if j != column], row + 1
-        before.append(left[-1])
-
-
-def deep_tree(side):
-    """A tree in which each answered node is a child of the one before it."""
+def level_phases(side, phase):
+    """One level with very many phases behind those that count; all costs are 5."""
     def pieces(size):
-        chosen = list(itertools.islice(chain(side), max(2, size // (side * 22))))
-        branches = [branch for _, branch in chosen[1:]] + [0]
-        nodes, number, parent = [b"node 0 0 answered 1 0\n"], 1, 1
-        for answer_number, taken in enumerate(branches, 2):
-            below = number + taken
-            for branch in range(1, side + 1):
-                mark = b"answered %d 0" % answer_number if branch == taken else b"open 0"
-                nodes.append(b"node %d %d %b\n" % (parent, branch, mark))
-            number, parent = number + side, below
-        yield ranked([answer(columns) for columns, _ in chosen], b"".join(nodes), number)
+        yield best(b"lex", diagonal_cells(side, spaced(b"5", side)))
+        yield b"proof levels 1\nperm %b\n" % all_rows(side)
+        yield b"level 5 %d %d\n" % (side, side + lines_count(size, phase))
+        yield from (column_phase(side, column) for column in range(side))
+        yield from filled(phase, size)
         yield b"end\n"
     return pieces
 
@@ -178,6 +122,15 @@ def ten_thousand(size):
     yield from filled(one, len(one) * 10000)
 
 
+def ten_thousand_best(side):
+    """10,000 documents of `edit` without phases, which certify where sums stop at 5 and all costs
+    are 0."""
+    def pieces(_):
+        one = best(b"capped=5", diagonal_cells(side, b"0"), b"edit") + b"proof phases 0\nend\n"
+        yield from filled(one, len(one) * 10000)
+    return pieces
+
+
 def long_line(line):
     def pieces(size):
         yield line
@@ -189,6 +142,7 @@ def line_ends(size):
     yield from filled(b"\n", size)
 
 
+RANKED = "sum --count=4000000"
 ONE_PHASE = b"\nenters 0\nleaves 4294967295\n"
 WIDE = b"340282366920938463463374607431768211455"
 # name: words of the check, side of the instance, the cost of all its cells or their text, generator
@@ -201,10 +155,19 @@ DOCUMENTS = {
         "time-cost", 1, 5, listed(b"proof phases 1\nsteps", b"0:0", ONE_PHASE, b"time-cost", b"5:0")),
     "a long enters": (
         "sum", 1, 5, listed(b"proof phases 1\nsteps 0\nenters", b"0", b"\nleaves 1\n")),
-    "many phases, side 1": ("sum", 1, 0, phases(1)),
-    "many phases, side 8": ("sum", 8, 0, phases(8)),
-    "many phases, side 100": ("sum", 100, 0, phases(100)),
-    "many phases, side 1000": ("sum", 1000, 0, phases(1000)),
+    "many phases, side 1": ("sum", 1, 0, phases(1, one_step(1))),
+    "many phases, side 8": ("sum", 8, 0, phases(8, one_step(8))),
+    "many phases, side 100": ("sum", 100, 0, phases(100, one_step(100))),
+    "many phases, side 1000": ("sum", 1000, 0, phases(1000, one_step(1000))),
+    "stairs, side 100": ("sum", 100, 0, phases(100, stairs(100))),
+    "stairs, side 1000": ("sum", 1000, 0, phases(1000, stairs(1000))),
+    "stairs of capped, side 1000": (
+        "capped=1000000000000", 1000, 10**9,
+        phases(1000, stairs(1000), b"capped=1000000000000", b"1000000000000")),
+    "stairs of bottleneck, side 1000": (
+        "bottleneck", 1000, 0, phases(1000, stairs(1000, b"0"), b"bottleneck")),
+    "stairs of time-cost, side 1000": (
+        "time-cost", 1000, 0, phases(1000, stairs(1000, b"5:1"), b"time-cost", b"0:0")),
     "many windows of one row": (
         "balanced", 1, 5, repeated(b"proof windows %d\n", b"window 0 0 1\n", objective=b"balanced",
                                    value=b"0")),
@@ -212,7 +175,9 @@ DOCUMENTS = {
     "windows one below the other": ("balanced", 2, b"0 9\n9 1\n", falling_windows),
     "many levels": (
         "lex", 1, 5, repeated(b"proof levels %d\nperm 1\n", b"level 5 1 0\n", objective=b"lex")),
-    "a level with many phases": ("lex", 1, 5, level_phases),
+    "a level with many phases": ("lex", 1, 5, level_phases(1, one_step(1))),
+    "a level with stairs, side 200": ("lex", 200, 5, level_phases(200, stairs(200, b"0"))),
+    "a level with phases, side 1000": ("lex", 1000, 5, level_phases(1000, one_step(1000))),
     "a long perm": ("lex", 1, 5, listed(b"proof levels 1\nperm", b"1", b"\nlevel 5 1 0\n", b"lex")),
     "a long value": ("lex", 1, 5, lambda size: itertools.chain(
         [HEAD % (b"solve", b"lex", b"best"), b"value"], filled(b" 5", size), [b"\ncells 1\n"])),
@@ -221,15 +186,24 @@ DOCUMENTS = {
         [b"proof phases 0\nend\n"])),
     "a long below": (
         "bottleneck", 1, 5, listed(b"proof below", b"1", b"\n", b"bottleneck")),
-    "a wide tree": ("sum --count 4000000", 1, 5, wide_tree),
-    "a tree of empty nodes": ("sum --count 4000000", 1, 5, empty_nodes),
-    "a deep tree, side 30": ("sum --count 4000000", 30, 0, deep_tree(30)),
-    "a deep tree, side 60": ("sum --count 4000000", 60, 0, deep_tree(60)),
-    "a deep tree, side 100": ("sum --count 4000000", 100, 0, deep_tree(100)),
-    "many answers": ("sum --count 4000000", 10, 0, many_answers),
-    "one answer again and again": ("sum --count 4000000", 1, 5, one_row_answers),
+    "a wide tree": (RANKED, 1, 5, nodes_below(b"node 1 1 open 0\n")),
+    "a tree of empty nodes": (RANKED, 1, 5, nodes_below(b"node 1 1 empty 1\n")),
+    "a node with stairs for each branch, side 100": (
+        RANKED, 100, 0, wide_tree(100, stairs(100), None)),
+    "a node with a phase for each branch, side 1000": (
+        RANKED, 1000, 0, wide_tree(1000, one_step(1000, b"1"), 1)),
+    "a deep tree, side 30": (RANKED, 30, 0, deep_tree(30)),
+    "a deep tree, side 60": (RANKED, 60, 0, deep_tree(60)),
+    "a deep tree, side 100": (RANKED, 100, 0, deep_tree(100)),
+    "many answers": (RANKED, 10, 0, many_answers),
+    "one answer again and again": (
+        RANKED, 1, 5, repeated_answers(b"answer 5\ncells 1\n1 1\n")),
+    "one answer of 1,000 rows, ids from 1001": (
+        RANKED + " --format=asn", 1000, diagonal,
+        repeated_answers(answer(range(1000), first=1001))),
     "many documents": ("sum", 1, 5, nones),
     "10,000 documents for a script": ("sum --script", 1000, 0, ten_thousand),
+    "10,000 best ones, side 1000": ("capped=5 --script", 1000, 0, ten_thousand_best(1000)),
     "line ends": ("sum", 1, 5, line_ends),
     "a long first line": ("sum", 1, 5, long_line(b"assignment 1")),
     "a long value of nines": ("sum", 1, 5, long_line(best(b"sum", b"value "))),

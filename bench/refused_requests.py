@@ -5,7 +5,7 @@ import subprocess
 import tempfile
 from typing import NamedTuple
 
-from hostile_documents import deep_tree
+from hostile_rankings import deep_tree
 
 THREE = b"3\n4 1 3\n2 0 5\n3 2 2\n"
 SCRIPT = b"cost 1 2 9\nsolve\ndrop-row 2\nsolve\ndrop-column 2\nsolve\ndrop-column 3\nsolve\n"

@@ -65,9 +65,10 @@ class Edges:
     def show(self, what, words, status, written, due):
         """Prints a line."""
         self.is_wrong |= status not in due
-        shown = f"{len(written):,} bytes" if len(written) > 60 else written.decode().strip()
+        is_short = len(written) <= 60 and written.count(b"\n") <= 1
+        shown = written.decode().strip() if is_short else f"{len(written):,} bytes"
         told = signal.Signals(-status).name if status < 0 else status
-        words = " ".join(words).replace(self.folder + "/", "")
+        words = " ".join(words).replace("x" * 5000, "xx..")
         wrong = "" if status in due else f" (due: {due})"
         print(f"| {what} | `{words}` | {told}{wrong} | {shown} |", flush=True)
 
@@ -76,7 +77,7 @@ class Edges:
         and shows what came."""
         how.setdefault("stdout", subprocess.PIPE)
         ended = subprocess.run([self.program, *words], cwd=self.folder, stderr=subprocess.PIPE,
-                               timeout=120, check=False, **how)
+                               timeout=600, check=False, **how)
         self.show(what, words, ended.returncode, ended.stdout or b"", due)
 
     def shimmed(self, what, kind, words, due):
@@ -95,7 +96,7 @@ def outputs(edges):
         ended = subprocess.run(["bash", "-c", code, edges.program, *words], cwd=edges.folder,
                                timeout=60, check=False)
         edges.show("standard output is closed", words, ended.returncode, b"",
-                   (2,) if words[-1] == "sum" else (8,))
+                   (8,))
     for words in (SOLVE, MAKE, EDIT):
         with open("/dev/full", "wb") as full:
             edges.run("the disk is full (/dev/full)", words, (8,), stdout=full)
@@ -131,7 +132,8 @@ def limited(edges):
                 ended = subprocess.run([edges.program, *words], cwd=edges.folder, stdout=out,
                                        preexec_fn=limit, timeout=60, check=False)
             with open(edges.name("out"), "rb") as out:
-                edges.show(what, words, ended.returncode, out.read(), (8,))
+                due = 8 if is_ignored else -signal.SIGXFSZ
+                edges.show(what, words, ended.returncode, out.read(), (due,))
 
 
 def names(edges):
@@ -147,7 +149,7 @@ def names(edges):
             ("an empty file", "empty", 3), ("/dev/null", "/dev/null", 3),
             ("/dev/zero, which has no end", "/dev/zero", 10),
             ("/proc/self/mem", "/proc/self/mem", 7), ("-", "-", 7),
-            ("an empty name", "", 2)):
+            ("an empty name", "", 7)):
         edges.run(what, ["solve", "sum", name], (due,))
     ended = subprocess.run([edges.program.encode(), b"solve", b"sum", b"\xff"], cwd=edges.folder,
                            stdout=subprocess.PIPE, check=False)

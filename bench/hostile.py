@@ -3,10 +3,11 @@
 
     bench/hostile.py --asg PROGRAM [--sizes MIB,..] [--only REGEX] [--seconds S]
 
-A line has the command and the file; the bytes of all files; the seconds of the wall clock, and those
-for a MiB; the peak memory in MB of 2^20 bytes, and how many times the files that is, without the 16
-that each process counts; and what the program wrote, with its status. What takes longer than S
-seconds is ended and told as such. The status is 1 where a run ended by a signal or with a status
+A line has the command and the file; the bytes of all files; the seconds of the processor, and those
+for a MiB; the peak memory in MB of 2^20 bytes, which is about 12 at least, since the process that
+starts the program counts too, and of more than 8 MiB how many times the files that is; and what the
+program wrote, with its status. What takes longer than S seconds is ended and told as such. The
+status is 1 where a run ended by a signal or with a status
 that isn't in the table of docs/FORMATS.md.
 """
 import argparse
@@ -16,13 +17,12 @@ import resource
 import subprocess
 import sys
 import tempfile
-import time
 from typing import NamedTuple
 
 from hostile_documents import DOCUMENTS
 from hostile_files import INSTANCES, SCRIPTS
 
-OWN = 16  # MB that are counted of the process that starts the program
+OWN = 14  # MB; less may be those of the process that starts the program
 HEAD = ("Command", "File", "Bytes", "Seconds", "a MiB", "MB", "times", "Writes", "Status")
 SOLVES = b"solve\n" * 10000
 THREE = b"3\n4 1 3\n2 0 5\n3 2 2\n"
@@ -72,33 +72,30 @@ def written(case, size, folder):
 
 
 def run(program, case, folder, seconds):
-    """The seconds, the peak memory in MB, the status, and the first line and the bytes that it
-    wrote."""
+    """The seconds, the peak memory in MB, the status, and the line or how many bytes it wrote."""
     words = [os.path.join(folder, it) if it in case.files else it for it in case.words]
 
     def limit():
         resource.setrlimit(resource.RLIMIT_CPU, (seconds, seconds + 5))
     out = os.path.join(folder, "out")
     with open(out, "wb") as to:
-        start = time.perf_counter()
         process = subprocess.Popen([program, *words], stdout=to, preexec_fn=limit)
         _, ended, usage = os.wait4(process.pid, 0)
         taken = usage.ru_utime + usage.ru_stime
-        wall = time.perf_counter() - start
     process.returncode = os.waitstatus_to_exitcode(ended)
     with open(out, "rb") as text:
         line = text.readline(60).decode(errors="replace").strip()
     size = os.path.getsize(out)
-    return (taken, wall), usage.ru_maxrss / 1024, process.returncode, \
+    return taken, usage.ru_maxrss / 1024, process.returncode, \
         line if size < 100 else f"{size:,} bytes"
 
 
 def line_of(case, size, taken, memory, status, wrote):
     mib = size / 2**20
-    times = max(0, memory - OWN) / mib
+    times = f"{memory / mib:.1f}" if mib > 8 and memory > OWN else "-"
     shown = "ended at the limit" if status == -24 else status
     return [" ".join(case.words), case.title, f"{size:,}", f"{taken:.2f}", f"{taken / mib:.3f}",
-            f"{memory:.0f}", f"{times:.1f}", wrote.replace("|", "\\|"), str(shown)]
+            f"{memory:.0f}", times, wrote.replace("|", "\\|"), str(shown)]
 
 
 def arguments():
@@ -121,7 +118,7 @@ def main():
         for size in map(int, asked.sizes.split(",")):
             with tempfile.TemporaryDirectory(dir=asked.folder) as folder:
                 size = written(case, size << 20, folder)
-                (taken, _), memory, status, wrote = run(asked.asg, case, folder, asked.seconds)
+                taken, memory, status, wrote = run(asked.asg, case, folder, asked.seconds)
             is_wrong |= status != -24 and not 0 <= status <= 10
             print("| " + " | ".join(line_of(case, size, taken, memory, status, wrote)) + " |",
                   flush=True)

@@ -195,6 +195,10 @@ DOCUMENTS = {
     "a deep tree, side 30": (RANKED, 30, 0, deep_tree(30)),
     "a deep tree, side 60": (RANKED, 60, 0, deep_tree(60)),
     "a deep tree, side 100": (RANKED, 100, 0, deep_tree(100)),
+    "a deep tree with phases at its top, side 10": (
+        RANKED, 10, 0, deep_tree(10, one_step(10))),
+    "a deep tree with phases at its top, side 30": (
+        RANKED, 30, 0, deep_tree(30, one_step(30))),
     "many answers": (RANKED, 10, 0, many_answers),
     "one answer again and again": (
         RANKED, 1, 5, repeated_answers(b"answer 5\ncells 1\n1 1\n")),

@@ -64,17 +64,22 @@ def chain(side):
         before.append(left[-1])
 
 
-def deep_tree(side):
-    """A tree in which each answered node is a child of the one before it."""
+def deep_tree(side, phase=b""):
+    """A tree in which each answered node is a child of the one before it. The first of them below
+    the root has the phase as its own, again and again, for half of the file."""
     def pieces(size):
-        chosen = list(itertools.islice(chain(side), max(2, size // (side * 22))))
+        share = size // 2 if phase else size
+        chosen = list(itertools.islice(chain(side), max(2, share // (side * 22))))
         branches = [branch for _, branch in chosen[1:]] + [0]
         nodes, number, parent = [b"node 0 0 answered 1 0\n"], 1, 1
         for answer_number, taken in enumerate(branches, 2):
             below = number + taken
+            own = share // len(phase) if phase and answer_number == 2 else 0
             for branch in range(1, side + 1):
-                mark = b"answered %d 0" % answer_number if branch == taken else b"open 0"
+                mark = b"answered %d %d" % (answer_number, own) if branch == taken else b"open 0"
                 nodes.append(b"node %d %d %b\n" % (parent, branch, mark))
+                if branch == taken:
+                    nodes.append(phase * own)
             number, parent = number + side, below
         yield ranked([answer(columns) for columns, _ in chosen], b"".join(nodes), number)
         yield b"end\n"

@@ -1,7 +1,7 @@
 #!/usr/bin/env python3
 """Compares `asg` with a second judge on files that are changed at random.
 
-    bench/mutate.py --asg PROGRAM [--tries N] [--seed S] [--only TRY]
+    bench/mutate.py --asg PROGRAM [--tries N] [--seed S] [--minutes M] [--only TRY]
 
 A try makes a small instance, and maybe a script, from the seed and its number, has the program
 solve it, judges what it wrote, and then changes one of the files and compares status and text of
@@ -13,9 +13,10 @@ import collections
 import itertools
 import os
 import random
-import subprocess
+import signal
 import sys
 import tempfile
+import time
 
 import judge
 from judge_instances import Refused, due_instances, read_instance, read_script
@@ -25,6 +26,34 @@ OBJECTIVES = ("sum", "sum-max", "pair", "capped", "bottleneck", "bottleneck-max"
               "balanced", "lex")
 LARGEST = 12  # the side up to which what the program writes is judged
 SECONDS = 60
+
+
+class Runner:
+    """Runs words in a folder of a few files, which are written anew where they change."""
+
+    def __init__(self, folder):
+        self.folder, self.texts, self.child = folder, {}, 0
+        signal.signal(signal.SIGALRM, lambda *_: os.kill(self.child, signal.SIGKILL))
+
+    def written(self, name, text):
+        """The name of a file with the text."""
+        path = os.path.join(self.folder, name)
+        if self.texts.get(name) != text:
+            with open(path, "wb") as out:
+                out.write(text)
+            self.texts[name] = text
+        return path
+
+    def run(self, words):
+        """The status and the bytes written; what takes longer than SECONDS is killed."""
+        out = os.path.join(self.folder, "out")
+        opened = (os.POSIX_SPAWN_OPEN, 1, out, os.O_WRONLY | os.O_CREAT | os.O_TRUNC, 0o600)
+        self.child = os.posix_spawn(words[0], words, {}, file_actions=[opened])
+        signal.alarm(SECONDS)
+        _, ended = os.waitpid(self.child, 0)
+        signal.alarm(0)
+        with open(out, "rb") as text:
+            return os.waitstatus_to_exitcode(ended), text.read()
 
 
 class Try:
@@ -59,18 +88,13 @@ class Try:
 
     def run(self, command, files, script_file=False):
         """The status and the bytes of a command for these files."""
-        names = []
-        for name in files:
-            names.append(os.path.join(self.asked.folder, name))
-            with open(names[-1], "wb") as out:
-                out.write(self.texts[name])
+        names = [self.asked.runner.written(name, self.texts[name]) for name in files]
         more = [f"--script={names.pop()}"] if script_file else []
         words = [self.asked.asg, command, self.objective, *names, *self.words(), *more]
-        ended = subprocess.run(words, stdout=subprocess.PIPE, stderr=subprocess.PIPE,
-                               timeout=SECONDS, check=False)
-        if not 0 <= ended.returncode <= 6 or ended.stderr:
-            self.faults.append((words, ended.returncode, ended.stderr))
-        return ended.returncode, ended.stdout
+        status, text = self.asked.runner.run(words)
+        if not 0 <= status <= 6:
+            self.faults.append((words, status, text))
+        return status, text
 
     def instance(self):
         return read_instance(self.texts["instance"], self.form, self.objective,
@@ -193,6 +217,7 @@ def arguments():
     parser.add_argument("--tries", type=int, default=100000, help="how many changed files")
     parser.add_argument("--changes", type=int, default=10, help="changed files for an instance")
     parser.add_argument("--seed", default="1")
+    parser.add_argument("--minutes", type=float, default=10**6, help="after which it ends")
     parser.add_argument("--only", type=int, help="one instance")
     return parser.parse_args()
 
@@ -201,9 +226,11 @@ def main():
     asked = arguments()
     counts, wrong = collections.Counter(), 0
     numbers = range(-(-asked.tries // asked.changes)) if asked.only is None else [asked.only]
-    with tempfile.TemporaryDirectory() as folder:
-        asked.folder = folder
-        for number in numbers:
+    memory = "/dev/shm" if os.path.isdir("/dev/shm") else None
+    with tempfile.TemporaryDirectory(dir=memory) as folder:
+        asked.runner = Runner(folder)
+        last = time.monotonic() + 60 * asked.minutes
+        for number in itertools.takewhile(lambda _: time.monotonic() < last, numbers):
             it = tried(asked, number, counts)
             if it.faults:
                 wrong += 1

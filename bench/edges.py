@@ -136,6 +136,41 @@ def limited(edges):
                 edges.show(what, words, ended.returncode, out.read(), (due,))
 
 
+def cut_texts(edges):
+    """Short texts, cut at each length in turn: a prefix of so many bytes, and status 8."""
+    edges.file("short", b"solve\ncost 1 2 9\nsolve\n")
+    for words in (SOLVE, ["edit", "sum", "three", "short"], ["solve", "sum"], ["make", "7", "3"]):
+        whole = subprocess.run([edges.program, *words], cwd=edges.folder, check=False,
+                               stdout=subprocess.PIPE).stdout
+        cuts = [cut(edges, words, length) for length in range(len(whole))]
+        right = sum(cut == (8, whole[:length]) for length, cut in enumerate(cuts))
+        edges.show(f"cut at each of {len(whole)} lengths, {right} right", words,
+                   {status for status, _ in cuts}.pop(), b"", (8,))
+        edges.is_wrong |= right != len(whole)
+
+
+def cut(edges, words, length):
+    """The status and what is written where a file may have so many bytes."""
+    def limit():
+        signal.signal(signal.SIGXFSZ, signal.SIG_IGN)
+        resource.setrlimit(resource.RLIMIT_FSIZE, (length, length))
+    with open(edges.name("out"), "w+b") as out:
+        ended = subprocess.run([edges.program, *words], cwd=edges.folder, stdout=out,
+                               preexec_fn=limit, timeout=60, check=False)
+        out.seek(0)
+        return ended.returncode, out.read()
+
+
+def fetches(edges):
+    """Each file of a request that isn't there, in turn."""
+    edges.file("answer", b"")
+    for words in (["edit", "sum", "three", "script"],
+                  ["check", "sum", "three", "answer", "--script", "script"]):
+        for at, word in enumerate(words):
+            if word in ("three", "answer", "script"):
+                edges.run("a file that isn't there", words[:at] + ["absent"] + words[at + 1:], (7,))
+
+
 def names(edges):
     """What a name may stand for."""
     os.mkdir(edges.name("folder"))
@@ -250,7 +285,7 @@ def main():
     print("| Edge | Command | Status | Written |\n|---|---|---|---|")
     with tempfile.TemporaryDirectory() as folder:
         edges = Edges(os.path.realpath(asked.asg), folder)
-        for part in (outputs, names, lengths, pipes, calls):
+        for part in (outputs, cut_texts, names, fetches, lengths, pipes, calls):
             part(edges)
     sys.exit(edges.is_wrong)
 

@@ -206,7 +206,8 @@ DOCUMENTS = {
         RANKED + " --format=asn", 1000, diagonal,
         repeated_answers(answer(range(1000), first=1001))),
     "many documents": ("sum", 1, 5, nones),
-    "10,000 documents for a script": ("sum --script", 1000, 0, ten_thousand),
+    "10,000 documents for a script": (
+        "sum --script", 1000, spaced(b"-", 1000000), ten_thousand),
     "10,000 best ones, side 1000": ("capped=5 --script", 1000, 0, ten_thousand_best(1000)),
     "line ends": ("sum", 1, 5, line_ends),
     "a long first line": ("sum", 1, 5, long_line(b"assignment 1")),

@@ -1,8 +1,10 @@
 #!/usr/bin/env python3
-"""Runs `asg` at the edges of a real system, and prints one Markdown table: bench/edges.py --asg PROGRAM
+"""Runs `asg` at the edges of a real system, and prints one Markdown table.
+
+    bench/edges.py --asg PROGRAM
 
 A line has what is at the edge, the command, the status, or the signal by which the run ended, and
-what was written. Right statuses stand beside the cases; the exit status is 1 where another one came.
+what was written. Right statuses stand beside the cases; the exit status is 1 where another came.
 """
 import argparse
 import os
@@ -127,7 +129,7 @@ def limited(edges):
             def limit():
                 signal.signal(signal.SIGXFSZ, signal.SIG_IGN if is_ignored else signal.SIG_DFL)
                 resource.setrlimit(resource.RLIMIT_FSIZE, (100, 100))
-            what = "a file may have 100 bytes, SIGXFSZ " + ("ignored" if is_ignored else "not ignored")
+            what = "a file may have 100 bytes, SIGXFSZ " + "not " * (not is_ignored) + "ignored"
             with open(edges.name("out"), "wb") as out:
                 ended = subprocess.run([edges.program, *words], cwd=edges.folder, stdout=out,
                                        preexec_fn=limit, timeout=60, check=False)

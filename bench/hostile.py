@@ -7,8 +7,7 @@ A line has the command and the file; the bytes of all files; the seconds of the 
 for a MiB; the peak memory in MB of 2^20 bytes, which is about 12 at least, since the process that
 starts the program counts too, and of more than 8 MiB how many times the files that is; and what the
 program wrote, with its status. What takes longer than S seconds is ended and told as such. The
-status is 1 where a run ended by a signal or with a status
-that isn't in the table of docs/FORMATS.md.
+status is 1 where a run ended by a signal or with a status that isn't in docs/FORMATS.md.
 """
 import argparse
 import os

@@ -152,7 +152,8 @@ DOCUMENTS = {
     "a long list of steps of 2^32": (
         "sum", 1, 5, listed(b"proof phases 1\nsteps", b"4294967296", ONE_PHASE)),
     "a long list of graded steps": (
-        "time-cost", 1, 5, listed(b"proof phases 1\nsteps", b"0:0", ONE_PHASE, b"time-cost", b"5:0")),
+        "time-cost", 1, 5,
+        listed(b"proof phases 1\nsteps", b"0:0", ONE_PHASE, b"time-cost", b"5:0")),
     "a long enters": (
         "sum", 1, 5, listed(b"proof phases 1\nsteps 0\nenters", b"0", b"\nleaves 1\n")),
     "many phases, side 1": ("sum", 1, 0, phases(1, one_step(1))),

@@ -76,7 +76,7 @@ def entered(objective, cost):
 
 
 def square(inst, unit, value):
-    """The rows of the square: dicts from columns to values, live cells as `value` of their costs."""
+    """The rows of the square: dicts from columns to values, those of live cells by `value`."""
     side, each, places = inst.side(), inst.each, len(inst.columns) * inst.each
     rows = []
     for i in range(side):

@@ -121,7 +121,8 @@ class Try:
         is_none = self.command != "edit" and "status none\n" in text
         if inst.side() <= LARGEST and not self.check_judged()[1].startswith("yes"):
             return "a document that certifies", self.check_judged()
-        if len(inst.rows) <= 4 and self.command == "solve" and not is_best(inst, self.objective, text):
+        is_few = len(inst.rows) <= 4 and self.command == "solve"
+        if is_few and not is_best(inst, self.objective, text):
             return "a best choice", text
         return int(is_none), text
 

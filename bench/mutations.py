@@ -1,9 +1,9 @@
 """Random small instances and scripts, and random changes of their texts and of documents."""
 
-EDGES = [b"0", b"1", b"2", b"-1", b"-0", b"00", b"+1", b"", b"-", b":", b"1:", b":1", b"1:2", b"2:-1",
-         *(str(base + more).encode() for base in (10**9, -10**9, 10**12, 2**32, 2**62, 2**63, -2**63,
-                                                  2**64, 2**84, 2**120, 2**127, -2**127, 2**128)
-           for more in (-1, 0, 1)),
+ENDS = (10**9, -10**9, 10**12, 2**32, 2**62, 2**63, -2**63, 2**64, 2**84, 2**120, 2**127, -2**127,
+        2**128)
+EDGES = [b"0", b"1", b"2", b"-1", b"-0", b"00", b"+1", b"", b"-", b":", b"1:", b":1", b"1:2",
+         b"2:-1", *(str(end + more).encode() for end in ENDS for more in (-1, 0, 1)),
          b"4000000", b"4000001", b"1000", b"1001", b"9" * 60, b"-" + b"9" * 60, b"0" * 50 + b"1"]
 WORDS = [b"solve", b"rank", b"edit", b"best", b"none", b"ranked", b"sum", b"sum-max", b"pair",
          b"capped=5", b"capped=0", b"bottleneck", b"bottleneck-max", b"time-cost", b"balanced",
@@ -128,7 +128,8 @@ def drop_block(chance, lines):
     if more >= 0:
         where = chance.randrange(len(lines) + 1) if more == 0 else at
         lines[where:where] = block
-    heads = [i for i, line in enumerate(lines[:at + 1]) if line[:5] in (b"proof", b"node ", b"level")]
+    heads = [i for i, line in enumerate(lines[:at + 1])
+             if line[:5] in (b"proof", b"node ", b"level")]
     if heads and chance.random() < 0.7:
         words = lines[heads[-1]].split(b" ")
         if words[-1].isdigit():

@@ -4,10 +4,10 @@
     bench/refused_memory.py --asg PROGRAM [--only REGEX] [--cc COMPILER]
 
 A small library is put before the C library: it counts the calls that take memory, and answers the
-one of a number with none. Each request is run once without, and then once for each number up to the
-last. Right is status 9 with nothing written, for `edit` with a prefix of the due text that ends with
-a document or a brief line; or, where only room was to be given back, what the run gives without. The
-table has how often each came. The status is 1 where something else did.
+one of a number with none. Each request is run once without, and then once for each number up to
+the last. Right is status 9 with nothing written, for `edit` with a prefix of the due text that ends
+with a document or a brief line; or, where only room was to be given back, what the run gives
+without. The table has how often each came. The status is 1 where something else did.
 """
 import argparse
 import collections

@@ -21,6 +21,7 @@ from typing import NamedTuple
 from hostile_documents import DOCUMENTS
 from hostile_files import INSTANCES, SCRIPTS
 
+LONGEST = 268435456
 OWN = 14  # MB; less may be those of the process that starts the program
 HEAD = ("Command", "File", "Bytes", "Seconds", "a MiB", "MB", "times", "Writes", "Status")
 SOLVES = b"solve\n" * 10000
@@ -63,7 +64,7 @@ def written(case, size, folder):
     """Writes the files, and gives how many bytes they have."""
     for name, pieces in case.files.items():
         with open(os.path.join(folder, name), "wb") as out:
-            left = 268435456
+            left = LONGEST
             for piece in pieces(size):
                 out.write(piece[:left])
                 left -= min(left, len(piece))
@@ -116,7 +117,7 @@ def main():
             continue
         for size in map(int, asked.sizes.split(",")):
             with tempfile.TemporaryDirectory(dir=asked.folder) as folder:
-                size = written(case, size << 20, folder)
+                size = written(case, min(size << 20, LONGEST - (8 << 20)), folder)
                 taken, memory, status, wrote = run(asked.asg, case, folder, asked.seconds)
             is_wrong |= status != -24 and not 0 <= status <= 10
             print("| " + " | ".join(line_of(case, size, taken, memory, status, wrote)) + " |",

@@ -178,8 +178,13 @@ fn other_answers_that_do_not_certify(rt: HostRuntime) -> Result<(), Fail> {
 }
 
 // Texts that are refused, and how.
-static NO_DOCUMENTS: [(&str, &str); 5] = [
+static NO_DOCUMENTS: [(&str, &str); 6] = [
     ("", "refused document 0\n"),
+    (
+        "assignment 1\ncommand solve\nobjective bottleneck\nstatus best \nvalue 2\ncells 3\n1 2\n\
+         2 1\n3 3\nproof below 3\nend\n",
+        "refused document 4\n",
+    ),
     ("assign", "refused document 1\n"),
     ("assignment 1\n", "refused document 2\n"),
     ("\n", "refused document 1\n"),

@@ -376,6 +376,7 @@ fn faults_of_the_shelf(rt: HostRuntime) -> Result<(), Fail> {
     let check = ["check", "sum", "f", "g", "--script", "s"];
     assert!(rt; is_ended(&faulty(alloc, &edit, &[1], &[])?, 7, b""));
     assert!(rt; is_ended(&faulty(alloc, &edit, &[2], &[])?, 7, b""));
+    assert!(rt; is_ended(&faulty(alloc, &check, &[1], &[])?, 7, b""));
     assert!(rt; is_ended(&faulty(alloc, &check, &[2], &[])?, 7, b""));
     assert!(rt; is_ended(&faulty(alloc, &check, &[3], &[])?, 7, b""));
     Ok(())

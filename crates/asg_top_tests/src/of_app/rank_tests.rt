@@ -148,6 +148,54 @@ fn a_ranking_is_judged_by_its_count(rt: HostRuntime) -> Result<(), Fail> {
     Ok(())
 }
 
+// What comes before the tree of the ranking.
+const BEGUN: &str =
+    "assignment 1\ncommand rank\nobjective sum\nstatus ranked\ncount 2\nanswers 2\nanswer 4\n\
+     cells 2\n1 1\n2 2\nanswer 6\ncells 2\n1 2\n2 1\n";
+
+// Its tree, in which the Hall set of the third node lacks a row, or the second node lacks a branch.
+static TREES: [(&str, &str); 2] = [
+    (
+        "proof tree 5\nnode 0 0 answered 1 2\nsteps 1000000001\nenters 0 1\nleaves 1 1\n\
+         steps 1000000003\nenters 1 0\nleaves 1 1\nnode 1 1 answered 2 1\nsteps 1 1\n\
+         enters 0 1\nleaves 2 1\nnode 1 2 empty 1\nnode 2 1 open 0\nnode 2 2 open 0\nend\n",
+        "no 1 10 3\n",
+    ),
+    (
+        "proof tree 4\nnode 0 0 answered 1 2\nsteps 1000000001\nenters 0 1\nleaves 1 1\n\
+         steps 1000000003\nenters 1 0\nleaves 1 1\nnode 1 1 answered 2 1\nsteps 1 1\n\
+         enters 0 1\nleaves 2 1\nnode 1 2 empty 1 2\nnode 2 1 open 0\nend\n",
+        "no 1 10 2\n",
+    ),
+];
+
+// These trees, for a caller that needn't know them.
+fn trees() -> &'static [(&'static str, &'static str)] {
+    &TREES
+}
+
+// Whether this is told of the ranking with another tree.
+fn is_tree_told(alloc: Global, tree: &str, text: &str) -> Result<bool, AllocError> {
+    let answer = format!(in alloc; "{BEGUN}{tree}")?;
+    let words = ["check", "sum", "f", "g"];
+    let files = held(TWO, answer.as_bytes());
+    ends(
+        alloc,
+        &words,
+        &["--count", "2"],
+        files,
+        (6, text.as_bytes()),
+    )
+}
+
+#[test]
+fn trees_that_are_bent(rt: HostRuntime) -> Result<(), Fail> {
+    for (tree, text) in trees() {
+        assert!(rt; is_tree_told(rt.alloc(), tree, text)?, "{tree}");
+    }
+    Ok(())
+}
+
 // A square of three rows, whose side is 3.
 const THREE: &[u8] = b"3\n4 1 3\n2 0 5\n3 2 2\n";
 

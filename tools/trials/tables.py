@@ -21,6 +21,7 @@ class Sample:
     delimiter: str
     mark: str
     chance: random.Random
+    saved: str = ''
 
     @property
     def rows(self):
@@ -54,14 +55,23 @@ class Sample:
         return ':'.join(part.rstrip('0').rstrip('.,') for part in text.split(':'))
 
     def text(self):
-        """The file."""
+        """The file, made once. Where no number in it has a mark, plan shows points."""
+        if not self.saved:
+            cells = [list(map(self.written, row)) for row in self.costs]
+            if self.kind != 'capped' and not any(self.mark in cell for row in cells for cell in row):
+                self.mark = '.'
+            self.saved = self.saved_as(cells)
+        return self.saved
+
+    def saved_as(self, cells):
+        """The file, as one of the spreadsheets would save it."""
         def line(fields):
             return self.delimiter.join('"' + field.replace('"', '""') + '"' if set(field) & set(',;"\t') else field
                                        for field in fields)
         lines = [line(['who / what', *self.columns])]
         if self.capacity != [1] * len(self.capacity) or self.chance.random() < .3:
             lines.append(line(['capacity', *map(str, self.capacity)]))
-        lines += [line([name, *map(self.written, row)]) for name, row in zip(self.rows, self.costs)]
+        lines += [line([name, *row]) for name, row in zip(self.rows, cells)]
         end = self.chance.choice(['\n', '\r\n'])
         return self.chance.choice(['', '\ufeff']) + end.join(lines) + end
 

@@ -44,7 +44,8 @@ FAULTS = (
     ('a reason that plan lacks', 'tools/planning/refusals.py', "    13: 'answer {0}", "    14: 'answer {0}", 'formats'),
     ('an option that is not completed', 'tools/asg.bash', "rank) options='--count ", "rank) options='", 'formats'),
 )
-COUNT = 12
+# how many random tables of each objective find a fault; of weeks there are a sixth as many
+COUNT, WEEKS = 12, 72
 
 
 def copied(folder):
@@ -72,7 +73,8 @@ def trials(bench):
         if not planted(os.path.join(folder, file), old, new):
             bench.holds(False, f'planted fault: {name}', f'{file} does not have it just once: {old!r}')
             continue
-        words = [sys.executable, os.path.join(folder, 'tools', 'test'), '--asg', bench.asg, '--count', str(COUNT), part]
+        count = str(WEEKS if part == 'weeks' else COUNT)
+        words = [sys.executable, os.path.join(folder, 'tools', 'test'), '--asg', bench.asg, '--count', count, part]
         done = subprocess.run(words, capture_output=True, text=True, check=False)
         is_caught = done.returncode == 1 and 'FAILED: ' in done.stdout and 'Traceback' not in done.stderr
         bench.holds(is_caught, f'planted fault: {name}', done.stdout[-2000:], done.stderr[-2000:])

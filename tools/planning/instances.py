@@ -44,6 +44,20 @@ def instance_of(table, place):
     return made
 
 
+def number_line(first):
+    """A line of cells with one cost each. Python's own text of the list is the quickest."""
+    return str(first)[1:-1].replace(', ', ' ').replace('None', '-')
+
+
+def pair_line(first, second):
+    """A line of cells with two costs each."""
+    if None in first:
+        return ' '.join(['-' if a is None else f'{a}:{b}' for a, b in zip(first, second)])
+    parts = [*first, *second]
+    parts[::2], parts[1::2] = first, second
+    return ' '.join(['%d:%d'] * len(first)) % tuple(parts)
+
+
 def text_of(table, instance):
     """The rect file. A dropped row has no cell in it, as one that stays away has none to be placed by."""
     lines = [f'{len(table.rows)} {len(instance.columns)}']
@@ -51,8 +65,5 @@ def text_of(table, instance):
     for first, second in zip(table.first, table.second):
         if not is_plain:
             first, second = [first[c] for c in instance.columns], [second[c] for c in instance.columns]
-        if any(second):
-            lines.append(' '.join(['-' if a is None else f'{a}:{b}' if b else str(a) for a, b in zip(first, second)]))
-        else:
-            lines.append(' '.join(['-' if a is None else str(a) for a in first]))
+        lines.append(pair_line(first, second) if any(second) else number_line(first))
     return '\n'.join(lines) + '\n'

@@ -1,5 +1,5 @@
 """The second look: what asg answers, held against the table once more, without asg."""
-from operator import mul
+from operator import add, mul
 
 from .shares import numbers_of
 from .words import Wrong
@@ -57,8 +57,11 @@ def look_at_shares(table, objective, answer, shares, place):
     total, chosen = 0, dict(answer.cells)
     for row in table.live_rows():
         numbers = numbers_of(table, objective, row)
-        sums = [number + price for number, price in zip(numbers, shares.columns) if number is not None]
-        if sums and min(sums) < shares.rows[row]:
+        if None in numbers:
+            sums = [number + price for number, price in zip(numbers, shares.columns) if number is not None]
+        else:
+            sums = map(add, numbers, shares.columns)
+        if min(sums, default=shares.rows[row]) < shares.rows[row]:
             raise Wrong(f'the shares of the proof do not hold for {table.rows[row]}; {FAULT}')
         total += numbers[chosen[row]] if row in chosen else 0
     placed = list(chosen)

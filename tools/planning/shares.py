@@ -1,6 +1,7 @@
 """What each row and each column adds to the least total, from the phases of a proof."""
 from dataclasses import dataclass
-from itertools import accumulate
+from itertools import accumulate, repeat
+from operator import add, mul
 
 REACH = 10**9
 HALF = 2**41
@@ -20,6 +21,8 @@ def numbers_of(table, objective, row):
     is one number."""
     first = table.first[row]
     if objective.kind == 'pair':
+        if None not in first:
+            return list(map(add, map(mul, first, repeat(UNIT)), table.second[row]))
         return [None if a is None else a * UNIT + b for a, b in zip(first, table.second[row])]
     if objective.kind == 'sum-max':
         return [None if a is None else -a for a in first]

@@ -48,7 +48,8 @@ def all_cleaned(fields):
     joined = ''.join(fields)
     if not joined.isprintable() or '  ' in joined:
         return list(map(cleaned, fields))
-    return [field.strip() for field in fields] if ' ' in joined else fields
+    lined = '\n'.join(['', *fields, '']) if ' ' in joined else ''
+    return [field.strip() for field in fields] if '\n ' in lined or ' \n' in lined else fields
 
 
 def delimiter_of(text):

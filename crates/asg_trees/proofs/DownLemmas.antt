@@ -25,7 +25,7 @@ use Rattle.asg_order.specs.Words.{HasWords}
 use Rattle.asg_trees.specs.Kept.{HasSize, IsMaskOf, KeepsAll}
 use Rattle.asg_replays.specs.WholeLists.{HaveIndex}
 use Rattle.asg_trees.specs.Marks.{HaveIndexAfter}
-use Rattle.asg_trees.specs.Tallies.{AreSoundUpto, HavePlaces}
+use Rattle.asg_trees.specs.Tallies.{HavePlaces}
 use Rattle.asg_trees.specs.Trails.{IsTrailSquare, StandsAbove, StandsAt}
 use Rattle.asg_trees.specs.Trees.{IsSound, TreeOf, instance_at}
 use Rattle.asg_trees.proofs.MaskedTrails.{child_square, masked_by, trail_side}
@@ -129,10 +129,7 @@ trail_from T n (Answered a) marked is = marked.1
 trail_from T n Open marked is = absurd (cc is)
 trail_from T n (Empty rows) marked is = absurd (cc is)
 
-module _ {V : Type 0} (T : TreeOf V) (laws : IsOrderedMonoid T.monoid) (value_of : Word → Option V) (spelled : HasWords T.monoid T.word_of value_of) (n : ℕ) (below : 1 < n) (sound : AreSoundUpto T n) where
-  pub places_of : HavePlaces T (n + 1)
-  places_of m from upto = (sound m from (omega (arith, upto))).has_place
-
+module _ {V : Type 0} (T : TreeOf V) (laws : IsOrderedMonoid T.monoid) (value_of : Word → Option V) (spelled : HasWords T.monoid T.word_of value_of) (n : ℕ) (below : 1 < n) (places_of : HavePlaces T (n + 1)) (sound : IsSound T n) where
   -- the square of a node's parent, from which the cells that its branch doesn't keep are taken out
   pub taken_square : (Q R : Grid V) (index : V) (bits : BitTable) → StandsAt T (node_at T.nodes n).parent Q index → IsMaskOf T.problem (node_answer T.answers T.nodes (node_at T.nodes n).parent) (node_at T.nodes n).branch bits → KeepsLabels Q R
       → ((r k : ℕ) → cell_at R r k ≡ cell_at (masked_grid Q bits.words) r k) → IsTrailSquare T (instance_at T n) (node_trail T.nodes (node_at T.nodes n).parent) R index
@@ -144,7 +141,7 @@ module _ {V : Type 0} (T : TreeOf V) (laws : IsOrderedMonoid T.monoid) (value_of
   -- the own phases of an answered node are admitted from it
   pub own_admitted : (R : Grid V) (index : V) → IsTrailSquare T (instance_at T n) (node_trail T.nodes (node_at T.nodes n).parent) R index → is_answered (node_at T.nodes n).mark ≡ true → AreAdmittedFrom T.monoid T.difference T.word_of R.side (cell_at R) (node_at T.nodes n).own
   own_admitted R index s answered =
-      let trail = trail_from T n (node_at T.nodes n).mark (sound n (omega (arith, below)) (omega arith)).marked answered in
+      let trail = trail_from T n (node_at T.nodes n).mark sound.marked answered in
       own_of T (instance_at T n) (node_trail T.nodes (node_at T.nodes n).parent) (node_at T.nodes n).own R index s value_of spelled
       (subst (λ words. AreAdmittedWords T.monoid T.difference T.word_of T.enter (instance_at T n) words) (trail_is T n below places_of) trail)
 

@@ -16,6 +16,7 @@ pub mod DownLemmas
 pub mod GroupLemmas
 pub mod TallyLemmas
 pub mod SiblingLemmas
-pub mod PathLemmas
+pub mod DescentLemmas
 pub mod BranchLemmas
 pub mod NarrowTrees
+pub mod SingleSteps

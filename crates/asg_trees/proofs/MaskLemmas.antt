@@ -19,7 +19,8 @@ use Rattle.asg_square.specs.Labels.{column_label, row_label}
 use Rattle.asg_square.specs.laws.Bijections.{sum_below-split}
 use Rattle.asg_proof.specs.Children.{is_chosen, is_kept_at, row_number}
 use Rattle.asg_proof.specs.Masks.{keeps_cell, keeps_labelled}
-use Rattle.asg_trees.specs.Kept.{HasSize, IsMaskOf, IsNumbered, KeepsOtherRows, MarksNumbered, MarksRow, MarksRows, keeps_label}
+use Rattle.asg_trees.specs.declared.masks.Front.{Front}
+use Rattle.asg_trees.specs.Kept.{HasSize, IsFront, IsMaskOf, IsNumbered, KeepsOtherRows, MarksNumbered, MarksRow, MarksRows, keeps_label}
 
 -- ---- rows by their numbers
 
@@ -50,8 +51,9 @@ module _ (X : Problem) (f labels : List (Option ℕ)) (side branch from to : ℕ
     others = λ r k apart. ⊎_elim (λ (other : r ≢ row). m.others r k other) (λ (none : IsNumbered X from to row → ⊥). absurd (none numbered)) apart;
   }
 
-  pub rows_none : (bits : BitTable) → HasSize side bits → MarksRows X f labels side branch from to 0 bits bits
-  rows_none bits size = record { size = size; marked = λ r k below. absurd (omega (arith, below)); others = λ r k apart. refl }
+  -- rows that aren't numbered so stay
+  pub rows_apart : (row : ℕ) (bits : BitTable) → HasSize side bits → ((r : ℕ) → r < row → IsNumbered X from to r → ⊥) → MarksRows X f labels side branch from to row bits bits
+  rows_apart row bits size apart = record { size = size; marked = λ r k below hk numbered. absurd (apart r below numbered); others = λ r k past. refl }
 
   pub rows_more : (row : ℕ) (before so_far after : BitTable) → MarksRows X f labels side branch from to row before so_far → MarksNumbered X f labels side branch from to row so_far after → MarksRows X f labels side branch from to (row + 1) before after
   rows_more row before so_far after m one = record {
@@ -223,3 +225,16 @@ count_up p row before is passes =
     let more : row + 1 ≡ suc row = omega arith in
     let step : count_below p (suc row) ≡ count_below p row + 1 = ap (λ b. count_below p row + cond b 1 0) passes in
     omega (arith, is, step, ap (count_below p) more)
+
+-- ---- where to start
+
+-- before a row before which there are fewer active ones none has such a number
+pub front_apart : (X : Problem) (front : Front) (from to : ℕ) → IsFront X front → front.number < from → (r : ℕ) → r < front.row → IsNumbered X from to r → ⊥
+front_apart X front from to is less r before numbered =
+    let up = count_upto (is_active X) (r + 1) front.row (omega (arith, before)) in
+    let here = count_up (is_active X) r (count_below (is_active X) r) refl numbered.active in
+    omega (arith, up, here, is.number, less, numbered.least)
+
+-- the first row
+pub front_none : (X : Problem) (front : Front) → front.row ≡ 0 → front.number ≡ 0 → IsFront X front
+front_none X front row number = record { row = omega (arith, row); number = number ∙ ap (count_below (is_active X)) (sym row) }

@@ -11,7 +11,7 @@ use Rattle.asg_trees.specs.declared.groups.Groups.{Groups}
 use Rattle.asg_trees.specs.declared.verdicts.Judgement.{Judgement}
 use Rattle.asg_trees.specs.declared.verdicts.Tally.{Tally}
 use Rattle.asg_trees.specs.Groups.{AreGroups, IsNextWith, key_at, parent_keys}
-use Rattle.asg_trees.specs.Tallies.{IsJudged, IsTallied, Judges, judged_before, with_judgement}
+use Rattle.asg_trees.specs.Tallies.{IsFair, IsJudged, IsTallied, Judges, judged_before, with_judgement}
 use Rattle.asg_trees.specs.Trees.{TreeOf}
 use Rattle.asg_trees.proofs.GroupLemmas.{count_skip, no_node, parent_key}
 use Rattle.asg_trees.proofs.TallyLemmas.{tally_fewer, tally_more}
@@ -90,16 +90,10 @@ module _ (nodes : List Node) (parent : ℕ) where
 
 module _ {V : Type 0} (T : TreeOf V) (count parent : ℕ) (keys : length (parent_keys T.nodes) ≡ length T.nodes) where
   -- before the first node that names the parent none that names it was judged
-  pub members_first : (tally : Tally) (next : ℕ) → IsNextWith (parent_keys T.nodes) parent 0 next → IsTallied T count parent 0 tally → IsTallied T count parent (judged_before (length T.nodes) next) tally
+  pub members_first : (tally : Tally) (next : ℕ) → IsNextWith (parent_keys T.nodes) parent 0 next → IsFair T count tally → IsTallied T count parent (judged_before (length T.nodes) next) tally
   members_first tally next is t =
-      tally_fewer T count (IsJudged T.nodes parent 0) (IsJudged T.nodes parent (judged_before (length T.nodes) next)) tally t
-      (λ n low high j. fewer n low high j)
-    where
-      fewer : (n : ℕ) → 1 ≤ n → n < tally.fault → IsJudged T.nodes parent (judged_before (length T.nodes) next) n → IsJudged T.nodes parent 0 n
-      fewer n low high (inl root) = inl root
-      fewer n low high (inr (inl less)) = inr (inl less)
-      fewer n low high (inr (inr more)) =
-          absurd (between T.nodes parent 0 next n is keys (omega (arith, low)) more.1 (omega (arith, high, t.upto)) more.0)
+      tally_fewer T count (λ n. ⊥) (IsJudged T.nodes parent (judged_before (length T.nodes) next)) tally t
+      (λ n low high j. between T.nodes parent 0 next n is keys (omega (arith, low)) j.1 (omega (arith, high, t.upto)) j.0)
 
   -- a node that names it was judged
   pub member_judged : (tally : Tally) (c next : ℕ) (judgement : Judgement) → IsTallied T count parent c tally → 1 ≤ c → c < tally.fault → (node_at T.nodes c).parent ≡ parent → IsNextWith (parent_keys T.nodes) parent c next → Judges T count c judgement
@@ -110,11 +104,9 @@ module _ {V : Type 0} (T : TreeOf V) (count parent : ℕ) (keys : length (parent
       judgement judges
     where
       more : (n : ℕ) → 1 ≤ n → n < tally.fault → IsJudged T.nodes parent (judged_before (length T.nodes) next) n → (n ≡ c) ⊎ IsJudged T.nodes parent c n
-      more n low high (inl root) = inr (inl root)
-      more n low high (inr (inl less)) = inr (inr (inl less))
-      more n low high (inr (inr named)) =
+      more n low high named =
           ⊎_elim
-          (λ (before : n < c). inr (inr (inr (named.0, before))))
+          (λ (before : n < c). inr (named.0, before))
           (λ (from : c ≤ n).
           ⊎_elim
           (λ (same : n ≡ c). inl same)
@@ -122,28 +114,21 @@ module _ {V : Type 0} (T : TreeOf V) (count parent : ℕ) (keys : length (parent
           (cases_eq n c))
           (cases_lt n c)
 
-  -- then all that name it were, before the first at fault
-  pub members_done : (tally : Tally) (member : ℕ) → (member ≡ 0) ⊎ (tally.fault ≤ member) → IsTallied T count parent (judged_before (length T.nodes) member) tally → IsTallied T count (parent + 1) 0 tally
-  members_done tally member past t =
-      tally_fewer T count (IsJudged T.nodes parent (judged_before (length T.nodes) member)) (IsJudged T.nodes (parent + 1) 0) tally t
-      (λ n low high j. fewer n low high j)
-    where
-      below : (n : ℕ) → n < tally.fault → n < judged_before (length T.nodes) member
-      below n high =
-          ⊎_elim
-          (λ (zero : member ≡ 0). omega (arith, before_none (length T.nodes) member zero, high, t.upto))
-          (λ (some : member ≢ 0).
-          ⊎_elim (λ (zero : member ≡ 0). absurd (some zero)) (λ (less : tally.fault ≤ member). omega (arith, before_some (length T.nodes) member some, high, less)) past)
-          (cases_eq member 0)
+  -- where one was gone through after another up to the first at fault, each node before that is
+  -- before this one
+  pub gone_through : (fault member n : ℕ) → fault ≤ length T.nodes + 1 → (member ≡ 0) ⊎ (fault ≤ member) → n < fault → n < judged_before (length T.nodes) member
+  gone_through fault member n upto past high =
+      ⊎_elim
+      (λ (zero : member ≡ 0). omega (arith, before_none (length T.nodes) member zero, high, upto))
+      (λ (some : member ≢ 0).
+      ⊎_elim (λ (zero : member ≡ 0). absurd (some zero)) (λ (less : fault ≤ member). omega (arith, before_some (length T.nodes) member some, high, less)) past)
+      (cases_eq member 0)
 
-      fewer : (n : ℕ) → 1 ≤ n → n < tally.fault → IsJudged T.nodes (parent + 1) 0 n → IsJudged T.nodes parent (judged_before (length T.nodes) member) n
-      fewer n low high (inl root) = inl root
-      fewer n low high (inr (inl less)) =
-          ⊎_elim
-          (λ (before : (node_at T.nodes n).parent < parent). inr (inl before))
-          (λ (from : parent ≤ (node_at T.nodes n).parent). inr (inr (omega (arith, from, less), below n high)))
-          (cases_lt (node_at T.nodes n).parent parent)
-      fewer n low high (inr (inr named)) = absurd (omega (arith, named.1))
+  -- then all that name it were judged, before the first at fault
+  pub members_done : (tally : Tally) (member : ℕ) → (member ≡ 0) ⊎ (tally.fault ≤ member) → IsTallied T count parent (judged_before (length T.nodes) member) tally → IsTallied T count parent (length T.nodes + 1) tally
+  members_done tally member past t =
+      tally_fewer T count (IsJudged T.nodes parent (judged_before (length T.nodes) member)) (IsJudged T.nodes parent (length T.nodes + 1)) tally t
+      (λ n low high j. (j.0, gone_through tally.fault member n t.upto past high))
 
 module _ (nodes : List Node) (parent : ℕ) (groups : Groups) (are : AreGroups (parent_keys nodes) (length nodes) groups) (keys : length (parent_keys nodes) ≡ length nodes) where
   -- the next node after one that names a parent

@@ -1,7 +1,7 @@
 -- The tally of a tree, node by node, and the verdict at its end.
-use Rattle.std.proofs.Common.{◌≡◌, ◌⊎◌, ℕ, ◌+◌, ◌<◌, ◌≤◌, ◌-◌, min, cond, true, false, List, [], length, Option, Some, None, inl, inr, refl, sym, ap, subst, ◌∙◌, arith, ⊎_elim}
+use Rattle.std.proofs.Common.{◌≡◌, ◌⊎◌, ℕ, ◌+◌, ◌<◌, ◌≤◌, ◌-◌, min, cond, true, [], length, Option, Some, None, refl, sym, subst, arith, ⊎_elim}
 use Rattle.std.specs.Prelude.{IfSome}
-use Rattle.std.proofs.lemmas.Bool.{false≢true, cases_lt, le-leb, lt-leb}
+use Rattle.std.proofs.lemmas.Bool.{cases_lt, le-leb, lt-leb}
 use Rattle.std.proofs.lemmas.List.Elements.{All-get_or}
 use Rattle.asg_model.specs.ValidChoice.{IsValid}
 use Rattle.asg_proof.specs.declared.nodes.Mark.{Mark}
@@ -14,7 +14,7 @@ use Rattle.asg_trees.specs.declared.verdicts.Tally.{Tally}
 use Rattle.asg_trees.specs.declared.verdicts.TreeVerdict.{TreeVerdict}
 use Rattle.asg_trees.specs.declared.verdicts.TreeVerdict.TheVariants.{Tree, FaultAt, OpenAt}
 use Rattle.asg_trees.specs.Judged.{AreGiven, IsLacking, TellsTree, conclusion, conclusion_sound}
-use Rattle.asg_trees.specs.Tallies.{AreSoundUpto, HavePlaces, IsJudged, IsTallied, IsTalliedBy, IsWholeTally, Judges, with_judgement}
+use Rattle.asg_trees.specs.Tallies.{Falls, HavePlaces, IsFair, IsTalliedBy, IsWholeTally, Judges, with_judgement}
 use Rattle.asg_trees.specs.Trees.{IsOpenWrongly, IsSound, IsTree, MayBeOpen, TreeOf}
 
 module _ {V : Type 0} (T : TreeOf V) (count : ℕ) where
@@ -81,6 +81,22 @@ module _ {V : Type 0} (T : TreeOf V) (count : ℕ) where
       stay = λ n low high left j. ⊎_elim (λ (same : n ≡ c). subst (MayBeOpen T count) (sym same) h.1) (λ (k : Judged n). t.stay n low high left k) (more n low high j);
     }
 
+  -- a judgement lets no number rise
+  pub falls_with : (tally : Tally) (c : ℕ) (judgement : Judgement) → c < tally.fault → Falls tally (with_judgement tally c judgement)
+  falls_with tally c AtFault below = record { fault = omega (arith, below); left = omega arith }
+  falls_with tally c LeftOpen below = record { fault = omega arith; left = omega arith }
+  falls_with tally c Fine below = record { fault = omega arith; left = omega arith }
+
+  pub falls_none : (tally : Tally) → Falls tally tally
+  falls_none tally = record { fault = omega arith; left = omega arith }
+
+  pub falls_both : (a b c : Tally) → Falls a b → Falls b c → Falls a c
+  falls_both a b c first second = record { fault = omega (arith, first.fault, second.fault); left = omega (arith, first.left, second.left) }
+
+  -- what is tallied of nodes is fair
+  pub fair_of : (Judged : ℕ → Type 0) (tally : Tally) → IsTalliedBy T count Judged tally → IsFair T count tally
+  fair_of Judged tally t = tally_fewer Judged (λ n. ⊥) tally t (λ n low high j. absurd j)
+
   -- nothing was judged
   pub tally_none : (tally : Tally) → 1 ≤ tally.fault → tally.fault ≤ length T.nodes + 1 → HavePlaces T tally.fault → (tally.fault ≤ length T.nodes → ¬ IsSound T tally.fault) → tally.left ≡ length T.nodes + 1 → IsTalliedBy T count (λ n. ⊥) tally
   tally_none tally from upto places fault left = record {
@@ -93,35 +109,6 @@ module _ {V : Type 0} (T : TreeOf V) (count : ℕ) where
     left_open = λ within. absurd (omega (arith, within, left));
     stay = λ n low high before j. absurd j;
   }
-
-  -- where only the root and what names a parent before the first was judged, the root alone was
-  pub root_alone : (bound : ℕ) → HavePlaces T bound → (n : ℕ) → 1 ≤ n → n < bound → IsJudged T.nodes 1 0 n → n ≡ 1
-  root_alone bound places n low high (inl same) = same
-  root_alone bound places n low high (inr (inl less)) =
-      ⊎_elim
-      (λ (first : n < 2). omega (arith, first, low))
-      (λ (later : 2 ≤ n). absurd (omega (arith, less, ((places n low high).below (omega (arith, later))).there)))
-      (cases_lt n 2)
-  root_alone bound places n low high (inr (inr more)) = absurd (omega (arith, more.1))
-
-  -- where all parents before the first node at fault were gone through, all is tallied
-  pub tally_whole : (parent : ℕ) (tally : Tally) → tally.fault ≤ parent → IsTallied T count parent 0 tally → IsWholeTally T count tally
-  tally_whole parent tally past t = record {
-    from = t.from;
-    upto = t.upto;
-    at_fault = t.at_fault;
-    sound = λ n low high. t.sound n low high (judged n low high);
-    left_from = t.left_from;
-    left_open = t.left_open;
-    stay = λ n low high left. t.stay n low high left (judged n low high);
-  }
-    where
-      judged : (n : ℕ) → 1 ≤ n → n < tally.fault → IsJudged T.nodes parent 0 n
-      judged n low high =
-          ⊎_elim
-          (λ (first : n < 2). inl (omega (arith, first, low)))
-          (λ (later : 2 ≤ n). inr (inl (omega (arith, ((t.places n low high).below (omega (arith, later))).before, high, past))))
-          (cases_lt n 2)
 
   abbrev Tells : TreeVerdict → Type 0
   Tells = TellsTree T.monoid T.difference T.word_of T.enter T.problem count T.answers T.nodes
@@ -180,45 +167,8 @@ answer_within T n sound answered = by (node_at T.nodes n).mark sound.marked answ
     by Open marked is = absurd (cc is)
     by (Empty rows) marked is = absurd (cc is)
 
-module _ {V : Type 0} (T : TreeOf V) (count parent : ℕ) (tally : Tally) (t : IsTallied T count parent 0 tally) where
-  -- the nodes up to a parent whose children are judged next are sound
-  pub sound_upto : parent < tally.fault → AreSoundUpto T parent
-  sound_upto below m from upto =
-      t.sound m from (omega (arith, upto, below))
-      (⊎_elim
-      (λ (first : m < 2). inl (omega (arith, first, from)))
-      (λ (later : 2 ≤ m). inr (inl (omega (arith, ((t.places m from (omega (arith, upto, below))).below (omega (arith, later))).before, upto))))
-      (cases_lt m 2))
-
-  -- a parent without an answer is that of no node
-  pub tally_unanswered : is_answered (node_at T.nodes parent).mark ≡ false → IsTallied T count (parent + 1) 0 tally
-  tally_unanswered off =
-      tally_fewer T count (IsJudged T.nodes parent 0) (IsJudged T.nodes (parent + 1) 0) tally t (λ n low high j. fewer n low high j)
-    where
-      fewer : (n : ℕ) → 1 ≤ n → n < tally.fault → IsJudged T.nodes (parent + 1) 0 n → IsJudged T.nodes parent 0 n
-      fewer n low high (inl root) = inl root
-      fewer n low high (inr (inl less)) =
-          ⊎_elim
-          (λ (first : n < 2). inl (omega (arith, first, low)))
-          (λ (later : 2 ≤ n).
-          ⊎_elim
-          (λ (before : (node_at T.nodes n).parent < parent). inr (inl before))
-          (λ (from : parent ≤ (node_at T.nodes n).parent).
-          let same : (node_at T.nodes n).parent ≡ parent = omega (arith, from, less) in
-          let answered = ((t.places n low high).below (omega (arith, later))).answered in
-          absurd (false≢true (sym off ∙ sym (ap (λ m. is_answered (node_at T.nodes m).mark) same) ∙ answered)))
-          (cases_lt (node_at T.nodes n).parent parent))
-          (cases_lt n 2)
-      fewer n low high (inr (inr named)) = absurd (omega (arith, named.1))
-
 -- the answer of a sound answered node is over the rows
 pub answer_over : {V : Type 0} (T : TreeOf V) → IsTree T → (n : ℕ) → IsSound T n → is_answered (node_at T.nodes n).mark ≡ true → length (node_answer T.answers T.nodes n) ≡ length T.problem.rows
 answer_over T tree n sound answered =
     let within = answer_within T n sound answered in
     (All-get_or (IsValid T.problem) T.answers (answer_number (node_at T.nodes n).mark - 1) [] (omega (arith, within.0, within.1)) tree.valid).over
-
--- that of a parent whose children are judged next is
-pub parent_over : {V : Type 0} (T : TreeOf V) → IsTree T → (count parent : ℕ) (tally : Tally) → IsTallied T count parent 0 tally → 1 ≤ parent → parent < tally.fault → is_answered (node_at T.nodes parent).mark ≡ true
-    → (f : List (Option ℕ)) → f ≡ node_answer T.answers T.nodes parent → length f ≡ length T.problem.rows
-parent_over T tree count parent tally t from below answered f is =
-    ap (λ g. length g) is ∙ answer_over T tree parent (sound_upto T count parent tally t below parent from (omega arith)) answered

@@ -1,8 +1,9 @@
 -- Rows of bits that say which cells of a square a branch keeps.
-use Rattle.std.specs.Prelude.{◌≡◌, ◌≢◌, ◌⊎◌, ℕ, ◌+◌, ◌<◌, ◌≤◌, Bool, true, IsTrue, if◌then◌else◌, IsSome, Option, Some, None, List, slice_index_or}
+use Rattle.std.specs.Prelude.{◌≡◌, ◌≢◌, ◌⊎◌, ℕ, ◌+◌, ◌<◌, ◌≤◌, Bool, true, IsTrue, if◌then◌else◌, IsSome, Option, Some, None, List, length, slice_index_or}
 use Rattle.asg_model.specs.Live.{is_active}
 use Rattle.asg_model.specs.Problem.{Problem}
 use Rattle.asg_model.specs.Shapes.{square_side}
+use Rattle.asg_model.specs.Sums.{count_below}
 use Rattle.asg_model.specs.ValidChoice.{Chooses, takes}
 use Rattle.asg_square.specs.BitTable.{BitTable, has_bit}
 use Rattle.asg_square.specs.Grid.{Grid, cell_at}
@@ -11,6 +12,7 @@ use Rattle.asg_square.specs.WordBits.{HasBit}
 use Rattle.asg_admit.specs.Reduced.{KeepsLabels}
 use Rattle.asg_proof.specs.Children.{is_kept_at, row_number}
 use Rattle.asg_proof.specs.Masks.{keeps_cell}
+use Rattle.asg_trees.specs.declared.masks.Front.{Front}
 
 -- a branch keeps the cell of an active row, by its number and by what the choice gives it, in a
 -- column with this label
@@ -32,6 +34,11 @@ pub record IsMaskOf (X : Problem) (f : List (Option ℕ)) (branch : ℕ) (bits :
 pub record KeepsOtherRows (X : Problem) (bits : BitTable) : Type 0 where
   pub size : HasSize (square_side X) bits
   pub each : (r k : ℕ) → r < square_side X → k < square_side X → is_active X r ≢ true → IsTrue (has_bit bits r k)
+
+-- a row, or the end of the rows, and the number of active rows before it
+pub record IsFront (X : Problem) (front : Front) : Type 0 where
+  pub row : front.row ≤ length X.rows
+  pub number : front.number ≡ count_below (is_active X) front.row
 
 -- the bits of one row are set where this is so of the labels of the columns; all others are as
 -- before

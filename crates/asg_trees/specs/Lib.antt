@@ -6,4 +6,6 @@ pub mod Halls
 pub mod Trails
 pub mod Marks
 pub mod Tallies
+pub mod Descents
 pub mod Judged
+pub mod SingleSteps

@@ -1,6 +1,6 @@
 -- What is known of a tree so far: the least node at fault, and the least that is open and may not
 -- be.
-use Rattle.std.specs.Prelude.{◌≡◌, ◌⊎◌, ℕ, ◌+◌, ◌<◌, ◌≤◌, ◌==◌, min, if◌then◌else◌, List, length}
+use Rattle.std.specs.Prelude.{◌≡◌, ℕ, ◌+◌, ◌<◌, ◌≤◌, ◌==◌, min, if◌then◌else◌, List, length}
 use Rattle.asg_model.specs.Counts.{placed}
 use Rattle.asg_proof.specs.declared.nodes.Node.{Node}
 use Rattle.asg_proof.specs.Nodes.{node_at}
@@ -16,11 +16,9 @@ Judges T count n AtFault = ¬ IsSound T n
 Judges T count n LeftOpen = IsSound T n × IsOpenWrongly T count n
 Judges T count n Fine = IsSound T n × MayBeOpen T count n
 
--- the nodes that were judged: the root, those that name a parent before this one, and of those that
--- name it the ones before a number
+-- the nodes that name a parent, before a number
 abbrev pub IsJudged : List Node → ℕ → ℕ → ℕ → Type 0
-IsJudged nodes parent before n =
-    (n ≡ 1) ⊎ ((node_at nodes n).parent < parent) ⊎ (((node_at nodes n).parent ≡ parent) × (n < before))
+IsJudged nodes parent before n = ((node_at nodes n).parent ≡ parent) × (n < before)
 
 -- each node before this number has its place
 abbrev pub HavePlaces : {V : Type 0} → TreeOf V → ℕ → Type 0
@@ -37,14 +35,24 @@ pub record IsTalliedBy {V : Type 0} (T : TreeOf V) (count : ℕ) (Judged : ℕ �
   pub left_open : tally.left ≤ length T.nodes → IsOpenWrongly T count tally.left
   pub stay : (n : ℕ) → 1 ≤ n → n < tally.fault → n < tally.left → Judged n → MayBeOpen T count n
 
--- the same of the root, of the nodes that name a parent before this one, and of those that name it
--- before a number
+-- a tally of which no node need have been judged
+abbrev pub IsFair : {V : Type 0} → TreeOf V → ℕ → Tally → Type 0
+IsFair T count tally = IsTalliedBy T count (λ n. ⊥) tally
+
+-- the tally of the nodes that name a parent, before a number
 abbrev pub IsTallied : {V : Type 0} → TreeOf V → ℕ → ℕ → ℕ → Tally → Type 0
 IsTallied T count parent before tally = IsTalliedBy T count (IsJudged T.nodes parent before) tally
 
--- each node up to this one is as it must be
-abbrev pub AreSoundUpto : {V : Type 0} → TreeOf V → ℕ → Type 0
-AreSoundUpto T n = (m : ℕ) → 1 ≤ m → m ≤ n → IsSound T m
+-- where more nodes were judged, neither number rises
+pub record Falls (before after : Tally) : Type 0 where
+  pub fault : after.fault ≤ before.fault
+  pub left : after.left ≤ before.left
+
+-- a node that stands before the first at fault is as it must be, and may be open if it stands before
+-- the first that may not
+pub record IsSettled {V : Type 0} (T : TreeOf V) (count : ℕ) (tally : Tally) (n : ℕ) : Type 0 where
+  pub sound : IsSound T n
+  pub stay : n < tally.left → MayBeOpen T count n
 
 -- the tally with a judgement of a node
 abbrev pub with_judgement : Tally → ℕ → Judgement → Tally

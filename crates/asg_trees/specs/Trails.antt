@@ -1,5 +1,5 @@
--- Squares after trails, and the way from the root to a node.
-use Rattle.std.specs.Prelude.{◌≡◌, ℕ, ◌<◌, ◌≤◌, ◌+◌, List, length, slice_index}
+-- Squares after trails.
+use Rattle.std.specs.Prelude.{◌≡◌, ℕ, List}
 use Rattle.asg_model.specs.Problem.{Problem}
 use Rattle.asg_order.specs.declared.words.Word.{Word}
 use Rattle.asg_order.specs.Monoid.{IsValue}
@@ -11,7 +11,6 @@ use Rattle.asg_proof.specs.Phases.{PhaseOf, after_phases, index_of}
 use Rattle.asg_proof.specs.SearchTrees.{AreAdmittedWords}
 use Rattle.asg_proof.specs.Steps.{HasValues}
 use Rattle.asg_proof.specs.Nodes.{node_at, node_trail}
-use Rattle.asg_proof.specs.declared.nodes.Node.{Node}
 use Rattle.asg_trees.specs.Trees.{TreeOf, instance_at}
 
 -- a square is that of an instance after a trail, and the index is that of the trail
@@ -32,12 +31,3 @@ StandsAt T n Q index = IsTrailSquare T (instance_at T n) (node_trail T.nodes n) 
 abbrev pub StandsAbove : {V : Type 0} → TreeOf V → ℕ → Grid V → BitTable → V → Type 0
 StandsAbove T n Q kept index =
     IsTrailSquare T (instance_at T n) (node_trail T.nodes (node_at T.nodes n).parent) (masked_grid Q kept.words) index
-
--- the nodes from one up to a child of the root, each the parent of the one before it
-pub record IsPath (nodes : List Node) (n : ℕ) (path : List ℕ) : Type 0 where
-  pub starts : 1 < n → (0 < length path) × (slice_index path 0 ≡ n)
-  pub none : n ≡ 1 → length path ≡ 0
-  pub each : (i : ℕ) → i < length path → (1 < slice_index path i) × (slice_index path i ≤ n)
-  pub follows : (i : ℕ) → i + 1 < length path
-      → (node_at nodes (slice_index path i)).parent ≡ slice_index path (i + 1)
-  pub ends : (i : ℕ) → i + 1 ≡ length path → (node_at nodes (slice_index path i)).parent ≡ 1

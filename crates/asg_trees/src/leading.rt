@@ -7,7 +7,8 @@ ghost use Rattle.asg_replays.specs.Replays.{AreAdmittedFrom, AreReplayed, IsAdmi
 ghost use Rattle.asg_square.specs.Grid.{cell_at};
 
 use crate::NoMemory;
-use asg_admit::{Reduced, settle};
+use crate::single_leads::settle_one;
+use asg_admit::Reduced;
 use asg_order::Written;
 use asg_proof::WrittenPhase;
 use asg_replays::{first_bad, has_long, make_room, read_steps};
@@ -30,7 +31,7 @@ fn settle_phase<M: Written>(
 {
     let _are_values = read_steps(m, phase.steps(), values)?;
     make_room(m, room, values.len())?;
-    settle(
+    settle_one(
         m,
         reduced,
         values.as_slice(),

@@ -1,6 +1,6 @@
 //! Which cells of a square a branch keeps, as rows of bits.
 
-ghost use Rattle.std.specs.Prelude.{◌≡◌, ◌+◌, ◌<◌, ◌≤◌, true, IfOk, length};
+ghost use Rattle.std.specs.Prelude.{◌≡◌, ◌+◌, ◌<◌, ◌≤◌, ℕ, true, IfOk, length};
 ghost use Rattle.asg_model.specs.declared.parts.Place.TheVariants.{All as PlaceAll};
 ghost use Rattle.asg_model.specs.Instances.{IsInstance};
 ghost use Rattle.asg_model.specs.Limits.{most_side};
@@ -10,13 +10,20 @@ ghost use Rattle.asg_model.specs.Sums.{count_below};
 ghost use Rattle.asg_square.specs.Grid.{HasLabelsOf};
 ghost use Rattle.asg_trees.specs.Copies.{StandInOrder, keeps_alone, keeps_others};
 ghost use Rattle.asg_trees.specs.Kept.{HasSize, IsMaskOf, KeepsAll, KeepsOtherRows, MarksNumbered, MarksRow, MarksRows};
-ghost use Rattle.asg_trees.specs.Kept.{keeps_label};
+ghost use Rattle.asg_trees.specs.Kept.{IsFront, IsNumbered, keeps_label};
 
 use crate::NoMemory;
 use crate::copies::{copies_of, copy_count};
 use asg_model::{Choice, Instance};
 use asg_square::{BitRows, Square};
 use std::alloc::Global;
+
+/// A row, and the number of active rows before it.
+#[derive(Clone, Copy, Debug)]
+pub(crate) struct Front {
+    pub(crate) row: u32,
+    pub(crate) number: u32,
+}
 
 // Lets a row keep all cells.
 fn keep_all<V: Copy>(kept: &mut BitRows, square: &Square<V>, row: u32)
@@ -130,7 +137,8 @@ fn mark_active<V: Copy>(
 }
 
 // Sets the bits of the active rows whose numbers are those from one on up to another to those that
-// a branch keeps. The rows after these aren't looked at.
+// a branch keeps, and gives the last row before which there are fewer than the latter. The rows
+// before the one to start at have lesser numbers; those after these aren't looked at.
 fn mark_rows<V: Copy>(
     kept: &mut BitRows,
     inst: &Instance,
@@ -139,20 +147,43 @@ fn mark_rows<V: Copy>(
     branch: u32,
     from: u32,
     to: u32,
-)
+    start: Front,
+) -> Front
     requires size { HasSize square.now.side kept.old }
     requires labels { HasLabelsOf inst.now square.now }
     requires choice { length choice.now ≡ length inst.now.rows }
     requires within { length inst.now.rows ≤ square.now.side }
-    ensures { MarksRows inst.now choice.now square.now.column_labels square.now.side branch from to
-        (length inst.now.rows) kept.old kept.new }
+    requires start { IsFront inst.now start }
+    requires apart { (r : ℕ) → r < start.row → IsNumbered inst.now from to r → ⊥ }
+    ensures marks { MarksRows inst.now choice.now square.now.column_labels square.now.side branch
+        from to (length inst.now.rows) kept.old kept.new }
+    ensures front { IsFront inst.now result }
 {
-    let mut number = 0;
-    for row in 0..choice.len() {
+    let mut last = start;
+    let mut number = start.number;
+    for row in start.row..choice.len() {
         if to <= number {
-            return;
+            return last;
         }
+        last = Front { row, number };
         number = mark_active(kept, inst, square, choice, branch, from, to, row, number);
+    }
+    last
+}
+
+// The row to start at for the rows whose numbers are those from one on: a known one where fewer
+// active rows are before it, or the first.
+fn start_of(inst: &Instance, front: Front, from: u32, to: u32) -> Front
+    requires { IsFront inst.now front }
+    ensures front { IsFront inst.now result }
+    ensures apart { (r : ℕ) → r < result.row → IsNumbered inst.now from to r → ⊥ }
+{
+    let _ = inst;
+    let _ = to;
+    if front.number < from {
+        front
+    } else {
+        Front { row: 0, number: 0 }
     }
 }
 
@@ -186,11 +217,14 @@ pub(crate) fn make_mask<V: Copy>(
     ensures mask { IsMaskOf inst.now choice.now branch kept.new }
     ensures kept { KeepsOtherRows inst.now kept.new }
 {
-    mark_rows(kept, inst, square, choice, branch, 0, u32::MAX);
+    let start = Front { row: 0, number: 0 };
+    let _last = mark_rows(kept, inst, square, choice, branch, 0, u32::MAX, start);
 }
 
-/// Sets bits that a branch of the same choice keeps to those of another branch. The time is that of
-/// the rows, and of the words of those whose numbers lie between the branches.
+/// Sets bits that a branch of the same choice keeps to those of another branch, and gives the last
+/// row before which there are fewer active ones than the greater of the two. The time is that of the
+/// rows from a known one on, or from the first, and of the words of those whose numbers lie between
+/// the branches.
 pub(crate) fn move_mask<V: Copy>(
     kept: &mut BitRows,
     inst: &Instance,
@@ -198,17 +232,21 @@ pub(crate) fn move_mask<V: Copy>(
     choice: &Choice,
     before: u32,
     branch: u32,
-)
+    front: Front,
+) -> Front
     requires instance { IsInstance inst.now }
     requires place { inst.now.place ≡ PlaceAll }
     requires few { square_side inst.now ≤ most_side }
     requires labels { HasLabelsOf inst.now square.now }
     requires choice { length choice.now ≡ length inst.now.rows }
     requires mask { IsMaskOf inst.now choice.now before kept.old }
+    requires front { IsFront inst.now front }
     ensures mask { IsMaskOf inst.now choice.now branch kept.new }
     ensures kept { KeepsOtherRows inst.now kept.new }
+    ensures front { IsFront inst.now result }
 {
     let from = before.min(branch);
     let to = before.max(branch);
-    mark_rows(kept, inst, square, choice, branch, from, to);
+    let start = start_of(inst, front, from, to);
+    mark_rows(kept, inst, square, choice, branch, from, to, start)
 }

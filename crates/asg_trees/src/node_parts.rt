@@ -8,12 +8,22 @@ use asg_proof::{Mark, Node, WrittenPhase};
 
 /// The parent that a node names.
 #[inline]
+pub(crate) fn parent_number(nodes: &[Node], n: usize) -> u32
+    requires from { 1 ≤ n }
+    requires upto { n ≤ length nodes.now }
+    ensures { result ≡ (node_at nodes.now n).parent }
+{
+    nodes[n - 1].parent
+}
+
+/// The parent that a node names, as a place.
+#[inline]
 pub(crate) fn parent_of(nodes: &[Node], n: usize) -> usize
     requires from { 1 ≤ n }
     requires upto { n ≤ length nodes.now }
     ensures { result ≡ (node_at nodes.now n).parent }
 {
-    nodes[n - 1].parent as usize
+    parent_number(nodes, n) as usize
 }
 
 /// The branch of a node.
@@ -47,16 +57,25 @@ pub(crate) fn own_of(nodes: &[Node], n: usize) -> &[WrittenPhase]
 }
 
 /// The number of a node's answer, 0 where it has none.
-pub(crate) fn answer_of(nodes: &[Node], n: usize) -> usize
+pub(crate) fn answer_number(nodes: &[Node], n: usize) -> u32
     requires from { 1 ≤ n }
     requires upto { n ≤ length nodes.now }
     ensures { result ≡ answer_number (node_at nodes.now n).mark }
 {
     match mark_of(nodes, n) {
-        Mark::Answered(a) => *a as usize,
+        Mark::Answered(a) => *a,
         Mark::Open => 0,
         Mark::Empty(_) => 0,
     }
+}
+
+/// The number of a node's answer as a place, 0 where it has none.
+pub(crate) fn answer_of(nodes: &[Node], n: usize) -> usize
+    requires from { 1 ≤ n }
+    requires upto { n ≤ length nodes.now }
+    ensures { result ≡ answer_number (node_at nodes.now n).mark }
+{
+    answer_number(nodes, n) as usize
 }
 
 /// Whether a node has an answer.

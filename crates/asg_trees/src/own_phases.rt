@@ -8,8 +8,9 @@ ghost use Rattle.asg_trees.specs.Kept.{HasSize};
 ghost use Rattle.asg_trees.specs.Marks.{AreAdmittedWithin, HaveIndexAfter};
 
 use crate::NoMemory;
+use crate::single_steps::admits_kept;
 use crate::taking_out::take_out;
-use asg_admit::{Reduced, admits_within};
+use asg_admit::Reduced;
 use asg_order::{Written, fold};
 use asg_proof::WrittenPhase;
 use asg_replays::{first_bad, read_steps};
@@ -42,6 +43,7 @@ fn index_of_one<M: Written>(
     phase: &WrittenPhase,
 ) -> Result<Option<M::Value>, NoMemory>
     requires values { HasValues (M.monoid_of m.now) square.now.side (cell_at square.now) }
+    requires size { HasSize square.now.side kept.now }
     requires before { IsValue (M.monoid_of m.now) before }
     ensures some { IfOk result (λ found. IfSome found (HaveIndexAfter (M.monoid_of m.now)
         (M.difference m.now) (M.word_of m.now) square.now kept.now before (phase.now ∷ []))) }
@@ -53,8 +55,7 @@ fn index_of_one<M: Written>(
         return Ok(None);
     }
     let steps = values.as_slice();
-    let words = kept.words();
-    if !admits_within(m, square, words, steps, phase.enters(), phase.leaves()) {
+    if !admits_kept(m, square, kept, steps, phase.enters(), phase.leaves()) {
         return Ok(None);
     }
     Ok(Some(m.op(before, fold(m, steps))))

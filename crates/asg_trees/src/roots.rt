@@ -8,7 +8,7 @@ ghost use Rattle.asg_square.specs.Grid.{cell_at};
 ghost use Rattle.asg_trees.specs.Groups.{AreGroups, answer_keys, parent_keys};
 ghost use Rattle.asg_trees.specs.Kept.{KeepsAll};
 ghost use Rattle.asg_trees.specs.Marks.{IsLastProduct};
-ghost use Rattle.asg_trees.specs.Tallies.{HavePlaces, IsTallied};
+ghost use Rattle.asg_trees.specs.Tallies.{HavePlaces, IsTalliedBy};
 ghost use Rattle.asg_trees.specs.Trails.{StandsAt};
 ghost use Rattle.asg_trees.specs.Trees.{IsSound, IsTree, tree_of};
 
@@ -69,7 +69,7 @@ fn tally_root<K: Kind>(
     ensures { let T = tree_of (K.M.monoid_of (K.monoid kind.now))
         (K.M.difference (K.monoid kind.now)) (K.M.word_of (K.monoid kind.now))
         (K.entered kind.now) inst.now answers.now nodes.now in
-        IfOk result (IsTallied T count 1 0) }
+        IfOk result (IsTalliedBy T count (λ n. n ≡ 1)) }
 {
     if so_far.fault <= 1 {
         return Ok(so_far);
@@ -125,7 +125,7 @@ pub(crate) fn judge_root<K: Kind>(
     ensures tallied { let T = tree_of (K.M.monoid_of (K.monoid kind.now))
         (K.M.difference (K.monoid kind.now)) (K.M.word_of (K.monoid kind.now))
         (K.entered kind.now) inst.now answers.now nodes.now in
-        IfOk result (IsTallied T count 1 0) }
+        IfOk result (IsTalliedBy T count (λ n. n ≡ 1)) }
     ensures stands { let T = tree_of (K.M.monoid_of (K.monoid kind.now))
         (K.M.difference (K.monoid kind.now)) (K.M.word_of (K.monoid kind.now))
         (K.entered kind.now) inst.now answers.now nodes.now in

@@ -4,15 +4,15 @@ ghost use Rattle.std.specs.Prelude.{◌≡◌, ◌+◌, ◌<◌, ◌≤◌, IsTr
 ghost use Rattle.asg_proof.specs.Nodes.{node_answer, node_at};
 ghost use Rattle.asg_proof.specs.SearchTrees.{is_answered};
 ghost use Rattle.asg_trees.specs.Groups.{AreGroups, answer_keys, parent_keys};
-ghost use Rattle.asg_trees.specs.Kept.{IsMaskOf, KeepsOtherRows};
+ghost use Rattle.asg_trees.specs.Kept.{IsFront, IsMaskOf, KeepsOtherRows};
 ghost use Rattle.asg_trees.specs.Marks.{IsLastProduct};
-ghost use Rattle.asg_trees.specs.Tallies.{HavePlaces, IsTallied, TalliesNode};
+ghost use Rattle.asg_trees.specs.Tallies.{Falls, HavePlaces, IsFair, IsTallied, TalliesNode};
 ghost use Rattle.asg_trees.specs.Trails.{StandsAt};
-ghost use Rattle.asg_trees.specs.Trees.{IsTree, tree_of};
+ghost use Rattle.asg_trees.specs.Trees.{IsSound, IsTree, tree_of};
 
 use crate::NoMemory;
 use crate::groups::Groups;
-use crate::masks::{make_mask, move_mask};
+use crate::masks::{Front, make_mask, move_mask};
 use crate::node_parts::branch_of;
 use crate::paths::answer_at;
 use crate::tallies::tally_node;
@@ -25,7 +25,7 @@ use asg_square::BitRows;
 use std::alloc::Global;
 
 // Judges a node on its parent's square and tallies it: bits that another branch of the parent's
-// answer keeps are made those that its own keeps. The error is want of memory.
+// answer keeps are made those that its own keeps, from a known row on. The error is want of memory.
 fn judge_member<K: Kind>(
     alloc: Global,
     kind: &K,
@@ -40,6 +40,7 @@ fn judge_member<K: Kind>(
     kept: &mut BitRows,
     choice: &Choice,
     marked: u32,
+    front: &mut Front,
     n: usize,
     so_far: Tally,
 ) -> Result<Tally, NoMemory>
@@ -64,8 +65,10 @@ fn judge_member<K: Kind>(
         (node_at nodes.now n).parent }
     requires over { length choice.now ≡ length inst.now.rows }
     requires mask { IsMaskOf inst.now choice.now marked kept.old }
+    requires front { IsFront inst.now front.old }
     ensures mask { IsMaskOf inst.now choice.now (node_at nodes.now n).branch kept.new }
     ensures kept { KeepsOtherRows inst.now kept.new }
+    ensures front { IsFront inst.now front.new }
     ensures tallied { let T = tree_of (K.M.monoid_of (K.monoid kind.now))
         (K.M.difference (K.monoid kind.now)) (K.M.word_of (K.monoid kind.now))
         (K.entered kind.now) inst.now answers.now nodes.now in
@@ -73,7 +76,7 @@ fn judge_member<K: Kind>(
 {
     let square = &reduced.now;
     let branch = branch_of(nodes, n);
-    move_mask(kept, inst, square, choice, marked, branch);
+    *front = move_mask(kept, inst, square, choice, marked, branch, *front);
     tally_node(
         alloc,
         kind,
@@ -129,23 +132,25 @@ fn judge_members<K: Kind>(
     requires over { length choice.now ≡ length inst.now.rows }
     requires mask { IsMaskOf inst.now choice.now 1 kept.old }
     requires kept { KeepsOtherRows inst.now kept.old }
-    requires tallied { let T = tree_of (K.M.monoid_of (K.monoid kind.now))
+    requires fair { let T = tree_of (K.M.monoid_of (K.monoid kind.now))
         (K.M.difference (K.monoid kind.now)) (K.M.word_of (K.monoid kind.now))
         (K.entered kind.now) inst.now answers.now nodes.now in
-        IsTallied T count parent 0 so_far }
+        IsFair T count so_far }
     ensures kept { IfOk result (λ _. KeepsOtherRows inst.now kept.new) }
     ensures tallied { let T = tree_of (K.M.monoid_of (K.monoid kind.now))
         (K.M.difference (K.monoid kind.now)) (K.M.word_of (K.monoid kind.now))
         (K.entered kind.now) inst.now answers.now nodes.now in
-        IfOk result (IsTallied T count (parent + 1) 0) }
+        IfOk result (IsTallied T count parent (length nodes.now + 1)) }
+    ensures falls { IfOk result (Falls so_far) }
 {
     let mut tally = so_far;
     let mut marked = 1;
+    let mut front = Front { row: 0, number: 0 };
     let mut member = members.first_of(parent);
     'members: while member != 0 && member < tally.fault {
         tally = judge_member(
             alloc, kind, inst, answers, nodes, members, given, count, last, reduced, kept, choice,
-            marked, member, tally,
+            marked, &mut front, member, tally,
         )?;
         marked = branch_of(nodes, member);
         member = members.next_of(member);
@@ -179,23 +184,27 @@ pub(crate) fn judge_children<K: Kind>(
         (K.M.difference (K.monoid kind.now)) (K.M.word_of (K.monoid kind.now))
         (K.entered kind.now) inst.now answers.now nodes.now in IsLastProduct T count last }
     requires from { 1 ≤ parent }
-    requires below { parent < so_far.fault }
     requires upto { parent ≤ length nodes.now }
     requires answered { IsTrue (is_answered (node_at nodes.now parent).mark) }
+    requires sound { let T = tree_of (K.M.monoid_of (K.monoid kind.now))
+        (K.M.difference (K.monoid kind.now)) (K.M.word_of (K.monoid kind.now))
+        (K.entered kind.now) inst.now answers.now nodes.now in
+        IsSound T parent }
     requires kept { KeepsOtherRows inst.now kept.old }
     requires stands { let T = tree_of (K.M.monoid_of (K.monoid kind.now))
         (K.M.difference (K.monoid kind.now)) (K.M.word_of (K.monoid kind.now))
         (K.entered kind.now) inst.now answers.now nodes.now in
         StandsAt T parent reduced.now.now reduced.now.index }
-    requires tallied { let T = tree_of (K.M.monoid_of (K.monoid kind.now))
+    requires fair { let T = tree_of (K.M.monoid_of (K.monoid kind.now))
         (K.M.difference (K.monoid kind.now)) (K.M.word_of (K.monoid kind.now))
         (K.entered kind.now) inst.now answers.now nodes.now in
-        IsTallied T count parent 0 so_far }
+        IsFair T count so_far }
     ensures kept { IfOk result (λ _. KeepsOtherRows inst.now kept.new) }
     ensures tallied { let T = tree_of (K.M.monoid_of (K.monoid kind.now))
         (K.M.difference (K.monoid kind.now)) (K.M.word_of (K.monoid kind.now))
         (K.entered kind.now) inst.now answers.now nodes.now in
-        IfOk result (IsTallied T count (parent + 1) 0) }
+        IfOk result (IsTallied T count parent (length nodes.now + 1)) }
+    ensures falls { IfOk result (Falls so_far) }
 {
     let choice = answer_at(answers, nodes, parent);
     make_mask(kept, inst, &reduced.now, choice, 1);

@@ -19,9 +19,9 @@ ghost use Rattle.asg_trees.specs.Trees.{IsTree, tree_of};
 
 use crate::NoMemory;
 use crate::conclusions::{concluded, first_lacking};
+use crate::descents::judge_rest;
 use crate::groups::{Groups, by_answer, by_parent};
 use crate::masks::whole_mask;
-use crate::parents::judge_parents;
 use crate::places::first_misplaced;
 use crate::roots::judge_root;
 use crate::verdicts::{Tally, TreeVerdict};
@@ -95,7 +95,7 @@ fn tally_nodes<K: Kind>(
     let at_root = judge_root(
         alloc, kind, inst, answers, nodes, members, given, count, last, root, kept, led, first,
     )?;
-    judge_parents(
+    judge_rest(
         alloc, kind, inst, answers, nodes, members, given, count, last, root, kept, at_root,
     )
 }

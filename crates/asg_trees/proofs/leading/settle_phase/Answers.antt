@@ -7,8 +7,8 @@ use Rattle.asg_replays.specs.laws.Replaying.{phase-words}
 use Rattle.asg_trees.proofs.LeadLemmas.{is_read, read_phase}
 use Rattle.asg_trees.proofs.leading.settle_phase.Goals as goal
 
-pub settle-requires-clause-admitted : goal.settle-requires-clause-admitted
-settle-requires-clause-admitted g c =
+pub settle_one-requires-clause-admitted : goal.settle_one-requires-clause-admitted
+settle_one-requires-clause-admitted g c =
     let m = c.args.m.now in
     let M = g.M.Ordered.monoid_of m in
     let d = g.M.DMonoid.difference m in
@@ -43,5 +43,5 @@ returns g c =
             (subst (All (IsValue M)) (sym c.as_slice.ensures.value) (c.in_ok-_are_values.ensures.values is))
             s c.enters.ensures.enters c.leaves.ensures.leaves;
       };
-      leads = c.settle.ensures.phase;
+      leads = c.settle_one.ensures.phase;
     }

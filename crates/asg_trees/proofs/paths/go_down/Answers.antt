@@ -1,14 +1,31 @@
-use Rattle.std.proofs.Common.{sym, ap, subst, ◌∙◌}
+use Rattle.std.proofs.Common.{◌≤◌, length, sym, ap, subst, ◌∙◌, arith}
 use Rattle.asg_admit.specs.declared.reduced.Reduced.{Reduced}
 use Rattle.asg_admit.specs.Reduced.{IsReduced}
-use Rattle.asg_proof.specs.Nodes.{node_answer, node_at}
+use Rattle.asg_proof.specs.Nodes.{answer_number, node_answer, node_at}
 use Rattle.asg_square.specs.Grid.{cell_at}
 use Rattle.asg_replays.specs.Replays.{AreAdmittedFrom, AreReplayed}
 use Rattle.asg_trees.specs.Kept.{HasSize, IsMaskOf}
 use Rattle.asg_trees.specs.Trees.{tree_of}
 use Rattle.asg_trees.proofs.DownLemmas.{gone_down, own_admitted, taken_square}
 use Rattle.asg_trees.proofs.NodeFacts.{labels-from_node}
+use Rattle.asg_trees.proofs.TallyLemmas.{answer_within}
 use Rattle.asg_trees.proofs.paths.go_down.Goals as goal
+
+pub answer_at-choice-requires-clause-there : goal.answer_at-choice-requires-clause-there
+answer_at-choice-requires-clause-there g c =
+    let kind = c.args.kind.now in
+    let T = tree_of (g.K.M.Ordered.monoid_of (g.K.Kind.monoid kind)) (g.K.M.DMonoid.difference (g.K.Kind.monoid kind)) (g.K.M.Written.word_of (g.K.Kind.monoid kind)) (g.K.Kind.entered kind) c.args.inst.now c.args.answers.now c.args.nodes.now in
+    let place = (c.requires.places c.args.n (omega (arith, c.requires.from)) (omega arith)).below c.requires.from in
+    subst (λ p. 1 ≤ answer_number (node_at c.args.nodes.now p).mark) (sym c.parent_of.ensures)
+    (answer_within T (node_at c.args.nodes.now c.args.n).parent c.requires.parent place.answered).0
+
+pub answer_at-choice-requires-clause-given : goal.answer_at-choice-requires-clause-given
+answer_at-choice-requires-clause-given g c =
+    let kind = c.args.kind.now in
+    let T = tree_of (g.K.M.Ordered.monoid_of (g.K.Kind.monoid kind)) (g.K.M.DMonoid.difference (g.K.Kind.monoid kind)) (g.K.M.Written.word_of (g.K.Kind.monoid kind)) (g.K.Kind.entered kind) c.args.inst.now c.args.answers.now c.args.nodes.now in
+    let place = (c.requires.places c.args.n (omega (arith, c.requires.from)) (omega arith)).below c.requires.from in
+    subst (λ p. answer_number (node_at c.args.nodes.now p).mark ≤ length c.args.answers.now) (sym c.parent_of.ensures)
+    (answer_within T (node_at c.args.nodes.now c.args.n).parent c.requires.parent place.answered).1
 
 pub make_mask-requires-clause-labels : goal.make_mask-requires-clause-labels
 make_mask-requires-clause-labels g c =
@@ -28,7 +45,7 @@ lead_by-requires-clause-reduced g c =
     let Q = c.args.reduced.now.now in
     let mask = subst (λ f. IsMaskOf c.args.inst.now f (node_at c.args.nodes.now c.args.n).branch c.make_mask.new.kept) (c.answer_at-choice.ensures ∙ ap (node_answer c.args.answers.now c.args.nodes.now) c.parent_of.ensures)
     (subst (λ i. IsMaskOf c.args.inst.now c.answer_at-choice.result.now i c.make_mask.new.kept) c.branch_of.ensures c.make_mask.ensures.mask) in
-    let t = taken_square T (g.met.K.M.Ordered.laws m) (g.K.M.Written.value_of m) (g.met.K.M.Written.word_laws m) c.args.n c.requires.from c.requires.sound Q c.take_out.new.square c.args.reduced.now.index c.make_mask.new.kept s mask c.take_out.ensures.labels c.take_out.ensures.cells in
+    let t = taken_square T (g.met.K.M.Ordered.laws m) (g.K.M.Written.value_of m) (g.met.K.M.Written.word_laws m) c.args.n c.requires.from c.requires.places c.requires.sound Q c.take_out.new.square c.args.reduced.now.index c.make_mask.new.kept s mask c.take_out.ensures.labels c.take_out.ensures.cells in
     subst (λ n. IsReduced (g.K.M.Ordered.monoid_of n) (record { now = c.take_out.new.square; index = c.args.reduced.now.index })) (sym c.monoid.ensures)
     (record { cells = t.values; index = t.is_value })
 
@@ -41,9 +58,9 @@ lead_by-requires-clause-admitted g c =
     let Q = c.args.reduced.now.now in
     let mask = subst (λ f. IsMaskOf c.args.inst.now f (node_at c.args.nodes.now c.args.n).branch c.make_mask.new.kept) (c.answer_at-choice.ensures ∙ ap (node_answer c.args.answers.now c.args.nodes.now) c.parent_of.ensures)
     (subst (λ i. IsMaskOf c.args.inst.now c.answer_at-choice.result.now i c.make_mask.new.kept) c.branch_of.ensures c.make_mask.ensures.mask) in
-    let t = taken_square T (g.met.K.M.Ordered.laws m) (g.K.M.Written.value_of m) (g.met.K.M.Written.word_laws m) c.args.n c.requires.from c.requires.sound Q c.take_out.new.square c.args.reduced.now.index c.make_mask.new.kept s mask c.take_out.ensures.labels c.take_out.ensures.cells in
+    let t = taken_square T (g.met.K.M.Ordered.laws m) (g.K.M.Written.value_of m) (g.met.K.M.Written.word_laws m) c.args.n c.requires.from c.requires.places c.requires.sound Q c.take_out.new.square c.args.reduced.now.index c.make_mask.new.kept s mask c.take_out.ensures.labels c.take_out.ensures.cells in
     let R = c.take_out.new.square in
-    let all = own_admitted T (g.met.K.M.Ordered.laws m) (g.K.M.Written.value_of m) (g.met.K.M.Written.word_laws m) c.args.n c.requires.from c.requires.sound R c.args.reduced.now.index t c.requires.answered in
+    let all = own_admitted T (g.met.K.M.Ordered.laws m) (g.K.M.Written.value_of m) (g.met.K.M.Written.word_laws m) c.args.n c.requires.from c.requires.places c.requires.sound R c.args.reduced.now.index t c.requires.answered in
     subst (λ o. AreAdmittedFrom (g.K.M.Ordered.monoid_of o) (g.K.M.DMonoid.difference o) (g.K.M.Written.word_of o) R.side (cell_at R) c.own_of.result.now) (sym c.monoid.ensures)
     (subst (AreAdmittedFrom T.monoid T.difference T.word_of R.side (cell_at R)) (sym c.own_of.ensures) all)
 
@@ -56,9 +73,9 @@ returns-clause-stands g c =
     let Q = c.args.reduced.now.now in
     let mask = subst (λ f. IsMaskOf c.args.inst.now f (node_at c.args.nodes.now c.args.n).branch c.make_mask.new.kept) (c.answer_at-choice.ensures ∙ ap (node_answer c.args.answers.now c.args.nodes.now) c.parent_of.ensures)
     (subst (λ i. IsMaskOf c.args.inst.now c.answer_at-choice.result.now i c.make_mask.new.kept) c.branch_of.ensures c.make_mask.ensures.mask) in
-    let t = taken_square T (g.met.K.M.Ordered.laws m) (g.K.M.Written.value_of m) (g.met.K.M.Written.word_laws m) c.args.n c.requires.from c.requires.sound Q c.take_out.new.square c.args.reduced.now.index c.make_mask.new.kept s mask c.take_out.ensures.labels c.take_out.ensures.cells in
+    let t = taken_square T (g.met.K.M.Ordered.laws m) (g.K.M.Written.value_of m) (g.met.K.M.Written.word_laws m) c.args.n c.requires.from c.requires.places c.requires.sound Q c.take_out.new.square c.args.reduced.now.index c.make_mask.new.kept s mask c.take_out.ensures.labels c.take_out.ensures.cells in
     let before : Reduced _ = record { now = c.take_out.new.square; index = c.args.reduced.now.index } in
     let after = c.lead_by.new.reduced in
     let led = subst (λ own. AreReplayed T.monoid T.difference T.word_of own before after) c.own_of.ensures
     (subst (λ o. AreReplayed (g.K.M.Ordered.monoid_of o) (g.K.M.DMonoid.difference o) (g.K.M.Written.word_of o) c.own_of.result.now before after) c.monoid.ensures c.in_ok-lead_by.ensures) in
-    gone_down T (g.met.K.M.Ordered.laws m) (g.K.M.Written.value_of m) (g.met.K.M.Written.word_laws m) c.args.n c.requires.from c.requires.sound before after t led
+    gone_down T (g.met.K.M.Ordered.laws m) (g.K.M.Written.value_of m) (g.met.K.M.Written.word_laws m) c.args.n c.requires.from c.requires.places c.requires.sound before after t led

@@ -1,4 +1,4 @@
-use Rattle.std.proofs.Common.{inl, refl, sym, subst, arith}
+use Rattle.std.proofs.Common.{refl, sym, subst, arith}
 use Rattle.std.specs.Prelude.{IfSome}
 use Rattle.asg_admit.specs.Reduced.{IsReduced}
 use Rattle.asg_proof.specs.Nodes.{node_at}
@@ -22,7 +22,7 @@ stand_after-requires-clause-admitted g c =
     let m = g.K.Kind.monoid kind in
     let T = tree_of (g.K.M.Ordered.monoid_of (g.K.Kind.monoid kind)) (g.K.M.DMonoid.difference (g.K.Kind.monoid kind)) (g.K.M.Written.word_of (g.K.Kind.monoid kind)) (g.K.Kind.entered kind) c.args.inst.now c.args.answers.now c.args.nodes.now in
     let start = c.args.root.now in
-    let sound = c.in_ok-tally.ensures.sound 1 (omega arith) c.if-tally-le1.false (inl refl) in
+    let sound = c.in_ok-tally.ensures.sound 1 (omega arith) c.if-tally-le1.false refl in
     let all = root_admitted T (g.met.K.M.Ordered.laws m) (g.K.M.Written.value_of m) (g.met.K.M.Written.word_laws m) start c.requires.start sound in
     subst (λ o. AreAdmittedFrom (g.K.M.Ordered.monoid_of o) (g.K.M.DMonoid.difference o) (g.K.M.Written.word_of o) start.now.side (cell_at start.now) c.own_of.result.now) (sym c.monoid.ensures)
     (subst (AreAdmittedFrom T.monoid T.difference T.word_of start.now.side (cell_at start.now)) (sym c.own_of.ensures) all)

@@ -1,15 +1,15 @@
-use Rattle.std.proofs.Common.{Option, None, Some, inl, sym, subst, arith}
+use Rattle.std.proofs.Common.{◌≡◌, Option, None, Some, inl, sym, subst, arith}
 use Rattle.std.proofs.lemmas.Result.{IfOk-weaker}
 use Rattle.std.specs.Prelude.{IfSome}
 use Rattle.asg_proof.specs.Nodes.{node_at}
 use Rattle.asg_replays.specs.WholeLists.{HaveIndex}
 use Rattle.asg_square.specs.Grid.{cell_at}
 use Rattle.asg_trees.specs.Marks.{HaveIndexAfter}
-use Rattle.asg_trees.specs.Tallies.{IsJudged, IsTallied, TalliesNode}
+use Rattle.asg_trees.specs.Tallies.{IsTalliedBy, TalliesNode}
 use Rattle.asg_trees.specs.declared.verdicts.Tally.{Tally}
 use Rattle.asg_trees.specs.Trees.{tree_of}
 use Rattle.asg_trees.proofs.DownLemmas.{known_after, root_above}
-use Rattle.asg_trees.proofs.TallyLemmas.{root_alone, tally_more, tally_none}
+use Rattle.asg_trees.proofs.TallyLemmas.{tally_more, tally_none}
 use Rattle.asg_trees.proofs.roots.tally_root.Goals as goal
 
 pub tally_node-requires-clause-places : goal.tally_node-requires-clause-places
@@ -45,9 +45,9 @@ returns g c =
     let count = c.args.count in
     let so_far = c.args.so_far in
     let none = tally_none T count so_far c.requires.from c.requires.upto c.requires.places c.requires.fault c.requires.left in
-    IfOk-weaker c.tally_node.result (TalliesNode T count 1 so_far) (IsTallied T count 1 0)
+    IfOk-weaker c.tally_node.result (TalliesNode T count 1 so_far) (IsTalliedBy T count (λ n. n ≡ 1))
     (λ (tally : Tally) (told : TalliesNode T count 1 so_far tally).
-    subst (IsTallied T count 1 0) (sym told.same)
-    (tally_more T count (λ n. ⊥) (IsJudged T.nodes 1 0) so_far none 1 (omega arith) c.if-so_far-le1.false
-    (λ n low high j. inl (root_alone T count so_far.fault c.requires.places n low high j)) told.judgement told.judges))
+    subst (IsTalliedBy T count (λ n. n ≡ 1)) (sym told.same)
+    (tally_more T count (λ n. ⊥) (λ n. n ≡ 1) so_far none 1 (omega arith) c.if-so_far-le1.false
+    (λ n low high j. inl j) told.judgement told.judges))
     c.tally_node.ensures

@@ -1,20 +1,20 @@
-use Rattle.std.proofs.Common.{arith}
+use Rattle.std.proofs.Common.{ℕ, List, Option, length, ap, ◌∙◌}
 use Rattle.asg_trees.specs.Trees.{tree_of}
 use Rattle.asg_trees.proofs.NodeFacts.{labels-from_node}
-use Rattle.asg_trees.proofs.TallyLemmas.{answer_within, parent_over, sound_upto}
+use Rattle.asg_trees.proofs.TallyLemmas.{answer_over, answer_within}
 use Rattle.asg_trees.proofs.siblings.judge_children.Goals as goal
 
 pub answer_at-choice-requires-clause-there : goal.answer_at-choice-requires-clause-there
 answer_at-choice-requires-clause-there g c =
     let kind = c.args.kind.now in
     let T = tree_of (g.K.M.Ordered.monoid_of (g.K.Kind.monoid kind)) (g.K.M.DMonoid.difference (g.K.Kind.monoid kind)) (g.K.M.Written.word_of (g.K.Kind.monoid kind)) (g.K.Kind.entered kind) c.args.inst.now c.args.answers.now c.args.nodes.now in
-    (answer_within T c.args.parent (sound_upto T c.args.count c.args.parent c.args.so_far c.requires.tallied c.requires.below c.args.parent c.requires.from (omega arith)) c.requires.answered).0
+    (answer_within T c.args.parent c.requires.sound c.requires.answered).0
 
 pub answer_at-choice-requires-clause-given : goal.answer_at-choice-requires-clause-given
 answer_at-choice-requires-clause-given g c =
     let kind = c.args.kind.now in
     let T = tree_of (g.K.M.Ordered.monoid_of (g.K.Kind.monoid kind)) (g.K.M.DMonoid.difference (g.K.Kind.monoid kind)) (g.K.M.Written.word_of (g.K.Kind.monoid kind)) (g.K.Kind.entered kind) c.args.inst.now c.args.answers.now c.args.nodes.now in
-    (answer_within T c.args.parent (sound_upto T c.args.count c.args.parent c.args.so_far c.requires.tallied c.requires.below c.args.parent c.requires.from (omega arith)) c.requires.answered).1
+    (answer_within T c.args.parent c.requires.sound c.requires.answered).1
 
 pub make_mask-requires-clause-labels : goal.make_mask-requires-clause-labels
 make_mask-requires-clause-labels g c =
@@ -24,10 +24,10 @@ pub make_mask-requires-clause-choice : goal.make_mask-requires-clause-choice
 make_mask-requires-clause-choice g c =
     let kind = c.args.kind.now in
     let T = tree_of (g.K.M.Ordered.monoid_of (g.K.Kind.monoid kind)) (g.K.M.DMonoid.difference (g.K.Kind.monoid kind)) (g.K.M.Written.word_of (g.K.Kind.monoid kind)) (g.K.Kind.entered kind) c.args.inst.now c.args.answers.now c.args.nodes.now in
-    parent_over T c.requires.tree c.args.count c.args.parent c.args.so_far c.requires.tallied c.requires.from c.requires.below c.requires.answered c.answer_at-choice.result.now c.answer_at-choice.ensures
+    ap (λ (f : List (Option ℕ)). length f) c.answer_at-choice.ensures ∙ answer_over T c.requires.tree c.args.parent c.requires.sound c.requires.answered
 
 pub judge_members-requires-clause-over : goal.judge_members-requires-clause-over
 judge_members-requires-clause-over g c =
     let kind = c.args.kind.now in
     let T = tree_of (g.K.M.Ordered.monoid_of (g.K.Kind.monoid kind)) (g.K.M.DMonoid.difference (g.K.Kind.monoid kind)) (g.K.M.Written.word_of (g.K.Kind.monoid kind)) (g.K.Kind.entered kind) c.args.inst.now c.args.answers.now c.args.nodes.now in
-    parent_over T c.requires.tree c.args.count c.args.parent c.args.so_far c.requires.tallied c.requires.from c.requires.below c.requires.answered c.answer_at-choice.result.now c.answer_at-choice.ensures
+    ap (λ (f : List (Option ℕ)). length f) c.answer_at-choice.ensures ∙ answer_over T c.requires.tree c.args.parent c.requires.sound c.requires.answered

@@ -1,14 +1,16 @@
-use Rattle.std.proofs.Common.{◌≤◌, inl, inr, length, sym, ap, subst, ◌∙◌, arith}
+use Rattle.std.proofs.Common.{◌≤◌, inl, inr, length, refl, sym, ap, subst, ◌∙◌, arith}
 use Rattle.std.proofs.lemmas.List.{length-map}
 use Rattle.asg_proof.specs.declared.nodes.Node.{Node}
 use Rattle.asg_proof.specs.Nodes.{node_answer}
 use Rattle.asg_trees.specs.Groups.{IsNextWith, parent_keys}
 use Rattle.asg_trees.specs.Kept.{IsMaskOf}
-use Rattle.asg_trees.specs.Tallies.{IsTallied, judged_before}
+use Rattle.asg_trees.specs.Tallies.{Falls, IsTallied, judged_before}
 use Rattle.asg_trees.specs.Trails.{StandsAt}
 use Rattle.asg_trees.specs.Trees.{tree_of}
 use Rattle.asg_trees.proofs.GroupLemmas.{parent_key}
+use Rattle.asg_trees.proofs.MaskLemmas.{front_none}
 use Rattle.asg_trees.proofs.SiblingLemmas.{before_some, below_root, member_falls, member_judged, members_done, members_first, next_named, next_of_member}
+use Rattle.asg_trees.proofs.TallyLemmas.{falls_both, falls_none, falls_with}
 use Rattle.asg_trees.proofs.siblings.judge_members.Goals as goal
 
 pub first_of-member-requires : goal.first_of-member-requires
@@ -27,7 +29,9 @@ members-init g c =
       named = λ some. sym (parent_key nodes next (is.later some) (omega (arith, is.upto, keys))) ∙ is.same some;
       mask = c.requires.mask;
       others = c.requires.kept;
-      tallied = members_first T c.args.count c.args.parent keys c.args.so_far next is c.requires.tallied;
+      front = front_none c.args.inst.now (record { row = 0; number = 0 }) refl refl;
+      tallied = members_first T c.args.count c.args.parent keys c.args.so_far next is c.requires.fair;
+      falls = falls_none T c.args.count c.args.so_far;
     }
 
 pub judge_member-requires-clause-from : goal.judge_member-requires-clause-from
@@ -87,8 +91,11 @@ members-preserved g c =
       named = λ more. next_named nodes c.args.parent c.args.members.now c.requires.members keys member next is more;
       mask = subst (λ b. IsMaskOf c.args.inst.now c.args.choice.now b c.judge_member.new.kept) (sym c.branch_of-marked.ensures) c.judge_member.ensures.mask;
       others = c.judge_member.ensures.kept;
+      front = c.judge_member.ensures.front;
       tallied = subst (IsTallied T c.args.count c.args.parent (judged_before (length nodes) next)) (sym told.same)
           (member_judged T c.args.count c.args.parent keys c.members.tally member next told.judgement before from c.if-member-tally.true on is told.judges);
+      falls = falls_both T c.args.count c.args.so_far c.members.tally c.in_ok-tally.tally c.members.invariant.falls
+          (subst (Falls c.members.tally) (sym told.same) (falls_with T c.args.count c.members.tally member told.judgement c.if-member-tally.true));
     }
 
 pub returns-else-member-tally-clause-tallied : goal.returns-else-member-tally-clause-tallied

@@ -1,7 +1,7 @@
 use Rattle.std.proofs.Common.{◌≡◌, ◌≢◌, ◌+◌, ◌-◌, ◌≤◌, cond, eqb, length}
 use Rattle.asg_proof.specs.Nodes.{node_at}
-use Rattle.asg_trees.specs.Kept.{IsMaskOf, KeepsOtherRows}
-use Rattle.asg_trees.specs.Tallies.{IsTallied, judged_before}
+use Rattle.asg_trees.specs.Kept.{IsFront, IsMaskOf, KeepsOtherRows}
+use Rattle.asg_trees.specs.Tallies.{Falls, IsTallied, judged_before}
 use Rattle.asg_trees.specs.Trees.{tree_of}
 use Rattle.asg_trees.proofs.siblings.judge_members.Given as goal
 
@@ -14,7 +14,9 @@ invariant-members g l =
       named : l.member ≢ 0 → (node_at l.nodes l.member).parent ≡ l.parent;
       mask : IsMaskOf l.inst l.choice l.marked l.kept;
       others : KeepsOtherRows l.inst l.kept;
+      front : IsFront l.inst l.front;
       tallied : IsTallied T l.count l.parent (judged_before (length l.nodes) l.member) l.tally;
+      falls : Falls l.fn.so_far l.tally;
     }
 
 abbrev pub decreases-members : goal.decreases-members

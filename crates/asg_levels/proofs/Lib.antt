@@ -3,3 +3,5 @@ pub mod MarkWordLemmas
 pub mod FreeLemmas
 pub mod FreeSteps
 pub mod ListLemmas
+pub mod ZeroBits
+pub mod NextSteps

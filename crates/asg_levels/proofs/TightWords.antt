@@ -146,11 +146,11 @@ module _ (zeros ones : BitTable) (outs zero_words one_words : List ℕ) (ins row
         (or_cases _ _ (sym (row_bits k h) ∙ set))
 
 -- past the words of a row no bit is set
-past_words : (B : BitTable) (r c : ℕ) → 64 * word_count B.columns ≤ c → has_bit B r c ≡ false
+pub past_words : (B : BitTable) (r c : ℕ) → 64 * word_count B.columns ≤ c → has_bit B r c ≡ false
 past_words B r c past =
     ap (λ x. x && is_bit_set (get_or B.words (r * word_count B.columns + c / 64) 0) (c % 64)) (le-ltb (c / 64) (word_count B.columns) (omega (arith, past)))
 
-first_false : (b d : Bool) → b ≡ false → (b && d) ≡ false
+pub first_false : (b d : Bool) → b ≡ false → (b && d) ≡ false
 first_false b d e = ap (λ x. x && d) e
 
 -- one more row

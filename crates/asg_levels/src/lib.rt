@@ -9,10 +9,12 @@
 
 mod free_rows;
 mod mark_words;
+mod next_step;
 mod tight;
 mod unit_lists;
 mod unit_phases;
 
+pub use next_step::tighten_more;
 pub use tight::tighten;
 pub use unit_lists::apply_units;
 pub use unit_phases::count_zeros;

@@ -12,7 +12,7 @@ use std::simd::prelude::*;
 
 // The bits of 64 numbers, the first one lowest: 1 for those that are equal to x.
 #[inline]
-fn equal_bits(numbers: &[u32], x: u32) -> u64
+pub(crate) fn equal_bits(numbers: &[u32], x: u32) -> u64
     requires { length numbers.now ≡ 64 }
     ensures { (k : ℕ) → k < 64 → is_bit_set result k ≡ (slice_index numbers.now k == x) }
 {
@@ -24,7 +24,7 @@ fn equal_bits(numbers: &[u32], x: u32) -> u64
 
 // The bits of the numbers that are 1 less than x.
 #[inline]
-fn lesser_bits(numbers: &[u32], x: u32) -> u64
+pub(crate) fn lesser_bits(numbers: &[u32], x: u32) -> u64
     requires { length numbers.now ≡ 64 }
     ensures { (k : ℕ) → k < 64 → is_bit_set result k ≡ (slice_index numbers.now k + 1 == x) }
 {

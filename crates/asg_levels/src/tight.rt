@@ -15,7 +15,7 @@ use std::alloc::Global;
 // The bits of the cells that are 0, of 64 columns of a row: of those that were 0 and of those that
 // were 1, by the columns that are out of as many steps as the row is in, and of one less.
 #[inline]
-fn tight_word(zeros: u64, ones: u64, equal: u64, lesser: u64) -> u64
+pub(crate) fn tight_word(zeros: u64, ones: u64, equal: u64, lesser: u64) -> u64
     ensures { (k : ℕ) → k < 64 → is_bit_set result k
         ≡ ((is_bit_set zeros k && is_bit_set equal k)
         || ((is_bit_set ones k && not (is_bit_set zeros k)) && is_bit_set lesser k)) }

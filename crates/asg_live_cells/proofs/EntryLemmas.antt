@@ -1,12 +1,19 @@
 -- Entries of live cells, row by row.
-use Rattle.std.proofs.Common.{◌≡◌, ℕ, ◌+◌, ◌<◌, ◌≤◌, inl, inr, ⊎_elim, sym, ◌∙◌, subst, arith, List, [], ◌∷◌, ◌++◌, Some, Contains}
-use Rattle.std.proofs.lemmas.Bool.{cases_lt}
+use Rattle.std.proofs.Common.{◌≡◌, ◌⊎◌, ℕ, ◌+◌, ◌*◌, ◌/◌, ◌%◌, ◌<◌, ◌≤◌, inl, inr, ⊎_elim, sym, ◌∙◌, subst, ap, arith, List, [], ◌∷◌, ◌++◌, Some, Contains, true}
+use Rattle.std.specs.Prelude.{All}
+use Rattle.std.specs.Int.{bit_at}
+use Rattle.std.proofs.lemmas.Bool.{false≢true, cases_lt, cases_eq, lt-ltb}
 use Rattle.std.proofs.lemmas.Option.{same_Some}
 use Rattle.std.proofs.lemmas.List.Elements.{All-nil, All-push, Contains-append_left, Contains-push}
+use Rattle.asg_square.specs.BitTable.{is_bit_set}
 use Rattle.asg_square.specs.Grid.{Grid, cell_at}
+use Rattle.asg_square.specs.WordBits.{HasBit}
+use Rattle.asg_square.specs.laws.Bits.{without_bit, HasBit-zero, HasBit-without, HasBit-without_other}
+use Rattle.asg_square.specs.laws.Words.{bit_of, of_bit}
 use Rattle.asg_live_cells.specs.declared.live_cells.Entry.{Entry}
-use Rattle.asg_live_cells.specs.LiveCells.{entry_of, IsEntryOf, IsUnder, AreEntriesBefore}
-use Rattle.asg_live_cells.specs.laws.Entries.{before_next}
+use Rattle.asg_live_cells.specs.LiveCells.{entry_of, IsEntryOf, IsUnder, IsBefore, AddsEntry, AreEntriesBefore}
+use Rattle.asg_live_cells.specs.UnderWords.{is_under}
+use Rattle.asg_live_cells.proofs.UnderLemmas.{past_none}
 
 -- no place comes before the first
 pub entries_none : (Q : Grid ℕ) (limit : ℕ) → AreEntriesBefore Q limit 0 0 []
@@ -16,46 +23,107 @@ entries_none Q limit = record {
   every = λ r c grade row column before live under cell. absurd (⊎_elim (λ h. omega arith) (λ h. let past = h.1 in omega arith) before);
 }
 
--- the places before the end of a row are those before the next row
-pub entries_row : (Q : Grid ℕ) (limit row : ℕ) (entries : List Entry) → AreEntriesBefore Q limit row Q.side entries → AreEntriesBefore Q limit (row + 1) 0 entries
-entries_row Q limit row entries e = record {
+-- the places before the end of a row, or past it, are those before the next row
+pub entries_row : (Q : Grid ℕ) (limit row column : ℕ) (entries : List Entry) → Q.side ≤ column → AreEntriesBefore Q limit row column entries → AreEntriesBefore Q limit (row + 1) 0 entries
+entries_row Q limit row column entries past_all e = record {
   each = e.each;
   under = e.under;
   every = λ r c grade row_below column_below before live under cell.
       e.every r c grade row_below column_below
       (⊎_elim
-      (λ (h : r < row + 1). ⊎_elim (λ (less : r < row). inl less) (λ (more : row ≤ r). inr (omega (arith, h, more), column_below)) (cases_lt r row))
+      (λ (h : r < row + 1). ⊎_elim (λ (less : r < row). inl less) (λ (more : row ≤ r). inr (omega (arith, h, more), omega (arith, column_below, past_all))) (cases_lt r row))
       (λ h. let past = h.1 in absurd (omega arith))
       before)
       live under cell;
 }
 
 -- a place without a live cell of a grade under the limit
-pub entries_skip : (Q : Grid ℕ) (limit row column : ℕ) (entries : List Entry) → ((grade : ℕ) → 0 < grade → grade < limit → cell_at Q row column ≡ Some grade → ⊥) → AreEntriesBefore Q limit row column entries → AreEntriesBefore Q limit row (column + 1) entries
-entries_skip Q limit row column entries none e = record {
-  each = e.each;
-  under = e.under;
-  every = λ r c grade row_below column_below before live under cell.
-      ⊎_elim
-      (λ h. e.every r c grade row_below column_below h live under cell)
-      (λ h. absurd (none grade live under (subst (λ d. cell_at Q row d ≡ Some grade) h.1 (subst (λ s. cell_at Q s c ≡ Some grade) h.0 cell))))
-      (before_next r c row column before);
+pub adds_none : (Q : Grid ℕ) (limit row column : ℕ) (entries : List Entry) → ((grade : ℕ) → 0 < grade → grade < limit → cell_at Q row column ≡ Some grade → ⊥) → AddsEntry Q limit row column entries entries
+adds_none Q limit row column entries none = record {
+  each = λ h. h;
+  under = λ h. h;
+  kept = λ e h. h;
+  here = λ grade live under cell. absurd (none grade live under cell);
 }
 
 -- a place with a live cell of a grade under the limit, whose entry is added
-pub entries_push : (Q : Grid ℕ) (limit row column grade : ℕ) (entries : List Entry) → row < Q.side → column < Q.side → 0 < grade → grade < limit → cell_at Q row column ≡ Some grade → AreEntriesBefore Q limit row column entries → AreEntriesBefore Q limit row (column + 1) (entries ++ entry_of grade row column ∷ [])
-entries_push Q limit row column grade entries row_in column_in some low here e = record {
-  each = All-push (IsEntryOf Q) entries (entry_of grade row column) e.each (record { row_below = row_in; column_below = column_in; live = some; cell = here });
-  under = All-push (IsUnder limit) entries (entry_of grade row column) e.under low;
-  every = λ r c g row_below column_below before live under cell.
+pub adds_one : (Q : Grid ℕ) (limit row column grade : ℕ) (entries : List Entry) → row < Q.side → column < Q.side → 0 < grade → grade < limit → cell_at Q row column ≡ Some grade → AddsEntry Q limit row column entries (entries ++ entry_of grade row column ∷ [])
+adds_one Q limit row column grade entries row_in column_in some low here = record {
+  each = λ h. All-push (IsEntryOf Q) entries (entry_of grade row column) h (record { row_below = row_in; column_below = column_in; live = some; cell = here });
+  under = λ h. All-push (IsUnder limit) entries (entry_of grade row column) h low;
+  kept = λ e h. Contains-append_left entries (entry_of grade row column ∷ []) e h;
+  here = λ g live under cell.
+      let same : grade ≡ g = same_Some grade g (sym here ∙ cell) in
+      subst (λ x. Contains (entries ++ entry_of grade row column ∷ []) (entry_of x row column)) same (Contains-push entries (entry_of grade row column));
+}
+
+-- entries of all live cells with a grade under a limit before the end of a word of a row, but of
+-- those of some bits of the word
+pub record AreEntriesBut (Q : Grid ℕ) (limit row number rest : ℕ) (entries : List Entry) : Type 0 where
+  pub each : All (IsEntryOf Q) entries
+  pub under : All (IsUnder limit) entries
+  pub inside : (k : ℕ) → k < 64 → HasBit rest k → 64 * number + k < Q.side
+  pub every : (r c grade : ℕ) → r < Q.side → c < Q.side → IsBefore r c row (64 * number + 64) → 0 < grade → grade < limit
+      → cell_at Q r c ≡ Some grade → Contains entries (entry_of grade r c) ⊎ ((r ≡ row) × (c / 64 ≡ number) × HasBit rest (c % 64))
+
+-- of the bits of all cells under the limit
+pub but_first : (Q : Grid ℕ) (limit row number word : ℕ) (entries : List Entry) → ((k : ℕ) → k < 64 → is_bit_set word k ≡ is_under limit (cell_at Q row (64 * number + k))) → AreEntriesBefore Q limit row (64 * number) entries → AreEntriesBut Q limit row number word entries
+but_first Q limit row number word entries bits e = record {
+  each = e.each;
+  under = e.under;
+  inside = λ k h has.
+      inside_by (64 * number + k) (sym (bits k h) ∙ of_bit (bit_at word k) has);
+  every = λ r c grade row_below column_below before live under cell.
       ⊎_elim
-      (λ h. Contains-append_left entries (entry_of grade row column ∷ []) (entry_of g r c) (e.every r c g row_below column_below h live under cell))
-      (λ h.
-      let there = subst (λ d. cell_at Q row d ≡ Some g) h.1 (subst (λ s. cell_at Q s c ≡ Some g) h.0 cell) in
-      let same : grade ≡ g = same_Some grade g (sym here ∙ there) in
-      subst (λ d. Contains (entries ++ entry_of grade row column ∷ []) (entry_of g r d)) (sym h.1)
-      (subst (λ s. Contains (entries ++ entry_of grade row column ∷ []) (entry_of g s column)) (sym h.0)
-      (subst (λ x. Contains (entries ++ entry_of grade row column ∷ []) (entry_of x row column)) same
-      (Contains-push entries (entry_of grade row column)))))
-      (before_next r c row column before);
+      (λ (h : r < row). inl (e.every r c grade row_below column_below (inl h) live under cell))
+      (λ (h : (r ≡ row) × (c < 64 * number + 64)).
+      ⊎_elim
+      (λ (early : c < 64 * number). inl (e.every r c grade row_below column_below (inr (h.0, early)) live under cell))
+      (λ (late : 64 * number ≤ c).
+      let end = h.1 in
+      let place : 64 * number + c % 64 ≡ c = omega (arith, end, late) in
+      let there = subst (λ s. cell_at Q s c ≡ Some grade) h.0 cell in
+      let set = bits (c % 64) (omega arith) ∙ ap (λ d. is_under limit (cell_at Q row d)) place ∙ ap (is_under limit) there ∙ lt-ltb grade limit under in
+      inr (h.0, omega (arith, end, late), bit_of (bit_at word (c % 64)) set))
+      (cases_lt c (64 * number)))
+      before;
+}
+  where
+    inside_by : (c : ℕ) → is_under limit (cell_at Q row c) ≡ true → c < Q.side
+    inside_by c e =
+        ⊎_elim
+        (λ (less : c < Q.side). less)
+        (λ (more : Q.side ≤ c). absurd (false≢true (sym (ap (is_under limit) (past_none Q row c more)) ∙ e)))
+        (cases_lt c Q.side)
+
+-- without one bit more, whose cell was added
+pub but_more : (Q : Grid ℕ) (limit row number rest k : ℕ) (before after : List Entry) → k < 64 → AddsEntry Q limit row (64 * number + k) before after → AreEntriesBut Q limit row number rest before → AreEntriesBut Q limit row number (without_bit rest k) after
+but_more Q limit row number rest k before after h adds so = record {
+  each = adds.each so.each;
+  under = adds.under so.under;
+  inside = λ i low has. so.inside i low (HasBit-without rest k i h has).0;
+  every = λ r c grade row_below column_below earlier live under cell.
+      ⊎_elim
+      (λ had. inl (adds.kept (entry_of grade r c) had))
+      (λ (w : (r ≡ row) × (c / 64 ≡ number) × HasBit rest (c % 64)).
+      ⊎_elim
+      (λ (same : c % 64 ≡ k).
+      let number_is = w.1 in
+      let place : 64 * number + k ≡ c = omega (arith, same, number_is) in
+      let there : cell_at Q row (64 * number + k) ≡ Some grade = subst (λ d. cell_at Q row d ≡ Some grade) (sym place) (subst (λ s. cell_at Q s c ≡ Some grade) w.0 cell) in
+      inl
+      (subst (λ d. Contains after (entry_of grade r d)) place
+      (subst (λ s. Contains after (entry_of grade s (64 * number + k))) (sym w.0) (adds.here grade live under there))))
+      (λ other. inr (w.0, w.1, HasBit-without_other rest k (c % 64) h (omega arith) w.2 other))
+      (cases_eq (c % 64) k))
+      (so.every r c grade row_below column_below earlier live under cell);
+}
+
+-- of no bit
+pub but_none : (Q : Grid ℕ) (limit row number rest : ℕ) (entries : List Entry) → rest ≡ 0 → AreEntriesBut Q limit row number rest entries → AreEntriesBefore Q limit row (64 * number + 64) entries
+but_none Q limit row number rest entries zero so = record {
+  each = so.each;
+  under = so.under;
+  every = λ r c grade row_below column_below before live under cell.
+      ⊎_elim (λ had. had) (λ w. absurd (HasBit-zero (c % 64) (subst (λ n. HasBit n (c % 64)) zero w.2))) (so.every r c grade row_below column_below before live under cell);
 }

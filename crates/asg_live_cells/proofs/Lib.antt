@@ -1,2 +1,3 @@
+pub mod UnderLemmas
 pub mod EntryLemmas
 pub mod MarkLemmas

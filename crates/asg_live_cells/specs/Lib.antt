@@ -1,4 +1,5 @@
 pub mod Grades
 pub mod LiveCells
 pub mod Marks
+pub mod UnderWords
 pub mod laws

@@ -34,6 +34,14 @@ pub record AreEntriesBefore (Q : Grid ℕ) (limit row column : ℕ) (entries : L
   pub every : (r c grade : ℕ) → r < Q.side → c < Q.side → IsBefore r c row column → 0 < grade → grade < limit
       → cell_at Q r c ≡ Some grade → Contains entries (entry_of grade r c)
 
+-- the entry of a place was added, where a live cell with a grade under a limit stands there; no
+-- other was, and none is lost
+pub record AddsEntry (Q : Grid ℕ) (limit row column : ℕ) (before after : List Entry) : Type 0 where
+  pub each : All (IsEntryOf Q) before → All (IsEntryOf Q) after
+  pub under : All (IsUnder limit) before → All (IsUnder limit) after
+  pub kept : (entry : Entry) → Contains before entry → Contains after entry
+  pub here : (grade : ℕ) → 0 < grade → grade < limit → cell_at Q row column ≡ Some grade → Contains after (entry_of grade row column)
+
 -- the entries of all live cells with a grade under a limit, in the order of their grades
 pub record AreEntriesUnder (Q : Grid ℕ) (limit : ℕ) (entries : List Entry) : Type 0 where
   pub each : All (IsEntryOf Q) entries

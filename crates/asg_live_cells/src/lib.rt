@@ -12,11 +12,13 @@ mod grades;
 mod live_cells;
 mod marks;
 mod named;
+mod under_words;
 
 pub use grades::{cost, grade, graded_square};
 pub use live_cells::{Entry, LiveCells, in_order};
 pub use marks::Marks;
 pub use named::{enter, leave};
+pub use under_words::under_word;
 
 /// There was not enough memory.
 pub type NoMemory = std::alloc::AllocError;

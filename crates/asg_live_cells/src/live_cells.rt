@@ -1,12 +1,15 @@
 //! The live cells of a square in the order of their grades.
 
-ghost use Rattle.std.specs.Prelude.{◌+◌, ◌↔◌, ◌<◌, ◌≤◌, IfOk, IsTrue};
+ghost use Rattle.std.specs.Prelude.{◌+◌, ◌*◌, ◌↔◌, ◌<◌, ◌≤◌, IfOk, IsTrue};
 ghost use Rattle.asg_model.specs.Limits.{most_side};
 ghost use Rattle.std.specs.List.Sorted.{IsNonDecreasingBy};
 ghost use Rattle.asg_live_cells.specs.declared.live_cells.Entry.{Entry as E};
-ghost use Rattle.asg_live_cells.specs.LiveCells.{AreEntriesBefore, AreEntriesUnder, IsPlaceOf};
+ghost use Rattle.asg_square.specs.BitTable.{word_count};
+ghost use Rattle.asg_live_cells.specs.LiveCells.{AddsEntry, AreEntriesBefore, AreEntriesUnder};
+ghost use Rattle.asg_live_cells.specs.LiveCells.{IsPlaceOf};
 
 use crate::NoMemory;
+use crate::under_words::under_word;
 use asg_square::Square;
 use std::alloc::Global;
 
@@ -48,9 +51,8 @@ fn add_cell(
     requires row_below { row < square.now.side }
     requires column_below { column < square.now.side }
     requires few { square.now.side ≤ most_side }
-    requires before { AreEntriesBefore square.now limit row column entries.old.items }
     ensures { IfOk result
-        (λ _. AreEntriesBefore square.now limit row (column + 1) entries.new.items) }
+        (λ _. AddsEntry square.now limit row column entries.old.items entries.new.items) }
 {
     match square.at(row, column) {
         Some(grade) if is_listed(grade, limit) => {
@@ -65,6 +67,31 @@ fn add_cell(
     }
 }
 
+// Adds the live cells of a row with a grade under the limit, from column `64 * number` on and 64 at
+// the most.
+fn add_word(
+    entries: &mut Vec<Entry>,
+    square: &Square<u32>,
+    limit: u32,
+    row: u32,
+    number: u32,
+) -> Result<(), NoMemory>
+    requires row_below { row < square.now.side }
+    requires number_below { number < word_count square.now.side }
+    requires few { square.now.side ≤ most_side }
+    requires before { AreEntriesBefore square.now limit row (64 * number) entries.old.items }
+    ensures { IfOk result
+        (λ _. AreEntriesBefore square.now limit row (64 * number + 64) entries.new.items) }
+{
+    let mut rest = under_word(square, row, number, limit);
+    'cells: while rest != 0 {
+        let k = rest.trailing_zeros();
+        add_cell(entries, square, limit, row, 64 * number + k)?;
+        rest &= !(1 << k);
+    }
+    Ok(())
+}
+
 // Adds the live cells of a row with a grade under the limit.
 fn add_row(
     entries: &mut Vec<Entry>,
@@ -76,8 +103,8 @@ fn add_row(
     requires before { AreEntriesBefore square.now limit row 0 entries.old.items }
     ensures { IfOk result (λ _. AreEntriesBefore square.now limit (row + 1) 0 entries.new.items) }
 {
-    for column in 0..square.side() {
-        add_cell(entries, square, limit, row, column)?;
+    for number in 0..square.side().div_ceil(64) {
+        add_word(entries, square, limit, row, number)?;
     }
     Ok(())
 }

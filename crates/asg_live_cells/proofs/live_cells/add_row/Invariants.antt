@@ -1,11 +1,12 @@
-use Rattle.std.proofs.Common.{◌≡◌}
+use Rattle.std.proofs.Common.{◌≡◌, ◌*◌}
+use Rattle.asg_square.specs.BitTable.{word_count}
 use Rattle.asg_live_cells.specs.LiveCells.{AreEntriesBefore}
 use Rattle.asg_live_cells.proofs.live_cells.add_row.Given as goal
 
 -- the live cells so far
-abbrev pub invariant-loop-column : goal.invariant-loop-column
-invariant-loop-column l =
+abbrev pub invariant-loop-number : goal.invariant-loop-number
+invariant-loop-number l =
     record {
-      end : l.column-end ≡ l.square.side;
-      before : AreEntriesBefore l.square l.limit l.row l.column l.entries.items;
+      end : l.number-end ≡ word_count l.square.side;
+      before : AreEntriesBefore l.square l.limit l.row (64 * l.number) l.entries.items;
     }

@@ -1,0 +1,13 @@
+use Rattle.std.proofs.Common.{take, sym, subst, arith, ltb, w32}
+use Rattle.std.proofs.lemmas.List.{length-take}
+use Rattle.std.proofs.lemmas.Simd.{bitmask_splat}
+use Rattle.asg_live_cells.specs.UnderWords.{AreBitsUnder}
+use Rattle.asg_live_cells.proofs.UnderLemmas.{under_mask}
+use Rattle.asg_live_cells.proofs.under_words.full_bits.Goals as goal
+
+pub returns : goal.returns
+returns c =
+    let front = take 64 c.args.grades.now in
+    subst (AreBitsUnder c.args.grades.now 64 c.args.limit)
+    (sym (bitmask_splat w32 ltb front 64 c.args.limit (omega (arith, length-take 64 c.args.grades.now, c.requires)) (omega arith)))
+    (under_mask c.args.grades.now c.args.limit c.requires)

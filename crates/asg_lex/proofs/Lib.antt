@@ -5,3 +5,5 @@ pub mod GroupLemmas
 pub mod RunSteps
 pub mod RunLemmas
 pub mod StartLemmas
+pub mod StepMarks
+pub mod GroupSteps

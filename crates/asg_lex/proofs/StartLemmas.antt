@@ -32,7 +32,8 @@ use Rattle.asg_live_cells.specs.Grades.{grade_of, free_grade, cost_of}
 use Rattle.asg_live_cells.specs.Marks.{IsMarked}
 use Rattle.asg_live_cells.specs.LiveCells.{entry_of, AreEntriesUnder, IsPlaceOf}
 use Rattle.asg_lex.specs.Runs.{is_gone, AreMarksOf}
-use Rattle.asg_lex.specs.Starts.{is_under, MarksUnder, AreUnder}
+use Rattle.asg_live_cells.specs.UnderWords.{is_under, MarksUnder}
+use Rattle.asg_lex.specs.Starts.{AreUnder}
 use Rattle.asg_lex.proofs.RunSteps.{passes_at, passes_some, has_cost_by}
 
 -- ---- the cells under a limit are those of a band

@@ -9,6 +9,7 @@ use Rattle.asg_square.specs.BitTable.{BitTable, word_count}
 use Rattle.asg_square.specs.Cells.{IsAssignment}
 use Rattle.asg_lex.specs.declared.level_work.Work.{Work}
 use Rattle.asg_live_cells.specs.declared.live_cells.Entry.{Entry}
+use Rattle.asg_live_cells.specs.LiveCells.{entry_at}
 use Rattle.asg_live_cells.specs.Marks.{IsMarked, IsNamed, MarksFewer}
 use Rattle.asg_levels.specs.UnitSteps.{AreDuals, IsBitSquare, bit_square}
 use Rattle.asg_lex.specs.MarkedCells.{MarksZeros}
@@ -48,6 +49,10 @@ pub record GoesOn (before after : Work) : Type 0 where
   pub zeros : after.zeros ≡ before.zeros
   pub ones : after.ones ≡ before.ones
   pub side : after.marks.side ≡ before.marks.side
+
+-- an entry from one place on and before another is of this row
+abbrev pub IsNamedRow : List Entry → ℕ → ℕ → ℕ → Type 0
+IsNamedRow entries from to r = (place : ℕ) × (from ≤ place) × (place < to) × ((entry_at entries place).row ≡ r)
 
 -- rows of bits and lists of the size of a square
 pub record AreSized (side : ℕ) (work : Work) : Type 0 where

@@ -1,5 +1,7 @@
 pub mod UnitPhases
 pub mod MarkedCells
+pub mod Groups
+pub mod Guesses
 pub mod LevelWork
 pub mod Marked
 pub mod Starts

@@ -6,12 +6,13 @@ ghost use Rattle.asg_match.specs.Matching.{IsPerfect, Matches};
 ghost use Rattle.asg_model.specs.Limits.{most_side};
 ghost use Rattle.asg_square.specs.BitTable.{IsBitTable};
 ghost use Rattle.asg_live_cells.specs.Marks.{IsMarked, IsNamed, MarksFewer};
+ghost use Rattle.asg_lex.specs.Groups.{Frees, FreesNamed};
 ghost use Rattle.asg_lex.specs.LevelWork.{IsUnderway, AreSized, LeavesOut, TakesLevel};
 
 use crate::NoMemory;
-use crate::level_work::{Work, serve_all};
+use crate::level_work::{Work, serve_named};
 use asg_live_cells::{Entry, leave};
-use asg_match::{Matching, Tree, prune};
+use asg_match::{Matching, Tree};
 use asg_square::BitRows;
 use std::alloc::Global;
 
@@ -36,6 +37,30 @@ fn has_matched(matching: &Matching, entries: &[Entry], from: usize, to: usize) -
         }
     }
     false
+}
+
+// Takes its column from the row of an entry whose cell is matched.
+fn free_row(matching: &mut Matching, entry: Entry)
+    requires { entry.row < length matching.old }
+    ensures { Frees matching.old matching.new entry.row entry.column }
+{
+    if is_matched(matching, entry) {
+        matching.clear(u32::from(entry.row));
+    }
+}
+
+// Takes their columns from the rows whose matched cells are those of entries from one place to
+// another.
+fn free_rows(matching: &mut Matching, entries: &[Entry], from: usize, to: usize)
+    requires order { from ≤ to }
+    requires within { All (λ e. e.row < length matching.old) entries.now }
+    requires to_within { to ≤ length entries.now }
+    ensures side { length matching.new ≡ length matching.old }
+    ensures freed { FreesNamed matching.old matching.new entries.now from to }
+{
+    for place in from..to {
+        free_row(matching, entries[place]);
+    }
 }
 
 // What rows of bits keep.
@@ -118,7 +143,7 @@ pub(crate) fn take_group(
         return Ok(false);
     }
     begin(work, entries, from, to, side);
-    prune(&work.marks, matching);
-    serve_all(alloc, work, matching, tree)?;
+    free_rows(matching, entries, from, to);
+    serve_named(alloc, work, matching, tree, entries, from, to)?;
     Ok(!work.phases.is_empty())
 }

@@ -1,15 +1,16 @@
 //! The work at a level.
 
-ghost use Rattle.std.specs.Prelude.{◌≡◌, ◌≢◌, ◌+◌, ◌<◌, ◌≤◌, None, All, AllPairs, IfOk, ℕ, length};
+ghost use Rattle.std.specs.Prelude.{◌≡◌, ◌≢◌, ◌⊎◌, ◌+◌, ◌<◌, ◌≤◌, None, All, AllPairs, IfOk, ℕ};
+ghost use Rattle.std.specs.Prelude.{length};
 ghost use Rattle.asg_match.specs.Augmentation.{IsStuck};
 ghost use Rattle.asg_match.specs.Matching.{AllAllowed, IsMatched, IsPerfect, column_at};
 ghost use Rattle.asg_live_cells.specs.Marks.{IsMarked};
-ghost use Rattle.asg_lex.specs.LevelWork.{IsUnderway, GoesOn, HasPerfect};
+ghost use Rattle.asg_lex.specs.LevelWork.{IsUnderway, IsNamedRow, GoesOn, HasPerfect};
 
 use crate::NoMemory;
 use crate::unit_phases::unit_phase;
-use asg_levels::{count_zeros, tighten};
-use asg_live_cells::Marks;
+use asg_levels::{count_zeros, tighten_more};
+use asg_live_cells::{Entry, Marks};
 use asg_match::{Grown, Matching, Tree, augment};
 use asg_monoids::Bounded;
 use asg_proof::WrittenPhase;
@@ -56,18 +57,19 @@ fn step(
         AllAllowed (IsMarked work.new.marks.bits work.new.marks.side) matching.now) }
 {
     let _side = matching.side();
+    let _marks = work.marks.bits.rows();
     let phase = unit_phase(alloc, matching, rows)?;
     count_zeros(phase.enters(), &mut work.ins);
     count_zeros(phase.leaves(), &mut work.outs);
-    tighten(
-        alloc,
+    tighten_more(
         &mut work.marks.bits,
         &work.zeros,
         &work.ones,
+        phase.enters(),
+        phase.leaves(),
         work.ins.as_slice(),
         work.outs.as_slice(),
-        work.phases.len() as u32 + 1,
-    )?;
+    );
     work.phases.push(phase)?;
     Ok(())
 }
@@ -144,19 +146,26 @@ fn serve(
     serve_row(alloc, work, matching, row, tree)
 }
 
-/// Completes the matching by cells that are 0 after as many steps by 1 as it takes: a row without a
-/// column whose alternating tree is stuck takes a step over the tree, and tries again. The error is
-/// want of memory.
-pub(crate) fn serve_all(
+/// Completes the matching by cells that are 0 after as many steps by 1 as it takes, where only rows
+/// of the entries from one place to another may be without a column: such a row whose alternating
+/// tree is stuck takes a step over the tree, and tries again. The error is want of memory.
+pub(crate) fn serve_named(
     alloc: Global,
     work: &mut Work,
     matching: &mut Matching,
     tree: &mut Tree,
+    entries: &[Entry],
+    from: usize,
+    to: usize,
 ) -> Result<(), NoMemory>
     requires underway { IsUnderway (length matching.old) work.old }
     requires perfect { HasPerfect (length matching.old) work.old }
     requires cells { AllAllowed (IsMarked work.old.marks.bits work.old.marks.side) matching.old }
     requires tree_side { tree.old.side ≡ length matching.old }
+    requires within { All (λ e. e.row < length matching.old) entries.now }
+    requires to_within { to ≤ length entries.now }
+    requires named { (r : ℕ) → r < length matching.old
+        → IsMatched matching.old r ⊎ IsNamedRow entries.now from to r }
     ensures side { IfOk result (λ _. length matching.new ≡ length matching.old) }
     ensures tree_side { IfOk result (λ _. tree.new.side ≡ tree.old.side) }
     ensures underway { IfOk result (λ _. IsUnderway (length matching.old) work.new) }
@@ -166,9 +175,8 @@ pub(crate) fn serve_all(
         IsPerfect (IsMarked work.new.marks.bits work.new.marks.side) (length matching.old)
         matching.new) }
 {
-    let side = matching.side();
-    for row in 0..side {
-        serve(alloc, work, matching, row, tree)?;
+    for place in from..to {
+        serve(alloc, work, matching, u32::from(entries[place].row), tree)?;
     }
     let side = matching.side();
     few_phases(work, side);

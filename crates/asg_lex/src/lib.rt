@@ -9,6 +9,7 @@
 
 mod choice_limits;
 mod groups;
+mod guesses;
 pub mod laws;
 mod level_work;
 mod outcomes;

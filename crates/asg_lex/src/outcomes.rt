@@ -15,13 +15,18 @@ ghost use Rattle.asg_live_cells.specs.Grades.{free_grade, grade_of};
 ghost use Rattle.asg_live_cells.specs.LiveCells.{AreEntriesUnder};
 ghost use Rattle.asg_lex.specs.Refusals.{IsRefusal};
 ghost use Rattle.asg_lex.specs.RunStates.{IsDone};
-ghost use Rattle.asg_lex.specs.Starts.{HasChoiceUnder};
+ghost use Rattle.asg_live_cells.specs.Marks.{IsMarked};
+ghost use Rattle.asg_live_cells.specs.UnderWords.{MarksUnder};
+ghost use Rattle.asg_match.specs.Matching.{IsPerfect};
+ghost use Rattle.asg_lex.specs.Starts.{IsStart};
 
 use crate::NoMemory;
 use crate::choice_limits::limit_of;
+use crate::guesses::guessed_start;
 use crate::runs::{Run, left_columns, take_all};
-use crate::starts::start;
-use asg_live_cells::{LiveCells, graded_square, in_order};
+use crate::starts::{Start, first_run, known_start};
+use asg_live_cells::{LiveCells, Marks, graded_square, in_order};
+use asg_match::Matching;
 use asg_model::{Choice, Instance, Objective};
 use asg_proof::laws::levels_law;
 use asg_proof::{Columns, Levels, Outcome, Proof};
@@ -54,15 +59,23 @@ impl From<NoMemory> for LexRefusal {
 }
 
 // The run after all costs. The error is want of memory.
-fn finished_run(alloc: Global, inst: &Instance, cells: &LiveCells<'_>) -> Result<Run, NoMemory>
+fn finished_run(
+    alloc: Global,
+    inst: &Instance,
+    cells: &LiveCells<'_>,
+    marks: Marks,
+    matching: Matching,
+) -> Result<Run, NoMemory>
     requires few { square_side inst.now ≤ most_side }
     requires square { IsSquareOf inst.now free_grade grade_of cells.now.square.now }
     requires some { 0 < cells.now.limit }
     requires entries { AreEntriesUnder cells.now.square.now cells.now.limit cells.now.entries.now }
-    requires choice { HasChoiceUnder inst.now cells.now.limit }
+    requires side { marks.side ≡ cells.now.square.now.side }
+    requires marked { MarksUnder cells.now.square.now cells.now.limit marks.bits }
+    requires perfect { IsPerfect (IsMarked marks.bits marks.side) cells.now.square.now.side matching }
     ensures { IfOk result (IsDone inst.now cells.now.limit cells.now.entries.now) }
 {
-    let mut run = start(alloc, inst, cells)?;
+    let mut run = first_run(alloc, inst, cells, marks, matching)?;
     take_all(alloc, inst, cells, &mut run)?;
     Ok(run)
 }
@@ -109,58 +122,93 @@ fn best_of(
 }
 
 // The best choice of the levels. The error is want of memory.
-fn best(alloc: Global, inst: &Instance, cells: &LiveCells<'_>) -> Result<Outcome, NoMemory>
+fn best(
+    alloc: Global,
+    inst: &Instance,
+    cells: &LiveCells<'_>,
+    marks: Marks,
+    matching: Matching,
+) -> Result<Outcome, NoMemory>
     requires few { square_side inst.now ≤ most_side }
     requires few_rows { HasFewRows inst.now }
     requires square { IsSquareOf inst.now free_grade grade_of cells.now.square.now }
     requires some { 0 < cells.now.limit }
     requires entries { AreEntriesUnder cells.now.square.now cells.now.limit cells.now.entries.now }
-    requires choice { HasChoiceUnder inst.now cells.now.limit }
+    requires side { marks.side ≡ cells.now.square.now.side }
+    requires marked { MarksUnder cells.now.square.now cells.now.limit marks.bits }
+    requires perfect { IsPerfect (IsMarked marks.bits marks.side) cells.now.square.now.side matching }
     ensures outcome { IfOk result (IsOutcome Lex inst.now) }
     ensures levels { IfOk result (GivesFewLevels (square_side inst.now) most_level_rows) }
 {
-    let run = finished_run(alloc, inst, cells)?;
+    let run = finished_run(alloc, inst, cells, marks, matching)?;
     let perm = left_columns(alloc, inst, cells, &run)?;
     best_of(alloc, inst, cells.square, perm, levels_of(run))
 }
 
-// The outcome, where a choice is valid whose costs have grades under a limit. The error is want of
-// memory.
-fn outcome_below(
+// The outcome by a walk from a start. The error is want of memory.
+fn outcome_from(
     alloc: Global,
     inst: &Instance,
     square: &Square<u32>,
-    limit: u32,
+    start: Start,
 ) -> Result<Outcome, NoMemory>
     requires few { square_side inst.now ≤ most_side }
     requires few_rows { HasFewRows inst.now }
     requires square { IsSquareOf inst.now free_grade grade_of square.now }
-    requires some { 0 < limit }
-    requires choice { HasChoiceUnder inst.now limit }
+    requires start { IsStart square.now start }
     ensures outcome { IfOk result (IsOutcome Lex inst.now) }
     ensures levels { IfOk result (GivesFewLevels (square_side inst.now) most_level_rows) }
 {
+    let Start {
+        limit,
+        marks,
+        matching,
+    } = start;
     let entries = in_order(alloc, square, limit)?;
     let cells = LiveCells {
         square,
         limit,
         entries: entries.as_slice(),
     };
-    best(alloc, inst, &cells)
+    best(alloc, inst, &cells, marks, matching)
 }
 
 // The outcome, where a choice is valid: the walk starts at the greatest cost that it has. The error
 // is want of memory.
-fn outcome_under(alloc: Global, inst: &Instance, choice: &Choice) -> Result<Outcome, NoMemory>
+fn outcome_under(
+    alloc: Global,
+    inst: &Instance,
+    square: &Square<u32>,
+    choice: &Choice,
+) -> Result<Outcome, NoMemory>
     requires few { square_side inst.now ≤ most_side }
     requires few_rows { HasFewRows inst.now }
+    requires square { IsSquareOf inst.now free_grade grade_of square.now }
     requires valid { IsValid inst.now choice.now }
     ensures outcome { IfOk result (IsOutcome Lex inst.now) }
     ensures levels { IfOk result (GivesFewLevels (square_side inst.now) most_level_rows) }
 {
     let limit = limit_of(inst, choice);
-    let square = graded_square(alloc, inst)?;
-    outcome_below(alloc, inst, &square, limit)
+    let start = known_start(alloc, inst, square, limit)?;
+    outcome_from(alloc, inst, square, start)
+}
+
+// The outcome by that of the bottleneck problem. The error is want of memory.
+fn outcome_unguessed(
+    alloc: Global,
+    inst: &Instance,
+    square: &Square<u32>,
+) -> Result<Outcome, NoMemory>
+    requires few { square_side inst.now ≤ most_side }
+    requires few_rows { HasFewRows inst.now }
+    requires square { IsSquareOf inst.now free_grade grade_of square.now }
+    ensures outcome { IfOk result (IsOutcome Lex inst.now) }
+    ensures levels { IfOk result (GivesFewLevels (square_side inst.now) most_level_rows) }
+{
+    match bottleneck(alloc, Objective::Bottleneck, inst)? {
+        Outcome::Nothing { rows } => Ok(Outcome::Nothing { rows }),
+        Outcome::Best { choice, .. } => outcome_under(alloc, inst, square, &choice),
+    }
 }
 
 // The outcome of an instance with few rows. The error is want of memory.
@@ -170,9 +218,10 @@ fn outcome(alloc: Global, inst: &Instance) -> Result<Outcome, NoMemory>
     ensures outcome { IfOk result (IsOutcome Lex inst.now) }
     ensures levels { IfOk result (GivesFewLevels (square_side inst.now) most_level_rows) }
 {
-    match bottleneck(alloc, Objective::Bottleneck, inst)? {
-        Outcome::Nothing { rows } => Ok(Outcome::Nothing { rows }),
-        Outcome::Best { choice, .. } => outcome_under(alloc, inst, &choice),
+    let square = graded_square(alloc, inst)?;
+    match guessed_start(alloc, &square)? {
+        Some(start) => outcome_from(alloc, inst, &square, start),
+        None => outcome_unguessed(alloc, inst, &square),
     }
 }
 
@@ -181,8 +230,8 @@ fn outcome(alloc: Global, inst: &Instance) -> Result<Outcome, NoMemory>
 /// 1. Where no choice is valid, a Hall set of the whole instance. The side of the instance's square
 /// is at most 2,000. The errors: the instance has more than 200 rows, or want of memory.
 ///
-/// The walk goes from the value of the bottleneck problem down (the lexicographic bottleneck
-/// problem, [Burkard and Rendl 1991]). The cells of a cost leave where a perfect matching is left
+/// The walk goes down from a limit near the value of the bottleneck problem (the lexicographic
+/// bottleneck problem, [Burkard and Rendl 1991]). The cells of a cost leave where a perfect matching is left
 /// without them; else as many of them are needed as there are steps by 1 over stuck alternating
 /// trees until a perfect matching by cells of 0 is found, where those of the cost began at 1. There
 /// are as many such steps as rows choose. Each of them, and each row whose cell leaves, takes a

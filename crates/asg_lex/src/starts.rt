@@ -11,12 +11,13 @@ ghost use Rattle.asg_live_cells.specs.LiveCells.{AreEntriesUnder};
 ghost use Rattle.asg_live_cells.specs.Marks.{IsMarked};
 ghost use Rattle.asg_lex.specs.LevelWork.{AreSized};
 ghost use Rattle.asg_lex.specs.RunStates.{IsRun};
-ghost use Rattle.asg_lex.specs.Starts.{is_under, MarksUnder, HasChoiceUnder};
+ghost use Rattle.asg_live_cells.specs.UnderWords.{is_under, MarksUnder};
+ghost use Rattle.asg_lex.specs.Starts.{HasChoiceUnder, IsStart};
 
 use crate::NoMemory;
 use crate::level_work::Work;
 use crate::runs::Run;
-use asg_live_cells::{LiveCells, Marks};
+use asg_live_cells::{LiveCells, Marks, under_word};
 use asg_match::{Matching, Pairing, Tree, hall_of, perfect_or_hall};
 use asg_model::Instance;
 use asg_model::laws::hall_law;
@@ -24,44 +25,42 @@ use asg_square::laws::square_law;
 use asg_square::{BitRows, Square};
 use std::alloc::Global;
 
-// Whether there is a cell, and its grade is under the limit.
-fn is_under(cell: Option<u32>, limit: u32) -> bool
-    ensures { result ≡ is_under limit cell }
-{
-    match cell {
-        Some(grade) => grade < limit,
-        None => false,
-    }
-}
-
 // Marks the cells of a row whose grades are under the limit.
 fn mark_row(bits: &mut BitRows, square: &Square<u32>, limit: u32, row: u32)
     requires row_below { row < square.now.side }
     requires rows { bits.old.rows ≡ square.now.side }
     requires columns { bits.old.columns ≡ square.now.side }
+    requires few { square.now.side ≤ most_side }
     ensures rows { bits.new.rows ≡ square.now.side }
     ensures columns { bits.new.columns ≡ square.now.side }
     ensures row { (c : ℕ) → c < square.now.side
         → has_bit bits.new row c ≡ is_under limit (cell_at square.now row c) }
     ensures others { (r c : ℕ) → (r ≡ row → ⊥) → has_bit bits.new r c ≡ has_bit bits.old r c }
 {
-    for column in 0..square.side() {
-        let is_there = is_under(square.at(row, column), limit);
-        bits.put(row, column, is_there);
+    for number in 0..square.side().div_ceil(64) {
+        let word = under_word(square, row, number, limit);
+        bits.put_word(row, number, word);
     }
 }
 
-// Marks for the cells of a square whose grades are under the limit. The error is want of memory.
-fn cells_under(alloc: Global, square: &Square<u32>, limit: u32) -> Result<Marks, NoMemory>
+/// Marks exactly the cells of a square whose grades are under the limit.
+pub(crate) fn mark_under(marks: &mut Marks, square: &Square<u32>, limit: u32)
+    requires side { marks.old.side ≡ square.now.side }
     requires few { square.now.side ≤ most_side }
-    ensures side { IfOk result (λ m. m.side ≡ square.now.side) }
-    ensures cells { IfOk result (λ m. MarksUnder square.now limit m.bits) }
+    ensures side { marks.new.side ≡ marks.old.side }
+    ensures cells { MarksUnder square.now limit marks.new.bits }
 {
-    let side = square.side();
-    let mut bits = BitRows::make(alloc, side, side)?;
-    for row in 0..side {
-        mark_row(&mut bits, square, limit, row);
+    for row in 0..square.side() {
+        mark_row(&mut marks.bits, square, limit, row);
     }
+}
+
+/// Marks of a square of this side, for now of no cell. The error is want of memory.
+pub(crate) fn no_marks(alloc: Global, side: u32) -> Result<Marks, NoMemory>
+    requires { side ≤ most_side }
+    ensures { IfOk result (λ m. m.side ≡ side) }
+{
+    let bits = BitRows::make(alloc, side, side)?;
     Ok(Marks { side, bits })
 }
 
@@ -94,6 +93,37 @@ fn matched(
     }
 }
 
+/// A limit, marks for the cells under it, and a perfect matching by them.
+#[derive(Drop)]
+pub(crate) struct Start {
+    pub(crate) limit: u32,
+    pub(crate) marks: Marks,
+    pub(crate) matching: Matching,
+}
+
+/// The start at a limit under which a valid choice lies. The error is want of memory.
+pub(crate) fn known_start(
+    alloc: Global,
+    inst: &Instance,
+    square: &Square<u32>,
+    limit: u32,
+) -> Result<Start, NoMemory>
+    requires few { square.now.side ≤ most_side }
+    requires square { IsSquareOf inst.now free_grade grade_of square.now }
+    requires some { 0 < limit }
+    requires choice { HasChoiceUnder inst.now limit }
+    ensures { IfOk result (IsStart square.now) }
+{
+    let mut marks = no_marks(alloc, square.side())?;
+    mark_under(&mut marks, square, limit);
+    let matching = matched(alloc, inst, square, limit, &marks)?;
+    Ok(Start {
+        limit,
+        marks,
+        matching,
+    })
+}
+
 // The work with these marks before any phase. The error is want of memory.
 fn first_work(alloc: Global, marks: Marks) -> Result<Work, NoMemory>
     requires { marks.side ≤ most_side }
@@ -116,8 +146,8 @@ fn first_work(alloc: Global, marks: Marks) -> Result<Work, NoMemory>
     })
 }
 
-// The start with these marks and this matching. The error is want of memory.
-fn first_run(
+/// The run with these marks and this matching, and no level yet. The error is want of memory.
+pub(crate) fn first_run(
     alloc: Global,
     inst: &Instance,
     cells: &LiveCells<'_>,
@@ -144,19 +174,4 @@ fn first_run(
         tree,
         levels: Vec::new(alloc),
     })
-}
-
-/// The start: no level yet. The error is want of memory.
-pub(crate) fn start(alloc: Global, inst: &Instance, cells: &LiveCells<'_>) -> Result<Run, NoMemory>
-    requires few { square_side inst.now ≤ most_side }
-    requires square { IsSquareOf inst.now free_grade grade_of cells.now.square.now }
-    requires some { 0 < cells.now.limit }
-    requires entries { AreEntriesUnder cells.now.square.now cells.now.limit cells.now.entries.now }
-    requires choice { HasChoiceUnder inst.now cells.now.limit }
-    ensures { IfOk result (λ run. (bound : ℕ) × IsRun inst.now cells.now.limit
-        cells.now.entries.now bound (length cells.now.entries.now) run) }
-{
-    let marks = cells_under(alloc, cells.square, cells.limit)?;
-    let matching = matched(alloc, inst, cells.square, cells.limit, &marks)?;
-    first_run(alloc, inst, cells, marks, matching)
 }

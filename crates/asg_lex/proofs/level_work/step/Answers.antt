@@ -1,5 +1,5 @@
-use Rattle.std.proofs.Common.{◌∙◌, ◌∷◌, [], ◌++◌, ◌<◌, ◌≤◌, ℕ, Bool, true, false, length, get_or, cond, refl, sym, subst, ap, arith}
-use Rattle.std.specs.Prelude.{◌==◌, All}
+use Rattle.std.proofs.Common.{◌∙◌, ◌∷◌, [], ◌++◌, ◌<◌, ◌≤◌, ℕ, Bool, true, false, length, cond, refl, sym, subst, ap, arith}
+use Rattle.std.specs.Prelude.{All}
 use Rattle.asg_order.specs.declared.words.Word.{Word}
 use Rattle.std.proofs.lemmas.List.Elements.{All-push}
 use Rattle.asg_proof.specs.Phases.{PhaseOf, IsPhase, ArePhases}
@@ -8,11 +8,12 @@ use Rattle.asg_match.specs.Augmentation.{IsStuck}
 use Rattle.asg_match.specs.Matching.{AllAllowed}
 use Rattle.asg_live_cells.specs.Marks.{IsMarked}
 use Rattle.asg_lex.specs.declared.level_work.Work.{Work}
-use Rattle.asg_lex.specs.LevelWork.{IsUnderway}
+use Rattle.asg_lex.specs.LevelWork.{IsUnderway, square_now}
 use Rattle.asg_levels.specs.Tight.{Tightens}
 use Rattle.asg_levels.specs.UnitSteps.{CountsStep}
-use Rattle.asg_levels.specs.laws.UnitLists.{counts_more, tightens_by}
+use Rattle.asg_levels.specs.laws.UnitLists.{counts_more}
 use Rattle.asg_lex.proofs.WorkSteps.{ArePhasesSoFar, phases_more, matched_more}
+use Rattle.asg_lex.proofs.StepMarks.{zeros_tight, next_by}
 use Rattle.asg_lex.proofs.level_work.step.Goals as goal
 
 -- the phases so far, of work under way
@@ -35,20 +36,29 @@ module _ (c : goal.In_ok-push) where
       c.enters.result.now c.leaves.result.now c.enters.ensures.enters c.leaves.ensures.leaves c.in_ok-phase.ensures.split.row_count c.in_ok-phase.ensures.split.column_count
       c.count_zeros.ensures.each c.count_zeros-2.ensures.each c.count_zeros-2.ensures.rest
 
-  tight : Tightens c.tighten.new.marks c.args.work.now.zeros c.args.work.now.ones c.count_zeros.new.counts.items c.count_zeros-2.new.counts.items side side
-  tight =
-      tightens_by c.tighten.new.marks c.args.work.now.zeros c.args.work.now.ones c.as_slice.result.now c.count_zeros.new.counts.items c.as_slice-2.result.now c.count_zeros-2.new.counts.items
-      _ side c.as_slice.ensures.value c.as_slice-2.ensures.value c.requires.underway.marked_rows c.in_ok-tighten.ensures.bits
+  tight_before : Tightens c.args.work.now.marks.bits c.args.work.now.zeros c.args.work.now.ones c.args.work.now.ins.items c.args.work.now.outs.items side side
+  tight_before =
+      let u = c.requires.underway in
+      zeros_tight side (length c.args.work.now.phases.items) c.args.work.now.zeros c.args.work.now.ones c.args.work.now.marks.bits c.args.work.now.ins.items c.args.work.now.outs.items (square_now c.args.work.now)
+      u.marked_rows u.marked_columns c.rows-marks.ensures.table u.duals u.marks
 
-  more : ArePhasesSoFar side c.args.work.now.zeros c.args.work.now.ones c.tighten.new.marks c.count_zeros.new.counts.items c.count_zeros-2.new.counts.items (c.args.work.now.phases.items ++ phase ∷ [])
+  tight : Tightens c.tighten_more.new.marks c.args.work.now.zeros c.args.work.now.ones c.count_zeros.new.counts.items c.count_zeros-2.new.counts.items side side
+  tight =
+      let u = c.requires.underway in
+      next_by c.args.work.now.marks.bits c.tighten_more.new.marks c.args.work.now.zeros c.args.work.now.ones _ side
+      c.enters-2.result.now phase.enters c.leaves-2.result.now phase.leaves c.as_slice.result.now c.count_zeros.new.counts.items c.as_slice-2.result.now c.count_zeros-2.new.counts.items
+      u.marked_rows c.enters-2.ensures.enters c.leaves-2.ensures.leaves c.as_slice.ensures.value c.as_slice-2.ensures.value c.tighten_more.ensures.bits
+      (length c.args.work.now.phases.items) c.args.work.now.ins.items c.args.work.now.outs.items (square_now c.args.work.now) u.duals tight_before counts
+
+  more : ArePhasesSoFar side c.args.work.now.zeros c.args.work.now.ones c.tighten_more.new.marks c.count_zeros.new.counts.items c.count_zeros-2.new.counts.items (c.args.work.now.phases.items ++ phase ∷ [])
   more =
       let u = c.requires.underway in
-      phases_more side c.args.work.now.zeros c.args.work.now.ones c.args.work.now.marks.bits c.tighten.new.marks c.args.work.now.ins.items c.args.work.now.outs.items c.count_zeros.new.counts.items c.count_zeros-2.new.counts.items
+      phases_more side c.args.work.now.zeros c.args.work.now.ones c.args.work.now.marks.bits c.tighten_more.new.marks c.args.work.now.ins.items c.args.work.now.outs.items c.count_zeros.new.counts.items c.count_zeros-2.new.counts.items
       c.args.work.now.phases.items phase c.args.matching.now c.args.root c.args.rows.now u.zeros u.ones u.few c.requires.few (so_far side c.args.work.now u)
       c.side-side.ensures.matching refl stuck_here c.requires.below c.requires.apart c.in_ok-phase.ensures.steps c.in_ok-phase.ensures.split counts tight
 
-  pushed : ArePhasesSoFar side c.args.work.now.zeros c.args.work.now.ones c.tighten.new.marks c.count_zeros.new.counts.items c.count_zeros-2.new.counts.items c.push.new.self.items
-  pushed = subst (ArePhasesSoFar side c.args.work.now.zeros c.args.work.now.ones c.tighten.new.marks c.count_zeros.new.counts.items c.count_zeros-2.new.counts.items) (sym c.in_ok-push.ensures.items) more
+  pushed : ArePhasesSoFar side c.args.work.now.zeros c.args.work.now.ones c.tighten_more.new.marks c.count_zeros.new.counts.items c.count_zeros-2.new.counts.items c.push.new.self.items
+  pushed = subst (ArePhasesSoFar side c.args.work.now.zeros c.args.work.now.ones c.tighten_more.new.marks c.count_zeros.new.counts.items c.count_zeros-2.new.counts.items) (sym c.in_ok-push.ensures.items) more
 
 one_if_few : (b : Bool) → cond {A = ℕ} b 1 0 ≤ 1
 one_if_few true = omega arith
@@ -72,28 +82,13 @@ count_zeros-requires-2-clause-few c r h =
     let most = u.few in
     omega (arith, before, few, most)
 
--- no row is in more steps than there are phases
-pub tighten-requires-clause-few_ins : goal.tighten-requires-clause-few_ins
-tighten-requires-clause-few_ins c r h =
-    let u = c.requires.underway in
-    let side = length c.args.matching.now in
-    let ins = c.as_slice.ensures.value in
-    let enters = c.enters.ensures.enters in
-    let split = c.in_ok-phase.ensures.split in
-    let inside : r < side = omega (arith, h, ap length ins, c.count_zeros.ensures.count, u.ins) in
-    let before = u.duals.few_ins r inside in
-    let after = c.count_zeros.ensures.each r (omega (arith, inside, ap length enters, split.row_count)) in
-    let most = one_if_few (get_or c.enters.result.now r 0 == 0) in
-    let same = ap (λ xs. get_or xs r 0) ins in
-    omega (arith, before, after, most, same, c.len.ensures)
-
--- the marks keep their size, whether or not there was enough memory
+-- the marks keep their size
 pub invariant_of-work : goal.invariant_of-work
 invariant_of-work c =
     let u = c.requires.underway in
     record {
-      rows = c.tighten.ensures.rows ∙ u.marked_rows ∙ sym u.marks_side;
-      columns = c.tighten.ensures.columns ∙ u.marked_columns ∙ sym u.marks_side;
+      rows = c.tighten_more.ensures.rows ∙ u.marked_rows ∙ sym u.marks_side;
+      columns = c.tighten_more.ensures.columns ∙ u.marked_columns ∙ sym u.marks_side;
     }
 
 pub returns-clause-underway : goal.returns-clause-underway
@@ -104,8 +99,8 @@ returns-clause-underway c =
       few = u.few;
       zeros = u.zeros;
       ones = u.ones;
-      marked_rows = c.in_ok-tighten.ensures.bits.rows ∙ u.marked_rows;
-      marked_columns = c.in_ok-tighten.ensures.bits.columns ∙ u.marked_rows;
+      marked_rows = c.tighten_more.ensures.rows ∙ u.marked_rows;
+      marked_columns = c.tighten_more.ensures.columns ∙ u.marked_columns;
       marks_side = u.marks_side;
       ins = c.count_zeros.ensures.count ∙ u.ins;
       outs = c.count_zeros-2.ensures.count ∙ u.outs;
@@ -124,7 +119,7 @@ pub returns-clause-cells : goal.returns-clause-cells
 returns-clause-cells c =
     let u = c.requires.underway in
     let cells = subst (λ n. AllAllowed (IsMarked c.args.work.now.marks.bits n) c.args.matching.now) u.marks_side c.requires.cells in
-    let after = matched_more (side c) c.args.work.now.zeros c.args.work.now.ones c.args.work.now.marks.bits c.tighten.new.marks c.args.work.now.ins.items c.args.work.now.outs.items c.count_zeros.new.counts.items c.count_zeros-2.new.counts.items
+    let after = matched_more (side c) c.args.work.now.zeros c.args.work.now.ones c.args.work.now.marks.bits c.tighten_more.new.marks c.args.work.now.ins.items c.args.work.now.outs.items c.count_zeros.new.counts.items c.count_zeros-2.new.counts.items
     c.args.work.now.phases.items (phase c) c.args.matching.now c.args.root c.args.rows.now u.zeros u.ones u.few c.requires.few (so_far (side c) c.args.work.now u)
     c.side-side.ensures.matching refl (stuck_here c) c.requires.below c.requires.apart c.in_ok-phase.ensures.steps c.in_ok-phase.ensures.split (counts c) (tight c) cells in
-    subst (λ n. AllAllowed (IsMarked c.tighten.new.marks n) c.args.matching.now) (sym u.marks_side) after
+    subst (λ n. AllAllowed (IsMarked c.tighten_more.new.marks n) c.args.matching.now) (sym u.marks_side) after

@@ -1,4 +1,4 @@
 use Rattle.asg_lex.proofs.outcomes.outcome_under.Goals as goal
 
-pub outcome_below-requires-clause-choice : goal.outcome_below-requires-clause-choice
-outcome_below-requires-clause-choice c = record { choice = c.args.choice.now; valid = c.requires.valid; under = c.limit_of-limit.ensures.under }
+pub known_start-requires-clause-choice : goal.known_start-requires-clause-choice
+known_start-requires-clause-choice c = record { choice = c.args.choice.now; valid = c.requires.valid; under = c.limit_of-limit.ensures.under }

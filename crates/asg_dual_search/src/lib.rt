@@ -21,6 +21,7 @@ mod class_tables;
 mod classes;
 mod coarse_to_fine;
 mod conversion;
+mod cost_tables;
 mod extents;
 mod first_bounds;
 mod found;
@@ -50,6 +51,7 @@ mod widths;
 
 pub use cell_numbers::{NO_NUMBER, Numbers};
 pub use conversion::Conversion;
+pub use cost_tables::{CostTable, Lead};
 pub use first_bounds::Bound;
 pub use found::Found;
 pub use phase_moves::{Moves, moves_of};

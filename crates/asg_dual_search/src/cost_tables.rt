@@ -1,0 +1,222 @@
+//! Tables of costs that are searched as they stand, without a square.
+
+ghost use Rattle.std.specs.Prelude.{◌≡◌, length};
+
+use crate::NoMemory;
+use crate::bench::Bench;
+use crate::numbers::{Number, value};
+use crate::places::{at, put};
+use crate::solving::{solve, solve_few};
+use crate::tables::{Table, padded};
+use std::alloc::Global;
+
+// How far the costs of a row may lie from its first one to count as near.
+const NEAR: i64 = 1 << 27;
+
+// By less than this the costs of a row differ, so that numbers of 32 bits serve.
+const MOST_WIDTH: u64 = 1 << 30;
+
+/// What the search of a table finds: nothing of it is tested.
+#[derive(Drop)]
+pub struct Lead {
+    /// The column of each row.
+    pub columns: Vec<u32>,
+    /// The row of each column; at a column that no row has a number past all rows.
+    pub rows: Vec<u32>,
+    /// By how much each column may rise.
+    pub rises: Vec<u32>,
+}
+
+/// A table of costs, row by row, as numbers of 32 bits: those of a row begin somewhere near its
+/// least cost, or where the greatest sum is searched for, go down from near its greatest.
+#[derive(Drop)]
+pub struct CostTable {
+    rows: usize,
+    table: Table<i32>,
+    line: Vec<i32>,
+    are_near: bool,
+    is_max: bool,
+}
+
+// Writes by how much costs are above a base, and tells the bits that any of them has.
+fn put_above(numbers: &mut [i32], costs: &[i64], base: i64) -> u64
+    ensures { length numbers.new ≡ length numbers.old }
+{
+    let mut bits = 0;
+    for column in 0..costs.len().min(numbers.len()) {
+        let number = costs[column].wrapping_sub(base).cast_unsigned();
+        bits |= number;
+        numbers[column] = i32::of(number);
+    }
+    bits
+}
+
+// The same, by how much they are below it.
+fn put_below(numbers: &mut [i32], costs: &[i64], base: i64) -> u64
+    ensures { length numbers.new ≡ length numbers.old }
+{
+    let mut bits = 0;
+    for column in 0..costs.len().min(numbers.len()) {
+        let number = base.wrapping_sub(costs[column]).cast_unsigned();
+        bits |= number;
+        numbers[column] = i32::of(number);
+    }
+    bits
+}
+
+fn least_of(costs: &[i64]) -> i64 {
+    let mut least = i64::MAX;
+    for column in 0..costs.len() {
+        least = least.min(costs[column]);
+    }
+    least
+}
+
+fn greatest_of(costs: &[i64]) -> i64 {
+    let mut greatest = i64::MIN;
+    for column in 0..costs.len() {
+        greatest = greatest.max(costs[column]);
+    }
+    greatest
+}
+
+// The greatest dual variable of a column.
+fn greatest_dual(duals: &[i32], side: usize) -> i64 {
+    let mut greatest = i64::MIN;
+    for column in 0..side {
+        greatest = greatest.max(value(duals, column).to_wide());
+    }
+    greatest
+}
+
+// By how much each column may rise: as much as its dual variable is below the greatest.
+fn rises_of(
+    alloc: Global,
+    duals: &[i32],
+    side: usize,
+    greatest: i64,
+) -> Result<Vec<u32>, NoMemory> {
+    let mut rises = vec![in alloc; 0; side]?;
+    for column in 0..side {
+        let dual = value(duals, column).to_wide();
+        let rise = greatest.wrapping_sub(dual).max(0) as u64 % (1 << 32);
+        put(rises.as_mut_slice(), column, rise as u32);
+    }
+    Ok(rises)
+}
+
+// The first names of a list.
+fn first_names(alloc: Global, names: &[u32], count: usize) -> Result<Vec<u32>, NoMemory> {
+    let mut first = Vec::with_capacity(alloc, count)?;
+    for place in 0..count {
+        first.push(at(names, place))?;
+    }
+    Ok(first)
+}
+
+impl CostTable {
+    /// A table for so many rows and columns, none of which stands in it yet; whether it is for the
+    /// greatest sum, else for the least. The error is want of memory.
+    pub fn make(
+        alloc: Global,
+        rows: u32,
+        columns: u32,
+        is_max: bool,
+    ) -> Result<CostTable, NoMemory> {
+        let side = columns as usize;
+        let wide = padded(side);
+        let cells = Vec::with_capacity(alloc, (rows as usize).saturating_mul(wide))?;
+        let line = vec![in alloc; i32::greatest(); wide]?;
+        Ok(CostTable {
+            rows: 0,
+            table: Table { side, wide, cells },
+            line,
+            are_near: true,
+            is_max,
+        })
+    }
+
+    // Writes the numbers of a row, which begin near its first cost, and tells their bits.
+    fn put_near(&mut self, costs: &[i64]) -> u64 {
+        if costs.is_empty() {
+            return 0;
+        }
+        let line = self.line.as_mut_slice();
+        if self.is_max {
+            put_below(line, costs, costs[0].wrapping_add(NEAR))
+        } else {
+            put_above(line, costs, costs[0].wrapping_sub(NEAR))
+        }
+    }
+
+    // The same, where they begin at its least or its greatest cost.
+    fn put_far(&mut self, costs: &[i64]) -> u64 {
+        let line = self.line.as_mut_slice();
+        if self.is_max {
+            put_below(line, costs, greatest_of(costs))
+        } else {
+            put_above(line, costs, least_of(costs))
+        }
+    }
+
+    /// Takes a further row of costs. Whether it could: there is one for each column, and they
+    /// differ by little enough. The error is want of memory.
+    pub fn push(&mut self, costs: &[i64]) -> Result<bool, NoMemory> {
+        if costs.len() != self.table.side {
+            return Ok(false);
+        }
+        if self.are_near {
+            self.are_near = self.put_near(costs) >> 28 == 0;
+        }
+        if !self.are_near && self.put_far(costs) >= MOST_WIDTH {
+            return Ok(false);
+        }
+        self.table.cells.extend_from_slice(self.line.as_slice())?;
+        self.rows = self.rows.saturating_add(1);
+        Ok(true)
+    }
+
+    // What a bench came to. Where there are as many rows as columns, no dual variable need be 0.
+    fn lead_of(&self, alloc: Global, bench: &Bench<i32>) -> Result<Lead, NoMemory> {
+        let side = self.table.side;
+        let duals = bench.duals.as_slice();
+        let greatest = if self.rows == side {
+            greatest_dual(duals, side)
+        } else {
+            0
+        };
+        Ok(Lead {
+            columns: first_names(alloc, bench.column_of.as_slice(), self.rows)?,
+            rows: first_names(alloc, bench.row_of.as_slice(), side)?,
+            rises: rises_of(alloc, duals, side, greatest)?,
+        })
+    }
+
+    // Gives each row a column. Whether each has one.
+    fn solve(&self, alloc: Global, bench: &mut Bench<i32>) -> Result<bool, NoMemory> {
+        if self.rows == self.table.side {
+            solve(alloc, bench, &self.table)
+        } else {
+            Ok(solve_few(bench, &self.table, self.rows))
+        }
+    }
+
+    /// An assignment of the rows to columns of their own, of least or greatest sum, and by how much
+    /// columns may rise, so that the cells of no row are less than its own, or greater; `None`
+    /// where none was found. No clause says that it is so. The error is want of memory.
+    ///
+    /// The method is that of [`Search::next`].
+    ///
+    /// [`Search::next`]: crate::Search::next
+    pub fn search(&self, alloc: Global) -> Result<Option<Lead>, NoMemory> {
+        if self.rows > self.table.side {
+            return Ok(None);
+        }
+        let mut bench = Bench::make(alloc, &self.table)?;
+        if !self.solve(alloc, &mut bench)? {
+            return Ok(None);
+        }
+        let lead = self.lead_of(alloc, &bench)?;
+        Ok(Some(lead))
+    }
+}

@@ -1,0 +1,5 @@
+mod TakenSums
+mod RowSums
+mod LevelLaw
+mod RowCosts
+mod FullColumns

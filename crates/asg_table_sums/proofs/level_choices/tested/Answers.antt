@@ -1,0 +1,6 @@
+use Rattle.std.proofs.Common.{refl}
+use Rattle.asg_table_sums.proofs.level_choices.tested.Goals as goal
+
+pub returns-then-is_level : goal.returns-then-is_level
+returns-then-is_level c =
+    c.level_law.ensures c.args.objective c.args.inst.now _ c.args.rises.now c.requires c.rows-rows.ensures.instance (c.if-is_level.ensures refl)

@@ -1,0 +1,9 @@
+use Rattle.std.proofs.Common.{ℕ, ◌<◌, pos, ◌+ℤ◌}
+use Rattle.std.specs.Prelude.{◌≤ℤ◌, slice_index_or}
+use Rattle.asg_model.specs.Table.{absent}
+use Rattle.asg_table_sums.specs.Level.{rise_at}
+use Rattle.asg_table_sums.proofs.level_rows.are_above.Given as goal
+
+-- the columns so far are at least the level
+abbrev pub invariant-columns : goal.invariant-columns
+invariant-columns l = (c : ℕ) → c < l.column → l.level ≤ℤ (slice_index_or l.costs c absent +ℤ pos (rise_at l.rises c))

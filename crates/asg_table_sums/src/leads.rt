@@ -1,0 +1,83 @@
+//! Choices with rises of columns, as a search finds them.
+
+use crate::NoMemory;
+use asg_dual_search::{CostTable, Lead};
+use asg_model::{Choice, Instance, Objective, RowRoom};
+use std::alloc::Global;
+
+// Whether each column is open for one row.
+fn are_single(inst: &Instance) -> bool {
+    inst.columns()
+        .iter()
+        .all(|column| column.cap == 1 && column.usable)
+}
+
+// By how much the costs of a row differ that no table takes.
+const TOO_FAR: i64 = 1 << 40;
+
+// A table for the rows of an instance. A row that differs by too much is refused; from then on the
+// numbers of each row begin at its least cost, or its greatest, so that none is ahead of others.
+// The error is want of memory.
+fn table_for(alloc: Global, objective: Objective, inst: &Instance) -> Result<CostTable, NoMemory> {
+    let rows = inst.rows().len() as u32;
+    let columns = inst.columns().len();
+    let is_max = objective == Objective::SumMax;
+    let mut table = CostTable::make(alloc, rows, columns as u32, is_max)?;
+    let mut apart = vec![in alloc; 0; columns]?;
+    if columns > 0 {
+        apart[columns - 1] = TOO_FAR;
+    }
+    table.push(apart.as_slice())?;
+    Ok(table)
+}
+
+// The rows of an instance as a table; `None` where a cell is absent, or costs of a row differ by
+// too much.
+fn table_of(
+    alloc: Global,
+    objective: Objective,
+    inst: &Instance,
+) -> Result<Option<CostTable>, NoMemory> {
+    let mut table = table_for(alloc, objective, inst)?;
+    let mut room = RowRoom::new();
+    for row in 0..inst.rows().len() as u32 {
+        let Some(parts) = inst.row_parts(row, &mut room) else {
+            return Ok(None);
+        };
+        if !table.push(parts.firsts)? {
+            return Ok(None);
+        }
+    }
+    Ok(Some(table))
+}
+
+/// Columns of the rows of an instance, with rises of the columns under which each row may have the
+/// least of its cells, or the greatest; `None` where none were found, as where a cell is absent. No
+/// clause says that they serve. The error is want of memory.
+pub(crate) fn lead(
+    alloc: Global,
+    objective: Objective,
+    inst: &Instance,
+) -> Result<Option<Lead>, NoMemory> {
+    if inst.rows().len() > inst.columns().len() || inst.columns().len() < 2 {
+        return Ok(None);
+    }
+    if !are_single(inst) {
+        return Ok(None);
+    }
+    match table_of(alloc, objective, inst)? {
+        Some(table) => table.search(alloc),
+        None => Ok(None),
+    }
+}
+
+/// The choice of these columns. The error is want of memory.
+pub(crate) fn choice_of(alloc: Global, rows: u32, columns: &[u32]) -> Result<Choice, NoMemory> {
+    let mut choice = Choice::make(alloc, rows)?;
+    for row in 0..rows {
+        if row < choice.len() && (row as usize) < columns.len() {
+            choice.set(row, Some(columns[row as usize]));
+        }
+    }
+    Ok(choice)
+}

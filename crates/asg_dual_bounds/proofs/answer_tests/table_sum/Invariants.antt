@@ -1,0 +1,12 @@
+use Rattle.std.proofs.Common.{◌≡◌, ◌*◌, ◌≤◌}
+use Rattle.asg_model.specs.Sums.{sum_below}
+use Rattle.asg_dual_bounds.specs.Tables.{table_number}
+use Rattle.asg_dual_bounds.proofs.answer_tests.table_sum.Given as goal
+
+-- the sum so far
+abbrev pub invariant-rows : goal.invariant-rows
+invariant-rows l =
+    record {
+      sum : l.total ≡ sum_below (table_number l.table l.columns) l.row;
+      bound : l.total ≤ l.row * 2147483648;
+    }

@@ -1,0 +1,9 @@
+use Rattle.std.proofs.Common.{ℕ, ◌<◌}
+use Rattle.std.specs.Prelude.{slice_index}
+use Rattle.asg_dual_bounds.specs.RowTests.{IsRowAbove}
+use Rattle.asg_dual_bounds.proofs.bounds.are_rows_above.Given as goal
+
+-- the rows so far are at least their falls
+abbrev pub invariant-rows : goal.invariant-rows
+invariant-rows l =
+    (r : ℕ) → r < l.row → IsRowAbove l.table r (slice_index l.falls r) l.rises

@@ -1,0 +1,15 @@
+use Rattle.std.proofs.Common.{◌≡◌, ℕ, ◌+◌, ◌*◌, ◌<◌, ◌≤◌, length}
+use Rattle.std.specs.Prelude.{All, slice_index}
+use Rattle.asg_dual_bounds.specs.Numbers.{number_at}
+use Rattle.asg_dual_bounds.specs.Tables.{absent, number_of}
+use Rattle.asg_dual_bounds.proofs.number_tables.NumberTable.of.Given as goal
+
+-- the rows so far have their numbers
+abbrev pub invariant-rows : goal.invariant-rows
+invariant-rows l =
+    record {
+      whole : length l.slots.items ≡ l.rows * l.columns;
+      low : All (λ slot. slot ≤ absent) l.slots.items;
+      filled : (r c : ℕ) → r < l.row → c < l.columns
+          → number_of (slice_index l.slots.items (r * l.columns + c)) ≡ number_at l.objective l.inst r c;
+    }

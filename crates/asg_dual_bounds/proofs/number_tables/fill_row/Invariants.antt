@@ -1,0 +1,16 @@
+use Rattle.std.proofs.Common.{◌≡◌, ℕ, ◌+◌, ◌<◌, ◌≤◌, length}
+use Rattle.std.specs.Prelude.{All, slice_index}
+use Rattle.asg_dual_bounds.specs.Numbers.{number_at}
+use Rattle.asg_dual_bounds.specs.Tables.{absent, number_of}
+use Rattle.asg_dual_bounds.proofs.number_tables.fill_row.Given as goal
+
+-- the columns so far have their numbers
+abbrev pub invariant-columns : goal.invariant-columns
+invariant-columns l =
+    record {
+      count : length l.slots.items ≡ length l.fn.slots.items;
+      low : All (λ slot. slot ≤ absent) l.slots.items;
+      filled : (c : ℕ) → c < l.column
+          → number_of (slice_index l.slots.items (l.start + c)) ≡ number_at l.objective l.inst l.row c;
+      before : (k : ℕ) → k < l.start → slice_index l.slots.items k ≡ slice_index l.fn.slots.items k;
+    }

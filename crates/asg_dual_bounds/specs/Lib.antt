@@ -1,0 +1,9 @@
+pub mod Plain
+pub mod Numbers
+pub mod Parts
+pub mod Bounds
+pub mod SumRankings
+pub mod Tables
+pub mod Views
+pub mod RowTests
+pub mod GapTests

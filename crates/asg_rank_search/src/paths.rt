@@ -1,0 +1,179 @@
+//! Shortest paths from a row that loses its column.
+
+use crate::benches::Parent;
+use crate::lanes::{Lanes, value};
+use crate::places::{NONE, fill, name};
+use crate::rooms::Room;
+use crate::tables::Table;
+
+// How a search ended, and at which distance.
+#[derive(Clone, Copy)]
+pub(crate) struct Reach<N: Lanes> {
+    pub end: End,
+    pub distance: N,
+    // How many columns are done.
+    pub count: usize,
+    // How much the row fell since first, and the greatest fall of the rows that were gone through.
+    pub root_fall: N,
+    pub fall: N,
+    // A column that no row had, where the search came to one, its distance, and how many columns
+    // were done before it.
+    pub spare: u32,
+    pub spare_distance: N,
+    pub spare_place: usize,
+}
+
+// Why a search ended.
+#[derive(Clone, Copy)]
+pub(crate) enum End {
+    // The column that the row lost is reached.
+    Reached,
+    // All that is left is further than the limit.
+    Far,
+    // Nothing that is left can be reached.
+    Nothing,
+    // The numbers are too great.
+    Lost,
+}
+
+// What is searched: a path from a row of a part to the column that it has there, by which none of
+// the rows before it changes; the row itself doesn't take the columns that are banned.
+#[derive(Clone, Copy)]
+pub(crate) struct Errand<'a> {
+    pub parent: Parent<'a>,
+    pub root: usize,
+    pub target: usize,
+    pub banned: &'a [u32],
+    // How much the floor rose since first.
+    pub spare_fall: u64,
+}
+
+// Opens a search; how much its row fell since first.
+fn open<N: Lanes>(room: &mut Room<N>, table: &Table<N>, bases: &[u64], errand: &Errand<'_>) -> N {
+    let columns = errand.parent.columns;
+    if table.rows < table.columns {
+        fill(room.row_of.as_mut_slice(), NONE);
+    }
+    N::load(errand.parent.rises, bases, room.raised.as_mut_slice());
+    let numbers = table.row(errand.root);
+    let fall = room.number(numbers, errand.target);
+    N::open(
+        numbers,
+        room.raised.as_slice(),
+        room.keys.as_mut_slice(),
+        fall,
+    );
+    room.shut(&columns[..errand.root.min(columns.len())]);
+    room.shut_rest(table.columns);
+    for place in 0..errand.banned.len() {
+        room.bar(errand.banned[place] as usize);
+    }
+    room.bar(errand.target);
+    room.list_rows(columns, errand.root);
+    fall
+}
+
+// Takes all columns that no row has as done, at a distance, and goes on to those that may take
+// their place. Gives the least key, less one.
+fn enter_spare<N: Lanes>(
+    room: &mut Room<N>,
+    table: &Table<N>,
+    fall: N,
+    distance: N,
+    reach: &mut Reach<N>,
+) -> N {
+    for column in 0..table.columns {
+        if room.row_at(column) == NONE && N::done().is_less(value(room.keys.as_slice(), column)) {
+            room.note(reach.count, column, distance);
+            room.note_row(reach.count, NONE, distance);
+            reach.count = reach.count.saturating_add(1);
+        }
+    }
+    room.relax(table.row(table.rows), fall.minus(distance))
+}
+
+// Why a search ends at which all that is left is as far as the limit, or further.
+fn end_at<N: Lanes>(table: &Table<N>, least: N, limit: u64) -> End {
+    let further = N::far().minus(N::of(N::most()));
+    if !least.is_less(N::greatest().minus(N::of(1))) {
+        End::Nothing
+    } else if limit <= N::most() {
+        End::Far
+    } else if table.is_exact && !least.is_less(further) {
+        End::Nothing
+    } else {
+        End::Lost
+    }
+}
+
+// Takes the nearest column as done, and goes on to what its row reaches. Gives the least key, less
+// one.
+fn step<N: Lanes>(
+    room: &mut Room<N>,
+    table: &Table<N>,
+    errand: &Errand<'_>,
+    reach: &mut Reach<N>,
+    distance: N,
+) -> N {
+    let column = N::find(room.keys.as_slice(), distance);
+    let row = room.row_at(column);
+    if row == NONE {
+        reach.spare = name(column);
+        reach.spare_distance = distance;
+        reach.spare_place = reach.count;
+        let fall = N::of(errand.spare_fall);
+        return enter_spare(room, table, fall, distance, reach);
+    }
+    room.note(reach.count, column, distance);
+    let numbers = table.row(row as usize);
+    let fall = room.number(numbers, column);
+    if reach.fall.is_less(fall) {
+        reach.fall = fall;
+    }
+    let less = fall.minus(distance);
+    room.note_row(reach.count, row, less);
+    reach.count = reach.count.saturating_add(1);
+    room.relax(numbers, less)
+}
+
+// A search before its first step, within a limit.
+fn opened<N: Lanes>(fall: N, limit: u64) -> Reach<N> {
+    let stop = N::of(limit.min(N::most()));
+    Reach {
+        end: End::Lost,
+        distance: stop,
+        count: 0,
+        root_fall: fall,
+        fall,
+        spare: NONE,
+        spare_distance: stop,
+        spare_place: 0,
+    }
+}
+
+// Grows a tree of shortest paths from a row to the column that it loses, within a limit.
+pub(crate) fn search<N: Lanes>(
+    room: &mut Room<N>,
+    table: &Table<N>,
+    bases: &[u64],
+    errand: &Errand<'_>,
+    limit: u64,
+) -> Reach<N> {
+    let mut reach = opened(open(room, table, bases, errand), limit);
+    let before = reach.distance.minus(N::of(1));
+    let mut least = N::least(room.keys.as_slice());
+    for _ in 0..table.wide.saturating_add(1) {
+        if !least.is_less(before) {
+            reach.end = end_at(table, least, limit);
+            return reach;
+        }
+        let distance = least.plus(N::of(1));
+        if !distance.is_less(value(room.keys.as_slice(), errand.target)) {
+            reach.end = End::Reached;
+            reach.distance = distance;
+            return reach;
+        }
+        least = step(room, table, errand, &mut reach, distance);
+    }
+    reach
+}

@@ -1,0 +1,4 @@
+pub mod Splits
+pub mod Rankings
+pub mod Ends
+pub mod Steps

@@ -1,0 +1,5 @@
+use Rattle.asg_sum_ranks.specs.Branches.{SumsTo}
+use Rattle.asg_sum_ranks.proofs.ranking_tests.last_sum.Given as goal
+
+abbrev pub invariant-branches : goal.invariant-branches
+invariant-branches l = SumsTo l.ground.objective l.ground.inst.now l.branches l.place l.last

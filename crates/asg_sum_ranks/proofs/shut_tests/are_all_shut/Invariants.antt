@@ -1,0 +1,7 @@
+use Rattle.std.proofs.Common.{ℕ, ◌<◌}
+use Rattle.asg_sum_ranks.specs.Branches.{AreShut}
+use Rattle.asg_sum_ranks.proofs.shut_tests.are_all_shut.Given as goal
+
+abbrev pub invariant-branches : goal.invariant-branches
+invariant-branches l = (a : ℕ) → a < l.place
+    → AreShut l.ground.objective l.ground.inst.now l.branches l.least a

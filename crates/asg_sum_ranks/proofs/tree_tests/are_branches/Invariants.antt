@@ -1,0 +1,5 @@
+use Rattle.asg_sum_ranks.specs.Branches.{AreBranches}
+use Rattle.asg_sum_ranks.proofs.tree_tests.are_branches.Given as goal
+
+abbrev pub invariant-branches : goal.invariant-branches
+invariant-branches l = AreBranches l.ground.objective l.ground.inst.now l.branches l.place

@@ -1,0 +1,4 @@
+pub mod EditedFound
+pub mod LeastLaw
+pub mod PutCells
+pub mod TestFacts

@@ -1,0 +1,123 @@
+-- What the tests of a guess show.
+use Rattle.std.proofs.Common.{◌≡◌, ℕ, zero, suc, ◌+◌, ◌*◌, ◌<◌, ◌≤◌, Bool, true, false, cond, ◌&&◌, List, [], ◌∷◌, length, get_or, Option, Some, None, refl, sym, ap, subst, ◌∙◌, ⊎_elim, arith, ℤ, pos, ◌+ℤ◌, ◌-ℤ◌}
+use Rattle.std.specs.Prelude.{IsTrue, is_some, slice_get, slice_index, slice_index_or, sum, ◌≤ℤ◌}
+use Rattle.std.specs.Option.{option_map_or}
+use Rattle.std.specs.Ordering.{int_eq}
+use Rattle.std.proofs.lemmas.Bool.{cases_lt, and_parts, false≢true}
+use Rattle.std.proofs.lemmas.Int.{ints}
+use Rattle.asg_model.specs.declared.objectives.Objective.{Objective}
+use Rattle.asg_model.specs.declared.objectives.Objective.TheVariants.{Sum, SumMax}
+use Rattle.asg_model.specs.declared.objectives.Value.TheVariants.{One}
+use Rattle.asg_model.specs.declared.parts.Column.{Column}
+use Rattle.asg_model.specs.declared.parts.Cost.{Cost}
+use Rattle.asg_model.specs.Instances.{IsInstance}
+use Rattle.asg_model.specs.laws.Rows.{is_active-from_live, row-from_active}
+use Rattle.asg_model.specs.Live.{cost_at, is_active, is_open, live_at}
+use Rattle.asg_model.specs.Problem.{Problem}
+use Rattle.asg_model.specs.Table.{AreRowParts, absent, table_cost}
+use Rattle.asg_model.specs.ValidChoice.{IsValid}
+use Rattle.asg_model.specs.Values.{choice_value, costs_of, first_parts, total}
+use Rattle.asg_monoids.specs.Entered.{cost_reach, sum_entered}
+use Rattle.asg_monoids.specs.laws.SumFolds.{sum_shifted, sum_turned}
+use Rattle.asg_monoids.specs.laws.SumOrders.{near_a}
+use Rattle.asg_monoids.specs.NarrowObjectives.{is_narrow_objective}
+use Rattle.asg_order.specs.laws.ChosenCosts.{costs_may_enter, length-costs_of}
+use Rattle.asg_proof.specs.laws.LiveCosts.{lies_within}
+use Rattle.asg_sum_edits.specs.SumDuals.{AreAbove, AreFirstsAbove, IsPlain, IsRowAbove, chosen_sum, first_entered, number_of}
+use Rattle.asg_sum_edits.proofs.LeastLaw.{narrow_passes}
+
+-- ---- rows
+
+live_parts : (b : Bool) (o : Option Cost) (x : Cost) → cond b o None ≡ Some x → (b ≡ true) × (o ≡ Some x)
+live_parts true o x e = (refl, e)
+live_parts false o x e = absurd (let none = e in cc)
+
+open_within : (columns : List Column) (c : ℕ) → option_map_or (λ (column : Column). column.usable) (slice_get columns c) false ≡ true → c < length columns
+open_within [] c e = absurd (false≢true e)
+open_within (column ∷ columns) zero e = omega arith
+open_within (column ∷ columns) (suc c) e = omega (arith, open_within columns c e)
+
+-- a live cell is in a column that is there, and has a cost
+pub live_within : (X : Problem) (r c : ℕ) (x : Cost) → live_at X r c ≡ Some x → (c < length X.columns) × (cost_at X.cells r c ≡ Some x)
+live_within X r c x live =
+    let parts = live_parts (is_active X r && is_open X c) (cost_at X.cells r c) x live in
+    (open_within X.columns c (and_parts (is_active X r) (is_open X c) parts.0).1, parts.1)
+
+-- what was tested of a row's parts holds of its live cells
+pub row_above : (objective : Objective) (X : Problem) (r fall : ℕ) (rises : List ℕ) (firsts seconds : List ℤ) → AreRowParts X r firsts seconds → length rises ≡ length X.columns → ((c : ℕ) (cost : Cost) → c < length rises → table_cost seconds c (slice_index_or firsts c absent) ≡ Some cost → fall ≤ sum_entered objective cost + slice_index rises c) → IsRowAbove objective X r fall rises
+row_above objective X r fall rises firsts seconds parts over each c x live =
+    let at = live_within X r c x live in
+    each c x (omega (arith, at.0, over)) (sym (parts.costs c at.0) ∙ at.1)
+
+-- a fall that is no greater holds too
+pub row_below : (objective : Objective) (X : Problem) (r before fall : ℕ) (rises : List ℕ) → IsRowAbove objective X r before rises → fall ≤ before → IsRowAbove objective X r fall rises
+row_below objective X r before fall rises above low c x live = omega (arith, above c x live, low)
+
+-- rows past the last have no live cell
+pub all_above : (objective : Objective) (X : Problem) (falls rises : List ℕ) (n : ℕ) → n ≡ length X.rows → ((r : ℕ) → r < n → IsRowAbove objective X r (slice_index falls r) rises) → AreAbove objective X falls rises
+all_above objective X falls rises n is each r c x live =
+    each r (omega (arith, is, row-from_active X r (is_active-from_live X r c (ap is_some live)))) c x live
+
+past : (xs : List ℕ) (k : ℕ) → length xs ≤ k → get_or xs k 0 ≡ 0
+past [] k h = refl
+past (x ∷ xs) zero h = absurd (omega (arith, h))
+past (x ∷ xs) (suc k) h = past xs k (omega (arith, h))
+
+-- where rises rose, falls hold still
+pub risen_above : (objective : Objective) (X : Problem) (falls before after : List ℕ) → AreAbove objective X falls before → ((k : ℕ) → k < length before → slice_index before k ≤ slice_index after k) → AreAbove objective X falls after
+risen_above objective X falls before after above risen r c x live =
+    let low = above r c x live in
+    ⊎_elim
+    (λ (within : c < length before). omega (arith, low, risen c within))
+    (λ (beyond : length before ≤ c). omega (arith, low, past before c beyond))
+    (cases_lt c (length before))
+
+-- ---- sums
+
+one_is : (x y : ℤ) → One x ≡ One y → x ≡ y
+one_is x y e = cc
+
+-- the chosen costs come to the number that is made of their sum
+pub comes_to : (objective : Objective) (X : Problem) (f : List (Option ℕ)) (z : ℤ) → IsTrue (is_narrow_objective objective) → IsInstance X → IsPlain X → IsValid X f → choice_value objective X f ≡ One z → pos (chosen_sum objective X f) ≡ number_of objective (length X.rows) z
+comes_to Sum X f z narrow instance plain valid value =
+    let may = costs_may_enter Sum cost_reach X f (lies_within cost_reach X (omega arith) instance) (narrow_passes Sum X narrow) in
+    let shift = (sum_shifted (λ cost. cost.a) (costs_of X f) (near_a Sum (costs_of X f) may)).0 in
+    let count : length (costs_of X f) ≡ length X.rows = length-costs_of X f valid ∙ plain.all in
+    let is : total (first_parts (costs_of X f)) ≡ z = one_is (total (first_parts (costs_of X f))) z value in
+    shift ∙ ap (λ t. t +ℤ pos (cost_reach * length (costs_of X f))) is ∙ ap (λ n. z +ℤ pos (cost_reach * n)) count
+comes_to SumMax X f z narrow instance plain valid value =
+    let may = costs_may_enter SumMax cost_reach X f (lies_within cost_reach X (omega arith) instance) (narrow_passes SumMax X narrow) in
+    let turn = (sum_turned (λ cost. cost.a) (costs_of X f) (near_a SumMax (costs_of X f) may)).0 in
+    let count : length (costs_of X f) ≡ length X.rows = length-costs_of X f valid ∙ plain.all in
+    let is : total (first_parts (costs_of X f)) ≡ z = one_is (total (first_parts (costs_of X f))) z value in
+    turn ∙ ap (λ t. pos (cost_reach * length (costs_of X f)) -ℤ t) is ∙ ap (λ n. pos (cost_reach * n) -ℤ z) count
+comes_to _ X f z narrow instance plain valid value = absurd (let no_such = narrow in cc)
+
+-- so that what was tested of it holds of them
+pub balanced : (objective : Objective) (X : Problem) (f : List (Option ℕ)) (z : ℤ) (falls rises : List ℕ) → IsTrue (is_narrow_objective objective) → IsInstance X → IsPlain X → IsValid X f → choice_value objective X f ≡ One z → (number_of objective (length X.rows) z +ℤ pos (sum rises)) ≤ℤ pos (sum falls) → chosen_sum objective X f + sum rises ≤ sum falls
+balanced objective X f z falls rises narrow instance plain valid value test =
+    let is = comes_to objective X f z narrow instance plain valid value in
+    let moved : (pos (chosen_sum objective X f) +ℤ pos (sum rises)) ≤ℤ pos (sum falls) = subst (λ n. (n +ℤ pos (sum rises)) ≤ℤ pos (sum falls)) (sym is) test in
+    omega (arith, ints, moved)
+
+-- ---- first parts
+
+cost_by : (b : Bool) (y x : Cost) → cond b None (Some y) ≡ Some x → y ≡ x
+cost_by true y x e = absurd (let none = e in cc)
+cost_by false y x e = cc
+
+-- what a cost enters as by its first part is no more than what it enters as
+pub entered_first : (objective : Objective) (cost : Cost) → first_entered objective cost.a ≤ sum_entered objective cost
+entered_first Sum cost = omega arith
+entered_first SumMax cost = omega arith
+entered_first _ cost = omega arith
+
+-- what was tested of first parts holds of the costs that have them
+pub firsts_hold : (objective : Objective) (firsts seconds : List ℤ) (fall : ℕ) (rises : List ℕ) → AreFirstsAbove objective firsts fall rises → (c : ℕ) (cost : Cost) → c < length rises → table_cost seconds c (slice_index_or firsts c absent) ≡ Some cost → fall ≤ sum_entered objective cost + slice_index rises c
+firsts_hold objective firsts seconds fall rises above c cost within e =
+    let a = slice_index_or firsts c absent in
+    let made : Cost = record { a = a; b = slice_index_or seconds c (pos 0) } in
+    let low = above c within in
+    let first = entered_first objective made in
+    let whole : fall ≤ sum_entered objective made + slice_index rises c = omega (arith, low, first) in
+    subst (λ (x : Cost). fall ≤ sum_entered objective x + slice_index rises c) (cost_by (int_eq a absent) made cost e) whole

@@ -1,0 +1,2 @@
+pub mod SumDuals
+pub mod Sessions

@@ -1,4 +1,5 @@
 mod CopySteps
+mod DualFacts
 mod EditorFacts
 mod MonoidFacts
 mod SessionFacts

@@ -1,12 +1,12 @@
 //! Answers of sessions by their choices alone: no phase is written out.
 
-ghost use Rattle.std.specs.Prelude.{◌≡◌, ◌≤◌, ◌++◌, List, length, map, IfOk};
+ghost use Rattle.std.specs.Prelude.{◌≡◌, ◌≤◌, ◌++◌, List, length, map, IfOk, IsTrue};
 ghost use Rattle.asg_algebra.specs.Solved.{unmatched};
 ghost use Rattle.asg_order.specs.declared.words.Word.{Word};
 ghost use Rattle.asg_proof.specs.Phases.{PhaseOf, worded};
 ghost use Rattle.asg_repair.specs.declared.answers.Given.TheVariants.{Chosen};
 ghost use Rattle.asg_edits.specs.EditOutcomes.{IsChoiceAt, IsChoiceIn};
-ghost use Rattle.asg_edits.specs.Editors.{GoesTo, editor_of};
+ghost use Rattle.asg_edits.specs.Editors.{GoesTo, editor_of, has_phases};
 
 use crate::NoMemory;
 use crate::choice_copies::copied;
@@ -58,6 +58,7 @@ pub(crate) fn choose_sessions(
     alloc: Global,
     sessions: &mut Sessions,
 ) -> Result<Option<Choice>, NoMemory>
+    requires { IsTrue (has_phases sessions.old) }
     ensures goes { GoesTo (editor_of sessions.old) (editor_of sessions.new) }
     ensures choice { IfOk result (IsChoiceAt (editor_of sessions.new).objective
         (editor_of sessions.new).instance) }
@@ -66,5 +67,6 @@ pub(crate) fn choose_sessions(
         Sessions::Sums(session) => choose_session(alloc, session),
         Sessions::Peaks(session) => choose_session(alloc, session),
         Sessions::Times(session) => choose_session(alloc, session),
+        Sessions::Duals(_) => unreachable!(),
     }
 }

@@ -1,17 +1,20 @@
 //! The editor.
 
-ghost use Rattle.std.specs.Prelude.{◌≡◌, ◌≤◌, None, IfOk, IsTrue, OnErr, OnOk};
+ghost use Rattle.std.specs.Prelude.{◌≡◌, ◌≤◌, None, IfOk, IfSome, IsTrue, OnErr, OnOk, OnSome, length};
+ghost use Rattle.asg_model.specs.Counts.{placed};
 ghost use Rattle.asg_model.specs.Edits.{refusal_of};
 ghost use Rattle.asg_model.specs.Instances.{IsInstance};
 ghost use Rattle.asg_model.specs.Limits.{most_side};
 ghost use Rattle.asg_model.specs.Objectives.{is_algebraic};
 ghost use Rattle.asg_model.specs.Refused.{PassesNegative};
 ghost use Rattle.asg_model.specs.Shapes.{square_side};
+ghost use Rattle.asg_sum_edits.specs.SumDuals.{IsBestSum};
 ghost use Rattle.asg_edits.specs.EditOutcomes.{IsAnswerAt, IsChoiceAt};
 ghost use Rattle.asg_edits.specs.Editors.{Edits, GoesTo};
 
 use crate::NoMemory;
 use crate::chosen_sessions::choose_sessions;
+use crate::dual_sessions::{best_sum_of, open_brief_sessions, settle};
 use crate::sessions::{Sessions, answer_sessions, edit_sessions, instance_of, open_sessions};
 use asg_model::{Choice, Edit, Instance, Objective};
 use asg_proof::Outcome;
@@ -48,6 +51,24 @@ impl Editor {
         Ok(Editor { session })
     }
 
+    /// The same for brief lines, which tell no phases. For `sum` and `sum-max` dual variables are
+    /// kept in place of phases as long as they serve, and the instance is solved when its sum is
+    /// asked for first.
+    pub fn open_brief(
+        alloc: Global,
+        objective: Objective,
+        inst: Instance,
+    ) -> Result<Editor, NoMemory>
+        requires algebraic { IsTrue (is_algebraic objective) }
+        requires side { square_side inst ≤ most_side }
+        requires passes { PassesNegative objective inst }
+        ensures objective { IfOk result (λ editor. editor.objective ≡ objective) }
+        ensures instance { IfOk result (λ editor. editor.instance ≡ inst) }
+    {
+        let session = open_brief_sessions(alloc, objective, inst)?;
+        Ok(Editor { session })
+    }
+
     /// The instance as edited.
     pub fn instance(&self) -> &Instance
         ensures value { result.now ≡ self.now.instance }
@@ -78,6 +99,7 @@ impl Editor {
         ensures outcome { IfOk result (IsAnswerAt self.new.objective self.new.instance
             self.new.phases self.new.unsure) }
     {
+        settle(alloc, &mut self.session)?;
         answer_sessions(alloc, &mut self.session)
     }
 
@@ -88,6 +110,20 @@ impl Editor {
         ensures goes { GoesTo self.old self.new }
         ensures choice { IfOk result (IsChoiceAt self.new.objective self.new.instance) }
     {
+        settle(alloc, &mut self.session)?;
         choose_sessions(alloc, &mut self.session)
+    }
+
+    /// The sum of the best choices of the instance as edited; `None` where it isn't told without
+    /// phases, as of every editor that wasn't opened for brief lines. The error is want of memory.
+    /// The time grows with the cube of the side at most.
+    pub fn best_sum(&mut self, alloc: Global) -> Result<Option<i128>, NoMemory>
+        ensures same { self.new ≡ self.old }
+        ensures sum { IfOk result (λ found. IfSome found
+            (IsBestSum self.new.objective self.new.instance)) }
+        ensures all { IfOk result (λ found. OnSome found
+            (placed self.new.instance ≡ length self.new.instance.rows)) }
+    {
+        best_sum_of(alloc, &mut self.session)
     }
 }

@@ -1,6 +1,7 @@
 //! The session of an objective's kind.
 
-ghost use Rattle.std.specs.Prelude.{◌≡◌, ◌≤◌, None, IfOk, IsTrue, OnErr, OnOk};
+ghost use Rattle.std.specs.Prelude.{◌≡◌, ◌<◌, ◌≤◌, None, IfOk, IsTrue, OnErr, OnOk, length};
+ghost use Rattle.asg_algebra.specs.Solved.{unmatched};
 ghost use Rattle.asg_model.specs.declared.objectives.Objective.TheVariants.{TimeCost};
 ghost use Rattle.asg_model.specs.Edits.{refusal_of};
 ghost use Rattle.asg_model.specs.Instances.{IsInstance};
@@ -9,7 +10,7 @@ ghost use Rattle.asg_model.specs.Objectives.{is_algebraic};
 ghost use Rattle.asg_model.specs.Refused.{PassesNegative};
 ghost use Rattle.asg_model.specs.Shapes.{square_side};
 ghost use Rattle.asg_edits.specs.EditOutcomes.{IsAnswerAt};
-ghost use Rattle.asg_edits.specs.Editors.{Edits, GoesTo, editor_of};
+ghost use Rattle.asg_edits.specs.Editors.{Edits, GoesTo, editor_of, has_phases, most_unsure};
 
 use crate::NoMemory;
 use crate::session_answers::answer_session;
@@ -18,6 +19,7 @@ use asg_model::{Edit, Instance, Objective};
 use asg_monoids::{PeakKind, SumKind, TimeKind};
 use asg_proof::Outcome;
 use asg_repair::Session;
+use asg_sum_edits::SumSession;
 use std::alloc::Global;
 
 /// A session of the kind that an objective has.
@@ -26,17 +28,31 @@ pub(crate) enum Sessions {
     Sums(Session<SumKind>),
     Peaks(Session<PeakKind>),
     Times(Session<TimeKind>),
+    Duals(SumSession),
+}
+
+// Tells the proof how many rows are unsure of a column, as the type of the number says.
+fn tell_unsure(session: &Session<SumKind>)
+    ensures { unmatched session.now.columns < most_unsure }
+{
+    let _count = session.unplaced();
 }
 
 // A session of sums, opened. The error is want of memory.
-fn open_sums(alloc: Global, kind: SumKind, inst: Instance) -> Result<Sessions, NoMemory>
+pub(crate) fn open_sums(alloc: Global, kind: SumKind, inst: Instance) -> Result<Sessions, NoMemory>
     requires side { square_side inst ≤ most_side }
     requires passes { PassesNegative kind.objective inst }
     ensures objective { IfOk result (λ session. (editor_of session).objective ≡ kind.objective) }
     ensures instance { IfOk result (λ session. (editor_of session).instance ≡ inst) }
+    ensures few { IfOk result (λ session. length (editor_of session).phases ≤ square_side inst) }
+    ensures unsure { IfOk result (λ session. (editor_of session).unsure < most_unsure) }
+    ensures phases { IfOk result (λ session. IsTrue (has_phases session)) }
 {
     match Session::open(alloc, kind, inst) {
-        Ok(session) => Ok(Sessions::Sums(session)),
+        Ok(session) => {
+            tell_unsure(&session);
+            Ok(Sessions::Sums(session))
+        }
         Err(error) => Err(error),
     }
 }
@@ -100,6 +116,7 @@ pub(crate) fn instance_of(sessions: &Sessions) -> &Instance
         Sessions::Sums(session) => session.instance(),
         Sessions::Peaks(session) => session.instance(),
         Sessions::Times(session) => session.instance(),
+        Sessions::Duals(session) => session.instance(),
     }
 }
 
@@ -115,11 +132,17 @@ pub(crate) fn edit_sessions(sessions: &mut Sessions, edit: Edit) -> Result<(), N
         Sessions::Sums(session) => edit_session(session, edit),
         Sessions::Peaks(session) => edit_session(session, edit),
         Sessions::Times(session) => edit_session(session, edit),
+        Sessions::Duals(session) => {
+            // What a session keeps is told by reading.
+            let _inst = session.instance();
+            session.edit(edit)
+        }
     }
 }
 
 // Answers the instance as edited. The error is want of memory.
 pub(crate) fn answer_sessions(alloc: Global, sessions: &mut Sessions) -> Result<Outcome, NoMemory>
+    requires { IsTrue (has_phases sessions.old) }
     ensures goes { GoesTo (editor_of sessions.old) (editor_of sessions.new) }
     ensures outcome { IfOk result (IsAnswerAt (editor_of sessions.new).objective
         (editor_of sessions.new).instance (editor_of sessions.new).phases
@@ -129,5 +152,6 @@ pub(crate) fn answer_sessions(alloc: Global, sessions: &mut Sessions) -> Result<
         Sessions::Sums(session) => answer_session(alloc, session),
         Sessions::Peaks(session) => answer_session(alloc, session),
         Sessions::Times(session) => answer_session(alloc, session),
+        Sessions::Duals(_) => unreachable!(),
     }
 }

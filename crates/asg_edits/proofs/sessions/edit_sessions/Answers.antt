@@ -1,8 +1,9 @@
 use Rattle.std.proofs.Common.{sym, subst}
 use Rattle.std.specs.Prelude.{OnOk}
-use Rattle.asg_edits.specs.declared.sessions.Sessions.TheVariants.{Sums, Peaks, Times}
+use Rattle.asg_edits.specs.declared.sessions.Sessions.TheVariants.{Sums, Peaks, Times, Duals}
 use Rattle.asg_edits.specs.Editors.{Edits, editor_of}
 use Rattle.asg_edits.proofs.EditorFacts.{on_ok, peaks_edited, sums_edited, times_edited}
+use Rattle.asg_edits.proofs.DualFacts.{duals_edited}
 use Rattle.asg_edits.proofs.sessions.edit_sessions.Goals as goal
 
 pub returns-in-Sums-clause-edits : goal.returns-in-Sums-clause-edits
@@ -25,3 +26,10 @@ returns-in-Times-clause-edits c =
     let t = c.edit_session-in-Times.new.session in
     subst (λ old. OnOk c.edit_session-in-Times.result (Edits (editor_of old) c.args.edit (editor_of (Times t)))) (sym c.in-Times.is)
     (on_ok c.edit_session-in-Times.result _ _ (Edits (editor_of (Times s)) c.args.edit (editor_of (Times t))) (λ is keeps. times_edited s t c.args.edit is keeps) c.edit_session-in-Times.ensures.edited c.edit_session-in-Times.ensures.kept)
+
+pub returns-in-Duals-clause-edits : goal.returns-in-Duals-clause-edits
+returns-in-Duals-clause-edits c =
+    let s = c.in-Duals.session in
+    let t = c.edit.new.self in
+    subst (λ old. OnOk c.edit.result (Edits (editor_of old) c.args.edit (editor_of (Duals t)))) (sym c.in-Duals.is)
+    (on_ok c.edit.result _ _ (Edits (editor_of (Duals s)) c.args.edit (editor_of (Duals t))) (λ is again. duals_edited s t c.args.edit c.instance-inst.ensures.narrow c.edit.ensures.objective is) c.edit.ensures.edited c.edit.ensures.edited)

@@ -11,10 +11,13 @@ pub mod laws;
 mod line_bytes;
 mod lines;
 mod rankings;
+mod sum_lines;
+mod sum_rankings;
 
 pub use brief_lines::BriefLine;
 pub use lines::{best_line, none_line};
 pub use rankings::{BriefRanking, brief_ranking};
+pub use sum_lines::sum_line;
 
 /// There was not enough memory.
 pub type NoMemory = std::alloc::AllocError;

@@ -13,8 +13,11 @@ use crate::line_bytes::{push, push_count, push_value, push_word};
 use asg_model::{Choice, Instance, Objective, Value, value};
 use std::alloc::Global;
 
+// Room for most lines.
+const LINE_ROOM: usize = 64;
+
 // The line of a best choice with so many cells and this value. The error is want of memory.
-fn value_line(
+pub(crate) fn value_line(
     alloc: Global,
     objective: Objective,
     cells: u32,
@@ -23,7 +26,7 @@ fn value_line(
     requires { HasFittingCosts value.now }
     ensures { IfOk result (λ line. line ≡ best_text objective cells value.now) }
 {
-    let mut line = Vec::new(alloc);
+    let mut line = Vec::with_capacity(alloc, LINE_ROOM)?;
     push(&mut line, b"best ")?;
     push_word(&mut line, objective)?;
     push_count(&mut line, cells)?;

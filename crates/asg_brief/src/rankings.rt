@@ -6,6 +6,7 @@ ghost use Rattle.asg_model.specs.Limits.{most_cost, most_side};
 ghost use Rattle.asg_model.specs.Objectives.{is_algebraic};
 ghost use Rattle.asg_model.specs.Refused.{PassesNegative};
 ghost use Rattle.asg_model.specs.Shapes.{square_side};
+ghost use Rattle.asg_monoids.specs.NarrowObjectives.{is_narrow_objective};
 ghost use Rattle.asg_proof.specs.Ranked.{IsRanking};
 ghost use Rattle.asg_rank.specs.Rankings.{IsRefusal, ranking_work};
 ghost use Rattle.asg_rank.specs.Rooms.{most_work};
@@ -16,6 +17,7 @@ use crate::NoMemory;
 use crate::brief_lines::BriefLine;
 use crate::laws::{next_best_law, ranked_ends_law};
 use crate::lines::{ends_line, none_line};
+use crate::sum_rankings::line_by_sums;
 use asg_model::{Instance, Objective, value};
 use asg_monoids::{PeakKind, SumKind, TimeKind};
 use asg_narrow_kinds::NarrowKind;
@@ -146,10 +148,34 @@ where
     Ok(final_brief(alloc, objective, ranker, inst, count)?)
 }
 
+// The brief ranking by `sum` or `sum-max`: by a search whose answers pass their tests, and where
+// there is none by the ranker.
+fn brief_by_sums(
+    alloc: Global,
+    objective: Objective,
+    inst: &Instance,
+    count: u32,
+) -> Result<BriefRanking, RankRefusal>
+    requires narrow { IsTrue (is_narrow_objective objective) }
+    requires place { inst.now.place ≡ PlaceAll }
+    requires side { square_side inst.now ≤ most_side }
+    requires passes { PassesNegative objective inst.now }
+    requires some { 1 ≤ count }
+    ensures told { IfOk result (IsBriefRanking objective inst.now count) }
+    ensures within { IfOk result (λ _. ranking_work inst.now count ≤ most_work) }
+    ensures refusal { IfErr result (IsRefusal inst.now count) }
+{
+    if let Some(line) = line_by_sums(alloc, objective, inst, count)? {
+        return Ok(BriefRanking::Ranked(line));
+    }
+    brief_by(alloc, NarrowKind::of(objective), inst, count)
+}
+
 /// What the ranking of `count` choices of an instance comes to, in one line: how many answers it
 /// has, how many were asked for, and the values of its first and its last answer, as documents
-/// write them; or that no choice is valid. The answers are those of the ranker; no choice but its
-/// own is kept, and no search tree is written out. The objective is any but `Balanced` and `Lex`,
+/// write them; or that no choice is valid. The answers of `sum` and `sum-max` are those of a search
+/// where they pass its tests, and the ranker's elsewhere; no choice but its own is kept, and no
+/// search tree is written out. The objective is any but `Balanced` and `Lex`,
 /// it refuses no live cost of the instance (`asg_model::negative`), all rows are placed, the side
 /// is at most 2,000, and at least one choice is asked for. The errors: the count times the rows
 /// times the side is above 4,000,000, or want of memory.
@@ -169,9 +195,7 @@ pub fn brief_ranking(
     ensures refusal { IfErr result (IsRefusal inst.now count) }
 {
     match objective {
-        Objective::Sum | Objective::SumMax => {
-            brief_by(alloc, NarrowKind::of(objective), inst, count)
-        }
+        Objective::Sum | Objective::SumMax => brief_by_sums(alloc, objective, inst, count),
         Objective::SumPair | Objective::Capped(_) => {
             brief_by(alloc, SumKind::of(objective), inst, count)
         }

@@ -1,17 +1,19 @@
 //! What is written for a script: a document or in brief a line at a time, as soon as it is made.
 
-ghost use Rattle.std.specs.Prelude.{◌≡◌, ◌≤◌, ℕ, IfErr, IfOk, IsTrue, List, None, OnErr, OnOk, false};
+ghost use Rattle.std.specs.Prelude.{◌≡◌, ◌≤◌, ℕ, IfErr, IfOk, IsTrue, List, None, OnErr, OnOk, false, length};
 ghost use Rattle.asg_brief.specs.BriefLines.{IsBriefLine};
 ghost use Rattle.asg_doc.specs.Words.{HasWord};
 ghost use Rattle.asg_io.specs.Shelf.{Rose};
 ghost use Rattle.asg_io.specs.Sink.{Puts, PutsPrefix};
 ghost use Rattle.asg_edits.specs.Editors.{Edits};
+ghost use Rattle.asg_model.specs.Counts.{placed};
 ghost use Rattle.asg_model.specs.Edits.{refusal_of};
 ghost use Rattle.asg_model.specs.Limits.{most_side};
 ghost use Rattle.asg_model.specs.Objectives.{is_algebraic};
 ghost use Rattle.asg_model.specs.Refused.{PassesNegative};
 ghost use Rattle.asg_model.specs.Shapes.{square_side};
 ghost use Rattle.asg_proof.specs.KeptWords.{Standing};
+ghost use Rattle.asg_sum_edits.specs.SumDuals.{IsBestSum};
 ghost use Rattle.asg_scripts.specs.Scripts.{after_line, first_refused, line_refusal};
 ghost use Rattle.asg_answers.specs.Replies.{bytes_of};
 ghost use Rattle.asg_answers.specs.Standings.{IsTold, Stands};
@@ -22,6 +24,8 @@ use crate::documents::edit_document;
 use crate::replies::{Text, put_text};
 use crate::sheets::Sheet;
 use crate::tellings::choice_line;
+use asg_brief::laws::best_value_law;
+use asg_brief::sum_line;
 use asg_edits::Editor;
 use asg_io::{PutFault, Sink};
 use asg_model::{Edit, NoMemory, Objective};
@@ -57,8 +61,26 @@ fn next_document(alloc: Global, objective: Objective, editor: &mut Editor) -> Re
     Ok(Text::Sheet(sheet))
 }
 
-// The next brief line of an editor, for which no phase is written out. The error is want of memory.
-fn next_line(alloc: Global, objective: Objective, editor: &mut Editor) -> Result<Text, NoMemory>
+// The brief line of an editor by the sum of its best choices. The error is want of memory.
+fn known_line(
+    alloc: Global,
+    objective: Objective,
+    editor: &Editor,
+    sum: i128,
+) -> Result<Text, NoMemory>
+    requires sum { IsBestSum objective editor.now.instance sum }
+    requires all { placed editor.now.instance ≡ length editor.now.instance.rows }
+    ensures { IfOk result (λ text. IsBriefLine objective editor.now.instance (bytes_of text)) }
+{
+    best_value_law();
+    let inst = editor.instance();
+    let line = sum_line(alloc, objective, inst, inst.rows().len() as u32, sum)?;
+    Ok(Text::Brief(line))
+}
+
+// The next brief line of an editor by a choice, for which no phase is written out. The error is
+// want of memory.
+fn chosen_line(alloc: Global, objective: Objective, editor: &mut Editor) -> Result<Text, NoMemory>
     requires passes { PassesNegative objective editor.old.instance }
     requires objective { editor.old.objective ≡ objective }
     ensures objective { editor.new.objective ≡ editor.old.objective }
@@ -68,6 +90,22 @@ fn next_line(alloc: Global, objective: Objective, editor: &mut Editor) -> Result
     let choice = editor.best_choice(alloc)?;
     let line = choice_line(alloc, objective, editor.instance(), &choice)?;
     Ok(Text::Brief(line))
+}
+
+// The next brief line of an editor: by a sum where it is told, else by a choice. The error is want
+// of memory.
+fn next_line(alloc: Global, objective: Objective, editor: &mut Editor) -> Result<Text, NoMemory>
+    requires passes { PassesNegative objective editor.old.instance }
+    requires objective { editor.old.objective ≡ objective }
+    ensures objective { editor.new.objective ≡ editor.old.objective }
+    ensures instance { editor.new.instance ≡ editor.old.instance }
+    ensures told { IfOk result (λ text. IsBriefLine objective editor.new.instance (bytes_of text)) }
+{
+    let told = editor.best_sum(alloc)?;
+    match told {
+        Some(sum) => known_line(alloc, objective, editor, sum),
+        None => chosen_line(alloc, objective, editor),
+    }
 }
 
 // What tells the next answer of an editor. The error is want of memory.
@@ -197,7 +235,7 @@ fn put_line<K: Sink>(
 /// Follows the lines of a script in order, from the instance of an editor on: each edit is carried
 /// out, and for each `solve` line a document or in brief a line is written, whole before the next
 /// line is followed. No edit of the lines is refused. In brief no document is made, and the editor
-/// keeps its phases as it does for documents. Memory is taken between two texts, never while one is
+/// keeps what it goes on from as it does for documents. Memory is taken between two texts, never while one is
 /// written.
 ///
 /// Errors: `WriteFault` where the sink had a fault, after a prefix of the text of the first lines;

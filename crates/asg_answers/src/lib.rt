@@ -25,4 +25,4 @@ pub use replies::{Reply, Text, put_text};
 pub use sheets::Sheet;
 pub use solvers::{SolverRefusal, outcome};
 pub use status::Status;
-pub use tellings::{best_text, none_text};
+pub use tellings::{best_text, none_text, table_text};

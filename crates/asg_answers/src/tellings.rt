@@ -1,17 +1,20 @@
 //! What is written of an outcome: a document, or in brief a line.
 
-ghost use Rattle.std.specs.Prelude.{◌≤◌, IfOk, false, true};
+ghost use Rattle.std.specs.Prelude.{◌≤◌, IfOk, IfSome, IsTrue, false, true};
 ghost use Rattle.asg_brief.specs.BriefLines.{IsBriefLine};
 ghost use Rattle.asg_check.specs.DocumentForm.{MayBeAsked};
 ghost use Rattle.asg_doc.specs.Words.{HasWord};
 ghost use Rattle.asg_edits.specs.EditOutcomes.{IsChoiceAt};
+ghost use Rattle.asg_model.specs.Best.{IsBest};
 ghost use Rattle.asg_model.specs.declared.bands.Band.TheVariants.{Whole};
 ghost use Rattle.asg_model.specs.HallSet.{IsHall};
 ghost use Rattle.asg_model.specs.Limits.{most_side};
 ghost use Rattle.asg_model.specs.Refused.{PassesNegative};
 ghost use Rattle.asg_model.specs.Shapes.{square_side};
+ghost use Rattle.asg_monoids.specs.NarrowObjectives.{is_narrow_objective};
 ghost use Rattle.asg_proof.specs.Outcomes.{IsProvedBest};
 ghost use Rattle.asg_answers.specs.Replies.{bytes_of};
+ghost use Rattle.asg_answers.specs.SolverLimits.{SolverTakes};
 ghost use Rattle.asg_answers.specs.Tellings.{TellsBest, TellsNone};
 ghost use Rattle.asg_answers.specs.WrittenDocument.{IsPromisedProof};
 
@@ -24,6 +27,7 @@ use asg_model::laws::infeasible_law;
 use asg_model::{Choice, Instance, NoMemory, Objective};
 use asg_proof::laws::best_law;
 use asg_proof::{Ids, Proof};
+use asg_table_sums::best_by_table;
 use std::alloc::Global;
 
 // The brief line of an instance by a best choice, or where there is none. The error is want of
@@ -105,6 +109,51 @@ pub fn best_text(
         brief_best(alloc, objective, inst, choice, &proof)
     } else {
         whole_best(alloc, objective, inst, choice, proof)
+    }
+}
+
+// The brief line of a best choice. The error is want of memory.
+fn chosen_text(
+    alloc: Global,
+    objective: Objective,
+    inst: &Instance,
+    choice: &Choice,
+) -> Result<Option<Text>, NoMemory>
+    requires { IsBest objective inst.now choice.now }
+    ensures { IfOk result (λ found. IfSome found (λ text.
+        TellsBest true objective inst.now (bytes_of text))) }
+{
+    Ok(Some(Text::Brief(best_line(alloc, objective, inst, choice)?)))
+}
+
+// The brief line of a best choice for `sum` or `sum-max`, where one is found by the costs as they
+// stand. The error is want of memory.
+fn sum_text(alloc: Global, objective: Objective, inst: &Instance) -> Result<Option<Text>, NoMemory>
+    requires { IsTrue (is_narrow_objective objective) }
+    ensures { IfOk result (λ found. IfSome found (λ text.
+        TellsBest true objective inst.now (bytes_of text))) }
+{
+    match best_by_table(alloc, objective, inst)? {
+        Some(choice) => chosen_text(alloc, objective, inst, &choice),
+        None => Ok(None),
+    }
+}
+
+/// The brief line of a best choice, where one is found by the costs as they stand, without phases:
+/// for `sum` and `sum-max`, mostly where all rows take columns of their own and no cell is absent.
+/// `None` tells nothing. The error is want of memory.
+pub fn table_text(
+    alloc: Global,
+    objective: Objective,
+    inst: &Instance,
+) -> Result<Option<Text>, NoMemory>
+    ensures text { IfOk result (λ found. IfSome found (λ text.
+        TellsBest true objective inst.now (bytes_of text))) }
+    ensures takes { IfOk result (λ found. IfSome found (λ _. SolverTakes objective inst.now)) }
+{
+    match objective {
+        Objective::Sum | Objective::SumMax => sum_text(alloc, objective, inst),
+        _ => Ok(None),
     }
 }
 

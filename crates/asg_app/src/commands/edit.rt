@@ -24,7 +24,7 @@ use crate::stops::{Stop, stop_reply};
 use asg_answers::{Halt, Status, put_lines};
 use asg_edits::Editor;
 use asg_io::Sink;
-use asg_model::Instance;
+use asg_model::{Instance, NoMemory};
 use asg_requests::Job;
 use asg_text::Line;
 use std::alloc::Global;
@@ -34,6 +34,21 @@ use std::alloc::Global;
 struct Work {
     editor: Editor,
     lines: Vec<(u32, Line)>,
+}
+
+// An editor of the instance of a job. The error is want of memory.
+fn editor(alloc: Global, job: &Job, inst: Instance) -> Result<Editor, NoMemory>
+    requires algebraic { IsTrue (is_algebraic job.now.objective) }
+    requires side { square_side inst ≤ most_side }
+    requires passes { PassesNegative job.now.objective inst }
+    ensures objective { IfOk result (λ editor. editor.objective ≡ job.now.objective) }
+    ensures instance { IfOk result (λ editor. editor.instance ≡ inst) }
+{
+    if job.brief {
+        Editor::open_brief(alloc, job.objective, inst)
+    } else {
+        Editor::open(alloc, job.objective, inst)
+    }
 }
 
 // An editor of the instance for the lines. The error is want of memory.
@@ -46,7 +61,7 @@ fn opened(alloc: Global, job: &Job, inst: Instance, lines: Vec<(u32, Line)>) -> 
     ensures lines { IfOk result (λ work. work.lines ≡ lines) }
     ensures stop { IfErr result (λ stop. stop ≡ Stop.NoMemory) }
 {
-    match Editor::open(alloc, job.objective, inst) {
+    match editor(alloc, job, inst) {
         Ok(editor) => Ok(Work { editor, lines }),
         Err(_) => Err(Stop::NoMemory),
     }

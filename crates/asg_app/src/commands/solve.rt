@@ -1,6 +1,6 @@
 //! Requests to solve.
 
-ghost use Rattle.std.specs.Prelude.{◌≡◌, ◌≤◌, IfOk};
+ghost use Rattle.std.specs.Prelude.{◌≡◌, ◌≤◌, IfOk, true};
 ghost use Rattle.asg_model.specs.Limits.{most_side};
 ghost use Rattle.asg_model.specs.Refused.{PassesNegative};
 ghost use Rattle.asg_model.specs.Shapes.{square_side};
@@ -11,7 +11,9 @@ ghost use Rattle.asg_app.specs.Readiness.{IsReady};
 ghost use Rattle.asg_answers.specs.Replies.{Answers};
 ghost use Rattle.asg_answers.specs.WrittenDocument.{IsPromisedOutcome, IsPromisedProof};
 
-use asg_answers::{Reply, SolverRefusal, Status, best_text, none_text, outcome, refusal};
+use asg_answers::{
+    Reply, SolverRefusal, Status, best_text, none_text, outcome, refusal, table_text,
+};
 use asg_check::Form;
 use asg_model::{Choice, Instance, NoMemory, Objective};
 use asg_proof::{Ids, Outcome, Proof};
@@ -87,8 +89,8 @@ fn outcome_reply(
     }
 }
 
-// The reply to a request to solve an instance. The error is want of memory.
-pub(crate) fn reply(alloc: Global, job: &Job, inst: &Instance) -> Result<Reply, NoMemory>
+// The reply by the outcome of the objective's solver. The error is want of memory.
+fn solver_reply(alloc: Global, job: &Job, inst: &Instance) -> Result<Reply, NoMemory>
     requires ready { IsReady job.now }
     requires side { square_side inst.now ≤ most_side }
     requires passes { PassesNegative job.now.objective inst.now }
@@ -100,5 +102,37 @@ pub(crate) fn reply(alloc: Global, job: &Job, inst: &Instance) -> Result<Reply, 
             refusal(alloc, &[limit_number(job.objective), u64::from(count)])
         }
         Err(SolverRefusal::NoMemory) => Err(AllocError),
+    }
+}
+
+// The reply to a brief request: by the costs as they stand, where that gives a best choice, else by
+// the solver. The error is want of memory.
+fn brief_reply(alloc: Global, job: &Job, inst: &Instance) -> Result<Reply, NoMemory>
+    requires ready { IsReady job.now }
+    requires brief { job.now.brief ≡ true }
+    requires side { square_side inst.now ≤ most_side }
+    requires passes { PassesNegative job.now.objective inst.now }
+    ensures { IfOk result (Answers (DueToSolve job.now inst.now)) }
+{
+    match table_text(alloc, job.objective, inst)? {
+        Some(text) => Ok(Reply {
+            status: Status::Done,
+            text,
+        }),
+        None => solver_reply(alloc, job, inst),
+    }
+}
+
+// The reply to a request to solve an instance. The error is want of memory.
+pub(crate) fn reply(alloc: Global, job: &Job, inst: &Instance) -> Result<Reply, NoMemory>
+    requires ready { IsReady job.now }
+    requires side { square_side inst.now ≤ most_side }
+    requires passes { PassesNegative job.now.objective inst.now }
+    ensures { IfOk result (Answers (DueToSolve job.now inst.now)) }
+{
+    if job.brief {
+        brief_reply(alloc, job, inst)
+    } else {
+        solver_reply(alloc, job, inst)
     }
 }

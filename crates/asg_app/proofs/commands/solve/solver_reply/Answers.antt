@@ -5,7 +5,7 @@ use Rattle.asg_answers.specs.SolverRefusals.{IsSolverRefusal}
 use Rattle.asg_app.specs.DueToSolve.{DueToSolve, TooLarge}
 use Rattle.asg_answers.specs.Texts.{refused_instance_text}
 use Rattle.asg_app.proofs.ReplyLemmas.{replied}
-use Rattle.asg_app.proofs.commands.solve.reply.Goals as goal
+use Rattle.asg_app.proofs.commands.solve.solver_reply.Goals as goal
 
 pub returns-in-Err-TooLarge : goal.returns-in-Err-TooLarge
 returns-in-Err-TooLarge c =

@@ -2,4 +2,6 @@
 #![tactic(auto)]
 
 #[cfg(test)]
+mod of_edits;
+#[cfg(test)]
 mod of_repair;

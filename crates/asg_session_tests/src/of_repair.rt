@@ -2,6 +2,6 @@
 
 mod kept_phases;
 mod refused_edits;
-mod samples;
+pub(crate) mod samples;
 mod sessions;
 mod tests;

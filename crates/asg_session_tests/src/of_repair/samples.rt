@@ -18,8 +18,8 @@ const ONE_COLUMN: Sample<'static> = Sample {
     ..PLAIN
 };
 
-// Two rows, `1 4 / 2 3`, and a first column that takes both.
-const WIDE: Sample<'static> = Sample {
+/// Two rows, `1 4 / 2 3`, and a first column that takes both.
+pub(crate) const WIDE: Sample<'static> = Sample {
     rows: &[true, true],
     columns: &[(2, true), (1, true)],
     firsts: &[1, 4, 2, 3],

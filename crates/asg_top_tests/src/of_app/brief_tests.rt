@@ -218,10 +218,21 @@ const THREE: &[u8] = b"3\n4 1 3\n2 0 5\n3 2 2\n";
 const SCRIPT: &[u8] =
     b"cost 1 2 9\nsolve\ndrop-row 2\nsolve\ndrop-column 2\nsolve\ndrop-column 3\nsolve\n";
 
-// Whether a brief request to edit the square by a script has this status and writes this text.
-fn edits(alloc: Global, script: &[u8], want: (u8, &[u8])) -> Result<bool, AllocError> {
-    let words = ["edit", "sum", "--brief", "f", "s"];
+// Whether a brief request to edit the square by a script for an objective has this status and
+// writes this text.
+fn edits_for(
+    alloc: Global,
+    objective: &str,
+    script: &[u8],
+    want: (u8, &[u8]),
+) -> Result<bool, AllocError> {
+    let words = ["edit", objective, "--brief", "f", "s"];
     ends(alloc, &words, &[], scripted(THREE, b"", script), want)
+}
+
+// The same for `sum`.
+fn edits(alloc: Global, script: &[u8], want: (u8, &[u8])) -> Result<bool, AllocError> {
+    edits_for(alloc, "sum", script, want)
 }
 
 // The same where the second put fails behind four bytes.
@@ -241,5 +252,21 @@ fn brief_lines_of_scripts(rt: HostRuntime) -> Result<(), Fail> {
     assert!(rt; edits(alloc, b"cost 1 1 0\n", (0, b""))?);
     assert!(rt; edits(alloc, b"cost 9 1 0\nsolve\n", (4, b"refused script 11 1\n"))?);
     assert!(rt; halts(alloc, (8, b"best sum 3 6\nbest"))?);
+    Ok(())
+}
+
+// Costs of the square are edited, and a cell is taken out at the end.
+const COSTS: &[u8] =
+    b"solve\ncost 1 2 9\nsolve\ncost 3 1 0\nsolve\ncost 2 1 9\nsolve\nforbid 2 2\nsolve\n";
+
+const GREATER: &[u8] = b"solve\ncost 1 2 9\nsolve\ncost 2 3 0\nsolve\n";
+
+#[test]
+fn brief_lines_of_edited_costs(rt: HostRuntime) -> Result<(), Fail> {
+    let alloc = rt.alloc();
+    let least = b"best sum 3 5\nbest sum 3 6\nbest sum 3 3\nbest sum 3 3\nbest sum 3 11\n";
+    let greatest = b"best sum-max 3 11\nbest sum-max 3 17\nbest sum-max 3 13\n";
+    assert!(rt; edits(alloc, COSTS, (0, least))?);
+    assert!(rt; edits_for(alloc, "sum-max", GREATER, (0, greatest))?);
     Ok(())
 }

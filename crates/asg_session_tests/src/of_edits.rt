@@ -1,0 +1,3 @@
+//! Tests of `asg_edits` and `asg_sum_edits`.
+
+mod tests;

@@ -1,0 +1,66 @@
+//! Best choices of small instances by the costs as they stand, by hand.
+
+use crate::of_objectives::samples::{ONE_COLUMN, PLAIN};
+use asg_model::{Choice, Objective, Place};
+use asg_samples::{Fault, Sample};
+use asg_table_sums::best_by_table;
+use std::alloc::Global;
+use std::test::Fail;
+
+// Two rows in three columns.
+const WIDE: Sample<'static> = Sample {
+    rows: &[true, true],
+    columns: &[(1, true), (1, true), (1, true)],
+    firsts: &[4, 1, 4, 2, 0, 5],
+    seconds: &[0, 0, 0, 0, 0, 0],
+    place: Place::All,
+};
+
+// Samples with the columns of their best choices for `sum` and `sum-max`.
+const SAMPLES: [(&'static Sample<'static>, &'static [u32], &'static [u32]); 2] = [
+    (&PLAIN, &[1, 0, 2], &[0, 2, 1]),
+    (&WIDE, &[1, 0], &[0, 2]),
+];
+
+// Whether there is a choice, and it has these columns.
+fn is_choice(found: &Option<Choice>, columns: &[u32]) -> bool {
+    let Some(choice) = found else {
+        return false;
+    };
+    for row in 0..choice.len() {
+        let place = row as usize;
+        if place >= columns.len() || choice.get(row) != Some(columns[place]) {
+            return false;
+        }
+    }
+    choice.len() as usize == columns.len()
+}
+
+// Whether a sample's best choices have these columns.
+fn gives(
+    alloc: Global,
+    sample: &Sample<'_>,
+    least: &[u32],
+    greatest: &[u32],
+) -> Result<bool, Fault> {
+    let inst = sample.instance(alloc)?;
+    let sum = best_by_table(alloc, Objective::Sum, &inst)?;
+    let sum_max = best_by_table(alloc, Objective::SumMax, &inst)?;
+    Ok(is_choice(&sum, least) && is_choice(&sum_max, greatest))
+}
+
+#[test]
+fn least_and_greatest_sums(rt: HostRuntime) -> Result<(), Fail> {
+    for (sample, least, greatest) in &SAMPLES {
+        assert!(rt; gives(rt.alloc(), sample, least, greatest)?);
+    }
+    Ok(())
+}
+
+#[test]
+fn none_where_cells_are_absent(rt: HostRuntime) -> Result<(), Fail> {
+    let inst = ONE_COLUMN.instance(rt.alloc())?;
+    let found = best_by_table(rt.alloc(), Objective::Sum, &inst)?;
+    assert!(rt; found.is_none());
+    Ok(())
+}

@@ -235,8 +235,8 @@ fn put_line<K: Sink>(
 /// Follows the lines of a script in order, from the instance of an editor on: each edit is carried
 /// out, and for each `solve` line a document or in brief a line is written, whole before the next
 /// line is followed. No edit of the lines is refused. In brief no document is made, and the editor
-/// keeps what it goes on from as it does for documents. Memory is taken between two texts, never while one is
-/// written.
+/// keeps what it goes on from as it does for documents. Memory is taken between two texts, never
+/// while one is written.
 ///
 /// Errors: `WriteFault` where the sink had a fault, after a prefix of the text of the first lines;
 /// `NoMemory` where memory ran out, after the whole text of the first lines.

@@ -1,3 +1,3 @@
-//! Tests of `asg_edits` and `asg_sum_edits`.
+//! Tests of `asg_sum_edits`.
 
 mod tests;

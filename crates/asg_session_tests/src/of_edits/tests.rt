@@ -1,13 +1,12 @@
 //! The sums of best choices after edits, by dual variables, by hand.
 
-ghost use Rattle.std.specs.Prelude.{◌≡◌, IfOk, IsTrue};
+ghost use Rattle.std.specs.Prelude.{IsTrue};
 ghost use Rattle.asg_model.specs.Objectives.{is_algebraic};
 ghost use Rattle.asg_monoids.specs.NarrowObjectives.{is_narrow_objective};
 
 use crate::of_repair::samples::{PLAIN, Step, WIDE, edit_of};
-use asg_edits::Editor;
+use asg_model::Objective;
 use asg_model::limits::MOST_SIDE;
-use asg_model::{Instance, Objective, negative};
 use asg_repair::NoMemory;
 use asg_samples::Sample;
 use asg_sum_edits::SumSession;
@@ -100,31 +99,10 @@ fn is_right(alloc: Global, case: &Case) -> Result<bool, Fail> {
     Ok(goes(alloc, &mut session, case.2)?)
 }
 
-// The sum that an editor opened for brief lines tells first, of the sample of a case; `None` where
-// it tells none.
-fn first_sum(alloc: Global, case: &Case) -> Result<Option<i128>, Fail> {
-    let inst = case.0.instance(alloc)?;
-    let objective = objective_of(case.1);
-    if inst.side() > MOST_SIDE || negative(objective, &inst).is_some() {
-        return Ok(None);
-    }
-    let mut editor = Editor::open_brief(alloc, objective, inst)?;
-    Ok(editor.best_sum(alloc)?)
-}
-
 #[test]
 fn sums_after_edits(rt: HostRuntime) -> Result<(), Fail> {
     for (place, case) in cases().iter().enumerate() {
         assert!(rt; is_right(rt.alloc(), case)?, "{place}");
     }
-    Ok(())
-}
-
-#[test]
-fn first_sums_of_editors(rt: HostRuntime) -> Result<(), Fail> {
-    let alloc = rt.alloc();
-    assert_eq!(rt; first_sum(alloc, &CASES[0])?, Some(5));
-    assert_eq!(rt; first_sum(alloc, &CASES[1])?, Some(11));
-    assert_eq!(rt; first_sum(alloc, &CASES[3])?, None);
     Ok(())
 }

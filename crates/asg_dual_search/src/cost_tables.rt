@@ -10,7 +10,7 @@ use crate::solving::{solve, solve_few};
 use crate::tables::{Table, padded};
 use std::alloc::Global;
 
-// How far the costs of a row may lie from its first one to count as near.
+// How far costs may lie from the first one of the table to count as near.
 const NEAR: i64 = 1 << 27;
 
 // By less than this the costs of a row differ, so that numbers of 32 bits serve.
@@ -27,13 +27,15 @@ pub struct Lead {
     pub rises: Vec<u32>,
 }
 
-/// A table of costs, row by row, as numbers of 32 bits: those of a row begin somewhere near its
-/// least cost, or where the greatest sum is searched for, go down from near its greatest.
+/// A table of costs, row by row, as numbers of 32 bits: where all are near its first one, those of
+/// all rows begin there, else those of a row at its least cost; where the greatest sum is searched
+/// for, they go down.
 #[derive(Drop)]
 pub struct CostTable {
     rows: usize,
     table: Table<i32>,
     line: Vec<i32>,
+    first: Option<i64>,
     are_near: bool,
     is_max: bool,
 }
@@ -131,21 +133,24 @@ impl CostTable {
             rows: 0,
             table: Table { side, wide, cells },
             line,
+            first: None,
             are_near: true,
             is_max,
         })
     }
 
-    // Writes the numbers of a row, which begin near its first cost, and tells their bits.
+    // Writes the numbers of a row, which begin near the first cost of all, and tells their bits.
     fn put_near(&mut self, costs: &[i64]) -> u64 {
         if costs.is_empty() {
             return 0;
         }
+        let first = self.first.unwrap_or(costs[0]);
+        self.first = Some(first);
         let line = self.line.as_mut_slice();
         if self.is_max {
-            put_below(line, costs, costs[0].wrapping_add(NEAR))
+            put_below(line, costs, first.wrapping_add(NEAR))
         } else {
-            put_above(line, costs, costs[0].wrapping_sub(NEAR))
+            put_above(line, costs, first.wrapping_sub(NEAR))
         }
     }
 

@@ -22,7 +22,7 @@ use Rattle.asg_monoids.specs.Entered.{sum_entered}
 use Rattle.asg_monoids.specs.NarrowObjectives.{is_narrow_objective}
 use Rattle.asg_sum_edits.specs.declared.founds.Found.{Found}
 use Rattle.asg_sum_edits.specs.Sessions.{Follows, IsSession}
-use Rattle.asg_sum_edits.specs.SumDuals.{AreAbove, IsBestSum, IsPlain, chosen_sum}
+use Rattle.asg_sum_edits.specs.SumDuals.{AreAbove, IsBestSum, IsOneToOne, chosen_sum}
 use Rattle.asg_sum_edits.proofs.LeastLaw.{least_is_best}
 use Rattle.asg_sum_edits.proofs.PutCells.{put_here, put_other}
 
@@ -101,7 +101,7 @@ pub session_put : (objective : Objective) (X : Problem) (row col r c : ℕ) (cos
 session_put objective X row col r c cost before after stands known knows at_row at_column session follows = record {
   narrow = session.narrow;
   small = session.small;
-  plain = λ stand. let plain = session.plain stand in record { all = plain.all; single = plain.single };
+  one_to_one = λ stand. let one_to_one = session.one_to_one stand in record { all = one_to_one.all; single = one_to_one.single };
   held = λ stand.
       let held = session.held stand in
       record {
@@ -134,7 +134,7 @@ pub best_sum_is : (objective : Objective) (X : Problem) (stands known : Bool) (f
 best_sum_is objective X stands known found session instance stand is =
     let held = session.held stand in
     let least = session.least stand is in
-    (found.choice, least_is_best objective X found.falls.items found.rises.items found.choice session.narrow instance (session.plain stand) held.over_rows held.above least.valid least.balance, least.value)
+    (found.choice, least_is_best objective X found.falls.items found.rises.items found.choice session.narrow instance (session.one_to_one stand) held.over_rows held.above least.valid least.balance, least.value)
 
 -- ---- where nothing was found
 
@@ -143,11 +143,11 @@ zeros zero k = refl
 zeros (suc n) zero = refl
 zeros (suc n) (suc k) = zeros n k
 
-pub session_open : (objective : Objective) (X : Problem) (stands : Bool) (found : Found) → IsTrue (is_narrow_objective objective) → square_side X ≤ most_side → (stands ≡ true → IsPlain X) → found.falls.items ≡ replicate (length X.rows) 0 → found.rises.items ≡ replicate (length X.columns) 0 → found.choice ≡ replicate (length X.rows) None → IsSession objective X stands false found
-session_open objective X stands found narrow small plain falls rises choice = record {
+pub session_open : (objective : Objective) (X : Problem) (stands : Bool) (found : Found) → IsTrue (is_narrow_objective objective) → square_side X ≤ most_side → (stands ≡ true → IsOneToOne X) → found.falls.items ≡ replicate (length X.rows) 0 → found.rises.items ≡ replicate (length X.columns) 0 → found.choice ≡ replicate (length X.rows) None → IsSession objective X stands false found
+session_open objective X stands found narrow small one_to_one falls rises choice = record {
   narrow = narrow;
   small = small;
-  plain = plain;
+  one_to_one = one_to_one;
   held = λ stand.
       record {
         over_rows = ap length falls ∙ length-replicate (length X.rows) 0;

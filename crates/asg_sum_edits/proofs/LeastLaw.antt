@@ -32,7 +32,7 @@ use Rattle.asg_order.specs.Bridge.{choice_fold}
 use Rattle.asg_order.specs.laws.ChosenCosts.{Bridges-from_KeepsOrder}
 use Rattle.asg_order.specs.Monoid.{IsLess}
 use Rattle.asg_proof.specs.laws.LiveCosts.{lies_within}
-use Rattle.asg_sum_edits.specs.SumDuals.{AreAbove, IsPlain, IsSingle, chosen_sum}
+use Rattle.asg_sum_edits.specs.SumDuals.{AreAbove, IsOneToOne, IsSingle, chosen_sum}
 
 -- where all of a list are there, each is
 all_some : (g : List (Option ℕ)) → count_by is_some g ≡ length g → (r : ℕ) → r < length g → (c : ℕ) × (slice_get g r ≡ Some (Some c))
@@ -106,7 +106,7 @@ sum_there h k (suc n) =
 
 -- ---- what the dual variables say of a valid choice
 
-module _ (objective : Objective) (X : Problem) (falls rises : List ℕ) (g : List (Option ℕ)) (plain : IsPlain X) (over : length falls ≡ length X.rows) (above : AreAbove objective X falls rises) (valid : IsValid X g) where
+module _ (objective : Objective) (X : Problem) (falls rises : List ℕ) (g : List (Option ℕ)) (one_to_one : IsOneToOne X) (over : length falls ≡ length X.rows) (above : AreAbove objective X falls rises) (valid : IsValid X g) where
   -- the number of a row's cell, and the rises of the columns that it takes
   abbrev number : ℕ → ℕ
   number r = option_map_or (sum_entered objective) (chosen_cost X g r) 0
@@ -118,7 +118,7 @@ module _ (objective : Objective) (X : Problem) (falls rises : List ℕ) (g : Lis
   rise_of r = sum_below (taken r) (length rises)
 
   chosen_in : (r : ℕ) → r < length X.rows → (c : ℕ) × (slice_get g r ≡ Some (Some c))
-  chosen_in r h = all_some g (omega (arith, valid.counted, plain.all, valid.over)) r (omega (arith, valid.over, h))
+  chosen_in r h = all_some g (omega (arith, valid.counted, one_to_one.all, valid.over)) r (omega (arith, valid.over, h))
 
   -- the rise of the column that a row takes
   rise_within : (r c : ℕ) → slice_get g r ≡ Some (Some c) → get_or rises c 0 ≤ rise_of r
@@ -150,7 +150,7 @@ module _ (objective : Objective) (X : Problem) (falls rises : List ℕ) (g : Lis
   column_once : (c : ℕ) → sum_below (λ r. taken r c) (length X.rows) ≤ get_or rises c 0
   column_once c =
       let count : count_by (takes c) g ≡ count_below (λ r. takes c (get_or g r None)) (length g) = sum_by-below (λ o. cond (takes c o) 1 0) g None in
-      let single : capacity_at X c ≤ 1 = single_at X.columns c plain.single in
+      let single : capacity_at X c ≤ 1 = single_at X.columns c one_to_one.single in
       let few : count_below (λ r. takes c (get_or g r None)) (length X.rows) ≤ 1 =
       subst (λ n. count_below (λ r. takes c (get_or g r None)) n ≤ 1) valid.over (omega (arith, count, single, valid.within c)) in
       one_passes (λ r. takes c (get_or g r None)) (get_or rises c 0) (length X.rows) few
@@ -190,8 +190,8 @@ if_any P all (Some x) = all x
 pub narrow_passes : (objective : Objective) (X : Problem) → IsTrue (is_narrow_objective objective) → PassesNegative objective X
 narrow_passes objective X is r c = if_any (λ cost. is_refused objective cost ≡ false) (narrow_refuses_none objective is) (live_at X r c)
 
-pub least_is_best : (objective : Objective) (X : Problem) (falls rises : List ℕ) (f : List (Option ℕ)) → IsTrue (is_narrow_objective objective) → IsInstance X → IsPlain X → length falls ≡ length X.rows → AreAbove objective X falls rises → IsValid X f → chosen_sum objective X f + sum rises ≤ sum falls → IsBest objective X f
-least_is_best objective X falls rises f narrow instance plain over above valid balance = record {
+pub least_is_best : (objective : Objective) (X : Problem) (falls rises : List ℕ) (f : List (Option ℕ)) → IsTrue (is_narrow_objective objective) → IsInstance X → IsOneToOne X → length falls ≡ length X.rows → AreAbove objective X falls rises → IsValid X f → chosen_sum objective X f + sum rises ≤ sum falls → IsBest objective X f
+least_is_best objective X falls rises f narrow instance one_to_one over above valid balance = record {
   valid = valid;
   none_better = λ g valid_g better.
       let M = bounded_sums (top_of objective) in
@@ -201,6 +201,6 @@ least_is_best objective X falls rises f narrow instance plain over above valid b
       let less : choice_fold M enter X g < choice_fold M enter X f = less_below (top_of objective) (choice_fold M enter X g) (choice_fold M enter X f) (bridge.0 better) in
       let fold_g : choice_fold M enter X g ≡ min (chosen_sum objective X g) (top_of objective) = bounded_fold (top_of objective) (map enter (costs_of X g)) ∙ ap (λ s. min s (top_of objective)) (sum-map enter (costs_of X g)) in
       let fold_f : choice_fold M enter X f ≡ min (chosen_sum objective X f) (top_of objective) = bounded_fold (top_of objective) (map enter (costs_of X f)) ∙ ap (λ s. min s (top_of objective)) (sum-map enter (costs_of X f)) in
-      let low = low_enough objective X falls rises g plain over above valid_g in
+      let low = low_enough objective X falls rises g one_to_one over above valid_g in
       absurd (omega (arith, less, fold_g, fold_f, low, balance));
 }

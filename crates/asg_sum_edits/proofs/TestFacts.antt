@@ -23,7 +23,7 @@ use Rattle.asg_monoids.specs.laws.SumOrders.{near_a}
 use Rattle.asg_monoids.specs.NarrowObjectives.{is_narrow_objective}
 use Rattle.asg_order.specs.laws.ChosenCosts.{costs_may_enter, length-costs_of}
 use Rattle.asg_proof.specs.laws.LiveCosts.{lies_within}
-use Rattle.asg_sum_edits.specs.SumDuals.{AreAbove, AreFirstsAbove, IsPlain, IsRowAbove, chosen_sum, first_entered, number_of}
+use Rattle.asg_sum_edits.specs.SumDuals.{AreAbove, AreFirstsAbove, IsOneToOne, IsRowAbove, chosen_sum, first_entered, number_of}
 use Rattle.asg_sum_edits.proofs.LeastLaw.{narrow_passes}
 
 -- ---- rows
@@ -78,25 +78,25 @@ one_is : (x y : ℤ) → One x ≡ One y → x ≡ y
 one_is x y e = cc
 
 -- the chosen costs come to the number that is made of their sum
-pub comes_to : (objective : Objective) (X : Problem) (f : List (Option ℕ)) (z : ℤ) → IsTrue (is_narrow_objective objective) → IsInstance X → IsPlain X → IsValid X f → choice_value objective X f ≡ One z → pos (chosen_sum objective X f) ≡ number_of objective (length X.rows) z
-comes_to Sum X f z narrow instance plain valid value =
+pub comes_to : (objective : Objective) (X : Problem) (f : List (Option ℕ)) (z : ℤ) → IsTrue (is_narrow_objective objective) → IsInstance X → IsOneToOne X → IsValid X f → choice_value objective X f ≡ One z → pos (chosen_sum objective X f) ≡ number_of objective (length X.rows) z
+comes_to Sum X f z narrow instance one_to_one valid value =
     let may = costs_may_enter Sum cost_reach X f (lies_within cost_reach X (omega arith) instance) (narrow_passes Sum X narrow) in
     let shift = (sum_shifted (λ cost. cost.a) (costs_of X f) (near_a Sum (costs_of X f) may)).0 in
-    let count : length (costs_of X f) ≡ length X.rows = length-costs_of X f valid ∙ plain.all in
+    let count : length (costs_of X f) ≡ length X.rows = length-costs_of X f valid ∙ one_to_one.all in
     let is : total (first_parts (costs_of X f)) ≡ z = one_is (total (first_parts (costs_of X f))) z value in
     shift ∙ ap (λ t. t +ℤ pos (cost_reach * length (costs_of X f))) is ∙ ap (λ n. z +ℤ pos (cost_reach * n)) count
-comes_to SumMax X f z narrow instance plain valid value =
+comes_to SumMax X f z narrow instance one_to_one valid value =
     let may = costs_may_enter SumMax cost_reach X f (lies_within cost_reach X (omega arith) instance) (narrow_passes SumMax X narrow) in
     let turn = (sum_turned (λ cost. cost.a) (costs_of X f) (near_a SumMax (costs_of X f) may)).0 in
-    let count : length (costs_of X f) ≡ length X.rows = length-costs_of X f valid ∙ plain.all in
+    let count : length (costs_of X f) ≡ length X.rows = length-costs_of X f valid ∙ one_to_one.all in
     let is : total (first_parts (costs_of X f)) ≡ z = one_is (total (first_parts (costs_of X f))) z value in
     turn ∙ ap (λ t. pos (cost_reach * length (costs_of X f)) -ℤ t) is ∙ ap (λ n. pos (cost_reach * n) -ℤ z) count
-comes_to _ X f z narrow instance plain valid value = absurd (let no_such = narrow in cc)
+comes_to _ X f z narrow instance one_to_one valid value = absurd (let no_such = narrow in cc)
 
 -- so that what was tested of it holds of them
-pub balanced : (objective : Objective) (X : Problem) (f : List (Option ℕ)) (z : ℤ) (falls rises : List ℕ) → IsTrue (is_narrow_objective objective) → IsInstance X → IsPlain X → IsValid X f → choice_value objective X f ≡ One z → (number_of objective (length X.rows) z +ℤ pos (sum rises)) ≤ℤ pos (sum falls) → chosen_sum objective X f + sum rises ≤ sum falls
-balanced objective X f z falls rises narrow instance plain valid value test =
-    let is = comes_to objective X f z narrow instance plain valid value in
+pub balanced : (objective : Objective) (X : Problem) (f : List (Option ℕ)) (z : ℤ) (falls rises : List ℕ) → IsTrue (is_narrow_objective objective) → IsInstance X → IsOneToOne X → IsValid X f → choice_value objective X f ≡ One z → (number_of objective (length X.rows) z +ℤ pos (sum rises)) ≤ℤ pos (sum falls) → chosen_sum objective X f + sum rises ≤ sum falls
+balanced objective X f z falls rises narrow instance one_to_one valid value test =
+    let is = comes_to objective X f z narrow instance one_to_one valid value in
     let moved : (pos (chosen_sum objective X f) +ℤ pos (sum rises)) ≤ℤ pos (sum falls) = subst (λ n. (n +ℤ pos (sum rises)) ≤ℤ pos (sum falls)) (sym is) test in
     omega (arith, ints, moved)
 

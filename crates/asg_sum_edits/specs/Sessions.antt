@@ -11,7 +11,7 @@ use Rattle.asg_model.specs.Values.{choice_value}
 use Rattle.asg_monoids.specs.Entered.{sum_entered}
 use Rattle.asg_monoids.specs.NarrowObjectives.{is_narrow_objective}
 use Rattle.asg_sum_edits.specs.declared.founds.Found.{Found}
-use Rattle.asg_sum_edits.specs.SumDuals.{AreAbove, IsPlain, chosen_sum}
+use Rattle.asg_sum_edits.specs.SumDuals.{AreAbove, IsOneToOne, chosen_sum}
 
 -- the objective, and the instance as edited
 pub record SumsOf : Type 0 where
@@ -42,13 +42,13 @@ pub record IsFound (objective : Objective) (X : Problem) (found : Found) : Type 
   pub held : IsHeld objective X found
   pub least : IsLeast objective X found
 
--- what a session keeps: where it stands the instance is plain and the numbers hold for it, and
+-- what a session keeps: where it stands the instance is one to one and the numbers hold for it, and
 -- where the sum is known the choice has it
 pub record IsSession (objective : Objective) (X : Problem) (stands known : Bool) (found : Found)
     : Type 0 where
   pub narrow : IsTrue (is_narrow_objective objective)
   pub small : square_side X ≤ most_side
-  pub plain : stands ≡ true → IsPlain X
+  pub one_to_one : stands ≡ true → IsOneToOne X
   pub held : stands ≡ true → IsHeld objective X found
   pub least : stands ≡ true → known ≡ true → IsLeast objective X found
 

@@ -17,8 +17,8 @@ use Rattle.asg_monoids.specs.Entered.{cost_reach, shifted, sum_entered, turned}
 abbrev pub IsSingle : Column → Type 0
 IsSingle column = column.cap ≤ 1
 
--- a valid choice places each row, and each column takes one at most
-pub record IsPlain (X : Problem) : Type 0 where
+-- one to one: a valid choice places each row, and each column takes one at most
+pub record IsOneToOne (X : Problem) : Type 0 where
   pub all : placed X ≡ length X.rows
   pub single : All IsSingle X.columns
 

@@ -10,14 +10,14 @@ ghost use Rattle.asg_model.specs.Shapes.{square_side};
 ghost use Rattle.asg_monoids.specs.Entered.{sum_entered};
 ghost use Rattle.asg_monoids.specs.NarrowObjectives.{is_narrow_objective};
 ghost use Rattle.asg_sum_edits.specs.Sessions.{Follows, IsFound, IsHeld};
-ghost use Rattle.asg_sum_edits.specs.SumDuals.{IsBestSum, IsPlain};
+ghost use Rattle.asg_sum_edits.specs.SumDuals.{IsBestSum, IsOneToOne};
 
 use crate::NoMemory;
 use crate::founds::Found;
 use crate::guesses::{Guess, first_guess};
 use crate::repairs::repaired;
 use crate::row_tests::number;
-use crate::sum_tests::{is_plain, tested};
+use crate::sum_tests::{is_one_to_one, tested};
 use asg_model::{Choice, Cost, Edit, Instance, Objective, RowRoom};
 use std::alloc::{AllocError, Global};
 use std::marker::Model;
@@ -91,7 +91,7 @@ fn found_from(
 ) -> Result<Option<Found>, NoMemory>
     requires narrow { IsTrue (is_narrow_objective objective) }
     requires small { square_side inst.now ≤ most_side }
-    requires plain { IsPlain inst.now }
+    requires one_to_one { IsOneToOne inst.now }
     requires held { IsHeld objective inst.now found.now }
     ensures { IfOk result (λ found. IfSome found (IsFound objective inst.now)) }
 {
@@ -155,7 +155,7 @@ impl SumSession {
         ensures objective { IfOk result (λ session. session.objective ≡ objective) }
         ensures instance { IfOk result (λ session. session.instance ≡ inst) }
     {
-        let stands = is_plain(&inst);
+        let stands = is_one_to_one(&inst);
         let found = nothing_found(alloc, inst.rows().len() as u32, inst.columns().len())?;
         Ok(SumSession {
             objective,

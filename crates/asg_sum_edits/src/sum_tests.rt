@@ -8,7 +8,7 @@ ghost use Rattle.asg_model.specs.Values.{choice_value};
 ghost use Rattle.asg_monoids.specs.Entered.{cost_reach};
 ghost use Rattle.asg_monoids.specs.NarrowObjectives.{is_narrow_objective};
 ghost use Rattle.asg_sum_edits.specs.Sessions.{IsFound, IsHeld, IsLeastSum};
-ghost use Rattle.asg_sum_edits.specs.SumDuals.{AreAbove, AreSmall, IsPlain, IsSingle, number_of};
+ghost use Rattle.asg_sum_edits.specs.SumDuals.{AreAbove, AreSmall, IsOneToOne, IsSingle, number_of};
 
 use crate::NoMemory;
 use crate::founds::Found;
@@ -26,8 +26,8 @@ fn are_single(columns: &[Column]) -> bool
 }
 
 /// Whether a valid choice places each row, and each column takes one at most.
-pub(crate) fn is_plain(inst: &Instance) -> bool
-    ensures { IsTrue result → IsPlain inst.now }
+pub(crate) fn is_one_to_one(inst: &Instance) -> bool
+    ensures { IsTrue result → IsOneToOne inst.now }
 {
     let rows = inst.rows().len();
     inst.placed() as usize == rows && are_single(inst.columns())
@@ -134,7 +134,7 @@ fn is_least(
     rises: &[u64],
 ) -> bool
     requires narrow { IsTrue (is_narrow_objective objective) }
-    requires plain { IsPlain inst.now }
+    requires one_to_one { IsOneToOne inst.now }
     requires valid { IsValid inst.now choice.now }
     requires value { choice_value objective inst.now choice.now ≡ One amount }
     requires over_rows { length falls.now ≡ length inst.now.rows }
@@ -187,7 +187,7 @@ fn least_sum(
     rises: &[u64],
 ) -> Result<Option<i128>, NoMemory>
     requires narrow { IsTrue (is_narrow_objective objective) }
-    requires plain { IsPlain inst.now }
+    requires one_to_one { IsOneToOne inst.now }
     requires over_rows { length falls.now ≡ length inst.now.rows }
     requires over_columns { length rises.now ≡ length inst.now.columns }
     ensures { IfOk result (λ found. IfSome found
@@ -213,7 +213,7 @@ pub(crate) fn tested(
     guess: Guess,
 ) -> Result<Option<Found>, NoMemory>
     requires narrow { IsTrue (is_narrow_objective objective) }
-    requires plain { IsPlain inst.now }
+    requires one_to_one { IsOneToOne inst.now }
     requires held { IsHeld objective inst.now before.now }
     ensures { IfOk result (λ found. IfSome found (IsFound objective inst.now)) }
 {

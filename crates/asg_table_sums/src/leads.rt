@@ -12,25 +12,6 @@ fn are_single(inst: &Instance) -> bool {
         .all(|column| column.cap == 1 && column.usable)
 }
 
-// By how much the costs of a row differ that no table takes.
-const TOO_FAR: i64 = 1 << 40;
-
-// A table for the rows of an instance. A row that differs by too much is refused; from then on the
-// numbers of each row begin at its least cost, or its greatest, so that none is ahead of others.
-// The error is want of memory.
-fn table_for(alloc: Global, objective: Objective, inst: &Instance) -> Result<CostTable, NoMemory> {
-    let rows = inst.rows().len() as u32;
-    let columns = inst.columns().len();
-    let is_max = objective == Objective::SumMax;
-    let mut table = CostTable::make(alloc, rows, columns as u32, is_max)?;
-    let mut apart = vec![in alloc; 0; columns]?;
-    if columns > 0 {
-        apart[columns - 1] = TOO_FAR;
-    }
-    table.push(apart.as_slice())?;
-    Ok(table)
-}
-
 // The rows of an instance as a table; `None` where a cell is absent, or costs of a row differ by
 // too much.
 fn table_of(
@@ -38,7 +19,9 @@ fn table_of(
     objective: Objective,
     inst: &Instance,
 ) -> Result<Option<CostTable>, NoMemory> {
-    let mut table = table_for(alloc, objective, inst)?;
+    let columns = inst.columns().len() as u32;
+    let is_max = objective == Objective::SumMax;
+    let mut table = CostTable::make(alloc, inst.rows().len() as u32, columns, is_max)?;
     let mut room = RowRoom::new();
     for row in 0..inst.rows().len() as u32 {
         let Some(parts) = inst.row_parts(row, &mut room) else {

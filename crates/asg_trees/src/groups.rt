@@ -63,16 +63,23 @@ pub(crate) fn by_parent(alloc: Global, nodes: &[Node]) -> Result<Groups, NoMemor
 }
 
 /// Groups nodes by the numbers of their answers, of which there are so many. The error is want of
-/// memory.
+/// memory, or that there are 2^32 nodes.
 pub(crate) fn by_answer(alloc: Global, nodes: &[Node], answers: usize) -> Result<Groups, NoMemory>
     requires { answers < 2 ^ 63 }
     ensures { IfOk result (AreGroups (answer_keys nodes.now) answers) }
 {
-    let mut keys = Vec::with_capacity(alloc, nodes.len())?;
-    for place in 0..nodes.len() {
-        keys.push(answer_number(nodes, place + 1))?;
+    let Ok(numbers) = u32::try_from(nodes.len()) else {
+        return Err(AllocError);
+    };
+    let mut first = vec![in alloc; 0; answers + 1]?;
+    let mut next = vec![in alloc; 0; nodes.len() + 1]?;
+    let mut above = numbers;
+    'numbers: while above > 0 {
+        let key = answer_number(nodes, above as usize);
+        link(&mut first, &mut next, key, above);
+        above -= 1;
     }
-    group(alloc, keys.as_slice(), answers)
+    Ok(Groups { first, next })
 }
 
 impl Groups {

@@ -1,7 +1,13 @@
-use Rattle.std.proofs.Common.{◌≡◌, take}
-use Rattle.asg_trees.specs.Groups.{answer_keys}
+use Rattle.std.proofs.Common.{◌≤◌, length}
+use Rattle.asg_trees.specs.Groups.{AreGroupsAbove, answer_keys}
 use Rattle.asg_trees.proofs.groups.by_answer.Given as goal
 
--- the keys are those of the nodes so far
-abbrev pub invariant-loop-place : goal.invariant-loop-place
-invariant-loop-place l = l.keys.items ≡ answer_keys (take l.place l.nodes)
+-- the numbers above this one are grouped
+abbrev pub invariant-numbers : goal.invariant-numbers
+invariant-numbers l = record {
+  upto : l.above ≤ length l.nodes;
+  groups : AreGroupsAbove (answer_keys l.nodes) l.answers l.above l.first.items l.next.items;
+}
+
+abbrev pub decreases-numbers : goal.decreases-numbers
+decreases-numbers l = l.above

@@ -14,6 +14,6 @@ returns-clause-sum c =
 
 pub returns-clause-all : goal.returns-clause-all
 returns-clause-all c =
-    let plain = c.self.invariant.plain c.if-not-self.false in
+    let one_to_one = c.self.invariant.one_to_one c.if-not-self.false in
     subst (λ o. OnSome o (placed c.args.self.now.instance ≡ length c.args.self.now.instance.rows)) (sym c.told.ensures)
-    (subst (λ seen. placed seen.instance ≡ length seen.instance.rows) c.self.view_is plain.all)
+    (subst (λ seen. placed seen.instance ≡ length seen.instance.rows) c.self.view_is one_to_one.all)

@@ -48,17 +48,6 @@ pub(crate) fn begin_anew(found: &mut Found) {
     }
 }
 
-// The amounts of a bench.
-fn amounts_of(alloc: Global, bench: &Bench) -> Result<Amounts, NoMemory> {
-    let falls = Vec::from_slice(alloc, bench.falls())?;
-    let rises = Vec::from_slice(alloc, bench.rises())?;
-    Ok(Amounts {
-        falls,
-        rises,
-        floor: bench.floor(),
-    })
-}
-
 /// Keeps a child that a bench has grown from an answer by a row, with these columns. Gives its
 /// place. The error is want of memory.
 pub(crate) fn keep(
@@ -76,7 +65,7 @@ pub(crate) fn keep(
         parent,
         row,
     };
-    let amounts = amounts_of(alloc, bench)?;
+    let amounts = Amounts::of(alloc, bench.falls(), bench.rises(), bench.floor())?;
     let place = found.seeds.len();
     found.seeds.push(seed)?;
     found.kept.push(Some(amounts))?;

@@ -99,11 +99,8 @@ fn amounts_of(
     };
     let falls = raised(alloc, &falls[..rows], more)?;
     let rises = raised(alloc, rises, more)?;
-    Ok(Some(Amounts {
-        falls,
-        rises,
-        floor,
-    }))
+    let amounts = Amounts::of(alloc, falls.as_slice(), rises.as_slice(), floor)?;
+    Ok(Some(amounts))
 }
 
 /// The first answer of an instance of so many rows and columns, guessed with amounts; `None` where

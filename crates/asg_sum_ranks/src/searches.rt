@@ -95,6 +95,9 @@ fn wait_children(
     let Some(branch) = branches.get(place) else {
         return Ok(());
     };
+    if tools.limit.limit() <= sum {
+        return Ok(());
+    }
     tools
         .bench
         .measure(&tools.table, parent_of(branch), branch.banned());

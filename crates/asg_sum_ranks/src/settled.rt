@@ -9,33 +9,50 @@ use asg_dual_bounds::Duals;
 use std::alloc::Global;
 use std::marker::Model;
 
-/// How much rows fall and columns rise.
+/// How much rows fall and columns rise: in one list the falls, and behind them the rises.
 #[derive(Drop)]
 pub(crate) struct Amounts {
-    pub(crate) falls: Vec<u64>,
-    pub(crate) rises: Vec<u64>,
-    pub(crate) floor: u64,
+    all: Vec<u64>,
+    rows: usize,
+    floor: u64,
 }
 
 impl Model for Amounts {
+    ghost use Rattle.std.specs.Prelude.{◌≤◌, drop, length, take};
     ghost use Rattle.asg_dual_bounds.specs.Bounds.{Duals};
 
     ghost Value = { Duals };
 
     ghost view = { λ a. record {
-      falls = a.falls.items;
-      rises = a.rises.items;
+      falls = take a.rows a.all.items;
+      rises = drop a.rows a.all.items;
       floor = a.floor;
     } };
+
+    ghost invariant = { λ a. a.rows ≤ length a.all.items };
 }
 
 impl Amounts {
+    /// These amounts. The error is want of memory.
+    pub(crate) fn of(
+        alloc: Global,
+        falls: &[u64],
+        rises: &[u64],
+        floor: u64,
+    ) -> Result<Amounts, NoMemory> {
+        let rows = falls.len();
+        let mut all = Vec::with_capacity(alloc, rows.saturating_add(rises.len()))?;
+        all.extend_from_slice(falls)?;
+        all.extend_from_slice(rises)?;
+        Ok(Amounts { all, rows, floor })
+    }
+
     /// How much each row falls.
     #[inline]
     pub(crate) fn falls(&self) -> &[u64]
         ensures { result.now ≡ self.now.falls }
     {
-        self.falls.as_slice()
+        &self.all[..self.rows]
     }
 
     /// How much each column rises.
@@ -43,7 +60,7 @@ impl Amounts {
     pub(crate) fn rises(&self) -> &[u64]
         ensures { result.now ≡ self.now.rises }
     {
-        self.rises.as_slice()
+        &self.all[self.rows..]
     }
 
     /// All of them, lent.
@@ -52,8 +69,8 @@ impl Amounts {
         ensures { duals_of result.falls.now result.rises.now result.floor ≡ self.now }
     {
         Duals {
-            falls: self.falls.as_slice(),
-            rises: self.rises.as_slice(),
+            falls: self.falls(),
+            rises: self.rises(),
             floor: self.floor,
         }
     }

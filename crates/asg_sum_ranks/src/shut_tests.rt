@@ -7,7 +7,7 @@ ghost use Rattle.asg_sum_ranks.specs.Branches.{branch_at, child_at, AreBranches,
 use crate::grounds::Ground;
 use crate::part_tests::{bound_of, is_above_at, measure};
 use crate::settled::{Amounts, Settled, at};
-use asg_dual_bounds::laws::dual_bound_law;
+use asg_dual_bounds::laws::{dual_bound_law, split_law};
 
 // Whether the part of one answer is the child by a row of that of another.
 fn is_part_of(branches: &[Settled], given: usize, place: usize, row: usize) -> bool
@@ -159,9 +159,14 @@ fn are_children_shut(
     ensures { IsTrue result
         → AreShut ground.now.objective ground.now.inst.now branches.now least place }
 {
+    dual_bound_law();
+    split_law();
     let Some(bound) = bound_of(ground, at(branches, place).amounts()) else {
         return false;
     };
+    if least <= bound {
+        return true;
+    }
     if !measure(ground, branches, place, marks, leasts, gaps) {
         return false;
     }

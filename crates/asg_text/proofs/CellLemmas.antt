@@ -153,7 +153,7 @@ pub plain_in_range : (token : List ℕ) (a : ℤ) → integer_of token ≡ Some 
 plain_in_range token a spells in_range =
     sym (ap (λ a. option_map cost_in_range (option_or (option_map (λ a. record { a = a; b = pos 0 }) a) (pair_cost_of token))) spells ∙ ap (λ v. Some (cond (v && true) (Some (record { a = a; b = pos 0 })) None)) (le-leb _ _ in_range))
 
-integer_cell : (place : ℕ) (text behind rest : List ℕ) (value : ℤ) → IsShortInteger text value behind → IsBehindSpace behind rest → IsCell place text (Some (record { a = value; b = pos 0 })) rest
+pub integer_cell : (place : ℕ) (text behind rest : List ℕ) (value : ℤ) → IsShortInteger text value behind → IsBehindSpace behind rest → IsCell place text (Some (record { a = value; b = pos 0 })) rest
 integer_cell place text behind rest value short space = record {
   token = short.word;
   first = ap tokens (short.cut ∙ ap (λ behind. short.word ++ behind) space.cut) ∙ word_first is_space short.word space.separator rest (some_bytes short.word value short.spells) short.no_space space.separates;

@@ -4,6 +4,9 @@ pub mod ShortLemmas
 pub mod CellLemmas
 pub mod Refusing
 pub mod ReadCells
+pub mod BlockLemmas
+pub mod EightDigits
+pub mod BlockCells
 pub mod TableInstances
 pub mod LineCuts
 pub mod FieldLemmas
@@ -18,6 +21,7 @@ pub mod SpelledNetworks
 pub mod LineRanges
 pub mod InstanceLaw
 pub mod TwiceLemmas
+pub mod FirstTwice
 pub mod NodeSetLemmas
 pub mod TableFills
 pub mod LayoutLemmas

@@ -12,6 +12,7 @@ use Rattle.asg_text.specs.declared.asn_lines.Arc.{Arc}
 use Rattle.asg_text.specs.declared.links.Link.{Link}
 use Rattle.asg_text.specs.Faults.{ArcTwice, fault_where}
 use Rattle.asg_text.specs.AsnArcs.{is_beside, are_unlike, differs_from, cost_between}
+use Rattle.asg_text.specs.LinkOrder.{no_link}
 use Rattle.asg_text.specs.Networks.{are_same_ends, arc_of_link, twice_faults}
 
 some_same : {A : Type 0} {x y : A} → Some x ≡ Some y → x ≡ y
@@ -224,19 +225,5 @@ module _ (F : ℕ → ℕ → Option ℤ) (links : List Link) (i : ℕ) (link : 
       ∙ ap (λ faults. slice_get faults 0) (twice_append [] (take (i + 1) links) (drop (i + 1) links))
       ∙ ap (λ faults. slice_get (faults ++ twice_faults (map arc_of_link (take (i + 1) links)) (drop (i + 1) links)) 0) first
 
--- what stands in place of an arc past the end of a list
-abbrev pub no_link : Link
-no_link = record { source = 0; target = 0; cost = pos 0; line = 0 }
-
 pub link_at : (links : List Link) (i : ℕ) → i < length links → get_or links i (get_or links i no_link) ≡ get_or links i no_link
 link_at links i within = get_or_default links i (get_or links i no_link) no_link within
-
--- the order of pairs
-abbrev pub pair_cmp : ℕ × ℕ → ℕ × ℕ → Ordering
-pair_cmp x y = ordering_then (nat_cmp x.0 y.0) (nat_cmp x.1 y.1)
-
-pub tied_ends : (x y : ℕ × ℕ) → is_eq (pair_cmp x y) ≡ are_same_ends x y
-tied_ends x y = tied x.0 x.1 y.0 y.1
-  where
-    tied : (a b c d : ℕ) → is_eq (ordering_then (nat_cmp a c) (nat_cmp b d)) ≡ ((a == c) && (b == d))
-    tied a b c d = grind (arith, nat_tests)

@@ -8,8 +8,10 @@ pub mod AsnLines
 pub mod AsnArcs
 pub mod NextCells
 pub mod Slots
+pub mod CellBlocks
 pub mod NodeSets
 pub mod Networks
+pub mod LinkOrder
 pub mod SameCells
 pub mod Texts
 pub mod RectTexts

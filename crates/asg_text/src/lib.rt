@@ -10,6 +10,7 @@
 
 mod asn;
 mod asn_lines;
+mod cell_blocks;
 mod cells;
 mod files;
 mod formats;

@@ -9,6 +9,7 @@ ghost use Rattle.asg_text.specs.Readings.{Spells, TellsOf, row_of, column_of};
 ghost use Rattle.asg_text.specs.Slots.{AreRead, IsEarliest};
 ghost use Rattle.asg_text.specs.Tables.{size_faults, faults_of_cells, reading_of_square, reading_of_rect, reading_of_table};
 
+use crate::cell_blocks::{Progress, read_blocks};
 use crate::cells::next_cell;
 use crate::numbers;
 use crate::pieces::{Separators, count_pieces, first_piece};
@@ -18,12 +19,24 @@ use asg_model::limits::{MOST_COLUMNS, MOST_ROWS};
 use asg_model::{Column, Instance, Place, Row};
 use std::alloc::{AllocError, Global};
 
+// How many cells are read one by one where no plain number is found.
+const SINGLE_CELLS: usize = 16;
+
 /// The header of a table: how many tokens it has, and the sizes that they spell.
 #[derive(Clone, Copy)]
 struct Header {
     tokens: u64,
     rows: u32,
     columns: u32,
+}
+
+/// The cells of a table: how many tokens stand before them, how many there are to be, and the text
+/// that they stand in.
+#[derive(Clone, Copy)]
+struct CellText<'a> {
+    header: u64,
+    count: usize,
+    text: &'a [u8],
 }
 
 /// The costs of a table as they stand in it row by row, and the text behind the last one.
@@ -132,7 +145,12 @@ fn read_costs<'a>(
 {
     let mut firsts = vec![in alloc; 0; count.min(text.len())]?;
     let mut seconds = Vec::new(alloc);
-    let rest = fill_costs(alloc, header, count, text, &mut firsts, &mut seconds)?;
+    let cells = CellText {
+        header,
+        count,
+        text,
+    };
+    let rest = fill_costs(alloc, cells, &mut firsts, &mut seconds)?;
     Ok(TableCosts {
         firsts,
         seconds,
@@ -140,30 +158,62 @@ fn read_costs<'a>(
     })
 }
 
-// Reads cells behind a header of so many tokens into all places of the first parts, where so many
-// cells are to be, and gives the text behind the last one.
+// Reads cells into all places of the first parts, and gives the text behind the last one.
 fn fill_costs<'a>(
     alloc: Global,
-    header: u64,
-    count: usize,
-    text: &'a [u8],
+    cells: CellText<'a>,
     firsts: &mut Vec<i64>,
     seconds: &mut Vec<i64>,
 ) -> Result<&'a [u8], TextRefusal>
-    requires header { header ≤ 2 }
-    requires count { count ≤ most_rows * most_columns }
-    requires room { length firsts.old.items ≤ count }
+    requires header { cells.header ≤ 2 }
+    requires count { cells.count ≤ most_rows * most_columns }
+    requires room { length firsts.old.items ≤ cells.count }
     requires none { seconds.old.items ≡ [] }
     ensures room { OnOk result (length firsts.new.items ≡ length firsts.old.items) }
-    ensures costs { IfOk result (λ rest. AreRead (header + 1) (tokens text.now) (tokens rest.now)
-        (length firsts.new.items) firsts.new.items seconds.new.items) }
-    ensures refused { IfErr result (IsEarliest (faults_of_cells header count (tokens text.now))) }
+    ensures costs { IfOk result (λ rest. AreRead (cells.entry.header + 1) (tokens cells.entry.text.now)
+        (tokens rest.now) (length firsts.new.items) firsts.new.items seconds.new.items) }
+    ensures refused { IfErr result (IsEarliest (faults_of_cells cells.entry.header cells.entry.count
+        (tokens cells.entry.text.now))) }
 {
     let room = firsts.len();
-    let mut rest = text;
-    for place in 0..room {
-        let Some(cell) = next_cell(rest, header + place as u64 + 1)? else {
-            return Err(TextRefusal::TokenCount(count as u64, place as u64));
+    let mut place = 0;
+    let mut rest = cells.text;
+    'parts: while place < room {
+        let numbers = read_blocks(rest, firsts, place);
+        let upto = room.min(numbers.place + SINGLE_CELLS);
+        rest = fill_upto(alloc, cells, numbers, upto, firsts, seconds)?;
+        place = upto;
+    }
+    Ok(rest)
+}
+
+// Reads the next cells one by one, up to a place, and gives the text behind the last one.
+fn fill_upto<'a>(
+    alloc: Global,
+    cells: CellText<'a>,
+    from: Progress<'a>,
+    upto: usize,
+    firsts: &mut Vec<i64>,
+    seconds: &mut Vec<i64>,
+) -> Result<&'a [u8], TextRefusal>
+    requires header { cells.header ≤ 2 }
+    requires count { cells.count ≤ most_rows * most_columns }
+    requires room { length firsts.old.items ≤ cells.count }
+    requires order { from.place ≤ upto }
+    requires within { upto ≤ length firsts.old.items }
+    requires before { AreRead (cells.header + 1) (tokens cells.text.now) (tokens from.rest.now)
+        from.place firsts.old.items seconds.old.items }
+    ensures room { OnOk result (length firsts.new.items ≡ length firsts.old.items) }
+    ensures costs { IfOk result (λ rest. AreRead (cells.entry.header + 1) (tokens cells.entry.text.now)
+        (tokens rest.now) upto firsts.new.items seconds.new.items) }
+    ensures refused { IfErr result (IsEarliest (faults_of_cells cells.entry.header cells.entry.count
+        (tokens cells.entry.text.now))) }
+{
+    let room = firsts.len();
+    let mut rest = from.rest;
+    for place in from.place..upto {
+        let Some(cell) = next_cell(rest, cells.header + place as u64 + 1)? else {
+            return Err(TextRefusal::TokenCount(cells.count as u64, place as u64));
         };
         put_second(alloc, seconds, room, place, second_part(cell.cost))?;
         firsts[place] = first_part(cell.cost);

@@ -1,10 +1,14 @@
-use Rattle.std.proofs.Common.{◌≡◌, ◌+◌, length}
+use Rattle.std.proofs.Common.{◌≡◌, ◌+◌, ◌-◌, ◌≤◌, length}
 use Rattle.asg_text.specs.Pieces.{tokens}
 use Rattle.asg_text.specs.Slots.{AreRead}
 use Rattle.asg_text.proofs.tables.fill_costs.Given as goal
 
-abbrev pub invariant-loop-place : goal.invariant-loop-place
-invariant-loop-place l = record {
+abbrev pub invariant-parts : goal.invariant-parts
+invariant-parts l = record {
+  within : l.place ≤ l.room;
   room : length l.firsts.items ≡ length l.fn.firsts.items;
-  read : AreRead (l.header + 1) (tokens l.text) (tokens l.rest) l.place l.firsts.items l.seconds.items;
+  read : AreRead (l.cells.header + 1) (tokens l.cells.text.now) (tokens l.rest) l.place l.firsts.items l.seconds.items;
 }
+
+abbrev pub decreases-parts : goal.decreases-parts
+decreases-parts l = l.room - l.place

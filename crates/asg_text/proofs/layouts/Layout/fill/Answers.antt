@@ -1,7 +1,8 @@
 use Rattle.std.proofs.Common.{◌∙◌, ap, length, get_or, sym}
 use Rattle.asg_text.proofs.LayoutLemmas.{length-firsts_between}
 use Rattle.asg_text.proofs.TableFills.{fill_more, fill_twice}
-use Rattle.asg_text.proofs.TwiceLemmas.{no_link, link_at}
+use Rattle.asg_text.specs.LinkOrder.{no_link}
+use Rattle.asg_text.proofs.TwiceLemmas.{link_at}
 use Rattle.asg_text.proofs.layouts.Layout.fill.Goals as goal
 
 pub put-requires-clause-whole : goal.put-requires-clause-whole

@@ -1,0 +1,16 @@
+use Rattle.std.proofs.Common.{◌≡◌, ℕ, ◌-◌, ◌<◌, ◌≤◌, drop}
+use Rattle.std.specs.Int.{bit_at}
+use Rattle.asg_text.specs.CellBlocks.{AreDigitsFrom, AreReadOn}
+use Rattle.asg_text.proofs.cell_blocks.read_block.Given as goal
+
+-- the next number begins at `start`, before the first of the ends that are left
+abbrev pub invariant-numbers : goal.invariant-numbers
+invariant-numbers l = record {
+  low : l.start ≤ 64;
+  none : (k : ℕ) → k < l.start → bit_at l.ends k ≡ 0;
+  digits : AreDigitsFrom l.start l.text l.ends;
+  read : AreReadOn l.text (drop l.start l.text) l.from l.place l.fn.firsts.items l.firsts.items;
+}
+
+abbrev pub decreases-numbers : goal.decreases-numbers
+decreases-numbers l = 64 - l.start

@@ -1,0 +1,22 @@
+-- Cells that are read many at a time: words of the reader of cells, on which `reading_of` doesn't
+-- stand.
+use Rattle.std.specs.Prelude.{◌≡◌, ℕ, ◌<◌, ◌≤◌, ℤ, true, List, length, slice_index}
+use Rattle.std.specs.Char.{is_ascii_digit}
+use Rattle.std.specs.Int.{bit_at}
+use Rattle.asg_text.specs.Pieces.{tokens}
+use Rattle.asg_text.specs.Slots.{AreRead}
+
+-- of the first 64 bytes of a text, from a place on, those whose bits are 0 are digits
+abbrev pub AreDigitsFrom : ℕ → List ℕ → ℕ → Type 0
+AreDigitsFrom start text others =
+    (k : ℕ) → start ≤ k → k < 64 → bit_at others k ≡ 0 → is_ascii_digit (slice_index text k) ≡ true
+
+-- the cells of a table that a text begins with are read further, from one place up to another, and
+-- this is the text behind them: whatever was read before them
+pub record AreReadOn (text rest : List ℕ) (from upto : ℕ) (old new : List ℤ) : Type 0 where
+  pub forward : from ≤ upto
+  pub within : upto ≤ length new
+  pub room : length new ≡ length old
+  pub read : (place : ℕ) (all : List (List ℕ)) (seconds : List ℤ)
+      → AreRead place all (tokens text) from old seconds
+      → AreRead place all (tokens rest) upto new seconds

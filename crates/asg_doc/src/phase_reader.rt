@@ -163,5 +163,6 @@ pub(crate) fn phases(
         phases.push(phase(alloc, has_grades, lines)?)?;
     }
     phases.shrink_to_fit();
-    Ok(Phases::from_vec(phases))
+    let phases = Phases::from_vec(phases)?;
+    Ok(phases)
 }

@@ -11,7 +11,7 @@ use crate::line_writer::emit_list;
 use crate::page_buffer::{Page, emit};
 use asg_io::Sink;
 use asg_order::Word;
-use asg_proof::{StepWords, WrittenPhase};
+use asg_proof::{Steps, WrittenPhase};
 use itoa::Buffer;
 
 // Appends the grade of a step.
@@ -45,7 +45,7 @@ fn emit_step<K: Sink>(has_grades: bool, step: Word, page: &mut Page, out: &mut K
 }
 
 // Appends steps, each after a space.
-fn emit_steps<K: Sink>(has_grades: bool, steps: &StepWords, page: &mut Page, out: &mut K)
+fn emit_steps<K: Sink>(has_grades: bool, steps: &Steps<'_>, page: &mut Page, out: &mut K)
     ensures { Wrote K.written K.faults out.old out.new page.old page.new
         (spaced_steps has_grades steps.now) }
 {
@@ -56,7 +56,7 @@ fn emit_steps<K: Sink>(has_grades: bool, steps: &StepWords, page: &mut Page, out
 }
 
 // Appends the line of steps.
-fn emit_step_line<K: Sink>(has_grades: bool, steps: &StepWords, page: &mut Page, out: &mut K)
+fn emit_step_line<K: Sink>(has_grades: bool, steps: &Steps<'_>, page: &mut Page, out: &mut K)
     ensures { Wrote K.written K.faults out.old out.new page.old page.new
         ((codes "steps" ++ spaced_steps has_grades steps.now) ++ 10 ∷ []) }
 {
@@ -70,7 +70,7 @@ fn emit_phase<K: Sink>(has_grades: bool, phase: &WrittenPhase, page: &mut Page, 
     ensures { Wrote K.written K.faults out.old out.new page.old page.new
         (ended (phase_lines has_grades phase.now)) }
 {
-    emit_step_line(has_grades, phase.steps(), page, out);
+    emit_step_line(has_grades, &phase.steps(), page, out);
     emit_list(b"enters", phase.enters(), page, out);
     emit_list(b"leaves", phase.leaves(), page, out);
 }

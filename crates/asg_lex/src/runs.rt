@@ -49,10 +49,11 @@ fn add_level(
 {
     let phases = std::mem::replace(&mut work.phases, Vec::new(alloc));
     let count = phases.len() as u32;
+    let phases = Phases::from_vec(phases)?;
     levels.push(Level {
         cost: cost(grade),
         count,
-        phases: Phases::from_vec(phases),
+        phases,
     })?;
     Ok(())
 }

@@ -42,7 +42,8 @@ fn words_of<M: Written>(
     for phase in phases {
         push_words(alloc, m, &mut words, phase)?;
     }
-    Ok(Phases::from_vec(words))
+    let phases = Phases::from_vec(words)?;
+    Ok(phases)
 }
 
 /// The phases of a trail in order, with each step as its word; none where there is no trail. The

@@ -17,6 +17,8 @@ pub mod LesserLists
 pub mod LevelCounts
 pub mod LevelsAreBest
 pub mod StepWordLemmas
+pub mod ShortWordLemmas
+pub mod PhaseNumbers
 mod ChildRows
 mod RankingLaw
 mod Rankings

@@ -1,4 +1,5 @@
 pub mod RowIds
+pub mod IdRooms
 pub mod Threshold
 pub mod Windows
 pub mod ColumnLists
@@ -9,6 +10,7 @@ pub mod Steps
 pub mod Phases
 pub mod StepWords
 pub mod WrittenPhases
+pub mod PhaseRooms
 pub mod GradeAmounts
 pub mod PhaseProofs
 pub mod KeptPhases

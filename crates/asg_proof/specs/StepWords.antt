@@ -1,5 +1,5 @@
 -- Words of steps in short.
-use Rattle.std.specs.Prelude.{◌≡◌, ℕ, ◌<◌, ◌==◌, if◌then◌else◌, List, All, length, map, slice_index_or}
+use Rattle.std.specs.Prelude.{◌≡◌, ℕ, ◌<◌, ◌%◌, ◌==◌, if◌then◌else◌, List, [], ◌∷◌, All, length, map, slice_index_or}
 use Rattle.asg_order.specs.declared.words.Word.{Word}
 use Rattle.asg_proof.specs.declared.step_words.ShortWord.{ShortWord}
 
@@ -28,3 +28,14 @@ IsTold count short = short.grade ≡ far_grade → short.amount < count
 -- each does
 abbrev pub AreTold : List ShortWord → List Word → Type 0
 AreTold short long = All (IsTold (length long)) short
+
+-- the short words of which a list has the numbers, of each the grade and then the amount
+abbrev pub short_words : List ℕ → List ShortWord
+short_words [] = []
+short_words (_ ∷ []) = []
+short_words (grade ∷ amount ∷ rest) = record { grade = grade; amount = amount } ∷ short_words rest
+
+-- numbers of whole short words, of which each that tells a place tells that of a long one
+pub record AreStepNumbers (numbers : List ℕ) (long : List Word) : Type 0 where
+  pub even : length numbers % 2 ≡ 0
+  pub told : AreTold (short_words numbers) long

@@ -22,6 +22,7 @@ mod phases;
 pub mod ranking_laws;
 mod row_ids;
 mod step_words;
+mod steps_read;
 mod windows;
 mod written_phases;
 
@@ -35,6 +36,7 @@ pub use phase_lists::Phases;
 pub use phases::{Phase, into_words, words};
 pub use row_ids::Ids;
 pub use step_words::StepWords;
+pub use steps_read::Steps;
 pub use windows::{Window, Windows};
 pub use written_phases::WrittenPhase;
 

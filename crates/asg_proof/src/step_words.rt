@@ -1,12 +1,14 @@
 //! Steps as words, kept in few bytes.
 
-ghost use Rattle.std.specs.Prelude.{◌≡◌, ◌↔◌, ◌<◌, ◌^◌, ◌++◌, ◌∷◌, [], List, length, slice_index_or};
+ghost use Rattle.std.specs.Prelude.{◌≡◌, ◌↔◌, ◌<◌, ◌^◌, ◌/◌, ◌++◌, ◌∷◌, [], List, length, slice_index_or};
 ghost use Rattle.std.specs.Prelude.{IfOk, IfSome, IsTrue, OnErr, SomeIff};
 ghost use Rattle.asg_order.specs.declared.words.Word.{Word as W};
 ghost use Rattle.asg_proof.specs.StepWords.{far_grade, whole_word, told_word};
-ghost use Rattle.asg_proof.specs.StepWords.{as_words, IsTold, AreTold};
+ghost use Rattle.asg_proof.specs.StepWords.{short_words, as_words, IsTold, AreTold};
+ghost use Rattle.asg_proof.specs.StepWords.{AreStepNumbers};
 
 use crate::NoMemory;
+use crate::steps_read::Steps;
 use asg_order::Word;
 use std::alloc::{AllocError, Global};
 use std::marker::Model;
@@ -60,8 +62,11 @@ fn whole(short: ShortWord) -> Word
     }
 }
 
-// Appends a long word, and gives the short one that tells its place. The error is want of memory,
-// and 2^32 long words count as that.
+// Up to how many long words a list has no more room than they take.
+const FEW_LONG: usize = 4;
+
+// Appends a long word, in no more room than they take while they are few, and gives the short one
+// that tells its place. The error is want of memory, and 2^32 long words count as that.
 fn appended(long: &mut Vec<Word>, word: Word) -> Result<ShortWord, NoMemory>
     ensures list { IfOk result (λ _. long.new.items ≡ long.old.items ++ word ∷ []) }
     ensures grade { IfOk result (λ short. short.grade ≡ far_grade) }
@@ -71,6 +76,9 @@ fn appended(long: &mut Vec<Word>, word: Word) -> Result<ShortWord, NoMemory>
     let Ok(amount) = u32::try_from(long.len()) else {
         return Err(AllocError);
     };
+    if long.len() < FEW_LONG {
+        long.reserve_exact(1)?;
+    }
     long.push(word)?;
     Ok(ShortWord { grade: FAR, amount })
 }
@@ -91,24 +99,35 @@ fn entry(long: &mut Vec<Word>, step: Word) -> Result<ShortWord, NoMemory>
     }
 }
 
-// How many short words fill the least room that is given out.
-const FEW: usize = 3;
+// How many numbers fill the least room that is given out.
+const FEW: usize = 6;
 
-// Appends a short word, in no more room than it takes while they are few. The error is want of
-// memory.
-fn append(short: &mut Vec<ShortWord>, word: ShortWord) -> Result<(), NoMemory>
-    ensures list { IfOk result (λ _. short.new.items ≡ short.old.items ++ word ∷ []) }
-    ensures kept { OnErr result (short.new.items ≡ short.old.items) }
+// Appends the two numbers of a short word, in no more room than they take while they are few. The
+// error is want of memory.
+fn append(numbers: &mut Vec<u32>, word: ShortWord) -> Result<(), NoMemory>
+    ensures list { IfOk result (λ _. numbers.new.items
+        ≡ numbers.old.items ++ word.grade ∷ word.amount ∷ []) }
+    ensures kept { OnErr result (numbers.new.items ≡ numbers.old.items) }
 {
-    if short.len() < FEW {
-        short.reserve_exact(1)?;
+    if numbers.len() < FEW {
+        numbers.reserve_exact(2)?;
     }
-    short.push(word)?;
-    Ok(())
+    numbers.extend_from_slice(&[word.grade, word.amount])
+}
+
+// The short word at a place of a list of such.
+pub(crate) fn short_at(numbers: &[u32], place: usize) -> ShortWord
+    requires { place < length numbers.now / 2 }
+    ensures { (d : ShortWord) → result ≡ slice_index_or (short_words numbers.now) place d }
+{
+    ShortWord {
+        grade: numbers[2 * place],
+        amount: numbers[2 * place + 1],
+    }
 }
 
 // The word that a short one stands for.
-fn told(long: &[Word], short: ShortWord) -> Word
+pub(crate) fn told(long: &[Word], short: ShortWord) -> Word
     requires { IsTold (length long.now) short }
     ensures { result ≡ told_word long.now short }
 {
@@ -119,24 +138,25 @@ fn told(long: &[Word], short: ShortWord) -> Word
     }
 }
 
-/// Steps as words, in order. Each takes 8 bytes; one with a grade of 2^32 - 1 or more, or an amount
-/// of 2^32 or more, those of a [`Word`] besides.
+/// Steps as words, in order, while they are made. Each takes 8 bytes; one with a grade of 2^32 - 1
+/// or more, or an amount of 2^32 or more, those of a [`Word`] besides.
 #[derive(Debug, Drop)]
 pub struct StepWords {
-    short: Vec<ShortWord>,
+    // Of each step the grade and the amount of its short word.
+    numbers: Vec<u32>,
     long: Vec<Word>,
 }
 
 impl Model for StepWords {
     ghost use Rattle.std.specs.Prelude.{List};
     ghost use Rattle.asg_order.specs.declared.words.Word.{Word as W};
-    ghost use Rattle.asg_proof.specs.StepWords.{AreTold, as_words};
+    ghost use Rattle.asg_proof.specs.StepWords.{AreStepNumbers, as_words, short_words};
 
     ghost Value = { List W };
 
-    ghost view = { λ steps. as_words steps.short.items steps.long.items };
+    ghost view = { λ steps. as_words (short_words steps.numbers.items) steps.long.items };
 
-    ghost invariant = { λ steps. AreTold steps.short.items steps.long.items };
+    ghost invariant = { λ steps. AreStepNumbers steps.numbers.items steps.long.items };
 }
 
 impl StepWords {
@@ -145,7 +165,7 @@ impl StepWords {
         ensures { result ≡ [] }
     {
         StepWords {
-            short: Vec::new(alloc),
+            numbers: Vec::new(alloc),
             long: Vec::new(alloc),
         }
     }
@@ -156,7 +176,7 @@ impl StepWords {
         ensures { IfOk result (λ _. self.new ≡ self.old ++ step ∷ []) }
     {
         let short = entry(&mut self.long, step)?;
-        append(&mut self.short, short)?;
+        append(&mut self.numbers, short)?;
         Ok(())
     }
 
@@ -164,29 +184,30 @@ impl StepWords {
     pub fn shrink(&mut self)
         ensures { self.new ≡ self.old }
     {
-        self.short.shrink_to_fit();
+        self.numbers.shrink_to_fit();
         self.long.shrink_to_fit();
-    }
-
-    /// The number of steps.
-    pub fn len(&self) -> usize
-        ensures { result ≡ length self.now }
-    {
-        self.short.len()
     }
 
     /// Whether there is no step.
     pub fn is_empty(&self) -> bool
         ensures { IsTrue result ↔ (self.now ≡ []) }
     {
-        self.short.is_empty()
+        self.as_steps().is_empty()
     }
 
-    /// The step at a place, counted from 0.
-    pub fn get(&self, place: usize) -> Word
-        requires { place < length self.now }
-        ensures { (d : W) → result ≡ slice_index_or self.now place d }
+    /// The steps, to be read.
+    pub fn as_steps(&self) -> Steps<'_>
+        ensures { result ≡ self.now }
     {
-        told(self.long.as_slice(), self.short[place])
+        Steps::of(self.numbers.as_slice(), self.long.as_slice())
+    }
+
+    // The numbers of the short words, and the long words.
+    pub(crate) fn into_lists(self) -> (Vec<u32>, Vec<Word>)
+        ensures words { as_words (short_words result.0.items) result.1.items ≡ self }
+        ensures lists { AreStepNumbers result.0.items result.1.items }
+    {
+        let StepWords { numbers, long } = self;
+        (numbers, long)
     }
 }

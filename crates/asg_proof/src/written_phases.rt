@@ -1,39 +1,64 @@
 //! Phases as documents have them.
 
-ghost use Rattle.std.specs.Prelude.{◌≡◌, IfOk};
+ghost use Rattle.std.specs.Prelude.{◌≡◌, ◌++◌, IfOk};
 ghost use Rattle.asg_proof.specs.Phases.{phase_of, IsPhase};
 
 use crate::NoMemory;
 use crate::step_words::StepWords;
+use crate::steps_read::Steps;
+use asg_order::Word;
+use std::alloc::AllocError;
 use std::marker::Model;
 
 /// A [`Phase`](crate::Phase) with each step as its word, as documents have it. A document may have
-/// very many phases, or very many steps in one, so the lists are kept in few bytes: the steps as
-/// [`StepWords`], the others as one.
+/// very many phases, or very many steps in one, so the lists are kept in few bytes: but for steps
+/// that need long words as one list, of 8 bytes a step and 4 a row and a column.
 #[derive(Debug, Drop)]
 pub struct WrittenPhase {
-    steps: StepWords,
-    // The steps at which rows enter, and behind them those at which columns leave.
-    marks: Vec<u32>,
-    rows: usize,
+    steps: u32,
+    rows: u32,
+    // The two numbers of each step, the steps at which rows enter, and those at which columns leave.
+    numbers: Vec<u32>,
+    long: Vec<Word>,
 }
 
 impl Model for WrittenPhase {
-    ghost use Rattle.std.specs.Prelude.{take, drop};
     ghost use Rattle.asg_order.specs.declared.words.Word.{Word as W};
-    ghost use Rattle.asg_proof.specs.Phases.{PhaseOf, phase_of};
-    ghost use Rattle.asg_proof.specs.WrittenPhases.{AreMarks};
+    ghost use Rattle.asg_proof.specs.Phases.{PhaseOf};
 
     ghost Value = { PhaseOf W };
 
-    ghost view = { λ phase. phase_of phase.steps
-        (take phase.rows phase.marks.items) (drop phase.rows phase.marks.items) };
+    ghost use Rattle.asg_proof.specs.WrittenPhases.{told_phase, ArePhaseNumbers};
 
-    ghost invariant = { λ phase. AreMarks phase.rows phase.marks.items };
+    ghost view = { λ phase. told_phase phase.steps phase.rows phase.numbers.items
+        phase.long.items };
+
+    ghost invariant = { λ phase. ArePhaseNumbers phase.steps phase.rows phase.numbers.items
+        phase.long.items };
+}
+
+// The numbers, with the others behind them, in no more room than they take. The error is want of
+// memory.
+fn joined(numbers: Vec<u32>, enters: &[u32], leaves: &[u32]) -> Result<Vec<u32>, NoMemory>
+    ensures { IfOk result (λ all. all.items ≡ numbers.items ++ (enters.now ++ leaves.now)) }
+{
+    let mut numbers = numbers;
+    numbers.reserve_exact(enters.len().saturating_add(leaves.len()))?;
+    numbers.extend_from_slice(enters)?;
+    numbers.extend_from_slice(leaves)?;
+    Ok(numbers)
+}
+
+// The number in 32 bits. The error is that it doesn't fit.
+fn short(count: usize) -> Result<u32, NoMemory>
+    ensures { IfOk result (λ short. short ≡ count) }
+{
+    u32::try_from(count).map_err(|_| AllocError)
 }
 
 impl WrittenPhase {
-    /// The phase of these three lists. The error is want of memory.
+    /// The phase of these three lists. The error is want of memory; 2^32 steps or rows count as
+    /// that.
     pub fn of(
         steps: StepWords,
         enters: Vec<u32>,
@@ -43,18 +68,26 @@ impl WrittenPhase {
             (λ phase. phase ≡ phase_of steps enters.items leaves.items) }
         ensures phase { IfOk result IsPhase }
     {
-        let rows = enters.len();
-        let mut marks = enters;
-        marks.reserve_exact(leaves.len())?;
-        marks.extend_from_slice(leaves.as_slice())?;
-        Ok(WrittenPhase { steps, marks, rows })
+        let (numbers, long) = steps.into_lists();
+        let steps = short(numbers.len() / 2)?;
+        let rows = short(enters.len())?;
+        let numbers = joined(numbers, enters.as_slice(), leaves.as_slice())?;
+        Ok(WrittenPhase {
+            steps,
+            rows,
+            numbers,
+            long,
+        })
     }
 
     /// The steps in order.
-    pub fn steps(&self) -> &StepWords
-        ensures { result.now ≡ self.now.steps }
+    pub fn steps(&self) -> Steps<'_>
+        ensures { result ≡ self.now.steps }
     {
-        &self.steps
+        Steps::of(
+            &self.numbers[..2 * self.steps as usize],
+            self.long.as_slice(),
+        )
     }
 
     /// The step at which each row enters.
@@ -62,7 +95,8 @@ impl WrittenPhase {
         ensures enters { result.now ≡ self.now.enters }
         ensures phase { IsPhase self.now }
     {
-        &self.marks[..self.rows]
+        let marks = &self.numbers[2 * self.steps as usize..];
+        &marks[..self.rows as usize]
     }
 
     /// The step at which each column leaves.
@@ -70,6 +104,7 @@ impl WrittenPhase {
         ensures leaves { result.now ≡ self.now.leaves }
         ensures phase { IsPhase self.now }
     {
-        &self.marks[self.rows..]
+        let marks = &self.numbers[2 * self.steps as usize..];
+        &marks[self.rows as usize..]
     }
 }

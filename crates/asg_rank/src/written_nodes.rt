@@ -65,11 +65,12 @@ fn own_phases<M: Written>(
 {
     let _spare = region.spare();
     let Some(own) = own_trail(before, trail) else {
-        return Ok(Phases::from_vec(Vec::new(alloc)));
+        return Phases::from_vec(Vec::new(alloc));
     };
     let mut phases = Vec::new(alloc);
     phases.push(written_phase(alloc, m, region, own)?)?;
-    Ok(Phases::from_vec(phases))
+    let listed = Phases::from_vec(phases)?;
+    Ok(listed)
 }
 
 // The trails on the way from one back to the first.
@@ -142,7 +143,8 @@ fn all_phases<M: Written>(
     let count = phase_count(region, last);
     let mut phases = Vec::with_capacity(alloc, count as usize)?;
     push_phases(alloc, m, region, &last, &mut phases)?;
-    Ok(Phases::from_vec(phases))
+    let listed = Phases::from_vec(phases)?;
+    Ok(listed)
 }
 
 // The mark of a node with a state.

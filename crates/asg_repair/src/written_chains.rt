@@ -72,5 +72,6 @@ pub(crate) fn written_chain<M: Written>(
     let _spare = chain.region.spare();
     let trails = trails_to(alloc, &chain.region, chain.last)?;
     let words = written_trails(alloc, m, &chain.region, trails.as_slice())?;
-    Ok(Phases::from_vec(words))
+    let phases = Phases::from_vec(words)?;
+    Ok(phases)
 }

@@ -12,30 +12,30 @@ ghost use Rattle.asg_replays.specs.Replays.{IsAdmittedFrom, IsBadFrom, IsReplaye
 use crate::NoMemory;
 use asg_admit::{Reduced, replay_within};
 use asg_order::{Ordered, Written};
-use asg_proof::{StepWords, WrittenPhase};
+use asg_proof::{Steps, WrittenPhase};
 use std::alloc::Global;
 
 /// Reads the values that have the words, in order, into the list in place of what it had, and tells
 /// whether each word has one. The error is want of memory.
 pub fn read_steps<M: Written>(
     m: &M,
-    words: &StepWords,
+    words: Steps<'_>,
     values: &mut Vec<M::Value>,
 ) -> Result<bool, NoMemory>
     ensures words { IfOk result (λ is. IsTrue is
-        → map (M.word_of m.now) values.new.items ≡ words.now) }
+        → map (M.word_of m.now) values.new.items ≡ words.entry) }
     ensures values { IfOk result (λ is. IsTrue is
         → All (IsValue (M.monoid_of m.now)) values.new.items) }
     ensures none { IfOk result (λ is. is ≡ false → (others : List M.Value) →
-        All (IsValue (M.monoid_of m.now)) others → map (M.word_of m.now) others ≢ words.now) }
+        All (IsValue (M.monoid_of m.now)) others → map (M.word_of m.now) others ≢ words.entry) }
 {
-    read_between(m, words, 0, words.len(), values)
+    read_between(m, &words, 0, words.len(), values)
 }
 
 // Reads those of the words from one place up to and without another. The error is want of memory.
 fn read_between<M: Written>(
     m: &M,
-    words: &StepWords,
+    words: &Steps<'_>,
     from: usize,
     to: usize,
     values: &mut Vec<M::Value>,
@@ -122,7 +122,7 @@ fn replay_between<M: Written>(
     reduced: &mut Reduced<M::Value>,
     values: &mut Vec<M::Value>,
     room: &mut Vec<M::Value>,
-    words: &StepWords,
+    words: &Steps<'_>,
     from: usize,
     to: usize,
     enters: &[u32],
@@ -176,7 +176,7 @@ fn replay_first<M: Written>(
         reduced,
         values,
         room,
-        phase.steps(),
+        &phase.steps(),
         0,
         to,
         phase.enters(),
@@ -212,7 +212,7 @@ fn replay_part<M: Written>(
         reduced,
         values,
         room,
-        phase.steps(),
+        &phase.steps(),
         from,
         to,
         enters.as_slice(),

@@ -85,7 +85,7 @@ pub(crate) fn claim(
     for one in listed {
         phases.push(phase(alloc, *one, zeros)?)?;
     }
-    let proof = Proof::Phases(Phases::from_vec(phases));
+    let proof = Proof::Phases(Phases::from_vec(phases)?);
     Ok(Claim::Best { answer, proof })
 }
 

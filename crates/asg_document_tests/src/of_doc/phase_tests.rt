@@ -6,7 +6,7 @@ use asg_doc::*;
 use asg_io::MemorySink;
 use asg_model::{Objective, Value};
 use asg_order::Word;
-use asg_proof::{Proof, StepWords, WrittenPhase};
+use asg_proof::{Proof, Steps, WrittenPhase};
 use std::alloc::{AllocError, Global};
 use std::test::Fail;
 
@@ -227,13 +227,13 @@ const LAST: Word = Word {
 };
 
 // Whether these are the steps of `TIME`.
-fn are_times(steps: &StepWords) -> bool {
+fn are_times(steps: &Steps<'_>) -> bool {
     steps.len() == 3 && steps.get(0) == FIRST && steps.get(1) == GREATEST && steps.get(2) == LAST
 }
 
 // Whether this is the phase of `TIME`.
 fn is_time(phase: &WrittenPhase) -> bool {
-    are_times(phase.steps())
+    are_times(&phase.steps())
         && phase.enters() == [0].as_slice()
         && phase.leaves() == [4294967295].as_slice()
 }

@@ -109,7 +109,7 @@ fn lists_of_nodes(rt: HostRuntime) -> Result<(), Fail> {
         parent: 0,
         branch: 0,
         mark: Mark::Answered(1),
-        own: Phases::from_vec(Vec::new(rt.alloc())),
+        own: Phases::from_vec(Vec::new(rt.alloc()))?,
     };
     assert!(rt; are_nodes(Nodes::from_vec(vec![in rt.alloc(); root]?), 1));
     assert!(rt; are_nodes(Nodes::from_vec(Vec::new(rt.alloc())), 0));

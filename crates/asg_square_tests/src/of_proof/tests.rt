@@ -1,26 +1,37 @@
 //! Lists of ids, phases and lists of phases and of windows, made, read and written.
 
-ghost use Rattle.std.specs.Prelude.{◌≡◌, [], ◌∷◌, IfOk};
+ghost use Rattle.std.specs.Prelude.{◌≡◌, ◌≤◌, [], ◌∷◌, IfOk};
+ghost use Rattle.asg_proof.specs.Phases.{IsPhase};
 
 use asg_monoids::Greatest;
 use asg_order::Word;
-use asg_proof::{Ids, Phase, Phases, StepWords, Window, Windows, WrittenPhase, into_words, words};
+use asg_proof::{
+    Ids, Phase, Phases, StepWords, Steps, Window, Windows, WrittenPhase, into_words, words,
+};
 use std::alloc::{AllocError as NoMemory, Global};
 use std::test::Fail;
 
 // Whether the list has these ids, and is empty only where there are none.
 fn are_ids(ids: Ids, want: &[u32]) -> bool {
-    if ids.as_slice() != want || ids.len() != want.len() || ids.is_empty() != want.is_empty() {
-        return false;
-    }
-    ids.into_vec().as_slice() == want
+    ids.as_slice() == want && ids.len() == want.len() && ids.is_empty() == want.is_empty()
+}
+
+// Rows, of which the first ones make short and long lists.
+const ROWS: [u32; 8] = [4294967295, 2, 3, 4, 5, 6, 7, 8];
+
+// Whether the first so many of these rows are themselves as a list of ids.
+fn are_first(alloc: Global, count: usize) -> Result<bool, NoMemory>
+    requires { count ≤ 8 }
+{
+    let first = &ROWS[..count];
+    Ok(are_ids(Ids::from_vec(Vec::from_slice(alloc, first)?), first))
 }
 
 #[test]
 fn lists_of_ids(rt: HostRuntime) -> Result<(), Fail> {
-    let some = Ids::from_vec(vec![in rt.alloc(); 3, 1, 2]?);
-    assert!(rt; are_ids(some, &[3, 1, 2]));
-    assert!(rt; are_ids(Ids::from_vec(Vec::new(rt.alloc())), &[]));
+    for count in 0..9 {
+        assert!(rt; are_first(rt.alloc(), count)?);
+    }
     Ok(())
 }
 
@@ -57,7 +68,7 @@ fn is_in_words(phase: &Phase<Word>) -> bool {
 }
 
 // Whether the steps are these.
-fn are_steps(steps: &StepWords, want: &[Word]) -> bool {
+fn are_steps(steps: &Steps<'_>, want: &[Word]) -> bool {
     if steps.len() != want.len() || steps.is_empty() != want.is_empty() {
         return false;
     }
@@ -71,7 +82,7 @@ fn are_steps(steps: &StepWords, want: &[Word]) -> bool {
 
 // Whether it is that phase as documents have it.
 fn is_written(phase: &WrittenPhase) -> bool {
-    are_steps(phase.steps(), &[word(5), word(3)])
+    are_steps(&phase.steps(), &[word(5), word(3)])
         && phase.enters() == [1, 0, 2].as_slice()
         && phase.leaves() == [2, 1, 4].as_slice()
 }
@@ -113,40 +124,73 @@ const MIXED: [Word; 5] = [
 #[test]
 fn steps_of_any_length(rt: HostRuntime) -> Result<(), Fail> {
     let mut steps = StepWords::none(rt.alloc());
-    assert!(rt; are_steps(&steps, &[]));
+    assert!(rt; steps.is_empty() && are_steps(&steps.as_steps(), &[]));
     for step in &MIXED {
         steps.push(*step)?;
     }
     steps.shrink();
-    assert!(rt; are_steps(&steps, &MIXED));
+    assert!(rt; !steps.is_empty() && are_steps(&steps.as_steps(), &MIXED));
     Ok(())
 }
 
-// Whether there are so many phases, each of one step.
-fn are_phases(phases: Phases, count: usize) -> bool {
-    for phase in phases.as_slice() {
-        if !is_one_step(phase) {
+// A phase of these steps of one row, which enters at the first step, and of two columns, which leave
+// after it and after the last.
+fn phase_of(alloc: Global, words: &[Word]) -> Result<WrittenPhase, NoMemory>
+    ensures { IfOk result IsPhase }
+{
+    let mut steps = StepWords::none(alloc);
+    for word in words {
+        steps.push(*word)?;
+    }
+    WrittenPhase::of(steps, vec![in alloc; 0]?, vec![in alloc; 1, 4294967295]?)
+}
+
+// Whether it is such a phase.
+fn is_phase_of(phase: &WrittenPhase, words: &[Word]) -> bool {
+    are_steps(&phase.steps(), words)
+        && phase.enters() == [0].as_slice()
+        && phase.leaves() == [1, 4294967295].as_slice()
+}
+
+#[test]
+fn phases_of_any_length(rt: HostRuntime) -> Result<(), Fail> {
+    for count in 0..6 {
+        let words = &MIXED[..count];
+        let phase = phase_of(rt.alloc(), words)?;
+        assert!(rt; is_phase_of(&phase, words));
+    }
+    Ok(())
+}
+
+// Whether there are so many phases, the first ones of one step, of two, and so on.
+fn are_phases(phases: &Phases, count: usize) -> bool {
+    let listed = phases.as_slice();
+    for place in 0..listed.len().min(MIXED.len()) {
+        if !is_phase_of(&listed[place], &MIXED[..place + 1]) {
             return false;
         }
     }
-    let is_right = phases.len() == count && phases.is_empty() == (count == 0);
-    is_right && phases.into_vec().len() == count
+    listed.len() == count && phases.len() == count && phases.is_empty() == (count == 0)
 }
 
-// Whether the phase is of one step, at which the column leaves.
-fn is_one_step(phase: &WrittenPhase) -> bool {
-    are_steps(phase.steps(), &[word(5)])
-        && phase.enters() == [0].as_slice()
-        && phase.leaves() == [1].as_slice()
+// Phases of one step, of two, and so on.
+fn phases_up_to(alloc: Global, count: usize) -> Result<Phases, NoMemory>
+    requires { count ≤ 5 }
+{
+    let mut phases = Vec::new(alloc);
+    for last in 0..count {
+        let phase = phase_of(alloc, &MIXED[..last + 1])?;
+        phases.push(phase)?;
+    }
+    Phases::from_vec(phases)
 }
 
 #[test]
 fn lists_of_phases(rt: HostRuntime) -> Result<(), Fail> {
-    let mut steps = StepWords::none(rt.alloc());
-    steps.push(word(5))?;
-    let phase = WrittenPhase::of(steps, vec![in rt.alloc(); 0]?, vec![in rt.alloc(); 1]?)?;
-    assert!(rt; are_phases(Phases::from_vec(vec![in rt.alloc(); phase]?), 1));
-    assert!(rt; are_phases(Phases::from_vec(Vec::new(rt.alloc())), 0));
+    for count in 0..4 {
+        let phases = phases_up_to(rt.alloc(), count)?;
+        assert!(rt; are_phases(&phases, count));
+    }
     Ok(())
 }
 

@@ -20,5 +20,5 @@ returns-clause-parts c =
     (record {
       cost_fits = subst (FitsSigned w64) (sym (to_z-of_z w64 c.cost.result c.cost.ensures.fits)) c.cost.ensures.fits;
       count_fits = omega (arith, few, same, c.len-count.ensures, c.replace-phases.result.ok.0);
-      phases_are = subst ArePhases (sym c.from_vec.ensures) held;
+      phases_are = subst ArePhases (sym c.in_ok-phases.ensures) held;
     }))

@@ -8,7 +8,7 @@ pub returns-clause-fits : goal.returns-clause-fits
 returns-clause-fits g c =
     let word_of = g.M.Written.word_of c.args.m.now in
     let phases = phases_to c.args.region.now c.args.last in
-    let same : length c.from_vec.result ≡ length (map (worded word_of) phases) = ap length (c.from_vec.ensures ∙ c.in_ok-push_phases.ensures.words) in
+    let same : length c.in_ok-listed.listed ≡ length (map (worded word_of) phases) = ap length (c.in_ok-listed.ensures ∙ c.in_ok-push_phases.ensures.words) in
     let size = length-map phases (worded word_of) in
     let count = c.phase_count-count.ensures in
     omega (arith, same, size, count)

@@ -15,6 +15,6 @@ pub returns : goal.returns
 returns g c =
     let F = c.args.region.now in
     let word_of = g.M.Written.word_of c.args.m.now in
-    let list : c.from_vec-2.result ≡ worded word_of (last_phase (phases_of F c.in-Some.own)) ∷ [] =
-    c.from_vec-2.ensures ∙ c.in_ok-push.ensures.items ∙ (λ i. c.new-phases.ensures.items i ++ c.in_ok-written_phase.ensures.words i ∷ []) in
+    let list : c.in_ok-listed.listed ≡ worded word_of (last_phase (phases_of F c.in-Some.own)) ∷ [] =
+    c.in_ok-listed.ensures ∙ c.in_ok-push.ensures.items ∙ (λ i. c.new-phases.ensures.items i ++ c.in_ok-written_phase.ensures.words i ∷ []) in
     subst (AreOwn word_of F c.args.before c.args.trail) (sym list) (own_one F c.args.before c.args.trail c.requires.next word_of c.spare-spare.ensures.forest c.in-Some.own c.in-Some.ensures)

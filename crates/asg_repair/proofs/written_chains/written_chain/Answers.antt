@@ -8,6 +8,6 @@ use Rattle.asg_repair.proofs.written_chains.written_chain.Goals as goal
 pub returns-clause-over : goal.returns-clause-over
 returns-clause-over g c =
     let F = c.args.chain.now.region in
-    subst (All (IsPhaseOver F.side)) (sym (c.from_vec.ensures ∙ c.in_ok-words.ensures.words))
+    subst (All (IsPhaseOver F.side)) (sym (c.in_ok-phases.ensures ∙ c.in_ok-words.ensures.words))
     (words_over (g.M.Written.word_of c.args.m.now) F c.spare-spare.ensures.forest c.as_slice.result.now
     (subst (All (IsLive F)) (sym c.as_slice.ensures.value) c.in_ok-trails.ensures.live))

@@ -22,8 +22,8 @@ use Rattle.asg_model.specs.ValidChoice.{IsValid}
 use Rattle.asg_model.specs.Values.{choice_value}
 use Rattle.asg_doc.specs.ChosenCells.{cells_by_id}
 use Rattle.asg_doc.specs.declared.documents.Answer.{Answer}
-use Rattle.asg_check.specs.RankingReasons.{IsNoChoiceAt, IsOutOfOrderAt, IsRepeatedAt, IsWrongValueAt}
-use Rattle.asg_check.specs.Written.{AreWrittenAs, IsWrittenAs}
+use Rattle.asg_check.specs.RankingReasons.{IsAmissAt, IsNoChoiceAt, IsOutOfOrderAt, IsRepeatedAt, IsWrongValueAt}
+use Rattle.asg_check.specs.Written.{AreWrittenAs, HasItsValue, HasWrongValue, IsWrittenAs, SpellChoice, SpellNone}
 use Rattle.asg_check.proofs.Reading.{written-once}
 use Rattle.asg_check.proofs.RankingTold.{as_many, written_at}
 
@@ -37,33 +37,47 @@ module _ (Fails : ℕ → Type 0) where
   pub none_at_all : (count : ℕ) → ((n : ℕ) → Fails n → n < count) → ((m : ℕ) → m < count → ¬ Fails m) → (n : ℕ) → ¬ Fails n
   none_at_all count within before n fails = before n (within n fails) fails
 
--- ---- values
+-- ---- choices and values
 
-module _ (objective : Objective) (X : Problem) (answers : List Answer) where
-  pub wrong_within : (n : ℕ) → IsWrongValueAt objective X answers n → n < length answers
-  wrong_within n is = slice_get_within answers n is.answer is.there
+module _ (X : Problem) (answers : List Answer) where
+  pub unspelled_within : (n : ℕ) → IsNoChoiceAt X answers n → n < length answers
+  unspelled_within n is = slice_get_within answers n is.answer is.there
 
-  module _ (i : IsInstance X) (choices : List (List (Option ℕ))) (w : AreWrittenAs X answers choices) (n : ℕ) (answer : Answer) (choice : List (Option ℕ)) (at : answer ≡ get_or answers n answer) (within : n < length answers) (chosen : choice ≡ get_or choices n choice) where
+  module _ (n : ℕ) (answer : Answer) (at : answer ≡ get_or answers n answer) (within : n < length answers) where
     there : slice_get answers n ≡ Some answer
     there = slice_get-get_or answers n answer within ∙ ap Some (sym at)
 
-    here : IsWrittenAs X answer.cells choice
-    here =
-        let lengths = as_many X i answers choices w in
-        subst (IsWrittenAs X answer.cells) (get_or_default choices n [] choice (subst (λ l. n < l) lengths within) ∙ sym chosen) (written_at X i answers choices w n answer there)
+    pub unspelled_at : SpellNone X answer.cells → IsNoChoiceAt X answers n
+    unspelled_at none = record { answer = answer; there = there; none = none }
 
-    pub valid_at : IsValid X choice
-    valid_at = here.valid
+    pub spelled_at : SpellChoice X answer.cells → ¬ IsNoChoiceAt X answers n
+    spelled_at spelled is = is.none spelled.0 (subst (λ a. IsWrittenAs X a.cells spelled.0) (same_Some answer is.answer (sym there ∙ is.there)) spelled.1)
 
-    pub wrong_at : ¬ (answer.value ≡ choice_value objective X choice) → IsWrongValueAt objective X answers n
-    wrong_at differ = record { answer = answer; there = there; wrong = (choice, here, differ) }
+    -- the answers up to a place spell choices
+    pub spelled_more : ((m : ℕ) (d : Answer) → m < n → SpellChoice X (get_or answers m d).cells) → SpellChoice X answer.cells → (m : ℕ) (d : Answer) → m < n + 1 → SpellChoice X (get_or answers m d).cells
+    spelled_more before spelled m d less =
+        ⊎_elim (λ (early : m < n). before m d early)
+        (λ (late : n ≤ m).
+        let same : n ≡ m = omega (arith, less, late) in
+        subst (λ k. SpellChoice X (get_or answers k d).cells) same (subst (λ a. SpellChoice X a.cells) (at ∙ get_or_default answers n answer d within) spelled))
+        (cases_lt m n)
 
-    pub right_at : answer.value ≡ choice_value objective X choice → ¬ IsWrongValueAt objective X answers n
-    right_at same is =
-        let one = same_Some is.answer answer (sym is.there ∙ there) in
-        let wrong = is.wrong in
-        let spelled = subst (λ a. IsWrittenAs X a.cells wrong.0) one wrong.1 in
-        wrong.2 (ap (λ a. a.value) one ∙ same ∙ ap (choice_value objective X) (written-once X answer.cells choice wrong.0 i here spelled))
+    module _ (objective : Objective) where
+      pub amiss_at : SpellNone X answer.cells ⊎ HasWrongValue objective X answer → IsAmissAt objective X answers n
+      amiss_at (inl none) = inl (unspelled_at none)
+      amiss_at (inr wrong) = inr (record { answer = answer; there = there; wrong = wrong })
+
+      pub well_at : IsInstance X → HasItsValue objective X answer → ¬ IsAmissAt objective X answers n
+      well_at i its (inl is) = spelled_at (its.0, its.1) is
+      well_at i its (inr is) =
+          let one = same_Some is.answer answer (sym is.there ∙ there) in
+          let wrong = is.wrong in
+          let spelled = subst (λ a. IsWrittenAs X a.cells wrong.0) one wrong.1 in
+          wrong.2 (ap (λ a. a.value) one ∙ its.2 ∙ ap (choice_value objective X) (written-once X answer.cells its.0 wrong.0 i its.1 spelled))
+
+pub amiss_within : (objective : Objective) (X : Problem) (answers : List Answer) (n : ℕ) → IsAmissAt objective X answers n → n < length answers
+amiss_within objective X answers n (inl is) = unspelled_within X answers n is
+amiss_within objective X answers n (inr is) = slice_get_within answers n is.answer is.there
 
 -- ---- choices that are read
 
@@ -222,26 +236,3 @@ module _ (answers : List Answer) where
 -- nothing was seen at first
 pub none_seen : (answers : List Answer) (seen : BTreeSet (Bor (List (ℕ × ℕ)))) → IsEmpty seen → AreSeen answers 0 seen
 none_seen answers seen empty q = (λ has. absurd (false≢true (sym (ap (λ keys. list_any (is_at (cells_cmp q)) keys) empty) ∙ has)), λ one. absurd (omega (arith, one.1)))
-
--- ---- choices that were read
-
--- an answer that spells none, behind others that spell choices
-pub no_choice_at : (X : Problem) (answers : List Answer) (n : ℕ) (answer : Answer) → n < length answers → answer ≡ get_or answers n answer → ((f : List (Option ℕ)) → ¬ IsWrittenAs X answer.cells f) → IsNoChoiceAt X answers n
-no_choice_at X answers n answer within at none = record { answer = answer; there = slice_get-get_or answers n answer within ∙ ap Some (sym at); none = none }
-
-all_one : {A : Type 0} (P : A → Type 0) (x : A) → P x → All P (x ∷ [])
-all_one P x p zero d less = p
-all_one P x p (suc n) d less = absurd (omega (arith, less))
-
--- one more that spells a choice
-pub read_more : (X : Problem) (answers : List Answer) (choices : List (List (Option ℕ))) (n : ℕ) (answer : Answer) (choice : List (Option ℕ)) → AreWrittenAs X (take n answers) choices → n < length answers → answer ≡ get_or answers n answer → IsWrittenAs X answer.cells choice
-    → AreWrittenAs X (take (n + 1) answers) (choices ++ choice ∷ [])
-read_more X answers choices n answer choice w within at here = record {
-  valid = All-append (IsValid X) choices (choice ∷ []) w.valid (all_one (IsValid X) choice here.valid);
-  written =
-      ap (map (λ one. one.cells)) (take_more answers n answer within ∙ ap (λ one. take n answers ++ one ∷ []) (sym at))
-      ∙ map-append (λ one. one.cells) (take n answers) (answer ∷ [])
-      ∙ ap (λ cs. cs ++ answer.cells ∷ []) w.written
-      ∙ ap (λ c. map (cells_by_id X) choices ++ c ∷ []) here.written
-      ∙ sym (map-append (cells_by_id X) choices (choice ∷ []));
-}

@@ -2,10 +2,7 @@
 -- comes after.
 use Rattle.std.proofs.Common.{◌≡◌, ℕ, suc, ◌+◌, ◌<◌, ◌≤◌, List, [], ◌∷◌, length, take, get_or, Option, Some, None, inl, inr, refl, sym, ap, ◌∙◌, subst, arith}
 use Rattle.std.specs.Prelude.{ℤ, pos, ◌==◌, IsTrue, slice_get}
-use Rattle.std.proofs.lemmas.List.{get_or-take, length-take-le, take_all}
-use Rattle.std.proofs.lemmas.Option.{get_or_from_slice_get, slice_get-get_or}
 use Rattle.asg_model.specs.declared.objectives.Objective.{Objective}
-use Rattle.asg_model.specs.Instances.{IsInstance}
 use Rattle.asg_model.specs.declared.parts.Place.TheVariants.{All as PlaceAll}
 use Rattle.asg_model.specs.Problem.{Problem}
 use Rattle.asg_monoids.specs.ObjectiveMonoids.{Fact, InMonoidOf}
@@ -23,14 +20,12 @@ use Rattle.asg_check.specs.declared.verdicts.Reason.TheVariants.{BadNode, Better
 use Rattle.asg_check.specs.declared.verdicts.Verdict.{Verdict}
 use Rattle.asg_check.specs.declared.verdicts.Verdict.TheVariants.{No, Yes}
 use Rattle.asg_check.specs.DocumentForm.{MayBeAsked, answers_form, is_answer_count}
-use Rattle.asg_check.specs.RankingReasons.{AreBadNodesAt, IsNoChoiceAt, LeaveBetterAt, NodesStand}
+use Rattle.asg_check.specs.RankingReasons.{AreBadNodesAt, IsAmissAt, IsNoChoiceAt, IsWrongValueAt, LeaveBetterAt, NodesStand}
 use Rattle.asg_check.specs.Reasons.{IsToldOf, Tells, node_reasons, reason_number}
 use Rattle.asg_check.specs.Spots.{AtParts, IsFirstPart, Spot}
-use Rattle.asg_check.specs.Written.{AreWrittenAs}
 use Rattle.asg_check.proofs.Parts.{first_part, first_told, no_part, whole_told}
 use Rattle.asg_check.proofs.ByObjective.{both, mapped, nothing}
 use Rattle.asg_check.proofs.Certified.{counted, right_of}
-use Rattle.asg_check.proofs.RankingTold.{all_written}
 use Rattle.asg_check.proofs.TreesByObjective.{FaultFact, LeftFact, constant, fault_within, left_within, none_bad_nodes, proof_bad_nowhere, proof_left_nowhere, proof_of_tree}
 
 -- ---- a stage over the answers
@@ -64,22 +59,27 @@ some_answer forms.Solve count answers nodes is = absurd (cc)
 some_answer forms.Edit count answers nodes is = absurd (cc)
 some_answer (forms.Rank asked) count answers nodes is = (counted count (length answers) (right_of (count == asked) (is_answer_count count (length answers)) is)).0
 
--- ---- choices that were read
+-- ---- answers that are amiss
 
-module _ (objective : Objective) (X : Problem) (i : IsInstance X) (answers : List Answer) (n : ℕ) (choices : List (List (Option ℕ))) (w : AreWrittenAs X (take n answers) choices) where
-  -- those before the first that spells none
-  pub read_before : n ≤ length answers → (m : ℕ) → m < n → ¬ IsNoChoiceAt X answers m
-  read_before within m less is =
-      let long : length (take n answers) ≡ n = length-take-le n answers within in
-      let there : slice_get (take n answers) m ≡ Some is.answer =
-      slice_get-get_or (take n answers) m is.answer (omega (arith, less, long)) ∙ ap Some (get_or-take n answers m is.answer less ∙ get_or_from_slice_get answers m is.answer is.answer is.there) in
-      all_written objective X i (take n answers) choices w m (record { answer = is.answer; there = there; none = is.none })
+module _ (objective : Objective) (X : Problem) (answers : List Answer) where
+  -- where none is, none lacks a choice, and none has another value
+  pub none_unspelled : ((n : ℕ) → ¬ IsAmissAt objective X answers n) → (n : ℕ) → ¬ IsNoChoiceAt X answers n
+  none_unspelled none n is = none n (inl is)
 
-  pub read_whole : length answers ≤ n → AreWrittenAs X answers choices
-  read_whole all = subst (λ xs. AreWrittenAs X xs choices) (take_all n answers all) w
+  pub none_wrong : ((n : ℕ) → ¬ IsAmissAt objective X answers n) → (n : ℕ) → ¬ IsWrongValueAt objective X answers n
+  none_wrong none n is = none n (inr is)
 
-pub none_unread : (objective : Objective) (X : Problem) (i : IsInstance X) (answers : List Answer) (choices : List (List (Option ℕ))) → AreWrittenAs X answers choices → (n : ℕ) → ¬ IsNoChoiceAt X answers n
-none_unread objective X i answers choices w = all_written objective X i answers choices w
+  -- before the first that is, none lacks a choice
+  pub unspelled_before : (count n : ℕ) → IsFirstPart (IsAmissAt objective X answers) count (Some n) → (m : ℕ) → m < n → ¬ IsNoChoiceAt X answers m
+  unspelled_before count n first m less is = first.2 m less (inl is)
+
+  -- the first that is, where none lacks a choice, has another value
+  pub first_wrong : (count n : ℕ) → IsFirstPart (IsAmissAt objective X answers) count (Some n) → ((m : ℕ) → ¬ IsNoChoiceAt X answers m) → IsFirstPart (IsWrongValueAt objective X answers) count (Some n)
+  first_wrong count n first spelled = (first.0, by first.1, λ m less is. first.2 m less (inr is))
+    where
+      by : IsAmissAt objective X answers n → IsWrongValueAt objective X answers n
+      by (inl is) = absurd (spelled n is)
+      by (inr is) = is
 
 -- ---- nodes
 

@@ -1,6 +1,6 @@
 -- What stands against a ranking: cells of no valid choice, other values, answers that are repeated
 -- or out of order, and nodes that aren't a search tree of them.
-use Rattle.std.specs.Prelude.{◌≡◌, ℕ, suc, ◌<◌, pos, List, Option, Some, slice_get}
+use Rattle.std.specs.Prelude.{◌≡◌, ◌⊎◌, ℕ, suc, ◌<◌, pos, List, Option, Some, slice_get}
 use Rattle.asg_model.specs.declared.objectives.Objective.{Objective}
 use Rattle.asg_model.specs.Better.{IsBetter}
 use Rattle.asg_model.specs.Problem.{Problem}
@@ -25,6 +25,11 @@ pub record IsWrongValueAt (objective : Objective) (X : Problem) (answers : List 
   pub answer : Answer
   pub there : slice_get answers n ≡ Some answer
   pub wrong : HasWrongValue objective X answer
+
+-- the answer at this place of the list is there, and spells no choice, or has another value than its
+-- choice
+abbrev pub IsAmissAt : Objective → Problem → List Answer → ℕ → Type 0
+IsAmissAt objective X answers n = IsNoChoiceAt X answers n ⊎ IsWrongValueAt objective X answers n
 
 -- the answer at this place of the list is there, and has the cells of an earlier one
 pub record IsRepeatedAt (answers : List Answer) (n : ℕ) : Type 0 where

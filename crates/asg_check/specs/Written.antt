@@ -20,6 +20,14 @@ pub record AreWrittenAs (X : Problem) (answers : List Answer) (choices : List (L
   pub valid : All (IsValid X) choices
   pub written : map (λ answer. answer.cells) answers ≡ map (cells_by_id X) choices
 
+-- some valid choice has these cells, in the order of the rows
+abbrev pub SpellChoice : Problem → List (ℕ × ℕ) → Type 0
+SpellChoice X cells = (f : List (Option ℕ)) × IsWrittenAs X cells f
+
+-- the cells of each answer are those of a valid choice
+abbrev pub EachSpells : Problem → List Answer → Type 0
+EachSpells X answers = All (λ answer. SpellChoice X answer.cells) answers
+
 -- no valid choice has these cells, in the order of the rows
 abbrev pub SpellNone : Problem → List (ℕ × ℕ) → Type 0
 SpellNone X cells = (f : List (Option ℕ)) → IsWrittenAs X cells f → ⊥
@@ -29,6 +37,12 @@ abbrev pub HasWrongValue : Objective → Problem → Answer → Type 0
 HasWrongValue objective X answer =
     (f : List (Option ℕ)) × IsWrittenAs X answer.cells f
     × (answer.value ≢ choice_value objective X f)
+
+-- the answer's cells are those of a valid choice, and its value is the choice's
+abbrev pub HasItsValue : Objective → Problem → Answer → Type 0
+HasItsValue objective X answer =
+    (f : List (Option ℕ)) × IsWrittenAs X answer.cells f
+    × (answer.value ≡ choice_value objective X f)
 
 -- the place of the column that the first of the cells gives the row: none where that names another
 -- row, or no column

@@ -9,19 +9,21 @@ ghost use Rattle.asg_model.specs.Refused.{PassesNegative};
 ghost use Rattle.asg_model.specs.Shapes.{square_side};
 ghost use Rattle.asg_model.specs.ValidChoice.{IsValid};
 ghost use Rattle.asg_doc.specs.declared.documents.Claim.TheVariants.{Ranked};
-ghost use Rattle.asg_check.specs.declared.verdicts.Reason.TheVariants.{OutOfOrder, WrongValue};
+ghost use Rattle.asg_check.specs.declared.verdicts.Reason.TheVariants.{OutOfOrder};
 ghost use Rattle.asg_check.specs.RankingReasons.{NodesStand};
 ghost use Rattle.asg_check.specs.Reasons.{StandsAgainst, Tells, claim_reasons, node_reasons};
 ghost use Rattle.asg_check.specs.Reasons.{order_reasons, proof_reasons, reason_number};
-ghost use Rattle.asg_check.specs.Written.{AreWrittenAs};
+ghost use Rattle.asg_check.specs.Written.{EachSpells};
 
 use crate::NoMemory;
-use crate::ranked_answers::{first_out_of_order, first_repeated, first_wrong_value, read_choices};
+use crate::ranked_answers::{
+    first_amiss, first_out_of_order, first_repeated, first_unspelled, read_choices,
+};
 use crate::verdicts::{Reason, Verdict};
 use asg_doc::Answer;
-use asg_model::{Choice, Instance, Objective};
+use asg_model::{Instance, Objective};
 use asg_proof::Node;
-use asg_trees::{TreeVerdict, judge};
+use asg_trees::{Choices, TreeVerdict, judge};
 use std::alloc::Global;
 
 // The verdict on a ranking with an answer, by its reasons in order. The error is want of memory.
@@ -44,50 +46,23 @@ pub(crate) fn ranking_verdict(
 {
     // What each instance keeps is told by a reader.
     let _ = inst.rows();
-    let choices = read_choices(alloc, inst, answers)?;
-    let spelled = choices.as_slice();
-    if spelled.len() < answers.len() {
-        return Ok(Reason::NotValid.verdict_at_part(spelled.len()));
-    }
-    values_verdict(alloc, objective, inst, count, answers, spelled, nodes)
-}
-
-// The verdict on a ranking whose answers spell the choices, from the reason of values on. The error
-// is want of memory.
-fn values_verdict(
-    alloc: Global,
-    objective: Objective,
-    inst: &Instance,
-    count: u32,
-    answers: &[Answer],
-    choices: &[Choice],
-    nodes: &[Node],
-) -> Result<Verdict, NoMemory>
-    requires algebraic { IsTrue (is_algebraic objective) }
-    requires place { inst.now.place ≡ PlaceAll }
-    requires side { square_side inst.now ≤ most_side }
-    requires passes { PassesNegative objective inst.now }
-    requires instance { IsInstance inst.now }
-    requires some { 1 ≤ length answers.now }
-    requires written { AreWrittenAs inst.now answers.now choices.now }
-    ensures { IfOk result (Tells
-        (StandsAgainst objective inst.now (Ranked count answers.now nodes.now))
-        (WrongValue ∷ order_reasons)) }
-{
-    match first_wrong_value(alloc, objective, inst, answers, choices)? {
-        Some(place) => Ok(Reason::WrongValue.verdict_at_part(place)),
-        None => repeated_verdict(alloc, objective, inst, count, answers, choices, nodes),
+    match first_amiss(alloc, objective, inst, answers)? {
+        Some(place) => match first_unspelled(alloc, inst, answers, place)? {
+            Some(unspelled) => Ok(Reason::NotValid.verdict_at_part(unspelled)),
+            None => Ok(Reason::WrongValue.verdict_at_part(place)),
+        },
+        None => repeated_verdict(alloc, objective, inst, count, answers, nodes),
     }
 }
 
-// The same from the reason of repeated answers on. The error is want of memory.
+// The verdict on a ranking whose answers spell choices, from the reason of repeated answers on. The
+// error is want of memory.
 fn repeated_verdict(
     alloc: Global,
     objective: Objective,
     inst: &Instance,
     count: u32,
     answers: &[Answer],
-    choices: &[Choice],
     nodes: &[Node],
 ) -> Result<Verdict, NoMemory>
     requires algebraic { IsTrue (is_algebraic objective) }
@@ -96,14 +71,14 @@ fn repeated_verdict(
     requires passes { PassesNegative objective inst.now }
     requires instance { IsInstance inst.now }
     requires some { 1 ≤ length answers.now }
-    requires written { AreWrittenAs inst.now answers.now choices.now }
+    requires each { EachSpells inst.now answers.now }
     ensures { IfOk result (Tells
         (StandsAgainst objective inst.now (Ranked count answers.now nodes.now))
         order_reasons) }
 {
     match first_repeated(alloc, answers)? {
         Some(place) => Ok(Reason::Repeated.verdict_at_part(place)),
-        None => order_verdict(alloc, objective, inst, count, answers, choices, nodes),
+        None => order_verdict(alloc, objective, inst, count, answers, nodes),
     }
 }
 
@@ -114,7 +89,6 @@ fn order_verdict(
     inst: &Instance,
     count: u32,
     answers: &[Answer],
-    choices: &[Choice],
     nodes: &[Node],
 ) -> Result<Verdict, NoMemory>
     requires algebraic { IsTrue (is_algebraic objective) }
@@ -123,14 +97,14 @@ fn order_verdict(
     requires passes { PassesNegative objective inst.now }
     requires instance { IsInstance inst.now }
     requires some { 1 ≤ length answers.now }
-    requires written { AreWrittenAs inst.now answers.now choices.now }
+    requires each { EachSpells inst.now answers.now }
     ensures { IfOk result (Tells
         (StandsAgainst objective inst.now (Ranked count answers.now nodes.now))
         (OutOfOrder ∷ proof_reasons)) }
 {
     match first_out_of_order(objective, answers) {
         Some(place) => Ok(Reason::OutOfOrder.verdict_at_part(place)),
-        None => proof_verdict(alloc, objective, inst, count, answers, choices, nodes),
+        None => proof_verdict(alloc, objective, inst, count, answers, nodes),
     }
 }
 
@@ -141,7 +115,6 @@ fn proof_verdict(
     inst: &Instance,
     count: u32,
     answers: &[Answer],
-    choices: &[Choice],
     nodes: &[Node],
 ) -> Result<Verdict, NoMemory>
     requires algebraic { IsTrue (is_algebraic objective) }
@@ -150,13 +123,13 @@ fn proof_verdict(
     requires passes { PassesNegative objective inst.now }
     requires instance { IsInstance inst.now }
     requires some { 1 ≤ length answers.now }
-    requires written { AreWrittenAs inst.now answers.now choices.now }
+    requires each { EachSpells inst.now answers.now }
     ensures { IfOk result (Tells
         (StandsAgainst objective inst.now (Ranked count answers.now nodes.now))
         proof_reasons) }
 {
-    let _ = answers;
-    nodes_verdict(alloc, objective, inst, count, choices, nodes)
+    let choices = read_choices(alloc, inst, answers)?;
+    nodes_verdict(alloc, objective, inst, count, &choices, nodes)
 }
 
 // The verdict on nodes that are to be a search tree of the choices, by the reasons against nodes in
@@ -166,7 +139,7 @@ fn nodes_verdict(
     objective: Objective,
     inst: &Instance,
     count: u32,
-    choices: &[Choice],
+    choices: &Choices,
     nodes: &[Node],
 ) -> Result<Verdict, NoMemory>
     requires algebraic { IsTrue (is_algebraic objective) }

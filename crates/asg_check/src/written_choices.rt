@@ -2,7 +2,8 @@
 
 ghost use Rattle.std.specs.Prelude.{◌≡◌, ℕ, List, Option, None, IfOk, IfSome};
 ghost use Rattle.asg_model.specs.Instances.{IsInstance};
-ghost use Rattle.asg_check.specs.Written.{IsWrittenAs, cells_left, column_given, read_cells};
+ghost use Rattle.asg_check.specs.Written.{IsWrittenAs, SpellChoice, cells_left, column_given};
+ghost use Rattle.asg_check.specs.Written.{read_cells};
 
 use crate::NoMemory;
 use asg_model::{Choice, Instance, Row, is_valid};
@@ -30,6 +31,20 @@ pub(crate) fn written_choice(
     } else {
         Ok(None)
     }
+}
+
+// The choice that has these cells, where there is a valid one. The error is want of memory.
+pub(crate) fn spelled_choice(
+    alloc: Global,
+    inst: &Instance,
+    cells: &[(u32, u32)],
+) -> Result<Choice, NoMemory>
+    requires instance { IsInstance inst.now }
+    requires spelled { SpellChoice inst.now cells.now }
+    ensures { IfOk result (IsWrittenAs inst.now cells.now) }
+{
+    let (choice, _) = read_cells(alloc, inst, cells)?;
+    Ok(choice)
 }
 
 // What the rows choose by the cells, read in order, and the cells that no row reads. The error is

@@ -8,8 +8,9 @@ ghost use Rattle.asg_parts.specs.Spellings.{Spells, SpellsOrFails};
 ghost use Rattle.asg_doc.specs.declared.documents.ValueForm.TheVariants.{One, Two, Many};
 ghost use Rattle.asg_doc.specs.DocumentParts.{value_spelling, value_part, cell_part, answer_part};
 
+use crate::cell_lists::Cells;
 use crate::cost_reader::costs_of;
-use crate::documents::{Answer, Cells, ValueForm};
+use crate::documents::{Answer, ValueForm};
 use crate::words::form_of;
 use asg_model::{Objective, Value};
 use asg_parts::{Fault, Lines, after, signed_number, signed_pair};
@@ -65,14 +66,19 @@ fn value(
     Ok(value)
 }
 
-// As many cells as the count says. The count takes no memory, only the cells that are read.
+// How many cells a count has room taken for before they are read.
+const READY: u32 = 1_000;
+
+// As many cells as the count says. It has room taken for no more than these, if so many; more are
+// given room as they are read.
 fn cells(alloc: Global, count: u32, lines: &mut Lines) -> Result<Cells, Fault>
     ensures { ReadsOrFails (counted count cell_part) lines.old lines.new result }
 {
-    let mut cells = Vec::new(alloc);
+    let mut cells = Vec::with_capacity(alloc, count.min(READY) as usize)?;
     for _ in 0..count {
         cells.push(lines.pair()?)?;
     }
+    cells.shrink_to_fit();
     Ok(Cells::from_vec(cells))
 }
 

@@ -1,8 +1,8 @@
 //! What a document says.
 
 ghost use Rattle.std.specs.Prelude.{◌≡◌, ◌↔◌, [], length, IsTrue};
-ghost use Rattle.asg_doc.specs.CellIds.{AreCellIds};
 
+use crate::cell_lists::Cells;
 use asg_model::{Objective, Value};
 use asg_proof::{Ids, Nodes, Proof};
 use std::marker::Model;
@@ -16,66 +16,6 @@ pub enum Command {
     Rank,
     /// One best choice of an instance as edits have left it.
     Edit,
-}
-
-/// Chosen cells: the ids of their row and of their column, in the order of the rows.
-#[derive(Debug, Drop)]
-pub struct Cells {
-    items: Vec<(u32, u32)>,
-}
-
-impl Model for Cells {
-    ghost use Rattle.std.specs.Prelude.{List, ℕ};
-
-    ghost Value = { List (ℕ × ℕ) };
-
-    ghost view = { λ cells. cells.items.items };
-
-    ghost use Rattle.asg_doc.specs.CellIds.{AreCellIds};
-
-    ghost invariant = { λ cells. AreCellIds cells.items.items };
-}
-
-impl Cells {
-    /// The list of these cells. It takes no memory.
-    pub fn from_vec(items: Vec<(u32, u32)>) -> Cells
-        requires { AreCellIds items.items }
-        ensures { result ≡ items.items }
-    {
-        Cells { items }
-    }
-
-    /// The cells as a `Vec`. It takes no memory.
-    pub fn into_vec(self) -> Vec<(u32, u32)>
-        ensures items { result.items ≡ self }
-        ensures within { AreCellIds self }
-    {
-        let Cells { items } = self;
-        items
-    }
-
-    /// The cells in order.
-    pub fn as_slice(&self) -> &[(u32, u32)]
-        ensures items { result.now ≡ self.now }
-        ensures within { AreCellIds self.now }
-    {
-        self.items.as_slice()
-    }
-
-    /// The number of cells.
-    pub fn len(&self) -> usize
-        ensures count { result ≡ length self.now }
-        ensures within { AreCellIds self.now }
-    {
-        self.items.len()
-    }
-
-    /// Whether there is no cell.
-    pub fn is_empty(&self) -> bool
-        ensures { IsTrue result ↔ (self.now ≡ []) }
-    {
-        self.items.is_empty()
-    }
 }
 
 /// A choice with its value.

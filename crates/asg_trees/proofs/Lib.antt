@@ -2,6 +2,7 @@ pub mod NodeBounds
 pub mod MaskedTrails
 pub mod OwnTrails
 pub mod NodeFacts
+pub mod ChoiceLemmas
 pub mod CellLemmas
 pub mod CopyLemmas
 pub mod KeptRows

@@ -77,14 +77,14 @@ live_whole : (o : Option Cost) → IsSome o → option_map_or (λ cost. true) o 
 live_whole None h = absurd (cc h)
 live_whole (Some x) h = refl
 
-live_open : (b d : Bool) (o : Option Cost) → IsSome (cond (b && d) o None) → d ≡ true
+pub live_open : (b d : Bool) (o : Option Cost) → IsSome (cond (b && d) o None) → d ≡ true
 live_open true true o h = refl
 live_open true false o h = absurd (false≢true h)
 live_open false true o h = absurd (false≢true h)
 live_open false false o h = absurd (false≢true h)
 
 -- an open column is there
-column-from_open : (X : Problem) (c : ℕ) → is_open X c ≡ true → c < length X.columns
+pub column-from_open : (X : Problem) (c : ℕ) → is_open X c ≡ true → c < length X.columns
 column-from_open X c opened =
     ⊎_elim
     (λ (within : c < length X.columns). within)

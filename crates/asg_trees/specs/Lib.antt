@@ -1,4 +1,5 @@
 pub mod Trees
+pub mod ChoiceLists
 pub mod Groups
 pub mod Kept
 pub mod Copies

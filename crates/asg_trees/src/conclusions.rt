@@ -4,13 +4,13 @@ ghost use Rattle.std.specs.Prelude.{◌≡◌, None, IfSome, length};
 ghost use Rattle.asg_trees.specs.Groups.{AreGroups, answer_keys};
 ghost use Rattle.asg_trees.specs.Judged.{AreGiven, IsLacking, conclusion, conclusion_sound};
 
+use crate::choice_lists::Choices;
 use crate::groups::Groups;
 use crate::verdicts::{Tally, TreeVerdict};
-use asg_model::Choice;
 use asg_proof::Node;
 
 /// The first answer that has no node.
-pub(crate) fn first_lacking(given: &Groups, nodes: &[Node], answers: &[Choice]) -> Option<usize>
+pub(crate) fn first_lacking(given: &Groups, nodes: &[Node], answers: &Choices) -> Option<usize>
     requires { AreGroups (answer_keys nodes.now) (length answers.now) given.now }
     ensures some { IfSome result (IsLacking answers.now nodes.now) }
     ensures none { result ≡ None → AreGiven answers.now nodes.now }

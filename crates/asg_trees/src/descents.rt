@@ -16,6 +16,7 @@ ghost use Rattle.asg_trees.specs.Trails.{StandsAt};
 ghost use Rattle.asg_trees.specs.Trees.{IsSound, IsTree, tree_of};
 
 use crate::NoMemory;
+use crate::choice_lists::Choices;
 use crate::groups::Groups;
 use crate::heavy_children::{HeavyChildren, heavy_children, leads_on};
 use crate::node_parts::has_answer;
@@ -23,7 +24,7 @@ use crate::paths::go_down;
 use crate::siblings::judge_children;
 use crate::verdicts::Tally;
 use asg_admit::Reduced;
-use asg_model::{Choice, Instance};
+use asg_model::Instance;
 use asg_order::{Kind, Ordered};
 use asg_proof::Node;
 use asg_square::BitRows;
@@ -36,7 +37,7 @@ fn judge_branch<K: Kind>(
     alloc: Global,
     kind: &K,
     inst: &Instance,
-    answers: &[Choice],
+    answers: &Choices,
     nodes: &[Node],
     members: &Groups,
     given: &Groups,
@@ -113,7 +114,7 @@ fn judge_branches<K: Kind>(
     alloc: Global,
     kind: &K,
     inst: &Instance,
-    answers: &[Choice],
+    answers: &Choices,
     nodes: &[Node],
     members: &Groups,
     given: &Groups,
@@ -178,7 +179,7 @@ fn judge_below<K: Kind>(
     alloc: Global,
     kind: &K,
     inst: &Instance,
-    answers: &[Choice],
+    answers: &Choices,
     nodes: &[Node],
     members: &Groups,
     given: &Groups,
@@ -251,7 +252,7 @@ pub(crate) fn judge_rest<K: Kind>(
     alloc: Global,
     kind: &K,
     inst: &Instance,
-    answers: &[Choice],
+    answers: &Choices,
     nodes: &[Node],
     members: &Groups,
     given: &Groups,

@@ -18,6 +18,7 @@
 //! declared. It stands on no solver.
 #![tactic(auto)]
 
+mod choice_lists;
 mod chosen_cells;
 mod conclusions;
 mod copies;
@@ -43,6 +44,7 @@ mod tallies;
 mod trees;
 mod verdicts;
 
+pub use choice_lists::Choices;
 pub use objectives::judge;
 pub use trees::judge_tree;
 pub use verdicts::TreeVerdict;

@@ -15,6 +15,7 @@ ghost use Rattle.asg_trees.specs.Kept.{HasSize};
 ghost use Rattle.asg_trees.specs.Marks.{HaveIndexAfter, JudgesMark, JudgesOpen, MarkHolds, kept_cells};
 
 use crate::NoMemory;
+use crate::choice_lists::Choices;
 use crate::chosen_cells::chooses_kept;
 use crate::groups::Groups;
 use crate::hall_tests::outnumber;
@@ -22,7 +23,7 @@ use crate::node_parts::{mark_of, own_of};
 use crate::own_answers::has_own_answer;
 use crate::own_phases::told_index;
 use crate::verdicts::Judgement;
-use asg_model::{Choice, Instance};
+use asg_model::Instance;
 use asg_order::{Ordered, Written};
 use asg_proof::{Mark, Node, WrittenPhase};
 use asg_square::{BitRows, Square};
@@ -46,7 +47,7 @@ fn answered_holds<M: Written>(
     alloc: Global,
     m: &M,
     inst: &Instance,
-    answers: &[Choice],
+    answers: &Choices,
     nodes: &[Node],
     members: &Groups,
     given: &Groups,
@@ -78,7 +79,8 @@ fn answered_holds<M: Written>(
     if !has_own_answer(nodes, members, given, answers.len(), branches, n, answer) {
         return Ok(false);
     }
-    if !chooses_kept(square, kept, &answers[answer as usize - 1]) {
+    let choice = answers.choice(alloc, answer as usize - 1)?;
+    if !chooses_kept(square, kept, &choice) {
         return Ok(false);
     }
     let found = told_index(alloc, m, square, kept, before, own_of(nodes, n), known)?;
@@ -166,7 +168,7 @@ pub(crate) fn judge_mark<M: Written>(
     alloc: Global,
     m: &M,
     inst: &Instance,
-    answers: &[Choice],
+    answers: &Choices,
     nodes: &[Node],
     members: &Groups,
     given: &Groups,

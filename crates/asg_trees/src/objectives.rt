@@ -18,11 +18,12 @@ ghost use Rattle.asg_replays.specs.Replays.{AreReplayed};
 ghost use Rattle.asg_trees.specs.Judged.{TellsRanking, TellsTree};
 
 use crate::NoMemory;
+use crate::choice_lists::Choices;
 use crate::node_parts::own_of;
 use crate::trees::{judge_from, judge_tree};
 use crate::verdicts::TreeVerdict;
 use asg_admit::Reduced;
-use asg_model::{Choice, Instance, Objective};
+use asg_model::{Instance, Objective};
 use asg_monoids::laws::narrow_sums;
 use asg_monoids::{PeakKind, SumKind, TimeKind};
 use asg_narrow_kinds::NarrowKind;
@@ -37,7 +38,7 @@ fn judge_sums(
     objective: Objective,
     inst: &Instance,
     count: usize,
-    answers: &[Choice],
+    answers: &Choices,
     nodes: &[Node],
 ) -> Result<TreeVerdict, NoMemory>
     requires sums { IsTrue (is_sum_objective objective) }
@@ -80,7 +81,7 @@ fn narrow_verdict(
     objective: Objective,
     inst: &Instance,
     count: usize,
-    answers: &[Choice],
+    answers: &Choices,
     nodes: &[Node],
 ) -> Result<TreeVerdict, NoMemory>
     requires narrow { IsTrue (is_narrow_objective objective) }
@@ -108,7 +109,7 @@ fn judge_narrow(
     objective: Objective,
     inst: &Instance,
     count: usize,
-    answers: &[Choice],
+    answers: &Choices,
     nodes: &[Node],
 ) -> Result<TreeVerdict, NoMemory>
     requires narrow { IsTrue (is_narrow_objective objective) }
@@ -135,7 +136,7 @@ fn judge_peaks(
     objective: Objective,
     inst: &Instance,
     count: usize,
-    answers: &[Choice],
+    answers: &Choices,
     nodes: &[Node],
 ) -> Result<TreeVerdict, NoMemory>
     requires peaks { IsTrue (is_bottleneck objective) }
@@ -156,7 +157,7 @@ fn judge_times(
     alloc: Global,
     inst: &Instance,
     count: usize,
-    answers: &[Choice],
+    answers: &Choices,
     nodes: &[Node],
 ) -> Result<TreeVerdict, NoMemory>
     requires place { inst.now.place ≡ PlaceAll }
@@ -183,7 +184,7 @@ pub fn judge(
     objective: Objective,
     inst: &Instance,
     count: usize,
-    answers: &[Choice],
+    answers: &Choices,
     nodes: &[Node],
 ) -> Result<TreeVerdict, NoMemory>
     requires algebraic { IsTrue (is_algebraic objective) }

@@ -9,6 +9,7 @@ ghost use Rattle.asg_trees.specs.Trails.{StandsAt};
 ghost use Rattle.asg_trees.specs.Trees.{IsSound, IsTree, tree_of};
 
 use crate::NoMemory;
+use crate::choice_lists::Choices;
 use crate::leading::lead_by;
 use crate::masks::make_mask;
 use crate::node_parts::{answer_of, branch_of, own_of, parent_of};
@@ -20,15 +21,20 @@ use asg_proof::Node;
 use asg_square::BitRows;
 use std::alloc::Global;
 
-/// The answer of a node.
-pub(crate) fn answer_at<'a>(answers: &'a [Choice], nodes: &[Node], n: usize) -> &'a Choice
+/// The answer of a node. The error is want of memory.
+pub(crate) fn answer_at(
+    alloc: Global,
+    answers: &Choices,
+    nodes: &[Node],
+    n: usize,
+) -> Result<Choice, NoMemory>
     requires from { 1 ≤ n }
     requires upto { n ≤ length nodes.now }
     requires there { 1 ≤ answer_number (node_at nodes.now n).mark }
     requires given { answer_number (node_at nodes.now n).mark ≤ length answers.now }
-    ensures { result.now ≡ node_answer answers.now nodes.now n }
+    ensures { IfOk result (λ choice. choice ≡ node_answer answers.now nodes.now n) }
 {
-    &answers[answer_of(nodes, n) - 1]
+    answers.choice(alloc, answer_of(nodes, n) - 1)
 }
 
 /// Makes the square of a node's parent after its trail that of the node, which is answered: the
@@ -38,7 +44,7 @@ pub(crate) fn go_down<K: Kind>(
     alloc: Global,
     kind: &K,
     inst: &Instance,
-    answers: &[Choice],
+    answers: &Choices,
     nodes: &[Node],
     kept: &mut BitRows,
     reduced: &mut Reduced<<<K as Kind>::M as Ordered>::Value>,
@@ -71,8 +77,8 @@ pub(crate) fn go_down<K: Kind>(
         (K.entered kind.now) inst.now answers.now nodes.now in
         IfOk result (λ _. StandsAt T n reduced.new.now reduced.new.index) }
 {
-    let choice = answer_at(answers, nodes, parent_of(nodes, n));
-    make_mask(kept, inst, &reduced.now, choice, branch_of(nodes, n));
+    let choice = answer_at(alloc, answers, nodes, parent_of(nodes, n))?;
+    make_mask(kept, inst, &reduced.now, &choice, branch_of(nodes, n));
     take_out(&mut reduced.now, kept);
     lead_by(alloc, kind.monoid(), reduced, own_of(nodes, n))?;
     Ok(())

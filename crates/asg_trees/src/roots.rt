@@ -13,13 +13,14 @@ ghost use Rattle.asg_trees.specs.Trails.{StandsAt};
 ghost use Rattle.asg_trees.specs.Trees.{IsSound, IsTree, tree_of};
 
 use crate::NoMemory;
+use crate::choice_lists::Choices;
 use crate::groups::Groups;
 use crate::leading::{led_index, stand_after};
 use crate::node_parts::own_of;
 use crate::tallies::tally_node;
 use crate::verdicts::Tally;
 use asg_admit::Reduced;
-use asg_model::{Choice, Instance};
+use asg_model::Instance;
 use asg_order::{Kind, Ordered};
 use asg_proof::Node;
 use asg_square::BitRows;
@@ -31,7 +32,7 @@ fn tally_root<K: Kind>(
     alloc: Global,
     kind: &K,
     inst: &Instance,
-    answers: &[Choice],
+    answers: &Choices,
     nodes: &[Node],
     members: &Groups,
     given: &Groups,
@@ -87,7 +88,7 @@ pub(crate) fn judge_root<K: Kind>(
     alloc: Global,
     kind: &K,
     inst: &Instance,
-    answers: &[Choice],
+    answers: &Choices,
     nodes: &[Node],
     members: &Groups,
     given: &Groups,

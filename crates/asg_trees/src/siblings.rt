@@ -11,6 +11,7 @@ ghost use Rattle.asg_trees.specs.Trails.{StandsAt};
 ghost use Rattle.asg_trees.specs.Trees.{IsSound, IsTree, tree_of};
 
 use crate::NoMemory;
+use crate::choice_lists::Choices;
 use crate::groups::Groups;
 use crate::masks::{Front, make_mask, move_mask};
 use crate::node_parts::branch_of;
@@ -30,7 +31,7 @@ fn judge_member<K: Kind>(
     alloc: Global,
     kind: &K,
     inst: &Instance,
-    answers: &[Choice],
+    answers: &Choices,
     nodes: &[Node],
     members: &Groups,
     given: &Groups,
@@ -102,7 +103,7 @@ fn judge_members<K: Kind>(
     alloc: Global,
     kind: &K,
     inst: &Instance,
-    answers: &[Choice],
+    answers: &Choices,
     nodes: &[Node],
     members: &Groups,
     given: &Groups,
@@ -164,7 +165,7 @@ pub(crate) fn judge_children<K: Kind>(
     alloc: Global,
     kind: &K,
     inst: &Instance,
-    answers: &[Choice],
+    answers: &Choices,
     nodes: &[Node],
     members: &Groups,
     given: &Groups,
@@ -206,10 +207,10 @@ pub(crate) fn judge_children<K: Kind>(
         IfOk result (IsTallied T count parent (length nodes.now + 1)) }
     ensures falls { IfOk result (Falls so_far) }
 {
-    let choice = answer_at(answers, nodes, parent);
-    make_mask(kept, inst, &reduced.now, choice, 1);
+    let choice = answer_at(alloc, answers, nodes, parent)?;
+    make_mask(kept, inst, &reduced.now, &choice, 1);
     judge_members(
-        alloc, kind, inst, answers, nodes, members, given, count, last, reduced, kept, choice,
+        alloc, kind, inst, answers, nodes, members, given, count, last, reduced, kept, &choice,
         parent, so_far,
     )
 }

@@ -13,10 +13,11 @@ ghost use Rattle.asg_trees.specs.Trails.{StandsAbove};
 ghost use Rattle.asg_trees.specs.Trees.{IsTree, tree_of};
 
 use crate::NoMemory;
+use crate::choice_lists::Choices;
 use crate::groups::Groups;
 use crate::marks::judge_mark;
 use crate::verdicts::{Judgement, Tally};
-use asg_model::{Choice, Instance};
+use asg_model::Instance;
 use asg_order::{Kind, Ordered};
 use asg_proof::Node;
 use asg_square::laws::square_law;
@@ -47,7 +48,7 @@ pub(crate) fn tally_node<K: Kind>(
     alloc: Global,
     kind: &K,
     inst: &Instance,
-    answers: &[Choice],
+    answers: &Choices,
     nodes: &[Node],
     members: &Groups,
     given: &Groups,

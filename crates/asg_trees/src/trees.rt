@@ -18,6 +18,7 @@ ghost use Rattle.asg_trees.specs.Tallies.{IsWholeTally};
 ghost use Rattle.asg_trees.specs.Trees.{IsTree, tree_of};
 
 use crate::NoMemory;
+use crate::choice_lists::Choices;
 use crate::conclusions::{concluded, first_lacking};
 use crate::descents::judge_rest;
 use crate::groups::{Groups, by_answer, by_parent};
@@ -26,31 +27,35 @@ use crate::places::first_misplaced;
 use crate::roots::judge_root;
 use crate::verdicts::{Tally, TreeVerdict};
 use asg_admit::Reduced;
-use asg_model::{Choice, Instance};
+use asg_model::Instance;
 use asg_order::{Kind, Ordered};
 use asg_proof::Node;
 use asg_replays::{chosen_fold, start};
 use asg_square::BitRows;
 use std::alloc::Global;
 
-// The product of the last answer, where as many are listed as were asked for.
+// The product of the last answer, where as many are listed as were asked for. The error is want of
+// memory.
 fn last_product<K: Kind>(
+    alloc: Global,
     kind: &K,
     inst: &Instance,
     count: usize,
-    answers: &[Choice],
-) -> Option<<<K as Kind>::M as Ordered>::Value>
+    answers: &Choices,
+) -> Result<Option<<<K as Kind>::M as Ordered>::Value>, NoMemory>
     requires near { LiesWithin (K.reach kind.now) inst.now }
     requires passes { PassesNegative (K.objective kind.now) inst.now }
     requires some { 1 ≤ length answers.now }
-    ensures { (nodes : List N) → let T = tree_of (K.M.monoid_of (K.monoid kind.now))
-        (K.M.difference (K.monoid kind.now)) (K.M.word_of (K.monoid kind.now))
-        (K.entered kind.now) inst.now answers.now nodes in IsLastProduct T count result }
+    ensures { IfOk result (λ last. (nodes : List N) → let T = tree_of
+        (K.M.monoid_of (K.monoid kind.now)) (K.M.difference (K.monoid kind.now))
+        (K.M.word_of (K.monoid kind.now)) (K.entered kind.now) inst.now answers.now nodes in
+        IsLastProduct T count last) }
 {
     if answers.len() < count {
-        return None;
+        return Ok(None);
     }
-    Some(chosen_fold(kind, inst, &answers[answers.len() - 1]))
+    let choice = answers.choice(alloc, answers.len() - 1)?;
+    Ok(Some(chosen_fold(kind, inst, &choice)))
 }
 
 // Judges the root and then the nodes below it, and tallies them. What the own phases of the root
@@ -59,7 +64,7 @@ fn tally_nodes<K: Kind>(
     alloc: Global,
     kind: &K,
     inst: &Instance,
-    answers: &[Choice],
+    answers: &Choices,
     nodes: &[Node],
     members: &Groups,
     given: &Groups,
@@ -107,7 +112,7 @@ fn judge_grouped<K: Kind>(
     kind: &K,
     inst: &Instance,
     count: usize,
-    answers: &[Choice],
+    answers: &Choices,
     nodes: &[Node],
     members: &Groups,
     given: &Groups,
@@ -133,7 +138,7 @@ fn judge_grouped<K: Kind>(
 {
     // What each instance keeps is told by a reader.
     let _ = inst.rows();
-    let last = last_product(kind, inst, count, answers);
+    let last = last_product(alloc, kind, inst, count, answers)?;
     let mut kept = whole_mask(alloc, inst)?;
     let tally = tally_nodes(
         alloc, kind, inst, answers, nodes, members, given, count, last, root, &mut kept, led,
@@ -149,7 +154,7 @@ pub(crate) fn judge_from<K: Kind>(
     kind: &K,
     inst: &Instance,
     count: usize,
-    answers: &[Choice],
+    answers: &Choices,
     nodes: &[Node],
     root: &mut Reduced<<<K as Kind>::M as Ordered>::Value>,
     led: &mut Option<Reduced<<<K as Kind>::M as Ordered>::Value>>,
@@ -185,7 +190,7 @@ pub fn judge_tree<K: Kind>(
     kind: &K,
     inst: &Instance,
     count: usize,
-    answers: &[Choice],
+    answers: &Choices,
     nodes: &[Node],
 ) -> Result<TreeVerdict, NoMemory>
     requires place { inst.now.place ≡ PlaceAll }

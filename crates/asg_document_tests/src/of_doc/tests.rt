@@ -1,6 +1,6 @@
-//! Documents written over a page, and a page's own calls.
+//! Lists of cells, documents written over a page, and a page's own calls.
 
-ghost use Rattle.std.specs.Prelude.{◌≡◌, ◌<◌, length, IfOk};
+ghost use Rattle.std.specs.Prelude.{◌≡◌, ◌<◌, ◌≤◌, length, IfOk};
 ghost use Rattle.asg_doc.specs.HasText.{HasText, AreCells};
 ghost use Rattle.asg_doc.specs.PageState.{blank};
 ghost use Rattle.asg_doc.specs.declared.documents.ValueForm.TheVariants.{One};
@@ -246,5 +246,29 @@ fn nothing_breaks(alloc: Global) -> Result<bool, AllocError> {
 #[test]
 fn a_broken_page_writes_nothing(rt: HostRuntime) -> Result<(), Fail> {
     assert!(rt; nothing_breaks(rt.alloc())?);
+    Ok(())
+}
+
+// Whether the list has these cells, and is empty only where there are none.
+fn are_cells(cells: Cells, want: &[(u32, u32)]) -> bool {
+    cells.as_slice() == want && cells.len() == want.len() && cells.is_empty() == want.is_empty()
+}
+
+// Cells, of which the first ones make short and long lists.
+const CELLS: [(u32, u32); 5] = [(4294967295, 1), (2, 4294967295), (3, 3), (4, 0), (5, 2)];
+
+// Whether the first so many of these cells are themselves as a list.
+fn are_first(alloc: Global, count: usize) -> Result<bool, AllocError>
+    requires { count ≤ 5 }
+{
+    let first = &CELLS[..count];
+    Ok(are_cells(Cells::from_vec(first.to_vec(alloc)?), first))
+}
+
+#[test]
+fn lists_of_cells(rt: HostRuntime) -> Result<(), Fail> {
+    for count in 0..6 {
+        assert!(rt; are_first(rt.alloc(), count)?);
+    }
     Ok(())
 }

@@ -1,4 +1,4 @@
-use Rattle.std.proofs.Common.{◌≤◌, length, subst}
+use Rattle.std.proofs.Common.{◌≤◌, subst}
 use Rattle.std.proofs.lemmas.Result.{IfOk-weaker}
 use Rattle.asg_doc.specs.declared.documents.Claim.TheVariants.{Ranked}
 use Rattle.asg_check.specs.RankingReasons.{NodesStand}
@@ -8,15 +8,16 @@ use Rattle.asg_check.proofs.RankingTold.{as_many}
 use Rattle.asg_check.proofs.ranking_verdicts.proof_verdict.Goals as goal
 
 pub nodes_verdict-requires-clause-some : goal.nodes_verdict-requires-clause-some
-nodes_verdict-requires-clause-some c = subst (λ n. 1 ≤ n) (as_many c.args.inst.now c.requires.instance c.args.answers.now c.args.choices.now c.requires.written) c.requires.some
+nodes_verdict-requires-clause-some c =
+    subst (λ n. 1 ≤ n) (as_many c.args.inst.now c.requires.instance c.args.answers.now c.in_ok-choices.choices c.in_ok-choices.ensures) c.requires.some
 
 pub returns : goal.returns
 returns c =
     let objective = c.args.objective in
     let X = c.args.inst.now in
     let answers = c.args.answers.now in
-    let choices = c.args.choices.now in
+    let choices = c.in_ok-choices.choices in
     let nodes = c.args.nodes.now in
     IfOk-weaker c.nodes_verdict.result (Tells (NodesStand objective X c.args.count choices nodes) node_reasons) (Tells (StandsAgainst objective X (Ranked c.args.count answers nodes)) proof_reasons)
-    (λ verdict told. to_nodes objective X c.requires.instance c.args.count answers nodes choices verdict c.requires.written told)
+    (λ verdict told. to_nodes objective X c.requires.instance c.args.count answers nodes choices verdict c.in_ok-choices.ensures told)
     c.nodes_verdict.ensures

@@ -1,42 +1,42 @@
-use Rattle.std.proofs.Common.{◌≡◌, ◌<◌, ◌≤◌, ◌∷◌, length, refl, sym, ap, subst}
+use Rattle.std.proofs.Common.{◌∷◌, length, refl}
 use Rattle.std.proofs.lemmas.Result.{IfOk-weaker}
 use Rattle.asg_doc.specs.declared.documents.Claim.TheVariants.{Ranked}
 use Rattle.asg_check.specs.declared.verdicts.Reason.TheVariants.{NotValid, WrongValue}
-use Rattle.asg_check.specs.RankingReasons.{IsNoChoiceAt}
+use Rattle.asg_check.specs.RankingReasons.{IsNoChoiceAt, IsWrongValueAt}
 use Rattle.asg_check.specs.Reasons.{StandsAgainst, Tells, claim_reasons, order_reasons}
-use Rattle.asg_check.specs.Written.{AreWrittenAs}
-use Rattle.asg_check.proofs.RankingStages.{goes_on, none_unread, read_before, read_whole, stops}
+use Rattle.asg_check.proofs.RankingStages.{first_wrong, goes_on, none_unspelled, none_wrong, stops_at, unspelled_before}
 use Rattle.asg_check.proofs.ranking_verdicts.ranking_verdict.Goals as goal
 
-pub returns-then-spelled-answers : goal.returns-then-spelled-answers
-returns-then-spelled-answers c =
-    let X = c.args.inst.now in
-    let answers = c.args.answers.now in
-    let choices = c.in_ok-choices.choices.items in
-    let Against = StandsAgainst c.args.objective X (Ranked c.args.count answers c.args.nodes.now) in
-    let count : length c.as_slice-spelled.result.now ≡ length choices = ap length c.as_slice-spelled.ensures.value in
-    let fewer : length choices < length answers = subst (λ n. n < length answers) count c.if-spelled-answers.true in
-    stops Against (IsNoChoiceAt X answers) NotValid refl (WrongValue ∷ order_reasons) c.verdict_at_part.result (length c.as_slice-spelled.result.now)
-    (subst (IsNoChoiceAt X answers) (sym count) (c.in_ok-choices.ensures.none fewer))
-    (λ m below. read_before c.args.objective X c.rows.ensures.instance answers (length choices) choices c.in_ok-choices.ensures.written c.in_ok-choices.ensures.within m (subst (λ n. m < n) count below))
-    c.verdict_at_part.ensures
+pub first_unspelled-requires : goal.first_unspelled-requires
+first_unspelled-requires c =
+    unspelled_before c.args.objective c.args.inst.now c.args.answers.now (length c.args.answers.now) c.in-Some.place (rw c.in-Some.is at c.in_ok-place.ensures.first)
 
-pub values_verdict-requires-clause-written : goal.values_verdict-requires-clause-written
-values_verdict-requires-clause-written c =
+pub returns-in-Some-2 : goal.returns-in-Some-2
+returns-in-Some-2 c =
     let X = c.args.inst.now in
     let answers = c.args.answers.now in
-    let choices = c.in_ok-choices.choices.items in
-    let whole : length answers ≤ length choices = subst (λ n. length answers ≤ n) (ap length c.as_slice-spelled.ensures.value) c.if-spelled-answers.false in
-    subst (AreWrittenAs X answers) (sym c.as_slice-spelled.ensures.value) (read_whole c.args.objective X c.rows.ensures.instance answers (length choices) choices c.in_ok-choices.ensures.written whole)
-
-pub returns : goal.returns
-returns c =
-    let X = c.args.inst.now in
-    let answers = c.args.answers.now in
-    let choices = c.in_ok-choices.choices.items in
     let Against = StandsAgainst c.args.objective X (Ranked c.args.count answers c.args.nodes.now) in
-    let whole : length answers ≤ length choices = subst (λ n. length answers ≤ n) (ap length c.as_slice-spelled.ensures.value) c.if-spelled-answers.false in
-    let written : AreWrittenAs X answers choices = read_whole c.args.objective X c.rows.ensures.instance answers (length choices) choices c.in_ok-choices.ensures.written whole in
-    IfOk-weaker c.values_verdict.result (Tells Against (WrongValue ∷ order_reasons)) (Tells Against claim_reasons)
-    (λ verdict told. goes_on Against (IsNoChoiceAt X answers) NotValid refl (WrongValue ∷ order_reasons) verdict (none_unread c.args.objective X c.rows.ensures.instance answers choices written) told)
-    c.values_verdict.ensures
+    stops_at Against (IsNoChoiceAt X answers) NotValid refl (WrongValue ∷ order_reasons) c.verdict_at_part.result (length answers) c.in-Some-2.unspelled (rw c.in-Some-2.is at c.in_ok-unspelled-in-Some.ensures) c.verdict_at_part.ensures
+
+pub returns-in-None : goal.returns-in-None
+returns-in-None c =
+    let X = c.args.inst.now in
+    let answers = c.args.answers.now in
+    let Against = StandsAgainst c.args.objective X (Ranked c.args.count answers c.args.nodes.now) in
+    let none = rw c.in-None.is at c.in_ok-place.ensures.first in
+    IfOk-weaker c.repeated_verdict.result (Tells Against order_reasons) (Tells Against claim_reasons)
+    (λ verdict told.
+    goes_on Against (IsNoChoiceAt X answers) NotValid refl (WrongValue ∷ order_reasons) verdict (none_unspelled c.args.objective X answers none)
+    (goes_on Against (IsWrongValueAt c.args.objective X answers) WrongValue refl order_reasons verdict (none_wrong c.args.objective X answers none) told))
+    c.repeated_verdict.ensures
+
+pub returns-in-None-2 : goal.returns-in-None-2
+returns-in-None-2 c =
+    let X = c.args.inst.now in
+    let answers = c.args.answers.now in
+    let Against = StandsAgainst c.args.objective X (Ranked c.args.count answers c.args.nodes.now) in
+    let spelled = rw c.in-None-2.is at c.in_ok-unspelled-in-Some.ensures in
+    let first = first_wrong c.args.objective X answers (length answers) c.in-Some.place (rw c.in-Some.is at c.in_ok-place.ensures.first) spelled in
+    let verdict = c.verdict_at_part-in-None-2.result in
+    goes_on Against (IsNoChoiceAt X answers) NotValid refl (WrongValue ∷ order_reasons) verdict spelled
+    (stops_at Against (IsWrongValueAt c.args.objective X answers) WrongValue refl order_reasons verdict (length answers) c.in-Some.place first c.verdict_at_part-in-None-2.ensures)

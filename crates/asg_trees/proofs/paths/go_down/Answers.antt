@@ -11,16 +11,16 @@ use Rattle.asg_trees.proofs.NodeFacts.{labels-from_node}
 use Rattle.asg_trees.proofs.TallyLemmas.{answer_within}
 use Rattle.asg_trees.proofs.paths.go_down.Goals as goal
 
-pub answer_at-choice-requires-clause-there : goal.answer_at-choice-requires-clause-there
-answer_at-choice-requires-clause-there g c =
+pub answer_at-requires-clause-there : goal.answer_at-requires-clause-there
+answer_at-requires-clause-there g c =
     let kind = c.args.kind.now in
     let T = tree_of (g.K.M.Ordered.monoid_of (g.K.Kind.monoid kind)) (g.K.M.DMonoid.difference (g.K.Kind.monoid kind)) (g.K.M.Written.word_of (g.K.Kind.monoid kind)) (g.K.Kind.entered kind) c.args.inst.now c.args.answers.now c.args.nodes.now in
     let place = (c.requires.places c.args.n (omega (arith, c.requires.from)) (omega arith)).below c.requires.from in
     subst (λ p. 1 ≤ answer_number (node_at c.args.nodes.now p).mark) (sym c.parent_of.ensures)
     (answer_within T (node_at c.args.nodes.now c.args.n).parent c.requires.parent place.answered).0
 
-pub answer_at-choice-requires-clause-given : goal.answer_at-choice-requires-clause-given
-answer_at-choice-requires-clause-given g c =
+pub answer_at-requires-clause-given : goal.answer_at-requires-clause-given
+answer_at-requires-clause-given g c =
     let kind = c.args.kind.now in
     let T = tree_of (g.K.M.Ordered.monoid_of (g.K.Kind.monoid kind)) (g.K.M.DMonoid.difference (g.K.Kind.monoid kind)) (g.K.M.Written.word_of (g.K.Kind.monoid kind)) (g.K.Kind.entered kind) c.args.inst.now c.args.answers.now c.args.nodes.now in
     let place = (c.requires.places c.args.n (omega (arith, c.requires.from)) (omega arith)).below c.requires.from in
@@ -43,8 +43,8 @@ lead_by-requires-clause-reduced g c =
     let T = tree_of (g.K.M.Ordered.monoid_of (g.K.Kind.monoid kind)) (g.K.M.DMonoid.difference (g.K.Kind.monoid kind)) (g.K.M.Written.word_of (g.K.Kind.monoid kind)) (g.K.Kind.entered kind) c.args.inst.now c.args.answers.now c.args.nodes.now in
     let s = c.requires.stands in
     let Q = c.args.reduced.now.now in
-    let mask = subst (λ f. IsMaskOf c.args.inst.now f (node_at c.args.nodes.now c.args.n).branch c.make_mask.new.kept) (c.answer_at-choice.ensures ∙ ap (node_answer c.args.answers.now c.args.nodes.now) c.parent_of.ensures)
-    (subst (λ i. IsMaskOf c.args.inst.now c.answer_at-choice.result.now i c.make_mask.new.kept) c.branch_of.ensures c.make_mask.ensures.mask) in
+    let mask = subst (λ f. IsMaskOf c.args.inst.now f (node_at c.args.nodes.now c.args.n).branch c.make_mask.new.kept) (c.in_ok-choice.ensures ∙ ap (node_answer c.args.answers.now c.args.nodes.now) c.parent_of.ensures)
+    (subst (λ i. IsMaskOf c.args.inst.now c.in_ok-choice.choice i c.make_mask.new.kept) c.branch_of.ensures c.make_mask.ensures.mask) in
     let t = taken_square T (g.met.K.M.Ordered.laws m) (g.K.M.Written.value_of m) (g.met.K.M.Written.word_laws m) c.args.n c.requires.from c.requires.places c.requires.sound Q c.take_out.new.square c.args.reduced.now.index c.make_mask.new.kept s mask c.take_out.ensures.labels c.take_out.ensures.cells in
     subst (λ n. IsReduced (g.K.M.Ordered.monoid_of n) (record { now = c.take_out.new.square; index = c.args.reduced.now.index })) (sym c.monoid.ensures)
     (record { cells = t.values; index = t.is_value })
@@ -56,8 +56,8 @@ lead_by-requires-clause-admitted g c =
     let T = tree_of (g.K.M.Ordered.monoid_of (g.K.Kind.monoid kind)) (g.K.M.DMonoid.difference (g.K.Kind.monoid kind)) (g.K.M.Written.word_of (g.K.Kind.monoid kind)) (g.K.Kind.entered kind) c.args.inst.now c.args.answers.now c.args.nodes.now in
     let s = c.requires.stands in
     let Q = c.args.reduced.now.now in
-    let mask = subst (λ f. IsMaskOf c.args.inst.now f (node_at c.args.nodes.now c.args.n).branch c.make_mask.new.kept) (c.answer_at-choice.ensures ∙ ap (node_answer c.args.answers.now c.args.nodes.now) c.parent_of.ensures)
-    (subst (λ i. IsMaskOf c.args.inst.now c.answer_at-choice.result.now i c.make_mask.new.kept) c.branch_of.ensures c.make_mask.ensures.mask) in
+    let mask = subst (λ f. IsMaskOf c.args.inst.now f (node_at c.args.nodes.now c.args.n).branch c.make_mask.new.kept) (c.in_ok-choice.ensures ∙ ap (node_answer c.args.answers.now c.args.nodes.now) c.parent_of.ensures)
+    (subst (λ i. IsMaskOf c.args.inst.now c.in_ok-choice.choice i c.make_mask.new.kept) c.branch_of.ensures c.make_mask.ensures.mask) in
     let t = taken_square T (g.met.K.M.Ordered.laws m) (g.K.M.Written.value_of m) (g.met.K.M.Written.word_laws m) c.args.n c.requires.from c.requires.places c.requires.sound Q c.take_out.new.square c.args.reduced.now.index c.make_mask.new.kept s mask c.take_out.ensures.labels c.take_out.ensures.cells in
     let R = c.take_out.new.square in
     let all = own_admitted T (g.met.K.M.Ordered.laws m) (g.K.M.Written.value_of m) (g.met.K.M.Written.word_laws m) c.args.n c.requires.from c.requires.places c.requires.sound R c.args.reduced.now.index t c.requires.answered in
@@ -71,8 +71,8 @@ returns-clause-stands g c =
     let T = tree_of (g.K.M.Ordered.monoid_of (g.K.Kind.monoid kind)) (g.K.M.DMonoid.difference (g.K.Kind.monoid kind)) (g.K.M.Written.word_of (g.K.Kind.monoid kind)) (g.K.Kind.entered kind) c.args.inst.now c.args.answers.now c.args.nodes.now in
     let s = c.requires.stands in
     let Q = c.args.reduced.now.now in
-    let mask = subst (λ f. IsMaskOf c.args.inst.now f (node_at c.args.nodes.now c.args.n).branch c.make_mask.new.kept) (c.answer_at-choice.ensures ∙ ap (node_answer c.args.answers.now c.args.nodes.now) c.parent_of.ensures)
-    (subst (λ i. IsMaskOf c.args.inst.now c.answer_at-choice.result.now i c.make_mask.new.kept) c.branch_of.ensures c.make_mask.ensures.mask) in
+    let mask = subst (λ f. IsMaskOf c.args.inst.now f (node_at c.args.nodes.now c.args.n).branch c.make_mask.new.kept) (c.in_ok-choice.ensures ∙ ap (node_answer c.args.answers.now c.args.nodes.now) c.parent_of.ensures)
+    (subst (λ i. IsMaskOf c.args.inst.now c.in_ok-choice.choice i c.make_mask.new.kept) c.branch_of.ensures c.make_mask.ensures.mask) in
     let t = taken_square T (g.met.K.M.Ordered.laws m) (g.K.M.Written.value_of m) (g.met.K.M.Written.word_laws m) c.args.n c.requires.from c.requires.places c.requires.sound Q c.take_out.new.square c.args.reduced.now.index c.make_mask.new.kept s mask c.take_out.ensures.labels c.take_out.ensures.cells in
     let before : Reduced _ = record { now = c.take_out.new.square; index = c.args.reduced.now.index } in
     let after = c.lead_by.new.reduced in

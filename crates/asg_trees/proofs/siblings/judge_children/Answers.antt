@@ -4,14 +4,14 @@ use Rattle.asg_trees.proofs.NodeFacts.{labels-from_node}
 use Rattle.asg_trees.proofs.TallyLemmas.{answer_over, answer_within}
 use Rattle.asg_trees.proofs.siblings.judge_children.Goals as goal
 
-pub answer_at-choice-requires-clause-there : goal.answer_at-choice-requires-clause-there
-answer_at-choice-requires-clause-there g c =
+pub answer_at-requires-clause-there : goal.answer_at-requires-clause-there
+answer_at-requires-clause-there g c =
     let kind = c.args.kind.now in
     let T = tree_of (g.K.M.Ordered.monoid_of (g.K.Kind.monoid kind)) (g.K.M.DMonoid.difference (g.K.Kind.monoid kind)) (g.K.M.Written.word_of (g.K.Kind.monoid kind)) (g.K.Kind.entered kind) c.args.inst.now c.args.answers.now c.args.nodes.now in
     (answer_within T c.args.parent c.requires.sound c.requires.answered).0
 
-pub answer_at-choice-requires-clause-given : goal.answer_at-choice-requires-clause-given
-answer_at-choice-requires-clause-given g c =
+pub answer_at-requires-clause-given : goal.answer_at-requires-clause-given
+answer_at-requires-clause-given g c =
     let kind = c.args.kind.now in
     let T = tree_of (g.K.M.Ordered.monoid_of (g.K.Kind.monoid kind)) (g.K.M.DMonoid.difference (g.K.Kind.monoid kind)) (g.K.M.Written.word_of (g.K.Kind.monoid kind)) (g.K.Kind.entered kind) c.args.inst.now c.args.answers.now c.args.nodes.now in
     (answer_within T c.args.parent c.requires.sound c.requires.answered).1
@@ -24,10 +24,10 @@ pub make_mask-requires-clause-choice : goal.make_mask-requires-clause-choice
 make_mask-requires-clause-choice g c =
     let kind = c.args.kind.now in
     let T = tree_of (g.K.M.Ordered.monoid_of (g.K.Kind.monoid kind)) (g.K.M.DMonoid.difference (g.K.Kind.monoid kind)) (g.K.M.Written.word_of (g.K.Kind.monoid kind)) (g.K.Kind.entered kind) c.args.inst.now c.args.answers.now c.args.nodes.now in
-    ap (λ (f : List (Option ℕ)). length f) c.answer_at-choice.ensures ∙ answer_over T c.requires.tree c.args.parent c.requires.sound c.requires.answered
+    ap (λ (f : List (Option ℕ)). length f) c.in_ok-choice.ensures ∙ answer_over T c.requires.tree c.args.parent c.requires.sound c.requires.answered
 
 pub judge_members-requires-clause-over : goal.judge_members-requires-clause-over
 judge_members-requires-clause-over g c =
     let kind = c.args.kind.now in
     let T = tree_of (g.K.M.Ordered.monoid_of (g.K.Kind.monoid kind)) (g.K.M.DMonoid.difference (g.K.Kind.monoid kind)) (g.K.M.Written.word_of (g.K.Kind.monoid kind)) (g.K.Kind.entered kind) c.args.inst.now c.args.answers.now c.args.nodes.now in
-    ap (λ (f : List (Option ℕ)). length f) c.answer_at-choice.ensures ∙ answer_over T c.requires.tree c.args.parent c.requires.sound c.requires.answered
+    ap (λ (f : List (Option ℕ)). length f) c.in_ok-choice.ensures ∙ answer_over T c.requires.tree c.args.parent c.requires.sound c.requires.answered

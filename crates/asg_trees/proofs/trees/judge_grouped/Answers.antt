@@ -7,8 +7,8 @@ use Rattle.asg_trees.specs.Trees.{tree_of}
 use Rattle.asg_trees.proofs.TallyLemmas.{told}
 use Rattle.asg_trees.proofs.trees.judge_grouped.Goals as goal
 
-pub last_product-last-requires-clause-near : goal.last_product-last-requires-clause-near
-last_product-last-requires-clause-near g c = lies_within (g.K.Kind.reach c.args.kind.now) c.args.inst.now c.requires.reach c.rows.ensures.instance
+pub last_product-requires-clause-near : goal.last_product-requires-clause-near
+last_product-requires-clause-near g c = lies_within (g.K.Kind.reach c.args.kind.now) c.args.inst.now c.requires.reach c.rows.ensures.instance
 
 pub tally_nodes-requires-clause-tree : goal.tally_nodes-requires-clause-tree
 tally_nodes-requires-clause-tree g c =
@@ -24,7 +24,7 @@ tally_nodes-requires-clause-tree g c =
     }
 
 pub tally_nodes-requires-clause-last : goal.tally_nodes-requires-clause-last
-tally_nodes-requires-clause-last g c = c.last_product-last.ensures c.args.nodes.now
+tally_nodes-requires-clause-last g c = c.in_ok-last.ensures c.args.nodes.now
 
 pub returns : goal.returns
 returns g c =

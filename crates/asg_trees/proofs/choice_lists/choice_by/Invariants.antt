@@ -1,0 +1,8 @@
+use Rattle.std.proofs.Common.{◌≡◌, ℕ, ◌<◌, Option, length, get_or}
+use Rattle.asg_trees.specs.ChoiceLists.{chosen_by}
+use Rattle.asg_trees.proofs.choice_lists.choice_by.Given as goal
+
+-- the rows so far choose what their numbers say
+abbrev pub invariant-loop-row : goal.invariant-loop-row
+invariant-loop-row l = (length l.choice ≡ length l.numbers)
+    × ((r : ℕ) (d : Option ℕ) → r < l.row → get_or l.choice r d ≡ chosen_by (get_or l.numbers r 0))

@@ -140,8 +140,8 @@ fn sum_text(alloc: Global, objective: Objective, inst: &Instance) -> Result<Opti
 }
 
 /// The brief line of a best choice, where one is found by the costs as they stand, without phases:
-/// for `sum` and `sum-max`, mostly where all rows take columns of their own and no cell is absent.
-/// `None` tells nothing. The error is want of memory.
+/// for `sum` and `sum-max`, mostly where all rows are active, all columns open and no cell is
+/// absent. `None` tells nothing. The error is want of memory.
 pub fn table_text(
     alloc: Global,
     objective: Objective,

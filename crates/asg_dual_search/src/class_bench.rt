@@ -3,7 +3,6 @@
 ghost use Rattle.std.specs.Prelude.{◌≡◌, length};
 
 use crate::NoMemory;
-use crate::classes::Classes;
 use crate::numbers::Number;
 use crate::places::{NONE, at, mark, put};
 use crate::tables::{Table, padded};
@@ -113,16 +112,18 @@ fn all_free<N: Number>(alloc: Global, table: &Table<N>) -> Result<Vec<u64>, NoMe
 }
 
 impl<N: Number> ClassBench<N> {
-    // A bench over a table; no row has a class. The error is want of memory.
+    // A bench over a table of so many rows, whose classes have room for so many of them each; no
+    // row has a class. The error is want of memory.
     pub(crate) fn make(
         alloc: Global,
         table: &Table<N>,
-        classes: &Classes,
+        rows: usize,
+        rooms: &[u32],
     ) -> Result<ClassBench<N>, NoMemory> {
         let wide = table.wide;
         let free = all_free(alloc, table)?;
-        let rooms = Vec::from_slice(alloc, classes.rooms.as_slice())?;
-        let members = Members::make(alloc, classes.rows.len(), wide)?;
+        let rooms = Vec::from_slice(alloc, rooms)?;
+        let members = Members::make(alloc, rows, wide)?;
         let distances = Distances::make(alloc, wide)?;
         let standing = Standing::make(alloc, wide)?;
         Ok(ClassBench::of(free, rooms, members, distances, standing))

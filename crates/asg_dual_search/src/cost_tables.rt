@@ -4,6 +4,8 @@ ghost use Rattle.std.specs.Prelude.{◌≡◌, length};
 
 use crate::NoMemory;
 use crate::bench::Bench;
+use crate::class_bench::ClassBench;
+use crate::class_solving::place_rows;
 use crate::numbers::{Number, value};
 use crate::places::{at, put};
 use crate::solving::{solve, solve_few};
@@ -19,10 +21,8 @@ const MOST_WIDTH: u64 = 1 << 30;
 /// What the search of a table finds: nothing of it is tested.
 #[derive(Drop)]
 pub struct Lead {
-    /// The column of each row.
+    /// The column of each row; at a row that stays out a number past all columns.
     pub columns: Vec<u32>,
-    /// The row of each column; at a column that no row has a number past all rows.
-    pub rows: Vec<u32>,
     /// By how much each column may rise.
     pub rises: Vec<u32>,
 }
@@ -105,6 +105,16 @@ fn rises_of(
         put(rises.as_mut_slice(), column, rise as u32);
     }
     Ok(rises)
+}
+
+// Whether each column has room for one row.
+fn are_single(rooms: &[u32]) -> bool {
+    for place in 0..rooms.len() {
+        if rooms[place] != 1 {
+            return false;
+        }
+    }
+    true
 }
 
 // The first names of a list.
@@ -192,12 +202,11 @@ impl CostTable {
         };
         Ok(Lead {
             columns: first_names(alloc, bench.column_of.as_slice(), self.rows)?,
-            rows: first_names(alloc, bench.row_of.as_slice(), side)?,
             rises: rises_of(alloc, duals, side, greatest)?,
         })
     }
 
-    // Gives each row a column. Whether each has one.
+    // Gives each row a column of its own. Whether each has one.
     fn solve(&self, alloc: Global, bench: &mut Bench<i32>) -> Result<bool, NoMemory> {
         if self.rows == self.table.side {
             solve(alloc, bench, &self.table)
@@ -206,14 +215,8 @@ impl CostTable {
         }
     }
 
-    /// An assignment of the rows to columns of their own, of least or greatest sum, and by how much
-    /// columns may rise, so that the cells of no row are less than its own, or greater; `None`
-    /// where none was found. No clause says that it is so. The error is want of memory.
-    ///
-    /// The method is that of [`Search::next`].
-    ///
-    /// [`Search::next`]: crate::Search::next
-    pub fn search(&self, alloc: Global) -> Result<Option<Lead>, NoMemory> {
+    // Columns of their own for all rows.
+    fn apart(&self, alloc: Global) -> Result<Option<Lead>, NoMemory> {
         if self.rows > self.table.side {
             return Ok(None);
         }
@@ -223,5 +226,48 @@ impl CostTable {
         }
         let lead = self.lead_of(alloc, &bench)?;
         Ok(Some(lead))
+    }
+
+    // Columns for all rows but so many, where columns have rooms for several rows each.
+    fn together(
+        &self,
+        alloc: Global,
+        rooms: &[u32],
+        outside: usize,
+    ) -> Result<Option<Lead>, NoMemory> {
+        let mut bench = ClassBench::make(alloc, &self.table, self.rows, rooms)?;
+        if !place_rows(alloc, &mut bench, &self.table, outside)? {
+            return Ok(None);
+        }
+        let side = self.table.side;
+        let columns = first_names(alloc, bench.class_of.as_slice(), self.rows)?;
+        let rises = rises_of(alloc, bench.duals.as_slice(), side, 0)?;
+        Ok(Some(Lead { columns, rises }))
+    }
+
+    /// Columns for all rows but so many, of which each takes at most as many rows as its room, of
+    /// least or greatest sum, and by how much columns may rise, so that the cells of no row are
+    /// less than its own, or greater, and, where rows stay out, no cell of these is less than any
+    /// that is chosen, or greater; `None` where none were found. No clause says that it is so. The
+    /// error is want of memory.
+    ///
+    /// The method is that of [`Search::next`]. Where rows stay out and the costs are far from one
+    /// another, nothing is found.
+    ///
+    /// [`Search::next`]: crate::Search::next
+    pub fn search(
+        &self,
+        alloc: Global,
+        rooms: &[u32],
+        outside: usize,
+    ) -> Result<Option<Lead>, NoMemory> {
+        if rooms.len() != self.table.side || outside > 0 && !self.are_near {
+            return Ok(None);
+        }
+        if outside == 0 && are_single(rooms) {
+            self.apart(alloc)
+        } else {
+            self.together(alloc, rooms, outside)
+        }
     }
 }

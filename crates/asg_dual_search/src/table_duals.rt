@@ -137,7 +137,8 @@ fn found_by_class<N: Number>(
     table: &Table<N>,
     leasts: &[u64],
 ) -> Result<Option<Found>, NoMemory> {
-    let mut bench = ClassBench::make(alloc, table, classes)?;
+    let rooms = classes.rooms.as_slice();
+    let mut bench = ClassBench::make(alloc, table, classes.rows.len(), rooms)?;
     if place_rows(alloc, &mut bench, table, classes.outside)? {
         found_on_class_bench(alloc, side, classes, table, leasts, &bench)
     } else {

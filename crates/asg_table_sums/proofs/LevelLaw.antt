@@ -1,6 +1,6 @@
 -- A level choice is best.
-use Rattle.std.proofs.Common.{◌≡◌, ◌⊎◌, ℕ, ◌+◌, ◌<◌, ◌≤◌, ◌^◌, min, true, false, List, length, map, get_or, refl, sym, ap, ◌∙◌, subst, inl, inr, ⊎_elim, arith}
-use Rattle.std.specs.Prelude.{Option, Some, None, IfSome, sum, sum_by, count_by, slice_index_or, IsTrue}
+use Rattle.std.proofs.Common.{◌≡◌, ◌⊎◌, ℕ, ◌+◌, ◌<◌, ◌≤◌, min, true, false, List, length, map, get_or, ◌*◌, refl, sym, ap, ◌∙◌, inl, inr, ⊎_elim, arith}
+use Rattle.std.specs.Prelude.{Option, Some, None, IfSome, is_some, sum_by, count_by}
 use Rattle.std.proofs.lemmas.Bool.{cases_lt}
 use Rattle.std.proofs.lemmas.Bool.Decides.{nat_tests}
 use Rattle.std.proofs.lemmas.List.{get_or_past}
@@ -25,12 +25,12 @@ use Rattle.asg_monoids.specs.NarrowObjectives.{is_narrow_objective}
 use Rattle.asg_monoids.specs.laws.SumFolds.{bounded_fold}
 use Rattle.asg_monoids.specs.laws.SumOrders.{sums_keep_order}
 use Rattle.asg_order.specs.Bridge.{choice_fold}
-use Rattle.asg_order.specs.Monoid.{IsLess, fold_of}
+use Rattle.asg_order.specs.Monoid.{IsLess}
 use Rattle.asg_order.specs.laws.ChosenCosts.{Bridges-from_KeepsOrder}
 use Rattle.asg_proof.specs.laws.LiveCosts.{lies_within}
-use Rattle.asg_table_sums.specs.Level.{rise_at, IsLevel}
+use Rattle.asg_table_sums.specs.Level.{rise_at, IsRowLevel, IsLevel}
 use Rattle.asg_table_sums.proofs.TakenSums.{taken, taken-le}
-use Rattle.asg_table_sums.proofs.RowSums.{known, chosen, row_sums, column_sums}
+use Rattle.asg_table_sums.proofs.RowSums.{Chosen, Out, row_of, entered, level_of_out, out_sum, row_sums, column_sums}
 
 is_sum : (objective : Objective) → is_narrow_objective objective ≡ true → is_sum_objective objective ≡ true
 is_sum Sum e = refl
@@ -50,30 +50,58 @@ passes objective X e r c = each (live_at X r c)
     each None = tt
     each (Some cost) = never_refused objective e cost
 
-module _ (objective : Objective) (X : Problem) (f : List (Option ℕ)) (rises : List ℕ) (level : IsLevel objective X f rises) (g : List (Option ℕ)) (valid : IsValid X g) where
+module _ (objective : Objective) (X : Problem) (f : List (Option ℕ)) (rises : List ℕ) (level : ℕ) (is_level : IsLevel objective X f rises level) (g : List (Option ℕ)) (valid : IsValid X g) where
   abbrev enter : Cost → ℕ
   enter = sum_entered objective
 
   abbrev rise : Option ℕ → ℕ
   rise = taken (rise_at rises)
 
-  -- row by row, the cell of the level choice is the lesser once the columns have risen
-  row_le : (r : ℕ) → r < length X.rows → enter (known (chosen_cost X f r)) + rise (get_or f r None) ≤ enter (known (chosen_cost X g r)) + rise (get_or g r None)
-  row_le r h =
-      let own = chosen X f level.whole level.valid r h in
-      let other = chosen X g level.whole valid r h in
-      let le = level.rows r (omega (arith, h, level.valid.over)) own.column own.chooses other.column own.cost other.cost own.live other.live in
-      let own_cost : enter (known (chosen_cost X f r)) ≡ enter own.cost = ap (λ o. enter (known o)) own.is_cost in
-      let own_rise : rise (get_or f r None) ≡ rise_at rises own.column = ap rise own.is_column in
-      let other_cost : enter (known (chosen_cost X g r)) ≡ enter other.cost = ap (λ o. enter (known o)) other.is_cost in
-      let other_rise : rise (get_or g r None) ≡ rise_at rises other.column = ap rise other.is_column in
-      omega (arith, le, own_cost, own_rise, other_cost, other_rise)
+  abbrev left : Option ℕ → ℕ
+  left = level_of_out level
+
+  -- what a choice has of a row: its cell once the columns have risen, or the level where it stays out
+  abbrev term : List (Option ℕ) → ℕ → ℕ
+  term h r = entered enter (chosen_cost X h r) + (rise (get_or h r None) + left (get_or h r None))
+
+  term_chosen : (h : List (Option ℕ)) (r : ℕ) (it : Chosen X h r) → term h r ≡ enter it.cost + rise_at rises it.column
+  term_chosen h r it =
+      let cost : entered enter (chosen_cost X h r) ≡ enter it.cost = ap (entered enter) it.is_cost in
+      let by_rise : rise (get_or h r None) ≡ rise_at rises it.column = ap rise it.is_column in
+      let none : left (get_or h r None) ≡ 0 = ap left it.is_column in
+      omega (arith, cost, by_rise, none)
+
+  term_out : (h : List (Option ℕ)) (r : ℕ) → Out X h r → term h r ≡ level
+  term_out h r it =
+      let cost : entered enter (chosen_cost X h r) ≡ 0 = ap (entered enter) it.no_cost in
+      let by_rise : rise (get_or h r None) ≡ 0 = ap rise it.no_column in
+      let whole : left (get_or h r None) ≡ level = ap left it.no_column in
+      omega (arith, cost, by_rise, whole)
+
+  -- row by row, the level choice has the lesser
+  row_le : (r : ℕ) → r < length X.rows → term f r ≤ term g r
+  row_le r h = by (row_of X f is_level.valid r h) (row_of X g valid r h)
+    where
+      at : IsRowLevel objective X f rises level r
+      at = is_level.rows r (omega (arith, h, is_level.valid.over))
+
+      by : Chosen X f r ⊎ Out X f r → Chosen X g r ⊎ Out X g r → term f r ≤ term g r
+      by (inl own) (inl other) =
+          let le = at.least own.column own.chooses other.column own.cost other.cost own.live other.live in
+          omega (arith, le, term_chosen f r own, term_chosen g r other)
+      by (inl own) (inr other) =
+          let le = at.under own.column own.chooses own.cost own.live in
+          omega (arith, le, term_chosen f r own, term_out g r other)
+      by (inr own) (inl other) =
+          let le = at.over own.chooses_none other.column other.cost other.live in
+          omega (arith, le, term_out f r own, term_chosen g r other)
+      by (inr own) (inr other) = omega (arith, term_out f r own, term_out g r other)
 
   -- it fills each column that rises
   as_full : (c : ℕ) → (rise_at rises c ≡ 0) ⊎ (count_by (takes c) g ≤ count_by (takes c) f)
   as_full c =
       ⊎_elim
-      (λ (there : c < length rises). by_fullness (level.full c there).still_or_full)
+      (λ (there : c < length rises). by_fullness (is_level.full c there).still_or_full)
       (λ (past : length rises ≤ c). inl (get_or_past rises c 0 past))
       (cases_lt c (length rises))
     where
@@ -84,23 +112,37 @@ module _ (objective : Objective) (X : Problem) (f : List (Option ℕ)) (rises : 
   past : (c : ℕ) → length rises ≤ c → rise_at rises c ≡ 0
   past c h = get_or_past rises c 0 h
 
+  -- what a choice has of all rows
+  term_sum : (h : List (Option ℕ)) → IsValid X h → sum_below (term h) (length X.rows) ≡ sum_by enter (costs_of X h) + (sum_by rise h + sum_by left h)
+  term_sum h is_valid =
+      let n = length X.rows in
+      let cost : ℕ → ℕ = λ r. entered enter (chosen_cost X h r) in
+      let by_rise : ℕ → ℕ = λ r. rise (get_or h r None) in
+      let out : ℕ → ℕ = λ r. left (get_or h r None) in
+      let both = sum_below-add cost (λ r. by_rise r + out r) n in
+      let rest = sum_below-add by_rise out n in
+      let costs = row_sums X h is_valid enter in
+      let columns = column_sums X h is_valid rise in
+      let outs = column_sums X h is_valid left in
+      omega (arith, both, rest, costs, columns, outs)
+
+  -- as many rows stay out
+  out_same : sum_by left f ≡ sum_by left g
+  out_same =
+      let own = out_sum level f in
+      let other = out_sum level g in
+      let count : level * count_by is_some f ≡ level * count_by is_some g = ap (λ k. level * k) (is_level.valid.counted ∙ sym valid.counted) in
+      let all : level * length f ≡ level * length g = ap (λ k. level * k) (is_level.valid.over ∙ sym valid.over) in
+      omega (arith, own, other, count, all)
+
   -- so its sum is no more than any other
   pub sum_le : sum_by enter (costs_of X f) ≤ sum_by enter (costs_of X g)
   sum_le =
-      let n = length X.rows in
-      let own : ℕ → ℕ = λ r. enter (known (chosen_cost X f r)) in
-      let other : ℕ → ℕ = λ r. enter (known (chosen_cost X g r)) in
-      let own_rise : ℕ → ℕ = λ r. rise (get_or f r None) in
-      let other_rise : ℕ → ℕ = λ r. rise (get_or g r None) in
-      let le : sum_below (λ r. own r + own_rise r) n ≤ sum_below (λ r. other r + other_rise r) n = sum_below-le (λ r. own r + own_rise r) (λ r. other r + other_rise r) n row_le in
-      let own_both = sum_below-add own own_rise n in
-      let other_both = sum_below-add other other_rise n in
+      let le = sum_below-le (term f) (term g) (length X.rows) row_le in
       let taken_le = taken-le (rise_at rises) (length rises) past f g as_full in
-      let own_rows = row_sums X f level.whole level.valid enter in
-      let other_rows = row_sums X g level.whole valid enter in
-      let own_columns = column_sums X f level.whole level.valid rise in
-      let other_columns = column_sums X g level.whole valid rise in
-      omega (arith, le, own_both, other_both, taken_le, own_rows, other_rows, own_columns, other_columns)
+      let own = term_sum f is_level.valid in
+      let other = term_sum g valid in
+      omega (arith, le, taken_le, own, other, out_same)
 
   -- and no other is better
   pub none_better : is_narrow_objective objective ≡ true → IsInstance X → ¬ IsBetter objective (choice_value objective X g) (choice_value objective X f)
@@ -109,7 +151,7 @@ module _ (objective : Objective) (X : Problem) (f : List (Option ℕ)) (rises : 
       let top = top_of objective in
       let less : IsLess (bounded_sums top) (choice_fold (bounded_sums top) enter X g) (choice_fold (bounded_sums top) enter X f) =
       (Bridges-from_KeepsOrder (bounded_sums top) enter objective cost_reach (sums_keep_order objective sums) X g f instance.well_formed.few_rows
-      (lies_within cost_reach X (let reach : cost_reach ≤ cost_reach = omega arith in reach) instance) (passes objective X narrow) valid level.valid).0 better in
+      (lies_within cost_reach X (let reach : cost_reach ≤ cost_reach = omega arith in reach) instance) (passes objective X narrow) valid is_level.valid).0 better in
       let of_g : choice_fold (bounded_sums top) enter X g ≡ min (sum_by enter (costs_of X g)) top = bounded_fold top (map enter (costs_of X g)) ∙ ap (λ s. min s top) (sum-map enter (costs_of X g)) in
       let of_f : choice_fold (bounded_sums top) enter X f ≡ min (sum_by enter (costs_of X f)) top = bounded_fold top (map enter (costs_of X f)) ∙ ap (λ s. min s top) (sum-map enter (costs_of X f)) in
       below (choice_fold (bounded_sums top) enter X g) (choice_fold (bounded_sums top) enter X f) (sum_by enter (costs_of X g)) (sum_by enter (costs_of X f)) top of_g of_f sum_le less
@@ -117,8 +159,8 @@ module _ (objective : Objective) (X : Problem) (f : List (Option ℕ)) (rises : 
       below : (x y s t top : ℕ) → x ≡ min s top → y ≡ min t top → t ≤ s → IsLess (bounded_sums top) x y → ⊥
       below x y s t top ex ey le less = grind (arith, nat_tests)
 
-pub level_is_best : (objective : Objective) (X : Problem) (f : List (Option ℕ)) (rises : List ℕ) → is_narrow_objective objective ≡ true → IsInstance X → IsLevel objective X f rises → IsBest objective X f
-level_is_best objective X f rises narrow instance level = record {
-  valid = level.valid;
-  none_better = λ g valid. none_better objective X f rises level g valid narrow instance;
+pub level_is_best : (objective : Objective) (X : Problem) (f : List (Option ℕ)) (rises : List ℕ) (level : ℕ) → is_narrow_objective objective ≡ true → IsInstance X → IsLevel objective X f rises level → IsBest objective X f
+level_is_best objective X f rises level narrow instance is_level = record {
+  valid = is_level.valid;
+  none_better = λ g valid. none_better objective X f rises level is_level g valid narrow instance;
 }

@@ -3,3 +3,4 @@ mod RowSums
 mod LevelLaw
 mod RowCosts
 mod FullColumns
+mod RowLevels

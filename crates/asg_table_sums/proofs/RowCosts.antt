@@ -1,6 +1,6 @@
 -- The costs of a row as they stand in its table, and what they enter as.
-use Rattle.std.proofs.Common.{◌≡◌, ℕ, ◌+◌, ◌<◌, ◌≤◌, Bool, true, false, cond, ◌&&◌, List, length, refl, sym, ap, ◌∙◌, subst, arith, ⊎_elim, ℤ, pos, ◌+ℤ◌, ◌-ℤ◌}
-use Rattle.std.specs.Prelude.{Option, Some, None, IfSome, slice_index_or, slice_get, unsigned_abs, ◌≤ℤ◌}
+use Rattle.std.proofs.Common.{◌≡◌, ℕ, ◌+◌, ◌<◌, ◌≤◌, Bool, true, false, cond, ◌&&◌, List, length, refl, sym, ap, ◌∙◌, subst, arith, ⊎_elim, ℤ, pos, negsuc, ◌+ℤ◌, ◌-ℤ◌}
+use Rattle.std.specs.Prelude.{Option, Some, None, IfSome, slice_index_or, unsigned_abs, ◌≤ℤ◌}
 use Rattle.std.specs.Option.{option_map_or}
 use Rattle.std.specs.Ordering.{int_eq}
 use Rattle.std.proofs.lemmas.Bool.{and_parts, cases_lt, false≢true}
@@ -60,3 +60,30 @@ module _ (X : Problem) (instance : IsInstance X) (r : ℕ) (firsts seconds : Lis
       let nx = near X instance r d x own in
       let ny = near X instance r c y other in
       omega (arith, ints, le, ex, ey, nx, ny)
+
+module _ (X : Problem) (instance : IsInstance X) (r : ℕ) (firsts seconds : List ℤ) (parts : AreRowParts X r firsts seconds) (c : ℕ) (x : Cost) (live : live_at X r c ≡ Some x) (k : ℕ) (top : ℤ) (low : negsuc 999999999 ≤ℤ top) where
+  -- a cost that is at most a top is so as it enters
+  pub shifted_under : (slice_index_or firsts c absent +ℤ pos k) ≤ℤ top → shifted x.a + k ≤ shifted top
+  shifted_under le =
+      let ex = first_is X r firsts seconds parts c x live in
+      let nx = near X instance r c x live in
+      omega (arith, ints, le, low, ex, nx)
+
+  pub turned_under : (pos k -ℤ slice_index_or firsts c absent) ≤ℤ top → turned x.a + k ≤ shifted top
+  turned_under le =
+      let ex = first_is X r firsts seconds parts c x live in
+      let nx = near X instance r c x live in
+      omega (arith, ints, le, low, ex, nx)
+
+  -- a cost that is at least a top is so as it enters
+  pub shifted_over : top ≤ℤ (slice_index_or firsts c absent +ℤ pos k) → shifted top ≤ shifted x.a + k
+  shifted_over le =
+      let ex = first_is X r firsts seconds parts c x live in
+      let nx = near X instance r c x live in
+      omega (arith, ints, le, low, ex, nx)
+
+  pub turned_over : top ≤ℤ (pos k -ℤ slice_index_or firsts c absent) → shifted top ≤ turned x.a + k
+  turned_over le =
+      let ex = first_is X r firsts seconds parts c x live in
+      let nx = near X instance r c x live in
+      omega (arith, ints, le, low, ex, nx)

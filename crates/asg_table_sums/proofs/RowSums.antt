@@ -1,39 +1,18 @@
--- The sum of the costs of a valid choice that places all rows, row by row.
-use Rattle.std.proofs.Common.{◌≡◌, ℕ, zero, suc, ◌+◌, ◌<◌, ◌≤◌, Bool, true, false, cond, List, [], ◌∷◌, length, map, refl, sym, ap, ◌∙◌, arith, get_or, zero-add}
-use Rattle.std.specs.Prelude.{Option, Some, None, IsSome, is_some, sum_by, count_by, slice_get, option_and_then, pos}
+-- The sum of the costs of a valid choice, row by row.
+use Rattle.std.proofs.Common.{◌≡◌, ◌⊎◌, ℕ, zero, suc, ◌+◌, ◌*◌, ◌<◌, cond, List, [], ◌∷◌, length, refl, ap, ◌∙◌, inl, inr, arith, get_or, mul-add}
+use Rattle.std.specs.Prelude.{Option, Some, None, IsSome, is_some, sum_by, count_by, slice_get, filter_map, option_and_then, option_to_list}
 use Rattle.std.specs.List.{range_with_len}
-use Rattle.std.proofs.lemmas.List.Sums.{sum_by-cons, count_by-le-length}
-use Rattle.std.proofs.lemmas.List.FromFn.{sum_by-map-range_with_len_more}
-use Rattle.std.proofs.lemmas.Option.{get_or_from_slice_get}
+use Rattle.std.specs.Option.{option_map_or}
+use Rattle.std.proofs.lemmas.List.Sums.{sum_by-cons, sum_by-append}
+use Rattle.std.proofs.lemmas.Option.{slice_get-get_or}
 use Rattle.asg_model.specs.declared.parts.Cost.{Cost}
-use Rattle.asg_model.specs.Counts.{placed}
 use Rattle.asg_model.specs.Live.{live_at}
 use Rattle.asg_model.specs.Problem.{Problem}
 use Rattle.asg_model.specs.Sums.{sum_below}
 use Rattle.asg_model.specs.ValidChoice.{Chooses, IsValid}
 use Rattle.asg_model.specs.Values.{chosen_cost, costs_of}
 use Rattle.asg_model.specs.laws.Counting.{sum_by-below}
-use Rattle.asg_model.specs.laws.Listing.{all_there}
-
--- where all choose, each does
-all_choose : (f : List (Option ℕ)) → count_by is_some f ≡ length f → (r : ℕ) → r < length f → (c : ℕ) × Chooses f r c
-all_choose [] e r h = absurd (omega arith)
-all_choose (None ∷ f) e r h =
-    let step = sum_by-cons (λ x. cond (is_some x) 1 0) (the None) f in
-    let le = count_by-le-length is_some f in
-    absurd (omega (arith, step, le, e))
-  where
-    the : Option ℕ → Option ℕ
-    the o = o
-all_choose (Some c ∷ f) e zero h = (c, refl)
-all_choose (Some c ∷ f) e (suc r) h =
-    let step = sum_by-cons (λ x. cond (is_some x) 1 0) (Some c) f in
-    all_choose f (omega (arith, step, e)) r (omega arith)
-
--- a cost, where there is one
-abbrev pub known : Option Cost → Cost
-known None = record { a = pos 0; b = pos 0 }
-known (Some x) = x
+use Rattle.asg_model.specs.laws.Listing.{filter_map-range_more}
 
 -- what a row chooses: a column, with its cost
 pub record Chosen (X : Problem) (f : List (Option ℕ)) (r : ℕ) : Type 0 where
@@ -44,46 +23,86 @@ pub record Chosen (X : Problem) (f : List (Option ℕ)) (r : ℕ) : Type 0 where
   pub is_cost : chosen_cost X f r ≡ Some cost
   pub is_column : get_or f r None ≡ Some column
 
+-- a row that stays out
+pub record Out (X : Problem) (f : List (Option ℕ)) (r : ℕ) : Type 0 where
+  pub chooses_none : slice_get f r ≡ Some None
+  pub no_cost : chosen_cost X f r ≡ None
+  pub no_column : get_or f r None ≡ None
+
 there : {A : Type 0} (o : Option A) → IsSome o → (x : A) × (o ≡ Some x)
 there None h = absurd (cc)
 there (Some x) h = (x, refl)
 
-module _ (X : Problem) (f : List (Option ℕ)) (whole : placed X ≡ length X.rows) (valid : IsValid X f) where
-  pub chosen : (r : ℕ) → r < length X.rows → Chosen X f r
-  chosen r h =
-      let column = all_choose f (valid.counted ∙ whole ∙ sym valid.over) r (omega (arith, valid.over, h)) in
-      let cost = there (live_at X r column.0) (valid.alive r column.0 column.1) in
-      record {
-        column = column.0;
-        cost = cost.0;
-        chooses = column.1;
-        live = cost.1;
-        is_cost = ap (option_and_then (λ chosen. option_and_then (live_at X r) chosen)) column.1 ∙ cost.1;
-        is_column = get_or_from_slice_get f r (Some column.0) None column.1;
-      }
+module _ (X : Problem) (f : List (Option ℕ)) (valid : IsValid X f) where
+  -- each row chooses, or stays out
+  pub row_of : (r : ℕ) → r < length X.rows → Chosen X f r ⊎ Out X f r
+  row_of r h = by (get_or f r None) refl
+    where
+      by : (o : Option ℕ) → get_or f r None ≡ o → Chosen X f r ⊎ Out X f r
+      by None e =
+          let at : slice_get f r ≡ Some None = slice_get-get_or f r None (omega (arith, valid.over, h)) ∙ ap Some e in
+          inr (record {
+            chooses_none = at;
+            no_cost = ap (option_and_then (λ chosen. option_and_then (live_at X r) chosen)) at;
+            no_column = e;
+          })
+      by (Some c) e =
+          let at : slice_get f r ≡ Some (Some c) = slice_get-get_or f r None (omega (arith, valid.over, h)) ∙ ap Some e in
+          let cost = there (live_at X r c) (valid.alive r c at) in
+          inl (record {
+            column = c;
+            cost = cost.0;
+            chooses = at;
+            live = cost.1;
+            is_cost = ap (option_and_then (λ chosen. option_and_then (live_at X r) chosen)) at ∙ cost.1;
+            is_column = e;
+          })
 
-  abbrev cost_of : ℕ → Cost
-  cost_of r = known (chosen_cost X f r)
+-- what the cost of a row enters as, 0 where there is none
+abbrev pub entered : (Cost → ℕ) → Option Cost → ℕ
+entered enter o = option_map_or enter o 0
 
-  is_known : (o : Option Cost) (x : Cost) → o ≡ Some x → o ≡ Some (known o)
-  is_known o x e = e ∙ ap Some (ap known (sym e))
+one_cost : (enter : Cost → ℕ) (o : Option Cost) → sum_by enter (option_to_list o) ≡ entered enter o
+one_cost enter None = refl
+one_cost enter (Some x) = let step = sum_by-cons enter x [] in omega (arith, step)
 
-  costs_are : costs_of X f ≡ map cost_of (range_with_len 0 (length f))
-  costs_are = all_there (chosen_cost X f) cost_of 0 (length f) (λ r from below.
-      let it = chosen r (omega (arith, valid.over, below)) in is_known (chosen_cost X f r) it.cost it.is_cost)
+range_sum : (h : ℕ → Option Cost) (enter : Cost → ℕ) (n : ℕ) → sum_by enter (filter_map h (range_with_len 0 n)) ≡ sum_below (λ r. entered enter (h r)) n
+range_sum h enter zero = refl
+range_sum h enter (suc n) =
+    let same : sum_by enter (filter_map h (range_with_len 0 (suc n))) ≡ sum_by enter (filter_map h (range_with_len 0 (n + 1))) = ap (λ k. sum_by enter (filter_map h (range_with_len 0 k))) (let k : suc n ≡ n + 1 = omega arith in k) in
+    let more = ap (sum_by enter) (filter_map-range_more h n) in
+    let both = sum_by-append enter (filter_map h (range_with_len 0 n)) (option_to_list (h n)) in
+    let last = one_cost enter (h n) in
+    let rest = range_sum h enter n in
+    omega (arith, same, more, both, last, rest)
 
-  range_sum : (enter : Cost → ℕ) (n : ℕ) → sum_by enter (map cost_of (range_with_len 0 n)) ≡ sum_below (λ r. enter (cost_of r)) n
-  range_sum enter zero = refl
-  range_sum enter (suc n) =
-      let more = sum_by-map-range_with_len_more enter cost_of 0 n n (zero-add n) in
-      let rest = range_sum enter n in
-      let same : sum_by enter (map cost_of (range_with_len 0 (suc n))) ≡ sum_by enter (map cost_of (range_with_len 0 (n + 1))) = ap (λ k. sum_by enter (map cost_of (range_with_len 0 k))) (let k : suc n ≡ n + 1 = omega arith in k) in
-      omega (arith, more, rest, same)
+-- a level for a row that stays out, else 0
+abbrev pub level_of_out : ℕ → Option ℕ → ℕ
+level_of_out level o = cond (is_some o) 0 level
 
+-- the levels of the rows that stay out
+pub out_sum : (level : ℕ) (f : List (Option ℕ)) → sum_by (level_of_out level) f + level * count_by is_some f ≡ level * length f
+out_sum level [] =
+    let none : level * 0 ≡ 0 = omega arith in
+    let all : 0 + level * 0 ≡ level * 0 = omega (arith, none) in
+    all
+out_sum level (o ∷ f) =
+    let first = sum_by-cons (level_of_out level) o f in
+    let count = ap (λ k. level * k) (sum_by-cons (λ x. cond (is_some x) 1 0) o f) in
+    let rest = out_sum level f in
+    let row = one_row o in
+    let split : level * (cond (is_some o) 1 0 + count_by is_some f) ≡ level * cond (is_some o) 1 0 + level * count_by is_some f = mul-add level (cond (is_some o) 1 0) (count_by is_some f) in
+    let all : level * length (o ∷ f) ≡ level + level * length f = ap (λ k. level * k) (let k : length (o ∷ f) ≡ 1 + length f = omega arith in k) ∙ mul-add level 1 (length f) ∙ ap (λ k. k + level * length f) (let k : level * 1 ≡ level = omega arith in k) in
+    omega (arith, first, count, rest, row, split, all)
+  where
+    one_row : (o : Option ℕ) → level_of_out level o + level * cond (is_some o) 1 0 ≡ level
+    one_row None = omega arith
+    one_row (Some c) = omega arith
+
+module _ (X : Problem) (f : List (Option ℕ)) (valid : IsValid X f) where
   -- the entered costs of its cells, added up row by row
-  pub row_sums : (enter : Cost → ℕ) → sum_by enter (costs_of X f) ≡ sum_below (λ r. enter (cost_of r)) (length X.rows)
-  row_sums enter =
-      ap (sum_by enter) costs_are ∙ range_sum enter (length f) ∙ ap (sum_below (λ r. enter (cost_of r))) valid.over
+  pub row_sums : (enter : Cost → ℕ) → sum_by enter (costs_of X f) ≡ sum_below (λ r. entered enter (chosen_cost X f r)) (length X.rows)
+  row_sums enter = range_sum (chosen_cost X f) enter (length f) ∙ ap (sum_below (λ r. entered enter (chosen_cost X f r))) valid.over
 
   -- what its columns add up to, row by row
   pub column_sums : (taken : Option ℕ → ℕ) → sum_by taken f ≡ sum_below (λ r. taken (get_or f r None)) (length X.rows)

@@ -12,6 +12,7 @@ ghost use Rattle.asg_table_sums.specs.Level.{IsLevel};
 /// rises of columns is best for `sum` or `sum-max`.
 pub fn level_law()
     ensures { (objective : Objective) (X : Problem) (f : List (Option ℕ)) (rises : List ℕ)
-        → is_narrow_objective objective ≡ true → IsInstance X → IsLevel objective X f rises
+        (level : ℕ) → is_narrow_objective objective ≡ true → IsInstance X
+        → IsLevel objective X f rises level
         → IsBest objective X f }
 {}

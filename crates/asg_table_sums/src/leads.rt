@@ -2,14 +2,33 @@
 
 use crate::NoMemory;
 use asg_dual_search::{CostTable, Lead};
+use asg_model::limits::MOST_COST;
 use asg_model::{Choice, Instance, Objective, RowRoom};
 use std::alloc::Global;
 
-// Whether each column is open for one row.
-fn are_single(inst: &Instance) -> bool {
-    inst.columns()
-        .iter()
-        .all(|column| column.cap == 1 && column.usable)
+// Whether each row is active and each column is open.
+fn are_all_open(inst: &Instance) -> bool {
+    let columns = inst.columns().iter().all(|column| column.usable);
+    columns && inst.rows().iter().all(|row| row.active)
+}
+
+// The capacity of each column. The error is want of memory.
+fn rooms_of(alloc: Global, inst: &Instance) -> Result<Vec<u32>, NoMemory> {
+    let columns = inst.columns();
+    let mut rooms = Vec::with_capacity(alloc, columns.len())?;
+    for column in columns {
+        rooms.push(column.cap)?;
+    }
+    Ok(rooms)
+}
+
+// How many rows all columns have room for.
+fn total_of(rooms: &[u32]) -> usize {
+    let mut total = 0usize;
+    for place in 0..rooms.len() {
+        total = total.saturating_add(rooms[place] as usize);
+    }
+    total
 }
 
 // The rows of an instance as a table; `None` where a cell is absent, or costs of a row differ by
@@ -34,33 +53,68 @@ fn table_of(
     Ok(Some(table))
 }
 
-/// Columns of the rows of an instance, with rises of the columns under which each row may have the
-/// least of its cells, or the greatest; `None` where none were found, as where a cell is absent. No
-/// clause says that they serve. The error is want of memory.
+/// Columns of the rows of an instance, as many as are placed, with rises of the columns under which
+/// each row may have the least of its cells, or the greatest; `None` where none were found, as
+/// where a cell is absent. No clause says that they serve. The error is want of memory.
 pub(crate) fn lead(
     alloc: Global,
     objective: Objective,
     inst: &Instance,
 ) -> Result<Option<Lead>, NoMemory> {
-    if inst.rows().len() > inst.columns().len() || inst.columns().len() < 2 {
+    let placed = inst.placed() as usize;
+    if placed > inst.rows().len() || inst.columns().len() < 2 || !are_all_open(inst) {
         return Ok(None);
     }
-    if !are_single(inst) {
+    let rooms = rooms_of(alloc, inst)?;
+    if total_of(rooms.as_slice()) < placed {
         return Ok(None);
     }
+    let outside = inst.rows().len().saturating_sub(placed);
     match table_of(alloc, objective, inst)? {
-        Some(table) => table.search(alloc),
+        Some(table) => table.search(alloc, rooms.as_slice(), outside),
         None => Ok(None),
     }
 }
 
-/// The choice of these columns. The error is want of memory.
-pub(crate) fn choice_of(alloc: Global, rows: u32, columns: &[u32]) -> Result<Choice, NoMemory> {
+/// The choice of these columns among so many. The error is want of memory.
+pub(crate) fn choice_of(
+    alloc: Global,
+    rows: u32,
+    columns: &[u32],
+    count: usize,
+) -> Result<Choice, NoMemory> {
     let mut choice = Choice::make(alloc, rows)?;
     for row in 0..rows {
         if row < choice.len() && (row as usize) < columns.len() {
-            choice.set(row, Some(columns[row as usize]));
+            let column = columns[row as usize];
+            if (column as usize) < count {
+                choice.set(row, Some(column));
+            }
         }
     }
     Ok(choice)
+}
+
+// A cost with what its column rises by; turned round where the greatest sum is searched for.
+fn risen(objective: Objective, cost: i64, rise: u32) -> i64 {
+    if objective == Objective::SumMax {
+        i64::from(rise).wrapping_sub(cost)
+    } else {
+        i64::from(rise).wrapping_add(cost)
+    }
+}
+
+/// The greatest cost of a chosen cell once the columns have risen, or the least one, turned round.
+pub(crate) fn top_of(objective: Objective, inst: &Instance, choice: &Choice, rises: &[u32]) -> i64 {
+    let mut top = -MOST_COST;
+    for row in 0..choice.len() {
+        if let Some(column) = choice.get(row) {
+            if let Some(cost) = inst.live(row, column) {
+                let place = column as usize;
+                let rise = if place < rises.len() { rises[place] } else { 0 };
+                top = top.max(risen(objective, cost.a, rise));
+            }
+        }
+    }
+    top
 }

@@ -16,10 +16,33 @@ const WIDE: Sample<'static> = Sample {
     place: Place::All,
 };
 
+// Three rows in two columns, of which one takes two rows.
+const SHARED: Sample<'static> = Sample {
+    rows: &[true, true, true],
+    columns: &[(2, true), (1, true)],
+    firsts: &[1, 9, 2, 4, 3, 7],
+    seconds: &[0, 0, 0, 0, 0, 0],
+    place: Place::All,
+};
+
+// The same rows, of which two are placed.
+const PARTLY: Sample<'static> = Sample {
+    rows: &[true, true, true],
+    columns: &[(1, true), (1, true)],
+    firsts: &[1, 9, 2, 4, 3, 7],
+    seconds: &[0, 0, 0, 0, 0, 0],
+    place: Place::Exactly(2),
+};
+
+// No column.
+const OUT: u32 = u32::MAX;
+
 // Samples with the columns of their best choices for `sum` and `sum-max`.
-const SAMPLES: [(&'static Sample<'static>, &'static [u32], &'static [u32]); 2] = [
+const SAMPLES: [(&'static Sample<'static>, &'static [u32], &'static [u32]); 4] = [
     (&PLAIN, &[1, 0, 2], &[0, 2, 1]),
     (&WIDE, &[1, 0], &[0, 2]),
+    (&SHARED, &[0, 1, 0], &[1, 0, 0]),
+    (&PARTLY, &[0, 1, OUT], &[1, OUT, 0]),
 ];
 
 // Whether there is a choice, and it has these columns.
@@ -29,7 +52,7 @@ fn is_choice(found: &Option<Choice>, columns: &[u32]) -> bool {
     };
     for row in 0..choice.len() {
         let place = row as usize;
-        if place >= columns.len() || choice.get(row) != Some(columns[place]) {
+        if place >= columns.len() || choice.get(row).unwrap_or(OUT) != columns[place] {
             return false;
         }
     }

@@ -1,7 +1,8 @@
 use Rattle.std.proofs.Common.{ℕ, ◌<◌}
+use Rattle.asg_monoids.specs.Entered.{shifted}
 use Rattle.asg_table_sums.specs.Level.{IsRowLevel}
 use Rattle.asg_table_sums.proofs.level_choices.are_rows_level.Given as goal
 
 -- the rows so far are level
 abbrev pub invariant-rows : goal.invariant-rows
-invariant-rows l = (r : ℕ) → r < l.row → IsRowLevel l.objective l.inst l.choice l.rises r
+invariant-rows l = (r : ℕ) → r < l.row → IsRowLevel l.objective l.inst l.choice l.rises (shifted l.top) r

@@ -3,4 +3,4 @@ use Rattle.asg_table_sums.proofs.level_choices.tested.Goals as goal
 
 pub returns-then-is_level : goal.returns-then-is_level
 returns-then-is_level c =
-    c.level_law.ensures c.args.objective c.args.inst.now _ c.args.rises.now c.requires c.rows-rows.ensures.instance (c.if-is_level.ensures refl)
+    c.level_law.ensures c.args.objective c.args.inst.now _ c.args.rises.now _ c.requires c.rows-rows.ensures.instance (c.if-is_level.ensures refl)

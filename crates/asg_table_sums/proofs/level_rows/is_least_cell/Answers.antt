@@ -1,11 +1,14 @@
-use Rattle.std.proofs.Common.{◌+◌, ◌≤◌, arith, sym, subst}
-use Rattle.asg_monoids.specs.Entered.{sum_entered}
+use Rattle.std.proofs.Common.{◌+◌, ◌≤◌, ◌≤ℤ◌, ◌+ℤ◌, ◌-ℤ◌, pos, slice_index_or, arith, sym, subst}
+use Rattle.std.specs.Int.{w64}
+use Rattle.std.proofs.lemmas.Int.{to_z-of_z}
+use Rattle.asg_model.specs.Table.{absent}
+use Rattle.asg_monoids.specs.Entered.{shifted, sum_entered}
 use Rattle.asg_table_sums.specs.Level.{rise_at}
-use Rattle.asg_table_sums.proofs.RowCosts.{column_there, shifted_le, turned_le}
+use Rattle.asg_table_sums.proofs.RowCosts.{column_there, shifted_le, turned_le, shifted_under, turned_under}
 use Rattle.asg_table_sums.proofs.level_rows.is_least_cell.Goals as goal
 
-pub returns-in-Sum : goal.returns-in-Sum
-returns-in-Sum c = λ yes k x y own other.
+pub returns-in-Sum-clause-least : goal.returns-in-Sum-clause-least
+returns-in-Sum-clause-least c = λ yes k x y own other.
     let X = c.args.inst.now in
     let r = c.args.row in
     let d = c.args.column in
@@ -13,10 +16,10 @@ returns-in-Sum c = λ yes k x y own other.
     let parts = c.in-Some.ensures.parts in
     subst (λ o. sum_entered o x + rise_at rises d ≤ sum_entered o y + rise_at rises k) (sym c.in-Sum.is)
     (shifted_le X c.rows-rows.ensures.instance r c.in-Some.parts.firsts.now c.in-Some.parts.seconds.now parts d k x y own other (rise_at rises d) (rise_at rises k)
-    (c.is_least.ensures yes k (omega (arith, column_there X r k y other, parts.whole))))
+    (c.is_least_and_under.ensures.least yes k (omega (arith, column_there X r k y other, parts.whole))))
 
-pub returns-in-SumMax : goal.returns-in-SumMax
-returns-in-SumMax c = λ yes k x y own other.
+pub returns-in-SumMax-clause-least : goal.returns-in-SumMax-clause-least
+returns-in-SumMax-clause-least c = λ yes k x y own other.
     let X = c.args.inst.now in
     let r = c.args.row in
     let d = c.args.column in
@@ -24,4 +27,22 @@ returns-in-SumMax c = λ yes k x y own other.
     let parts = c.in-Some.ensures.parts in
     subst (λ o. sum_entered o x + rise_at rises d ≤ sum_entered o y + rise_at rises k) (sym c.in-SumMax.is)
     (turned_le X c.rows-rows.ensures.instance r c.in-Some.parts.firsts.now c.in-Some.parts.seconds.now parts d k x y own other (rise_at rises d) (rise_at rises k)
-    (c.is_greatest.ensures yes k (omega (arith, column_there X r k y other, parts.whole))))
+    (c.is_greatest_and_under.ensures.least yes k (omega (arith, column_there X r k y other, parts.whole))))
+
+pub returns-in-Sum-clause-under : goal.returns-in-Sum-clause-under
+returns-in-Sum-clause-under c = λ yes x live.
+    let X = c.args.inst.now in
+    let d = c.args.column in
+    let rises = c.args.rises.now in
+    subst (λ o. sum_entered o x + rise_at rises d ≤ shifted c.args.top) (sym c.in-Sum.is)
+    (shifted_under X c.rows-rows.ensures.instance c.args.row c.in-Some.parts.firsts.now c.in-Some.parts.seconds.now c.in-Some.ensures.parts d x live (rise_at rises d) c.args.top c.requires
+    (subst (λ z. (slice_index_or c.in-Some.parts.firsts.now d absent +ℤ pos (rise_at rises d)) ≤ℤ z) (to_z-of_z w64 c.args.top c.ranges.top) (c.is_least_and_under.ensures.under yes)))
+
+pub returns-in-SumMax-clause-under : goal.returns-in-SumMax-clause-under
+returns-in-SumMax-clause-under c = λ yes x live.
+    let X = c.args.inst.now in
+    let d = c.args.column in
+    let rises = c.args.rises.now in
+    subst (λ o. sum_entered o x + rise_at rises d ≤ shifted c.args.top) (sym c.in-SumMax.is)
+    (turned_under X c.rows-rows.ensures.instance c.args.row c.in-Some.parts.firsts.now c.in-Some.parts.seconds.now c.in-Some.ensures.parts d x live (rise_at rises d) c.args.top c.requires
+    (subst (λ z. (pos (rise_at rises d) -ℤ slice_index_or c.in-Some.parts.firsts.now d absent) ≤ℤ z) (to_z-of_z w64 c.args.top c.ranges.top) (c.is_greatest_and_under.ensures.under yes)))

@@ -1,7 +1,7 @@
 use Rattle.std.proofs.Common.{◌≡◌, ◌<◌, ◌≤◌, arith, sym, subst, ⊎_elim}
 use Rattle.std.proofs.lemmas.Bool.{cases_lt}
 use Rattle.asg_table_sums.specs.Level.{IsFull}
-use Rattle.asg_table_sums.proofs.level_choices.are_full.Goals as goal
+use Rattle.asg_table_sums.proofs.fullness.are_full.Goals as goal
 
 pub columns-preserved : goal.columns-preserved
 columns-preserved c = λ k within.

@@ -1,6 +1,6 @@
 use Rattle.std.proofs.Common.{ℕ, ◌<◌}
 use Rattle.asg_table_sums.specs.Level.{IsFull}
-use Rattle.asg_table_sums.proofs.level_choices.are_full.Given as goal
+use Rattle.asg_table_sums.proofs.fullness.are_full.Given as goal
 
 -- the columns so far don't rise, or are full
 abbrev pub invariant-columns : goal.invariant-columns

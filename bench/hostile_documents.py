@@ -157,6 +157,9 @@ DOCUMENTS = {
     "a long enters": (
         "sum", 1, 5, listed(b"proof phases 1\nsteps 0\nenters", b"0", b"\nleaves 1\n")),
     "many phases, side 1": ("sum", 1, 0, phases(1, one_step(1))),
+    "many phases of a long step": (
+        "time-cost", 1, 5,
+        phases(1, one_step(1, b"4294967295:0"), b"time-cost", b"5:0")),
     "many phases, side 8": ("sum", 8, 0, phases(8, one_step(8))),
     "many phases, side 100": ("sum", 100, 0, phases(100, one_step(100))),
     "many phases, side 1000": ("sum", 1000, 0, phases(1000, one_step(1000))),
@@ -172,6 +175,9 @@ DOCUMENTS = {
     "many windows of one row": (
         "balanced", 1, 5, repeated(b"proof windows %d\n", b"window 0 0 1\n", objective=b"balanced",
                                    value=b"0")),
+    "many windows of eight rows": (
+        "balanced", 8, 5, repeated(b"proof windows %d\n", b"window 0 0 1 2 3 4 5 6 7 8\n",
+                                   objective=b"balanced", value=b"0")),
     "windows of all rows, side 1000": ("balanced", 1000, 0, windows(1000)),
     "windows one below the other": ("balanced", 2, b"0 9\n9 1\n", falling_windows),
     "many levels": (
@@ -189,6 +195,8 @@ DOCUMENTS = {
         "bottleneck", 1, 5, listed(b"proof below", b"1", b"\n", b"bottleneck")),
     "a wide tree": (RANKED, 1, 5, nodes_below(b"node 1 1 open 0\n")),
     "a tree of empty nodes": (RANKED, 1, 5, nodes_below(b"node 1 1 empty 1\n")),
+    "a tree of nodes with a phase": (
+        RANKED, 1, 5, nodes_below(b"node 1 1 open 1\n" + one_step(1))),
     "a node with stairs for each branch, side 100": (
         RANKED, 100, 0, wide_tree(100, stairs(100), None)),
     "a node with a phase for each branch, side 1000": (

@@ -15,7 +15,7 @@ ghost use Rattle.asg_square.specs.Grid.{IsSquareOf};
 
 use crate::NoMemory;
 use crate::guessed_squares::guessed_outcome;
-use crate::solved_squares::outcome;
+use crate::solved_squares::{is_short, outcome};
 use asg_duals::{Duals, short_phases, tight_duals};
 use asg_model::{Cost, Instance, Objective};
 use asg_monoids::laws::narrow_sums;
@@ -122,8 +122,8 @@ fn guessed_narrow_outcome(
 
 /// The outcome of `sum` or `sum-max`, by sums in 64 bits: by phases from dual variables that are
 /// guessed, and where these don't pass the tests by those of the engine, over a square that is made
-/// anew. Where no dual variables are found, the engine solves the square that was made. The error
-/// is want of memory.
+/// anew. Where no dual variables are found, the engine solves the square that was made; where some
+/// rows have too few present cells, none are searched for. The error is want of memory.
 pub(crate) fn by_narrow_sums(
     alloc: Global,
     objective: Objective,
@@ -136,6 +136,9 @@ pub(crate) fn by_narrow_sums(
     ensures phases { IfOk result (GivesFewPhases (square_side inst.now)) }
 {
     let square = narrow_square(alloc, objective, inst)?;
+    if is_short(alloc, &square)? {
+        return narrow_outcome(alloc, objective, inst, square);
+    }
     let Some(duals) = tight_duals(alloc, &square)? else {
         return narrow_outcome(alloc, objective, inst, square);
     };

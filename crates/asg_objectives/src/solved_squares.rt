@@ -153,6 +153,15 @@ fn shortage<V: Copy>(
     }
 }
 
+/// Whether some rows of a square have fewer present cells than they are, as [`outcome`] tells of it
+/// too, and shows. The error is want of memory.
+pub(crate) fn is_short<V: Copy>(alloc: Global, square: &Square<V>) -> Result<bool, NoMemory> {
+    let side = square.side();
+    let cells = PresentCells { square };
+    let found = perfect_or_hall(alloc, side, &cells)?;
+    Ok(matches!(found, Pairing::Short(_)))
+}
+
 // Solves a square in a workspace. It has the square from then on.
 fn solve_in<M: SquareSolver>(
     alloc: Global,

@@ -72,7 +72,7 @@ module _ {bound : ℕ} (Q : Grid ℕ) (rows columns : List ℕ) (index greatest 
       uncut : (r : ℕ) → slice_index enters r < length steps → sum_before steps (slice_index enters r) ≡ sum_before steps (min (slice_index enters r) (length steps))
       uncut r h = ap (sum_before steps) (let e : slice_index enters r ≡ min (slice_index enters r) (length steps) = omega (arith, h) in e)
 
-      pub fits_allow : FitsRows Q rows columns′ steps enters → AllowsRows (bounded_sums top) bounded_difference (phase_of steps enters leaves) now
+      pub fits_allow : FitsRows Q.side (cell_at Q) rows columns′ steps enters → AllowsRows (bounded_sums top) bounded_difference (phase_of steps enters leaves) now
       fits_allow fits = λ r hr k hk y is.
           let from = dual_from r k y is in
           let x = from.0 in
@@ -86,7 +86,7 @@ module _ {bound : ℕ} (Q : Grid ℕ) (rows columns : List ℕ) (index greatest 
           (λ (waits : length steps ≤ slice_index enters r). λ t below in_row stays. absurd (omega (arith, waits, below, in_row)))
           (cases_lt (slice_index enters r) (length steps))
 
-      pub allow_fits : AllowsRows (bounded_sums top) bounded_difference (phase_of steps enters leaves) now → FitsRows Q rows columns′ steps enters
+      pub allow_fits : AllowsRows (bounded_sums top) bounded_difference (phase_of steps enters leaves) now → FitsRows Q.side (cell_at Q) rows columns′ steps enters
       allow_fits allows = λ r hr enters_row k x hk is.
           let was = duals.cells r k x is in
           let least = cell_fits r k x is allows in

@@ -1,36 +1,28 @@
 -- The greatest cell so far.
-use Rattle.std.proofs.Common.{◌≡◌, ◌⊎◌, ℕ, ◌+◌, ◌<◌, ◌≤◌, max, nat_cmp, inl, inr, sym, ◌∙◌, ap, arith, ⊎_elim}
+use Rattle.std.proofs.Common.{◌≡◌, ◌⊎◌, ℕ, ◌+◌, ◌<◌, ◌≤◌, inl, inr, sym, ◌∙◌, ap, arith, ⊎_elim}
 use Rattle.std.specs.Prelude.{Option, Some}
-use Rattle.std.specs.Ordering.{ord_max}
-use Rattle.std.proofs.lemmas.Grind.{common_steps}
 use Rattle.std.proofs.lemmas.Bool.{cases_lt}
 use Rattle.asg_admit.specs.Duals.{IsGreatest, IsGreatestOf}
 
--- the greater of two numbers
-greater_is : (a b : ℕ) → ord_max nat_cmp a b ≡ max a b
-greater_is a b = grind (arith, common_steps)
-
 -- one row more
-pub greatest_rows_more : (square : ℕ → ℕ → Option ℕ) (side n g v new : ℕ) → IsGreatest n square g → IsGreatestOf side (square n) v → ((k x : ℕ) → square n k ≡ Some x → k < side) → new ≡ ord_max nat_cmp g v → IsGreatest (n + 1) square new
-greatest_rows_more square side n g v new so row within takes_greater = let e = takes_greater ∙ greater_is g v in record {
+pub greatest_rows_more : (square : ℕ → ℕ → Option ℕ) (side n g v new : ℕ) → IsGreatest n square g → IsGreatestOf side (square n) v → ((k x : ℕ) → square n k ≡ Some x → k < side) → g ≤ new → v ≤ new → (new ≡ g) ⊎ (new ≡ v) → IsGreatest (n + 1) square new
+greatest_rows_more square side n g v new so row within keeps takes one_of = record {
   above = λ r k x below h.
       ⊎_elim
-      (λ (early : r < n). let before = so.above r k x early h in omega (arith, before, e))
+      (λ (early : r < n). let before = so.above r k x early h in omega (arith, before, keeps))
       (λ (last : n ≤ r).
       let here : r ≡ n = omega (arith, last, below) in
       let now : square n k ≡ Some x = ap (λ i. square i k) (sym here) ∙ h in
       let one = row.above k x (within k x now) now in
-      omega (arith, one, e))
+      omega (arith, one, takes))
       (cases_lt r n);
   reached =
       ⊎_elim
-      (λ (greater : g < v).
-      let takes : new ≡ v = omega (arith, e, greater) in
-      ⊎_elim (λ (none : v ≡ 0). inl (takes ∙ none)) (λ some. inr (n, some.0, some.1 ∙ ap Some (sym takes))) row.reached)
-      (λ (other : v ≤ g).
-      let keeps : new ≡ g = omega (arith, e, other) in
-      ⊎_elim (λ (none : g ≡ 0). inl (keeps ∙ none)) (λ some. inr (some.0, some.1, some.2 ∙ ap Some (sym keeps))) so.reached)
-      (cases_lt g v);
+      (λ (is : new ≡ g).
+      ⊎_elim (λ (none : g ≡ 0). inl (is ∙ none)) (λ some. inr (some.0, some.1, some.2 ∙ ap Some (sym is))) so.reached)
+      (λ (is : new ≡ v).
+      ⊎_elim (λ (none : v ≡ 0). inl (is ∙ none)) (λ some. inr (n, some.0, some.1 ∙ ap Some (sym is))) row.reached)
+      one_of;
 }
 
 -- one column more

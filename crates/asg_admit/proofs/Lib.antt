@@ -7,6 +7,8 @@ mod AdmissionLemmas
 mod RowCells
 mod AllowingLemmas
 mod GreatestLemmas
+mod NumberLemmas
+mod PresentLemmas
 mod SumLemmas
 mod DualLemmas
 mod LesserLemmas

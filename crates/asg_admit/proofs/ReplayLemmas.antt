@@ -1,5 +1,5 @@
 -- Cells through a phase: marks count only up to the number of steps.
-use Rattle.std.proofs.Common.{◌≡◌, ℕ, ◌<◌, ◌≤◌, min, List, length, sym, ◌∙◌, ap, subst, arith}
+use Rattle.std.proofs.Common.{◌≡◌, ℕ, ◌<◌, ◌≤◌, min, List, length, ◌∙◌, ap, subst, arith}
 use Rattle.std.specs.Prelude.{Option, Some, None, IfSome}
 use Rattle.asg_order.specs.Monoid.{Monoid, IsLe, IsLess, IsOrderedMonoid}
 use Rattle.asg_order.specs.Differences.{HasDifferences}
@@ -23,10 +23,6 @@ module _ {V : Type 0} (M : Monoid V) (laws : IsOrderedMonoid M) (difference : V 
   pub allows_cut : AllowsSteps M difference steps e l x → AllowsSteps M difference steps enter leave x
   allows_cut allows = λ t below h k.
       subst (IsLe M (step_of M steps t)) (cut_after t (omega (arith, below))) (allows t below (omega (arith, is_e, h)) (omega (arith, is_l, k, below)))
-
-  pub allows_uncut : AllowsSteps M difference steps enter leave x → AllowsSteps M difference steps e l x
-  allows_uncut allows = λ t below h k.
-      subst (IsLe M (step_of M steps t)) (sym (cut_after t (omega (arith, below)))) (allows t below (omega (arith, is_e, h, below)) (omega (arith, is_l, k)))
 
   pub refuses_cut : RefusesStep M difference steps e l x → RefusesStep M difference steps enter leave x
   refuses_cut one =

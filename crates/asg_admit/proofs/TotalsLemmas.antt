@@ -13,7 +13,7 @@ use Rattle.asg_proof.specs.Phases.{PhaseOf, entered_at, staying_at, after_phase,
 use Rattle.asg_proof.specs.Steps.{count_below}
 use Rattle.asg_proof.specs.laws.Stepped.{option_map_cases}
 use Rattle.asg_admit.specs.Duals.{sum_before}
-use Rattle.asg_admit.specs.PhaseTotals.{sum_to, sum_of_steps, Totals, AreTotals, CountsRight, CountAndRaise, EndAtLeast0, StayBelow, cell_after_all}
+use Rattle.asg_admit.specs.PhaseTotals.{sum_to, sum_of_steps, Totals, AreTotals, KeepsTotals, CountsRight, CountAndRaise, EndAtLeast0, StayBelow, cell_after_all}
 use Rattle.asg_admit.specs.Settled.{step_of, cell_after, settled}
 use Rattle.asg_admit.specs.laws.SettledCells.{square_after-cell, after_phase-cell}
 use Rattle.asg_admit.proofs.SumLemmas.{settled_is, fits_allowed, before_rises}
@@ -164,6 +164,29 @@ totals_more phase rest before after are counts ordered side rows columns sum_is 
     (λ r k hr hk. let o = ordered r k hr hk in omega (arith, o, are.rows r hr, are.columns k hk)),
     are.right,
   );
+}
+
+-- and what the totals keep
+pub keeps_more : {most bound : ℕ} (phase : PhaseOf ℕ) (before after : Totals) → KeepsTotals most bound before
+    → length after.rows ≡ length before.rows
+    → length after.columns ≡ length before.columns
+    → ((r : ℕ) → r < length before.rows → slice_index after.rows r ≡ slice_index before.rows r + sum_to phase.steps (slice_index phase.enters r))
+    → ((k : ℕ) → k < length before.rows → slice_index after.columns k ≡ slice_index before.columns k + sum_to phase.steps (slice_index phase.leaves k))
+    → after.sum ≡ before.sum + sum phase.steps
+    → before.sum + sum phase.steps ≤ bound
+    → KeepsTotals most bound after
+keeps_more phase before after keeps row_count column_count rows columns sum_is within = record {
+  few = omega (arith, keeps.few, row_count);
+  count = omega (arith, keeps.count, row_count, column_count);
+  rows_within = λ r h.
+      let below : r < length before.rows = omega (arith, h, row_count) in
+      let part = part_of_all phase.steps (slice_index phase.enters r) in
+      omega (arith, rows r below, keeps.rows_within r below, part, sum_is);
+  columns_within = λ k h.
+      let below : k < length before.rows = omega (arith, h, row_count) in
+      let part = part_of_all phase.steps (slice_index phase.leaves k) in
+      omega (arith, columns k below, keeps.columns_within k below, part, sum_is);
+  sum_within = omega (arith, sum_is, within);
 }
 
 -- phases whose totals end well on a square are admitted from it

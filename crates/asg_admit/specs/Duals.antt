@@ -93,27 +93,31 @@ abbrev pub FitsDuals : ℕ → ℕ → ℕ → Option ℕ → Type 0
 FitsDuals width row column cell =
     (x : ℕ) → cell ≡ Some x → (column ≤ x + row) × (x + row < width)
 
--- the cells of a row have the dual variable of the row more and those of the columns less, and all
--- others stay
-pub record WritesDuals (row : ℕ) (columns : List ℕ) (before after : Grid ℕ) (r : ℕ) : Type 0 where
+-- the cells of a row, told as numbers, have the dual variable of the row more and those of the
+-- columns less, and all others stay
+pub record WritesDuals {V : Type 0} (present : Option V → Option ℕ) (row : ℕ) (columns : List ℕ) (before after : Grid V) (r : ℕ) : Type 0 where
   pub labels : KeepsLabels before after
   pub cells : (k : ℕ) → k < before.side
-      → cell_at after r k ≡ option_map (dual_value row (slice_index columns k)) (cell_at before r k)
+      → present (cell_at after r k) ≡ option_map (dual_value row (slice_index columns k)) (present (cell_at before r k))
   pub others : (i k : ℕ) → i ≢ r → cell_at after i k ≡ cell_at before i k
 
 -- the value at a place is, with so much more, at least the dual variable there
 abbrev pub FitsAt : List ℕ → List ℕ → ℕ → ℕ → Type 0
 FitsAt values columns raise k = slice_index columns k ≤ slice_index values k + raise
 
+-- each present cell of a row is, with so much more, at least the dual variable of its column
+abbrev pub FitCells : ℕ → (ℕ → Option ℕ) → ℕ → List ℕ → Type 0
+FitCells side row raise columns =
+    (k x : ℕ) → k < side → row k ≡ Some x → slice_index columns k ≤ x + raise
+
 -- each present cell of a row that enters at a step is, with the dual variable of the row and the
 -- steps before that, at least the dual variable of its column; of a row that never enters nothing
 -- is asked
-abbrev pub FitsRow : Grid ℕ → ℕ → List ℕ → List ℕ → ℕ → ℕ → Type 0
-FitsRow Q row columns steps enter r =
-    enter < length steps → (k x : ℕ) → k < Q.side → cell_at Q r k ≡ Some x
-    → slice_index columns k ≤ (x + row) + sum_before steps enter
+abbrev pub FitsRow : ℕ → (ℕ → Option ℕ) → ℕ → List ℕ → List ℕ → ℕ → Type 0
+FitsRow side row dual columns steps enter =
+    enter < length steps → FitCells side row (dual + sum_before steps enter) columns
 
 -- each row does so
-abbrev pub FitsRows : Grid ℕ → List ℕ → List ℕ → List ℕ → List ℕ → Type 0
-FitsRows Q rows columns steps enters =
-    (r : ℕ) → r < Q.side → FitsRow Q (slice_index rows r) columns steps (slice_index enters r) r
+abbrev pub FitsRows : ℕ → (ℕ → ℕ → Option ℕ) → List ℕ → List ℕ → List ℕ → List ℕ → Type 0
+FitsRows side square rows columns steps enters =
+    (r : ℕ) → r < side → FitsRow side (square r) (slice_index rows r) columns steps (slice_index enters r)

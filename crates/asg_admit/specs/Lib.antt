@@ -12,3 +12,4 @@ pub mod NarrowRows
 pub mod MarkedCells
 pub mod LowCells
 pub mod laws
+pub mod SumNumbers

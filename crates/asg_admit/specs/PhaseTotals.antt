@@ -65,6 +65,10 @@ pub record Totals : Type 0 where
   pub columns : List ℕ
   pub sum : ℕ
 
+-- these numbers
+abbrev pub totals_of : List ℕ → List ℕ → ℕ → Totals
+totals_of rows columns sum = record { rows = rows; columns = columns; sum = sum }
+
 -- the numbers are what phases that count and raise so come to
 pub record AreTotals (phases : List (PhaseOf ℕ)) (totals : Totals) : Type 0 where
   pub rows : (r : ℕ) → r < length totals.rows → slice_index totals.rows r ≡ row_raise phases r

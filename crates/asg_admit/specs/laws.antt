@@ -1,3 +1,4 @@
 -- What follows from the definitions, for crates above.
 pub mod KeptPhases
 pub mod SettledCells
+pub mod SameNumbers

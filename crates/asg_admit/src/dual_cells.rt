@@ -6,19 +6,20 @@ ghost use Rattle.asg_admit.specs.Duals.{FitsDuals, WritesDuals, dual_value};
 ghost use Rattle.asg_admit.specs.Reduced.{KeepsLabels};
 ghost use Rattle.asg_square.specs.Grid.{cell_at};
 
+use crate::sum_numbers::SumNumber;
 use asg_square::Square;
 
 // Writes all cells.
-pub(crate) fn write_cells(square: &mut Square<u128>, rows: &[u128], columns: &[u128])
+pub(crate) fn write_cells<N: SumNumber>(square: &mut Square<N>, rows: &[N], columns: &[N])
     requires rows { length rows.now ≡ square.old.side }
     requires columns { length columns.now ≡ square.old.side }
-    requires fits { (r k : ℕ)
-        → FitsDuals (2 ^ 128) (slice_index rows.now r) (slice_index columns.now k)
-        (cell_at square.old r k) }
+    requires fits { (r k : ℕ) → FitsDuals N.width (slice_index (N.numbers rows.now) r)
+        (slice_index (N.numbers columns.now) k) (N.present (cell_at square.old r k)) }
     ensures labels { KeepsLabels square.old square.new }
-    ensures cells { (r k : ℕ) → r < square.old.side → k < square.old.side → cell_at square.new r k
-        ≡ option_map (dual_value (slice_index rows.now r) (slice_index columns.now k))
-        (cell_at square.old r k) }
+    ensures cells { (r k : ℕ) → r < square.old.side → k < square.old.side
+        → N.present (cell_at square.new r k) ≡ option_map
+        (dual_value (slice_index (N.numbers rows.now) r) (slice_index (N.numbers columns.now) k))
+        (N.present (cell_at square.old r k)) }
 {
     for row in 0..square.side() {
         write_row(square, row, rows[row as usize], columns);
@@ -26,27 +27,25 @@ pub(crate) fn write_cells(square: &mut Square<u128>, rows: &[u128], columns: &[u
 }
 
 // Writes the cells of a row.
-fn write_row(square: &mut Square<u128>, row: u32, dual: u128, columns: &[u128])
+fn write_row<N: SumNumber>(square: &mut Square<N>, row: u32, dual: N, columns: &[N])
     requires row { row < square.old.side }
     requires columns { length columns.now ≡ square.old.side }
-    requires fits { (k : ℕ)
-        → FitsDuals (2 ^ 128) dual (slice_index columns.now k) (cell_at square.old row k) }
-    ensures { WritesDuals dual columns.now square.old square.new row }
+    requires fits { (k : ℕ) → FitsDuals N.width (N.number dual) (slice_index (N.numbers columns.now) k)
+        (N.present (cell_at square.old row k)) }
+    ensures { WritesDuals N.present (N.number dual) (N.numbers columns.now) square.old square.new row }
 {
     square.side();
-    square.map_row(
-        row,
-        &|column: u32, x: u128| written(dual, columns, column, x),
-    );
+    square.map_row(row, &|column: u32, x: N| written(dual, columns, column, x));
 }
 
 // The value of a cell, by the dual variables of its row and its column.
 #[inline]
-fn written(dual: u128, columns: &[u128], column: u32, x: u128) -> u128
+fn written<N: SumNumber>(dual: N, columns: &[N], column: u32, x: N) -> N
     requires column { column < length columns.now }
-    requires reaches { slice_index columns.now column ≤ x + dual }
-    requires few { x + dual < 2 ^ 128 }
-    ensures { result ≡ dual_value dual (slice_index columns.now column) x }
+    requires reaches { slice_index (N.numbers columns.now) column ≤ N.number x + N.number dual }
+    requires few { N.number x + N.number dual < N.width }
+    ensures { N.number result
+        ≡ dual_value (N.number dual) (slice_index (N.numbers columns.now) column) (N.number x) }
 {
-    x + dual - columns[column as usize]
+    x.plus(dual).minus(columns[column as usize])
 }

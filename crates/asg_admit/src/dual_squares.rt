@@ -4,6 +4,7 @@ ghost use Rattle.std.specs.Prelude.{◌≡◌, ◌≢◌, ◌↔◌, ◌<◌, �
 ghost use Rattle.asg_admit.specs.Duals.{HasRoom, IsNearTop};
 ghost use Rattle.asg_admit.specs.declared.dual_squares.Replayed.TheVariants.{Applied, Full};
 ghost use Rattle.asg_admit.specs.Reduced.{IsReduced, IsPhaseTo, phase_of};
+ghost use Rattle.asg_admit.specs.SumNumbers.{numbered_square};
 ghost use Rattle.asg_monoids.specs.BoundedSums.{bounded_sums, bounded_difference};
 ghost use Rattle.asg_order.specs.Monoid.{fold_of};
 ghost use Rattle.asg_proof.specs.Phases.{IsAdmittedPhase};
@@ -17,8 +18,9 @@ use crate::dual_fits::rows_fit;
 use crate::dual_rows::{DualRow, dual_row};
 use crate::dual_sums::{lower, raise, sum_up, sum_within};
 use crate::greatest_cells::greatest_cell;
+use crate::phase_totals::clear;
 use crate::reduced::Reduced;
-use asg_monoids::Bounded;
+use crate::sum_numbers::SumNumber;
 use asg_square::{NoMemory, Square};
 use std::alloc::Global;
 use std::marker::Model;
@@ -37,41 +39,49 @@ pub enum Replayed {
 /// A reduced square of sums, kept as the square that it was when it was made, with a dual variable
 /// for each row and each column [Burkard 2012]: a cell is that of the square with the row's more
 /// and the column's less. So a phase costs the side and its steps, where it would otherwise rewrite
-/// the cells. It serves while no sum reaches the top of its monoid, as [`DualSquare::has_room`]
-/// tells; then it is reduced to the square of its cells. Contracts see it as the [`Reduced`] square
-/// of those.
+/// the cells. Its numbers have 64 or 128 bits. It serves while no sum reaches the top where sums
+/// stop, as [`DualSquare::has_room`] tells; then it is reduced to the square of its cells.
+/// Contracts see it as the [`Reduced`] square of those.
 #[derive(Drop)]
-pub struct DualSquare {
-    base: Square<u128>,
-    rows: Vec<u128>,
-    columns: Vec<u128>,
-    index: u128,
-    greatest: u128,
+pub struct DualSquare<N: SumNumber> {
+    base: Square<N>,
+    rows: Vec<N>,
+    columns: Vec<N>,
+    index: N,
+    greatest: N,
 }
 
-impl Model for DualSquare {
-    ghost use Rattle.std.specs.Prelude.{ℕ, ◌^◌};
+impl<N: SumNumber> Model for DualSquare<N> {
+    ghost use Rattle.std.specs.Prelude.{ℕ};
     ghost use Rattle.asg_admit.specs.declared.reduced.Reduced.{Reduced as ReducedSquare};
     ghost use Rattle.asg_admit.specs.Duals.{dual_reduced, AreDuals};
+    ghost use Rattle.asg_admit.specs.SumNumbers.{numbered_grid};
 
     ghost Value = { ReducedSquare ℕ };
 
-    ghost view = { λ d. dual_reduced d.base d.rows.items d.columns.items d.index };
+    ghost view = { λ d. dual_reduced (numbered_grid N.cells d.base) (N.numbers d.rows.items)
+        (N.numbers d.columns.items) (N.number d.index) };
 
-    ghost invariant = { λ d. AreDuals (2 ^ 120) d.base d.rows.items d.columns.items d.index
-        d.greatest };
+    ghost invariant = { λ d. AreDuals N.top (numbered_grid N.cells d.base)
+        (N.numbers d.rows.items) (N.numbers d.columns.items) (N.number d.index)
+        (N.number d.greatest) };
 }
 
-impl DualSquare {
-    /// The reduced square, with all dual variables 0. Its cells and its index are sums of the
-    /// monoid. The error is want of memory.
-    pub fn make(alloc: Global, m: &Bounded, reduced: Reduced<u128>) -> Result<DualSquare, NoMemory>
-        requires { IsReduced (bounded_sums m.now.top) reduced }
-        ensures { IfOk result (λ d. d ≡ reduced) }
+impl<N: SumNumber> DualSquare<N> {
+    /// The reduced square, with all dual variables 0. Its cells and its index are sums that stop at
+    /// this top, or at a lesser one. The error is want of memory.
+    pub fn make(alloc: Global, top: N, reduced: Reduced<N>) -> Result<DualSquare<N>, NoMemory>
+        requires top { N.number top ≤ N.top }
+        requires reduced { IsReduced (bounded_sums (N.number top))
+            (numbered_square N.number N.cells reduced) }
+        ensures { IfOk result (λ d. d ≡ numbered_square N.number N.cells reduced) }
     {
+        let _ = top;
         let side = reduced.now.side() as usize;
-        let rows = vec![in alloc; 0; side]?;
-        let columns = vec![in alloc; 0; side]?;
+        let mut rows = vec![in alloc; N::zero(); side]?;
+        let mut columns = vec![in alloc; N::zero(); side]?;
+        clear(&mut rows);
+        clear(&mut columns);
         let greatest = greatest_cell(&reduced.now);
         Ok(DualSquare {
             base: reduced.now,
@@ -91,8 +101,8 @@ impl DualSquare {
     }
 
     /// The product of the steps that led to it, which is their sum.
-    pub fn index(&self) -> u128
-        ensures { result ≡ self.now.index }
+    pub fn index(&self) -> N
+        ensures { N.number result ≡ self.now.index }
     {
         self.index
     }
@@ -110,15 +120,19 @@ impl DualSquare {
     /// this sum are applied. It is told from the index and the greatest cell of the square as it
     /// was made, and so may be false where some present cell reaches the top only with the index
     /// twice. It takes the same time for each side.
-    pub fn has_room(&self, m: &Bounded, sum: u128) -> bool
-        ensures room { IsTrue result → HasRoom m.now.top self.now sum }
-        ensures short { result ≡ false → IsNearTop m.now.top self.now sum }
+    pub fn has_room(&self, top: N, sum: N) -> bool
+        requires { N.number top ≤ N.top }
+        ensures room { IsTrue result → HasRoom (N.number top) self.now (N.number sum) }
+        ensures short { result ≡ false → IsNearTop (N.number top) self.now (N.number sum) }
     {
-        sum < m.top && self.index + self.greatest + sum < m.top
+        if !sum.is_below(top) {
+            return false;
+        }
+        self.index.plus(self.greatest).plus(sum).is_below(top)
     }
 
     /// The values of a row, one for each column; that of an absent cell means nothing.
-    pub fn row(&self, r: u32) -> DualRow<'_>
+    pub fn row(&self, r: u32) -> DualRow<'_, N>
         requires { r < self.now.now.side }
         ensures { AreValuesOf (cell_at self.now.now r) self.now.now.side result }
     {
@@ -130,63 +144,60 @@ impl DualSquare {
     /// where there is room for the sum of its steps. `room` has more places than there are steps,
     /// and what is in it before and afterwards means nothing. The time is that of the side and the
     /// steps. It takes no memory.
-    pub fn settle(
-        &mut self,
-        m: &Bounded,
-        steps: &[u128],
-        enters: &[u32],
-        leaves: &[u32],
-        room: &mut [u128],
-    )
-        requires admitted { let phase = phase_of steps.now enters.now leaves.now in
-            IsAdmittedPhase (bounded_sums m.now.top) bounded_difference self.old.now.side phase
+    pub fn settle(&mut self, top: N, steps: &[N], enters: &[u32], leaves: &[u32], room: &mut [N])
+        requires top { N.number top ≤ N.top }
+        requires admitted { let phase = phase_of (N.numbers steps.now) enters.now leaves.now in
+            IsAdmittedPhase (bounded_sums (N.number top)) bounded_difference self.old.now.side phase
             (cell_at self.old.now) }
-        requires sums { HasRoom m.now.top self.old (fold_of (bounded_sums m.now.top) steps.now) }
+        requires sums { HasRoom (N.number top) self.old
+            (fold_of (bounded_sums (N.number top)) (N.numbers steps.now)) }
         requires room { length steps.now < length room.old }
-        ensures phase { let phase = phase_of steps.now enters.now leaves.now in
-            IsPhaseTo (bounded_sums m.now.top) bounded_difference phase self.old self.new }
+        ensures phase { let phase = phase_of (N.numbers steps.now) enters.now leaves.now in
+            IsPhaseTo (bounded_sums (N.number top)) bounded_difference phase self.old self.new }
         ensures room { length room.new ≡ length room.old }
     {
+        let _ = top;
         sum_up(steps, room);
-        self.index += room[steps.len()];
+        self.index = self.index.plus(room[steps.len()]);
         raise(&mut self.rows, steps, enters, room);
         raise(&mut self.columns, steps, leaves, room);
     }
 
-    /// Applies a phase where it is admitted, as [`replay`](crate::replay) does to a [`Reduced`]
-    /// square, and tells what became of it. Where sums come near the top with it, it isn't tested:
-    /// then the square is to be reduced first. Nothing is changed unless it is applied. `room` has
-    /// more places than there are steps, and what is in it before and afterwards means nothing. The
-    /// time is that of the steps and of the side times the number of rows that enter. It takes no
+    /// Applies a phase where it is admitted by sums that stop at the top or at any greater one, and
+    /// tells what became of it. Where sums come near the top with it, it isn't tested: then the
+    /// square is to be reduced first. Nothing is changed unless it is applied. `room` has more
+    /// places than there are steps, and what is in it before and afterwards means nothing. The time
+    /// is that of the steps and of the side times the number of rows that enter. It takes no
     /// memory.
     pub fn replay(
         &mut self,
-        m: &Bounded,
-        steps: &[u128],
+        top: N,
+        steps: &[N],
         enters: &[u32],
         leaves: &[u32],
-        room: &mut [u128],
+        room: &mut [N],
     ) -> Replayed
-        requires { length steps.now < length room.old }
-        ensures tested { let phase = phase_of steps.now enters.now leaves.now in
-            result ≢ Full
-            → (result ≡ Applied) ↔ IsAdmittedPhase (bounded_sums m.now.top) bounded_difference
+        requires top { N.number top ≤ N.top }
+        requires room { length steps.now < length room.old }
+        ensures tested { let phase = phase_of (N.numbers steps.now) enters.now leaves.now in
+            (high : ℕ) → N.number top ≤ high → result ≢ Full
+            → (result ≡ Applied) ↔ IsAdmittedPhase (bounded_sums high) bounded_difference
             self.old.now.side phase (cell_at self.old.now) }
-        ensures applied { let phase = phase_of steps.now enters.now leaves.now in
-            result ≡ Applied
-            → IsPhaseTo (bounded_sums m.now.top) bounded_difference phase self.old self.new }
-        ensures full { result ≡ Full
-            → IsNearTop m.now.top self.old (fold_of (bounded_sums m.now.top) steps.now) }
+        ensures applied { let phase = phase_of (N.numbers steps.now) enters.now leaves.now in
+            (high : ℕ) → N.number top ≤ high → result ≡ Applied
+            → IsPhaseTo (bounded_sums high) bounded_difference phase self.old self.new }
+        ensures full { result ≡ Full → IsNearTop (N.number top) self.old
+            (fold_of (bounded_sums (N.number top)) (N.numbers steps.now)) }
         ensures kept { result ≢ Applied → self.new ≡ self.old }
         ensures room { length room.new ≡ length room.old }
     {
-        let Some(sum) = sum_within(m, steps) else {
+        let Some(sum) = sum_within(top, steps) else {
             return Replayed::Full;
         };
-        if !self.has_room(m, sum) {
+        if !self.has_room(top, sum) {
             return Replayed::Full;
         }
-        if self.apply(m, steps, enters, leaves, room) {
+        if self.apply(top, steps, enters, leaves, room) {
             Replayed::Applied
         } else {
             Replayed::Refused
@@ -195,25 +206,22 @@ impl DualSquare {
 
     // Applies a phase where it is admitted, and tells whether it is, where there is room for its
     // steps.
-    fn apply(
-        &mut self,
-        m: &Bounded,
-        steps: &[u128],
-        enters: &[u32],
-        leaves: &[u32],
-        room: &mut [u128],
-    ) -> bool
-        requires sums { HasRoom m.now.top self.old (fold_of (bounded_sums m.now.top) steps.now) }
+    fn apply(&mut self, top: N, steps: &[N], enters: &[u32], leaves: &[u32], room: &mut [N]) -> bool
+        requires top { N.number top ≤ N.top }
+        requires sums { HasRoom (N.number top) self.old
+            (fold_of (bounded_sums (N.number top)) (N.numbers steps.now)) }
         requires room { length steps.now < length room.old }
-        ensures admitted { let phase = phase_of steps.now enters.now leaves.now in
-            IsTrue result ↔ IsAdmittedPhase (bounded_sums m.now.top) bounded_difference
+        ensures admitted { let phase = phase_of (N.numbers steps.now) enters.now leaves.now in
+            (high : ℕ) → N.number top ≤ high
+            → IsTrue result ↔ IsAdmittedPhase (bounded_sums high) bounded_difference
             self.old.now.side phase (cell_at self.old.now) }
-        ensures applied { let phase = phase_of steps.now enters.now leaves.now in
-            IsTrue result
-            → IsPhaseTo (bounded_sums m.now.top) bounded_difference phase self.old self.new }
+        ensures applied { let phase = phase_of (N.numbers steps.now) enters.now leaves.now in
+            (high : ℕ) → N.number top ≤ high → IsTrue result
+            → IsPhaseTo (bounded_sums high) bounded_difference phase self.old self.new }
         ensures kept { result ≡ false → self.new ≡ self.old }
         ensures room { length room.new ≡ length room.old }
     {
+        let _ = top;
         let side = self.base.side() as usize;
         if enters.len() != side {
             return false;
@@ -225,22 +233,22 @@ impl DualSquare {
             return false;
         }
         sum_up(steps, room);
-        raise(&mut self.columns, steps, leaves, room);
         let rows = self.rows.as_slice();
-        let columns = self.columns.as_slice();
-        if !rows_fit(&self.base, rows, columns, steps, enters, room) {
-            lower(&mut self.columns, steps, leaves, room);
+        let columns = &mut self.columns;
+        raise(columns, steps, leaves, room);
+        if !rows_fit(&self.base, rows, columns.as_slice(), steps, enters, room) {
+            lower(columns, steps, leaves, room);
             return false;
         }
-        self.index += room[steps.len()];
+        self.index = self.index.plus(room[steps.len()]);
         raise(&mut self.rows, steps, enters, room);
         true
     }
 
     /// The reduced square with its cells written out, for where sums come near the top. The time is
     /// that of one pass over the cells. It takes no memory.
-    pub fn reduce(self) -> Reduced<u128>
-        ensures { result ≡ self }
+    pub fn reduce(self) -> Reduced<N>
+        ensures { numbered_square N.number N.cells result ≡ self }
     {
         let mut now = self.base;
         write_cells(&mut now, self.rows.as_slice(), self.columns.as_slice());

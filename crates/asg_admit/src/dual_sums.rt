@@ -4,65 +4,69 @@ ghost use Rattle.std.specs.Prelude.{◌≡◌, ◌<◌, ◌≤◌, ◌+◌, ◌^
 ghost use Rattle.asg_admit.specs.Duals.{AreSums, RaisesDuals, sum_before};
 
 use crate::replayed_cells::cut;
-use asg_monoids::Bounded;
+use crate::sum_numbers::SumNumber;
 
 // For each place the sum of the steps before it.
-pub(crate) fn sum_up(steps: &[u128], sums: &mut [u128])
+pub(crate) fn sum_up<N: SumNumber>(steps: &[N], sums: &mut [N])
     requires room { length steps.now < length sums.old }
-    requires fits { sum_before steps.now (length steps.now) < 2 ^ 128 }
+    requires fits { sum_before (N.numbers steps.now) (length steps.now) < N.width }
     ensures room { length sums.new ≡ length sums.old }
-    ensures sums { AreSums steps.now sums.new }
+    ensures sums { AreSums (N.numbers steps.now) (N.numbers sums.new) }
 {
-    sums[0] = 0;
+    sums[0] = N::zero();
     for t in 0..steps.len() {
-        sums[t + 1] = sums[t] + steps[t];
+        sums[t + 1] = sums[t].plus(steps[t]);
     }
 }
 
-// Raises each dual variable by the sum of the steps before its mark, all steps where that is past
-// them.
-pub(crate) fn raise(duals: &mut Vec<u128>, steps: &[u128], marks: &[u32], sums: &[u128])
+// Raises each dual variable by the sum of the steps before its mark, all steps where that is past them.
+pub(crate) fn raise<N: SumNumber>(duals: &mut Vec<N>, steps: &[N], marks: &[u32], sums: &[N])
     requires room { length steps.now < length sums.now }
-    requires sums { AreSums steps.now sums.now }
+    requires sums { AreSums (N.numbers steps.now) (N.numbers sums.now) }
     requires marks { length marks.now ≡ length duals.old.items }
-    requires fits { (i : ℕ) → i < length duals.old.items
-        → slice_index duals.old.items i + sum_before steps.now (length steps.now) < 2 ^ 128 }
-    ensures { RaisesDuals steps.now marks.now duals.old.items duals.new.items }
+    requires fits { (i : ℕ) → i < length duals.old.items → slice_index (N.numbers duals.old.items) i
+        + sum_before (N.numbers steps.now) (length steps.now) < N.width }
+    ensures { RaisesDuals (N.numbers steps.now) marks.now (N.numbers duals.old.items)
+        (N.numbers duals.new.items) }
 {
     let end = steps.len();
     for i in 0..duals.len() {
-        duals[i] += sums[cut(marks[i], end)];
+        duals[i] = duals[i].plus(sums[cut(marks[i], end)]);
     }
 }
 
 // Lessens each dual variable by the sum of the steps before its mark: that undoes `raise`.
-pub(crate) fn lower(duals: &mut Vec<u128>, steps: &[u128], marks: &[u32], sums: &[u128])
+pub(crate) fn lower<N: SumNumber>(duals: &mut Vec<N>, steps: &[N], marks: &[u32], sums: &[N])
     requires room { length steps.now < length sums.now }
-    requires sums { AreSums steps.now sums.now }
+    requires sums { AreSums (N.numbers steps.now) (N.numbers sums.now) }
     requires marks { length marks.now ≡ length duals.old.items }
     requires raised { (i : ℕ) → i < length duals.old.items
-        → sum_before steps.now (min (slice_index marks.now i) (length steps.now))
-        ≤ slice_index duals.old.items i }
-    ensures { RaisesDuals steps.now marks.now duals.new.items duals.old.items }
+        → sum_before (N.numbers steps.now) (min (slice_index marks.now i) (length steps.now))
+        ≤ slice_index (N.numbers duals.old.items) i }
+    ensures { RaisesDuals (N.numbers steps.now) marks.now (N.numbers duals.new.items)
+        (N.numbers duals.old.items) }
 {
     let end = steps.len();
     for i in 0..duals.len() {
-        duals[i] -= sums[cut(marks[i], end)];
+        duals[i] = duals[i].minus(sums[cut(marks[i], end)]);
     }
 }
 
 // The sum of the steps, `None` where it is greater than the top.
-pub(crate) fn sum_within(m: &Bounded, steps: &[u128]) -> Option<u128>
-    ensures within { IfSome result (λ sum. sum ≡ sum_before steps.now (length steps.now)) }
-    ensures small { IfSome result (λ sum. sum ≤ m.now.top) }
-    ensures beyond { result ≡ None → m.now.top < sum_before steps.now (length steps.now) }
+pub(crate) fn sum_within<N: SumNumber>(top: N, steps: &[N]) -> Option<N>
+    requires { N.number top ≤ N.top }
+    ensures within { IfSome result (λ sum. N.number sum
+        ≡ sum_before (N.numbers steps.now) (length steps.now)) }
+    ensures small { IfSome result (λ sum. N.number sum ≤ N.number top) }
+    ensures beyond { result ≡ None → N.number top
+        < sum_before (N.numbers steps.now) (length steps.now) }
 {
-    let mut sum = 0;
+    let mut sum = N::zero();
     for t in 0..steps.len() {
-        if m.top - sum < steps[t] {
+        if top.minus(sum).is_below(steps[t]) {
             return None;
         }
-        sum += steps[t];
+        sum = sum.plus(steps[t]);
     }
     Some(sum)
 }

@@ -9,11 +9,10 @@
 //!
 //! Where a square holds sums that stay below the top, a phase adds to each cell what its row takes
 //! and subtracts what its column gives: [`DualSquare`] keeps those as dual variables, so that a
-//! phase doesn't go over the cells. [`NarrowSquare`] does so in 64 bits, for sums below 2^62, and
-//! compares 64 sums of a row with keys at a time. Where a square holds graded values, a phase
-//! leaves the cells of a greater grade than those of its steps as they are: [`GradedSquare`] knows
-//! the others, and visits those alone. Making one of the three takes memory; nothing else here
-//! does.
+//! phase doesn't go over the cells. In 64 bits, for sums below 2^62, it compares 64 sums of a row
+//! with keys at a time. Where a square holds graded values, a phase leaves the cells of a greater
+//! grade than those of its steps as they are: [`GradedSquare`] knows the others, and visits those
+//! alone. Making one of the two takes memory; nothing else here does.
 #![tactic(auto)]
 
 mod admission;
@@ -36,12 +35,7 @@ mod lesser_cells;
 mod list_tests;
 mod low_cells;
 mod marked_cells;
-mod narrow_cells;
-mod narrow_fits;
-mod narrow_greatest;
 mod narrow_rows;
-mod narrow_squares;
-mod narrow_sums;
 mod phase_totals;
 mod products;
 mod reduced;
@@ -51,6 +45,7 @@ mod row_cells;
 mod segments;
 mod settling;
 mod stepping;
+mod sum_numbers;
 
 pub use admission::{admits, are_values};
 pub use admission_within::admits_within;
@@ -58,8 +53,6 @@ pub use dual_rows::DualRow;
 pub use dual_squares::{DualSquare, Replayed};
 pub use graded_squares::GradedSquare;
 pub use list_tests::ListTest;
-pub use narrow_rows::NarrowRow;
-pub use narrow_squares::NarrowSquare;
 pub use phase_totals::PhaseTotals;
 pub use products::range;
 pub use reduced::Reduced;
@@ -67,3 +60,4 @@ pub use replayed_cells::replay_cell;
 pub use replaying::{replay, replay_within};
 pub use settling::settle;
 pub use stepping::step;
+pub use sum_numbers::{NARROW_TOP, SumNumber};

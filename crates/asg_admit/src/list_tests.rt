@@ -1,39 +1,36 @@
-//! Whole lists of phases of sums in 64 bits, tested with few looks at the cells.
+//! Whole lists of phases of sums, tested with few looks at the cells.
 
 ghost use Rattle.std.specs.Prelude.{◌≡◌, ◌↔◌, ◌<◌, ◌≤◌, ℕ, All, IfOk, IfSome, IsTrue, None, length, slice_index};
+ghost use Rattle.asg_admit.specs.SumNumbers.{numbered};
 ghost use Rattle.asg_admit.specs.PhaseTotals.{CountsRight, IsListNearTop, StayBelow, TellsList, column_raise, row_raise, sum_of_steps};
 ghost use Rattle.asg_model.specs.Limits.{most_side};
-ghost use Rattle.asg_monoids.specs.BoundedSums.{narrow_top};
 ghost use Rattle.asg_square.specs.Grid.{cell_at};
 
 use crate::counting::are_counted;
-use crate::narrow_greatest::greatest_cell;
-use crate::narrow_sums::{raise, sum_up, sum_within};
+use crate::dual_sums::{raise, sum_up, sum_within};
+use crate::greatest_cells::greatest_cell;
 use crate::phase_totals::{PhaseTotals, clear};
 use crate::segments::{close_segment, segment_ends_well};
+use crate::sum_numbers::SumNumber;
 use asg_proof::Phase;
 use asg_square::{NoMemory, Square};
 use std::alloc::Global;
 use std::marker::Model;
 
-// Where sums in 64 bits stop.
-const TOP: u64 = 1 << 62;
-
-/// Room to test lists of phases of sums in 64 bits on squares of one side. Contracts see it as the
-/// side.
+/// Room to test lists of phases of sums on squares of one side. Contracts see it as the side.
 ///
 /// From the last phase back a list is cut into segments, so long that within each the phases after
 /// one raise no row by more than a column. Within a segment no cell is ever less than it ends, so
 /// that one look at the cells tests all its phases; of rows that none of them lowers nothing is
 /// asked.
 #[derive(Drop)]
-pub struct ListTest {
-    rows: Vec<u64>,
-    columns: Vec<u64>,
-    segment: PhaseTotals,
+pub struct ListTest<N: SumNumber> {
+    rows: Vec<N>,
+    columns: Vec<N>,
+    segment: PhaseTotals<N>,
 }
 
-impl Model for ListTest {
+impl<N: SumNumber> Model for ListTest<N> {
     ghost use Rattle.std.specs.Prelude.{◌≡◌, ◌≤◌, ℕ, length};
     ghost use Rattle.asg_model.specs.Limits.{most_side};
 
@@ -46,14 +43,14 @@ impl Model for ListTest {
         × (length t.segment.rows ≡ length t.rows.items) };
 }
 
-impl ListTest {
+impl<N: SumNumber> ListTest<N> {
     /// Room for squares of this side. The error is want of memory.
-    pub fn with_side(alloc: Global, side: u32) -> Result<ListTest, NoMemory>
+    pub fn with_side(alloc: Global, side: u32) -> Result<ListTest<N>, NoMemory>
         requires { side ≤ most_side }
         ensures { IfOk result (λ t. t ≡ side) }
     {
-        let rows = vec![in alloc; 0; side as usize]?;
-        let columns = vec![in alloc; 0; side as usize]?;
+        let rows = vec![in alloc; N::zero(); side as usize]?;
+        let columns = vec![in alloc; N::zero(); side as usize]?;
         let segment = PhaseTotals::none(alloc, side)?;
         Ok(ListTest {
             rows,
@@ -62,23 +59,23 @@ impl ListTest {
         })
     }
 
-    /// Whether phases are admitted in turn from a square, by sums that stop at any top from 2^62
-    /// on; `None` where sums come near 2^62. `room` has more places than any phase has steps, and
+    /// Whether phases are admitted in turn from a square, by sums that stop at the top of the
+    /// numbers or at any greater one; `None` where sums come near that top. `room` has more places than any phase has steps, and
     /// what is in it before and afterwards means nothing. The time is that of the side and the
     /// steps for each phase, and of a look at the cells for each segment, mostly one. It takes no
     /// memory.
     pub fn admits(
         &mut self,
-        square: &Square<u64>,
-        phases: &[Phase<u64>],
-        room: &mut [u64],
+        square: &Square<N>,
+        phases: &[Phase<N>],
+        room: &mut [N],
     ) -> Option<bool>
         requires side { self.old ≡ square.now.side }
         requires room { All (λ p. length p.steps < length room.old) phases.now }
-        ensures told { IfSome result
-            (TellsList narrow_top square.now.side (cell_at square.now) phases.now) }
-        ensures near { result ≡ None
-            → IsListNearTop narrow_top (cell_at square.now) phases.now }
+        ensures told { IfSome result (TellsList N.top square.now.side
+            (λ r k. N.present (cell_at square.now r k)) (N.phases phases.now)) }
+        ensures near { result ≡ None → IsListNearTop N.top
+            (λ r k. N.present (cell_at square.now r k)) (N.phases phases.now) }
         ensures side { self.new ≡ self.old }
         ensures room { length room.new ≡ length room.old }
     {
@@ -86,7 +83,7 @@ impl ListTest {
             return None;
         };
         square.side();
-        if greatest_cell(square) > TOP - sum {
+        if N::greatest_sum().minus(sum).is_below(greatest_cell(square)) {
             return None;
         }
         if !all_count_right(phases, self.rows.len()) {
@@ -106,26 +103,26 @@ impl ListTest {
     }
 }
 
-// The sum of all steps of phases, `None` where it is greater than 2^62.
-fn sum_of_list(phases: &[Phase<u64>]) -> Option<u64>
-    ensures within { IfSome result (λ sum. sum ≡ sum_of_steps phases.now) }
-    ensures small { IfSome result (λ sum. sum ≤ narrow_top) }
-    ensures beyond { result ≡ None → narrow_top < sum_of_steps phases.now }
+// The sum of all steps of phases, `None` where it is greater than the top.
+fn sum_of_list<N: SumNumber>(phases: &[Phase<N>]) -> Option<N>
+    ensures within { IfSome result (λ sum. N.number sum ≡ sum_of_steps (N.phases phases.now)) }
+    ensures small { IfSome result (λ sum. N.number sum ≤ N.top) }
+    ensures beyond { result ≡ None → N.top < sum_of_steps (N.phases phases.now) }
 {
-    let mut sum = 0;
+    let mut sum = N::zero();
     for i in 0..phases.len() {
-        let Some(more) = sum_within(TOP - sum, phases[i].steps()) else {
+        let Some(more) = sum_within(N::greatest_sum().minus(sum), phases[i].steps()) else {
             return None;
         };
-        sum += more;
+        sum = sum.plus(more);
     }
     Some(sum)
 }
 
 // Whether the lists of a phase are over this side, and its counts are right.
-fn counts_right(phase: &Phase<u64>, side: usize) -> bool
+fn counts_right<N: SumNumber>(phase: &Phase<N>, side: usize) -> bool
     requires { side ≤ most_side }
-    ensures { IsTrue result ↔ CountsRight side phase.now }
+    ensures { IsTrue result ↔ CountsRight side (numbered N.numbers phase.now) }
 {
     if phase.enters().len() != side {
         return false;
@@ -137,9 +134,9 @@ fn counts_right(phase: &Phase<u64>, side: usize) -> bool
 }
 
 // Whether each phase does so.
-fn all_count_right(phases: &[Phase<u64>], side: usize) -> bool
+fn all_count_right<N: SumNumber>(phases: &[Phase<N>], side: usize) -> bool
     requires { side ≤ most_side }
-    ensures { IsTrue result ↔ All (CountsRight side) phases.now }
+    ensures { IsTrue result ↔ All (CountsRight side) (N.phases phases.now) }
 {
     for i in 0..phases.len() {
         if !counts_right(&phases[i], side) {
@@ -150,20 +147,26 @@ fn all_count_right(phases: &[Phase<u64>], side: usize) -> bool
 }
 
 // Raises the dual variables of rows and columns, all 0, by what phases raise them by.
-fn raise_all(rows: &mut Vec<u64>, columns: &mut Vec<u64>, phases: &[Phase<u64>], room: &mut [u64])
+fn raise_all<N: SumNumber>(
+    rows: &mut Vec<N>,
+    columns: &mut Vec<N>,
+    phases: &[Phase<N>],
+    room: &mut [N],
+)
     requires columns { length columns.old.items ≡ length rows.old.items }
-    requires rows_clear { (r : ℕ) → r < length rows.old.items → slice_index rows.old.items r ≡ 0 }
+    requires rows_clear { (r : ℕ) → r < length rows.old.items
+        → slice_index (N.numbers rows.old.items) r ≡ 0 }
     requires columns_clear { (k : ℕ) → k < length rows.old.items
-        → slice_index columns.old.items k ≡ 0 }
-    requires right { All (CountsRight (length rows.old.items)) phases.now }
+        → slice_index (N.numbers columns.old.items) k ≡ 0 }
+    requires right { All (CountsRight (length rows.old.items)) (N.phases phases.now) }
     requires room { All (λ p. length p.steps < length room.old) phases.now }
-    requires few { sum_of_steps phases.now ≤ narrow_top }
+    requires few { sum_of_steps (N.phases phases.now) ≤ N.top }
     ensures row_count { length rows.new.items ≡ length rows.old.items }
     ensures column_count { length columns.new.items ≡ length rows.old.items }
     ensures rows { (r : ℕ) → r < length rows.old.items
-        → slice_index rows.new.items r ≡ row_raise phases.now r }
+        → slice_index (N.numbers rows.new.items) r ≡ row_raise (N.phases phases.now) r }
     ensures columns { (k : ℕ) → k < length rows.old.items
-        → slice_index columns.new.items k ≡ column_raise phases.now k }
+        → slice_index (N.numbers columns.new.items) k ≡ column_raise (N.phases phases.now) k }
     ensures room { length room.new ≡ length room.old }
 {
     for i in 0..phases.len() {
@@ -176,26 +179,28 @@ fn raise_all(rows: &mut Vec<u64>, columns: &mut Vec<u64>, phases: &[Phase<u64>],
 
 // Whether phases that raised the dual variables so are admitted in turn from the square, by
 // segments from the last phase back.
-fn walk_back(
-    square: &Square<u64>,
-    rows: &mut Vec<u64>,
-    columns: &mut Vec<u64>,
-    segment: &mut PhaseTotals,
-    phases: &[Phase<u64>],
-    room: &mut [u64],
+fn walk_back<N: SumNumber>(
+    square: &Square<N>,
+    rows: &mut Vec<N>,
+    columns: &mut Vec<N>,
+    segment: &mut PhaseTotals<N>,
+    phases: &[Phase<N>],
+    room: &mut [N],
 ) -> bool
     requires row_count { length rows.old.items ≡ square.now.side }
     requires column_count { length columns.old.items ≡ square.now.side }
     requires side { length segment.old.rows ≡ square.now.side }
     requires rows { (r : ℕ) → r < square.now.side
-        → slice_index rows.old.items r ≡ row_raise phases.now r }
+        → slice_index (N.numbers rows.old.items) r ≡ row_raise (N.phases phases.now) r }
     requires columns { (k : ℕ) → k < square.now.side
-        → slice_index columns.old.items k ≡ column_raise phases.now k }
-    requires right { All (CountsRight square.now.side) phases.now }
+        → slice_index (N.numbers columns.old.items) k ≡ column_raise (N.phases phases.now) k }
+    requires right { All (CountsRight square.now.side) (N.phases phases.now) }
     requires room { All (λ p. length p.steps < length room.old) phases.now }
-    requires few { sum_of_steps phases.now ≤ narrow_top }
-    requires cells { StayBelow narrow_top square.now.side phases.now (cell_at square.now) }
-    ensures told { TellsList narrow_top square.now.side (cell_at square.now) phases.now result }
+    requires few { sum_of_steps (N.phases phases.now) ≤ N.top }
+    requires cells { StayBelow N.top square.now.side (N.phases phases.now)
+        (λ r k. N.present (cell_at square.now r k)) }
+    ensures told { TellsList N.top square.now.side (λ r k. N.present (cell_at square.now r k))
+        (N.phases phases.now) result }
     ensures row_count { length rows.new.items ≡ length rows.old.items }
     ensures column_count { length columns.new.items ≡ length columns.old.items }
     ensures side { length segment.new.rows ≡ length segment.old.rows }

@@ -1,37 +1,42 @@
-//! The end of a segment of a list of phases of sums in 64 bits: one look at the cells.
+//! The end of a segment of a list of phases of sums: one look at the cells.
 
-ghost use Rattle.std.specs.Prelude.{◌≡◌, ◌↔◌, ◌<◌, ◌≤◌, ◌+◌, ◌^◌, ℕ, IsTrue, Some, false, length, slice_index};
+ghost use Rattle.std.specs.Prelude.{◌≡◌, ◌↔◌, ◌<◌, ◌≤◌, ◌+◌, ℕ, IsTrue, Some, false, length, slice_index};
+ghost use Rattle.asg_admit.specs.Duals.{FitCells};
 ghost use Rattle.asg_admit.specs.PhaseTotals.{EndsSegment, IsKeptOrClosed, IsLoweredBy};
 ghost use Rattle.asg_square.specs.Grid.{cell_at};
 
-use crate::phase_totals::{PhaseTotals, row_ends_well};
+use crate::dual_fits::fit_cells;
+use crate::phase_totals::PhaseTotals;
+use crate::sum_numbers::SumNumber;
 use asg_square::Square;
 
 // Where the phases of the segment raise some row by more than a column, the segment is at its end:
 // then looks at the cells, takes its phases from the dual variables, and begins an empty one. Tells
 // false where a cell ends below 0.
-pub(crate) fn close_segment(
-    square: &Square<u64>,
-    rows: &mut Vec<u64>,
-    columns: &mut Vec<u64>,
-    segment: &mut PhaseTotals,
+pub(crate) fn close_segment<N: SumNumber>(
+    square: &Square<N>,
+    rows: &mut Vec<N>,
+    columns: &mut Vec<N>,
+    segment: &mut PhaseTotals<N>,
 ) -> bool
     requires row_count { length rows.old.items ≡ square.now.side }
     requires column_count { length columns.old.items ≡ square.now.side }
     requires side { length segment.old.rows ≡ square.now.side }
-    requires few_rows { (r : ℕ) → r < square.now.side → slice_index rows.old.items r < 2 ^ 63 }
-    requires few_cells { (r k x : ℕ) → r < square.now.side → cell_at square.now r k ≡ Some x
-        → x < 2 ^ 63 }
+    requires few_rows { (r : ℕ) → r < square.now.side
+        → slice_index (N.numbers rows.old.items) r ≤ N.top }
+    requires few_cells { (r k x : ℕ) → r < square.now.side
+        → N.present (cell_at square.now r k) ≡ Some x → x ≤ N.top }
     requires rows { (r : ℕ) → r < square.now.side
-        → slice_index segment.old.rows r ≤ slice_index rows.old.items r }
+        → slice_index segment.old.rows r ≤ slice_index (N.numbers rows.old.items) r }
     requires columns { (k : ℕ) → k < square.now.side
-        → slice_index segment.old.columns k ≤ slice_index columns.old.items k }
-    ensures closed { IsTrue result
-        → IsKeptOrClosed square.now.side (cell_at square.now) rows.old.items columns.old.items
-        segment.old rows.new.items columns.new.items segment.new }
+        → slice_index segment.old.columns k ≤ slice_index (N.numbers columns.old.items) k }
+    ensures closed { IsTrue result → IsKeptOrClosed square.now.side
+        (λ r k. N.present (cell_at square.now r k)) (N.numbers rows.old.items)
+        (N.numbers columns.old.items) segment.old (N.numbers rows.new.items)
+        (N.numbers columns.new.items) segment.new }
     ensures refused { result ≡ false
-        → EndsSegment square.now.side (cell_at square.now) rows.old.items columns.old.items
-        segment.old → ⊥ }
+        → EndsSegment square.now.side (λ r k. N.present (cell_at square.now r k))
+        (N.numbers rows.old.items) (N.numbers columns.old.items) segment.old → ⊥ }
     ensures row_count { length rows.new.items ≡ length rows.old.items }
     ensures column_count { length columns.new.items ≡ length columns.old.items }
     ensures side { length segment.new.rows ≡ length segment.old.rows }
@@ -50,20 +55,22 @@ pub(crate) fn close_segment(
 
 // Whether no cell ends below 0 of the rows that a segment lowers: each with the dual variable of
 // its row is at least that of its column.
-pub(crate) fn segment_ends_well(
-    square: &Square<u64>,
-    rows: &[u64],
-    columns: &[u64],
-    segment: &PhaseTotals,
+pub(crate) fn segment_ends_well<N: SumNumber>(
+    square: &Square<N>,
+    rows: &[N],
+    columns: &[N],
+    segment: &PhaseTotals<N>,
 ) -> bool
     requires row_count { length rows.now ≡ square.now.side }
     requires column_count { length columns.now ≡ square.now.side }
     requires side { length segment.now.rows ≡ square.now.side }
-    requires few_rows { (r : ℕ) → r < square.now.side → slice_index rows.now r < 2 ^ 63 }
-    requires few_cells { (r k x : ℕ) → r < square.now.side → cell_at square.now r k ≡ Some x
-        → x < 2 ^ 63 }
+    requires few_rows { (r : ℕ) → r < square.now.side
+        → slice_index (N.numbers rows.now) r ≤ N.top }
+    requires few_cells { (r k x : ℕ) → r < square.now.side
+        → N.present (cell_at square.now r k) ≡ Some x → x ≤ N.top }
     ensures { IsTrue result
-        ↔ EndsSegment square.now.side (cell_at square.now) rows.now columns.now segment.now }
+        ↔ EndsSegment square.now.side (λ r k. N.present (cell_at square.now r k))
+        (N.numbers rows.now) (N.numbers columns.now) segment.now }
 {
     let raises = segment.rows();
     for row in 0..square.side() {
@@ -77,36 +84,37 @@ pub(crate) fn segment_ends_well(
 
 // Whether no cell of a row ends below 0; nothing is asked where it is raised by the sum of all
 // steps, and so never lowered.
-fn lowered_row_ends_well(
-    square: &Square<u64>,
+fn lowered_row_ends_well<N: SumNumber>(
+    square: &Square<N>,
     row: u32,
-    dual: u64,
-    columns: &[u64],
-    raise: u64,
-    sum: u64,
+    dual: N,
+    columns: &[N],
+    raise: N,
+    sum: N,
 ) -> bool
     requires row { row < square.now.side }
     requires columns { length columns.now ≡ square.now.side }
-    requires few { dual < 2 ^ 63 }
-    requires few_cells { (k x : ℕ) → cell_at square.now row k ≡ Some x → x < 2 ^ 63 }
+    requires few { N.number dual ≤ N.top }
+    requires few_cells { (k x : ℕ) → N.present (cell_at square.now row k) ≡ Some x → x ≤ N.top }
     ensures { IsTrue result
-        ↔ (raise < sum → (k x : ℕ) → k < square.now.side → cell_at square.now row k ≡ Some x
-        → slice_index columns.now k ≤ x + dual) }
+        ↔ (N.number raise < N.number sum → FitCells square.now.side
+        (λ k. N.present (cell_at square.now row k)) (N.number dual) (N.numbers columns.now)) }
 {
-    if raise >= sum {
+    if !raise.is_below(sum) {
         return true;
     }
-    row_ends_well(square, row, dual, columns)
+    fit_cells(square, row, dual, columns)
 }
 
 // Lessens each number by that of another list.
-fn lower_by(numbers: &mut Vec<u64>, part: &[u64])
+fn lower_by<N: SumNumber>(numbers: &mut Vec<N>, part: &[N])
     requires count { length part.now ≡ length numbers.old.items }
-    requires part { (i : ℕ) → i < length numbers.old.items
-        → slice_index part.now i ≤ slice_index numbers.old.items i }
-    ensures { IsLoweredBy part.now numbers.old.items numbers.new.items }
+    requires part { (i : ℕ) → i < length numbers.old.items → slice_index (N.numbers part.now) i
+        ≤ slice_index (N.numbers numbers.old.items) i }
+    ensures { IsLoweredBy (N.numbers part.now) (N.numbers numbers.old.items)
+        (N.numbers numbers.new.items) }
 {
     for i in 0..numbers.len() {
-        numbers[i] -= part[i];
+        numbers[i] = numbers[i].minus(part[i]);
     }
 }

@@ -1,9 +1,8 @@
 -- Leads that are offered keys, and the least of them.
-use Rattle.std.proofs.Common.{◌≡◌, ◌↔◌, ◌⊎◌, inl, inr, ℕ, ◌/◌, ◌%◌, ◌<◌, ◌^◌, cond, eqb, List, length, Some, None, get_or, set, refl, sym, ◌∙◌, ap, subst, arith, ⊎_elim}
-use Rattle.std.specs.Prelude.{bit_and}
+use Rattle.std.proofs.Common.{◌≡◌, ◌↔◌, ◌⊎◌, inl, inr, ℕ, ◌/◌, ◌%◌, ◌<◌, cond, eqb, List, length, Some, None, get_or, set, refl, sym, ◌∙◌, ap, subst, arith, ⊎_elim}
 use Rattle.std.specs.Int.{bit_at}
-use Rattle.std.proofs.lemmas.List.{get_or_read, get_or-set_same, get_or-set_other, length-set}
-use Rattle.std.proofs.lemmas.Nat.Bits.{bit_at-lt, shr_and_one}
+use Rattle.std.proofs.lemmas.List.{get_or-set_same, get_or-set_other, length-set}
+use Rattle.std.proofs.lemmas.Nat.Bits.{bit_at-lt}
 use Rattle.std.proofs.lemmas.Option.{none-some}
 use Rattle.asg_match.specs.ColumnSet.{HasColumn}
 use Rattle.asg_order.specs.Monoid.{Monoid, IsLe}
@@ -24,14 +23,6 @@ module _ {V : Type 0} (M : Monoid V) where
   pub lead_has : (leads : Leads V) (k : ℕ) (x : V) → lead_at M leads k ≡ Some x → HasColumn leads.keyed k
   lead_has leads k x e =
       ⊎_elim (λ has. has) (λ none. absurd (none-some x (sym (lead_none leads k none) ∙ e))) (cases_column leads.keyed k)
-
-  -- what is read where the bit is set is the key
-  pub lead_read : (leads : Leads V) (k : ℕ) (x : V) → (bit_and (get_or leads.keyed (k / 64) 0 / 2 ^ (k % 64)) 1 ≡ 0 → ⊥) → k < length leads.keys → x ≡ get_or leads.keys k x → lead_at M leads k ≡ Some x
-  lead_read leads k x some h e =
-      let word = get_or leads.keyed (k / 64) 0 in
-      let has : HasColumn leads.keyed k =
-      ⊎_elim (λ has. has) (λ other. absurd (some (omega (arith, other, shr_and_one word (k % 64), bit_at-lt word (k % 64))))) (cases_column leads.keyed k) in
-      lead_there leads k has ∙ ap Some (sym (get_or_read leads.keys k x h e M.unit))
 
   -- two sets of leads that agree at a column
   pub lead_same : (before after : Leads V) (k : ℕ) → (HasColumn after.keyed k ↔ HasColumn before.keyed k) → get_or after.keys k M.unit ≡ get_or before.keys k M.unit → lead_at M after k ≡ lead_at M before k

@@ -1,10 +1,11 @@
 //! Reduced squares of sums that are kept by dual variables.
 
-ghost use Rattle.std.specs.Prelude.{◌≡◌, ◌≤◌, ℕ, List, None, length, IfOk, IfSome, OnErr};
+ghost use Rattle.std.specs.Prelude.{◌≡◌, ◌≤◌, ℕ, List, None, length, IfOk, IfSome, IsTrue, OnErr};
 ghost use Rattle.asg_admit.specs.Reduced.{IsReduced};
 ghost use Rattle.asg_match.specs.Matching.{AllAllowed, Matches};
 ghost use Rattle.asg_monoids.specs.BoundedSums.{bounded_sums, bounded_difference};
 ghost use Rattle.asg_pool.specs.Forest.{IsLive};
+ghost use Rattle.asg_proof.specs.Phases.{AreAdmittedPhases};
 ghost use Rattle.asg_square.specs.Grid.{cell_at};
 ghost use Rattle.asg_algebra.specs.Ended.{last_of, EndsIn};
 ghost use Rattle.asg_algebra.specs.Growing.{IsAbsorbed};
@@ -17,14 +18,16 @@ use crate::reduced_squares::{ReducedSquare, RowSquare};
 use crate::row_values::{RowValues, is_present};
 use crate::scanning::scan;
 use crate::square_solvers::{SolvedSquare, SquareSolver, solve_kept};
+use crate::tested_lists::are_admitted;
 use asg_admit::{DualRow, DualSquare, Reduced, Replayed};
 use asg_match::Matching;
 use asg_monoids::Bounded;
 use asg_pool::{Region, Trail};
 use asg_proof::Phase;
+use asg_square::Square;
 use std::alloc::Global;
 
-impl<'a> RowValues<Bounded> for DualRow<'a> {
+impl<'a> RowValues<Bounded> for DualRow<'a, u128> {
     ghost values_of = { λ row. row };
 
     #[inline]
@@ -33,7 +36,7 @@ impl<'a> RowValues<Bounded> for DualRow<'a> {
     }
 }
 
-impl RowSquare<Bounded> for DualSquare {
+impl RowSquare<Bounded> for DualSquare<u128> {
     ghost as_reduced = { λ dual. dual };
 
     fn side(&self) -> u32 {
@@ -65,7 +68,7 @@ impl RowSquare<Bounded> for DualSquare {
     }
 }
 
-impl ReducedSquare<Bounded> for DualSquare {
+impl ReducedSquare<Bounded> for DualSquare<u128> {
     ghost use Rattle.std.specs.Prelude.{false};
     ghost use Rattle.asg_admit.specs.Duals.{HasRoom};
 
@@ -82,7 +85,7 @@ impl ReducedSquare<Bounded> for DualSquare {
     }
 
     fn takes_sum(&self, m: &Bounded, sum: u128) -> bool {
-        self.has_room(m, sum)
+        self.has_room(m.top, sum)
     }
 
     fn settle(
@@ -93,7 +96,7 @@ impl ReducedSquare<Bounded> for DualSquare {
         leaves: &[u32],
         room: &mut [u128],
     ) {
-        DualSquare::settle(self, m, steps, enters, leaves, room);
+        DualSquare::settle(self, m.top, steps, enters, leaves, room);
     }
 
     fn replay(
@@ -104,7 +107,7 @@ impl ReducedSquare<Bounded> for DualSquare {
         leaves: &[u32],
         room: &mut [u128],
     ) -> bool {
-        match DualSquare::replay(self, m, steps, enters, leaves, room) {
+        match DualSquare::replay(self, m.top, steps, enters, leaves, room) {
             Replayed::Applied => true,
             Replayed::Refused => false,
             Replayed::Full => false,
@@ -114,6 +117,24 @@ impl ReducedSquare<Bounded> for DualSquare {
     fn into_reduced(self) -> Reduced<u128> {
         self.reduce()
     }
+}
+
+// Whether phases are admitted in turn from a square, where it is told: only of sums that stop at
+// 2^120. The error is want of memory.
+fn are_known(
+    alloc: Global,
+    m: &Bounded,
+    square: &Square<u128>,
+    given: &[Phase<u128>],
+) -> Result<bool, NoMemory>
+    ensures { IfOk result (λ told. IsTrue told
+        → AreAdmittedPhases (bounded_sums m.now.top) bounded_difference square.now.side given.now
+        (cell_at square.now)) }
+{
+    if m.top != 1 << 120 {
+        return Ok(false);
+    }
+    are_admitted(alloc, square, given)
 }
 
 impl SquareSolver for Bounded {
@@ -144,7 +165,7 @@ impl SquareSolver for Bounded {
         ensures kept_region { OnErr result (region.new ≡ region.old) }
         ensures kept_bench { OnErr result (bench.new ≡ bench.old) }
     {
-        let square = DualSquare::make(alloc, self, reduced)?;
+        let square = DualSquare::make(alloc, self.top, reduced)?;
         Ok(solve_kept(self, square, matching, bench, region, trail))
     }
 
@@ -177,7 +198,10 @@ impl SquareSolver for Bounded {
                 alloc, self, reduced, matching, region, given, columns, false,
             );
         }
-        let square = DualSquare::make(alloc, self, reduced)?;
-        solve_kept_given(alloc, self, square, matching, region, given, columns, false)
+        let is_known = are_known(alloc, self, &reduced.now, given)?;
+        let square = DualSquare::make(alloc, self.top, reduced)?;
+        solve_kept_given(
+            alloc, self, square, matching, region, given, columns, is_known,
+        )
     }
 }

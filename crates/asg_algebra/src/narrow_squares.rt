@@ -18,14 +18,14 @@ use crate::row_values::{RowValues, is_present};
 use crate::scanning::scan;
 use crate::square_solvers::{SolvedSquare, SquareSolver, solve_kept};
 use crate::tested_lists::are_admitted;
-use asg_admit::{NarrowRow, NarrowSquare, Reduced, Replayed};
+use asg_admit::{DualRow, DualSquare, NARROW_TOP, Reduced, Replayed};
 use asg_match::Matching;
 use asg_monoids::NarrowSums;
 use asg_pool::{Region, Trail};
 use asg_proof::Phase;
 use std::alloc::Global;
 
-impl<'a> RowValues<NarrowSums> for NarrowRow<'a> {
+impl<'a> RowValues<NarrowSums> for DualRow<'a, u64> {
     ghost values_of = { λ row. row };
 
     #[inline]
@@ -36,19 +36,19 @@ impl<'a> RowValues<NarrowSums> for NarrowRow<'a> {
     #[inline]
     fn lesser(&self, m: &NarrowSums, sum: u64, keys: &[u64], number: u32) -> u64 {
         let _ = m;
-        NarrowRow::lesser(self, sum, keys, number)
+        DualRow::lesser(self, sum, keys, number)
     }
 }
 
-impl RowSquare<NarrowSums> for NarrowSquare {
+impl RowSquare<NarrowSums> for DualSquare<u64> {
     ghost as_reduced = { λ narrow. narrow };
 
     fn side(&self) -> u32 {
-        NarrowSquare::side(self)
+        DualSquare::side(self)
     }
 
     fn index(&self) -> u64 {
-        NarrowSquare::index(self)
+        DualSquare::index(self)
     }
 
     fn offer_row(
@@ -72,7 +72,7 @@ impl RowSquare<NarrowSums> for NarrowSquare {
     }
 }
 
-impl ReducedSquare<NarrowSums> for NarrowSquare {
+impl ReducedSquare<NarrowSums> for DualSquare<u64> {
     ghost use Rattle.std.specs.Prelude.{false};
     ghost use Rattle.asg_admit.specs.Duals.{HasRoom};
     ghost use Rattle.asg_monoids.specs.BoundedSums.{narrow_top};
@@ -91,7 +91,7 @@ impl ReducedSquare<NarrowSums> for NarrowSquare {
 
     fn takes_sum(&self, m: &NarrowSums, sum: u64) -> bool {
         let _ = m;
-        self.has_room(sum)
+        self.has_room(NARROW_TOP, sum)
     }
 
     fn settle(
@@ -103,7 +103,7 @@ impl ReducedSquare<NarrowSums> for NarrowSquare {
         room: &mut [u64],
     ) {
         let _ = m;
-        NarrowSquare::settle(self, steps, enters, leaves, room);
+        DualSquare::settle(self, NARROW_TOP, steps, enters, leaves, room);
     }
 
     fn replay(
@@ -115,7 +115,7 @@ impl ReducedSquare<NarrowSums> for NarrowSquare {
         room: &mut [u64],
     ) -> bool {
         let _ = m;
-        match NarrowSquare::replay(self, steps, enters, leaves, room) {
+        match DualSquare::replay(self, NARROW_TOP, steps, enters, leaves, room) {
             Replayed::Applied => true,
             Replayed::Refused => false,
             Replayed::Full => false,
@@ -155,7 +155,7 @@ impl SquareSolver for NarrowSums {
         ensures kept_region { OnErr result (region.new ≡ region.old) }
         ensures kept_bench { OnErr result (bench.new ≡ bench.old) }
     {
-        let square = NarrowSquare::make(alloc, reduced)?;
+        let square = DualSquare::make(alloc, NARROW_TOP, reduced)?;
         Ok(solve_kept(self, square, matching, bench, region, trail))
     }
 
@@ -185,7 +185,7 @@ impl SquareSolver for NarrowSums {
         if !are_admitted(alloc, &reduced.now, given)? {
             return Ok(None);
         }
-        let square = NarrowSquare::make(alloc, reduced)?;
+        let square = DualSquare::make(alloc, NARROW_TOP, reduced)?;
         solve_kept_given(alloc, self, square, matching, region, given, columns, true)
     }
 }

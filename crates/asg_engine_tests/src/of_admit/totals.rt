@@ -1,10 +1,11 @@
-//! The phases of the worked example in 64 bits, tested as a list in one pass over the cells.
+//! The phases of the worked example, tested as a list in one pass over the cells, in 64 bits and in
+//! 128.
 
 ghost use Rattle.std.specs.Prelude.{◌≡◌, ◌<◌, ◌≤◌, All, IfOk, IfSome, length};
 
 use crate::samples::reduced_of;
 use asg_admit::{ListTest, PhaseTotals, Reduced};
-use asg_monoids::NarrowSums;
+use asg_monoids::{Bounded, NarrowSums};
 use asg_proof::Phase;
 use asg_samples::Fault;
 use asg_square::{NoMemory, Square};
@@ -40,7 +41,7 @@ fn worked(alloc: Global) -> Result<Option<Square<u64>>, Fault>
 
 // Takes in the third phase, the second and the first, whose step this is, as far as each can come
 // before the others; tells how many were taken in.
-fn take_in(totals: &mut PhaseTotals, first: &[u64; 1]) -> u32
+fn take_in(totals: &mut PhaseTotals<u64>, first: &[u64; 1]) -> u32
     ensures { length totals.new.rows ≡ length totals.old.rows }
 {
     let mut room = [0u64; 3];
@@ -58,7 +59,7 @@ fn take_in(totals: &mut PhaseTotals, first: &[u64; 1]) -> u32
 
 // Whether the three phases, the first with this step, are taken in, and are found to be admitted in
 // one pass.
-fn fit(totals: &mut PhaseTotals, square: &Square<u64>, first: &[u64; 1]) -> bool
+fn fit(totals: &mut PhaseTotals<u64>, square: &Square<u64>, first: &[u64; 1]) -> bool
     requires totals { length totals.old.rows ≡ 3 }
     requires square { square.now.side ≡ 3 }
 {
@@ -94,7 +95,7 @@ fn a_list_in_one_pass(rt: HostRuntime) -> Result<(), Fail> {
 
 // Whether the second phase is taken in alone: it raises its third row by more than its second
 // column.
-fn ends_a_pass(totals: &mut PhaseTotals) -> bool
+fn ends_a_pass(totals: &mut PhaseTotals<u64>) -> bool
     requires { length totals.old.rows ≡ 3 }
 {
     let mut room = [0u64; 3];
@@ -174,6 +175,80 @@ fn told_cases() -> &'static [([u64; 1], Option<bool>)] {
 fn a_list_by_segments(rt: HostRuntime) -> Result<(), Fail> {
     for (first, want) in told_cases() {
         assert!(rt; told(rt.alloc(), first)? == *want);
+    }
+    Ok(())
+}
+
+// Sums in 128 bits.
+const SUMS: Bounded = Bounded { top: 1 << 120 };
+
+// What is added to each cost there.
+const WIDE_SHIFT: u128 = 1 << 100;
+
+// The cells of the worked square, in 128 bits.
+const WIDE_CELLS: [Option<u128>; 9] = [
+    Some(WIDE_SHIFT + 4),
+    Some(WIDE_SHIFT + 1),
+    Some(WIDE_SHIFT + 3),
+    Some(WIDE_SHIFT + 2),
+    Some(WIDE_SHIFT),
+    Some(WIDE_SHIFT + 5),
+    Some(WIDE_SHIFT + 3),
+    Some(WIDE_SHIFT + 2),
+    Some(WIDE_SHIFT + 2),
+];
+
+// The first phase alone, with this step.
+fn wide_list(alloc: Global, first: u128) -> Result<Vec<Phase<u128>>, NoMemory>
+    ensures { IfOk result (λ ps. All (λ p. length p.steps ≤ 2) ps.items) }
+{
+    let steps = Vec::from_slice(alloc, &[first])?;
+    let enters = Vec::from_slice(alloc, &[0, 1, 1])?;
+    let leaves = Vec::from_slice(alloc, &[1, 1, 1])?;
+    let one = Phase::of(steps, enters, leaves);
+    Ok(vec![in alloc; one]?)
+}
+
+// What the test of phases of at most two steps tells in 128 bits.
+fn wide_told_of(
+    alloc: Global,
+    square: &Square<u128>,
+    phases: &[Phase<u128>],
+) -> Result<Option<bool>, NoMemory>
+    requires side { square.now.side ≡ 3 }
+    requires phases { All (λ p. length p.steps ≤ 2) phases.now }
+{
+    let mut test = ListTest::with_side(alloc, 3)?;
+    let mut room = [0u128; 3];
+    Ok(test.admits(square, phases, &mut room))
+}
+
+// What the test of the first phase tells in 128 bits, with this step.
+fn wide_told(alloc: Global, first: u128) -> Result<Option<bool>, Fault> {
+    let Reduced { now, index: _index } = reduced_of(alloc, &SUMS, 3, &WIDE_CELLS)?;
+    if now.side() != 3 {
+        return Ok(None);
+    }
+    let phases = wide_list(alloc, first)?;
+    Ok(wide_told_of(alloc, &now, phases.as_slice())?)
+}
+
+// The step of the first phase, a greater one, and one at which nothing is told, and what is told.
+static WIDE_TOLD: [(u128, Option<bool>); 3] = [
+    (WIDE_SHIFT + 1, Some(true)),
+    (WIDE_SHIFT + 2, Some(false)),
+    (1 << 120, None),
+];
+
+// These, for a caller that needn't know them.
+fn wide_cases() -> &'static [(u128, Option<bool>)] {
+    &WIDE_TOLD
+}
+
+#[test]
+fn a_wide_list(rt: HostRuntime) -> Result<(), Fail> {
+    for (first, want) in wide_cases() {
+        assert!(rt; wide_told(rt.alloc(), *first)? == *want);
     }
     Ok(())
 }

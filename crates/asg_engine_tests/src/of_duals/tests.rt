@@ -6,7 +6,7 @@ ghost use Rattle.asg_admit.specs.Reduced.{IsReduced};
 ghost use Rattle.asg_monoids.specs.BoundedSums.{bounded_sums, narrow_top};
 
 use crate::samples::reduced_of;
-use asg_admit::{NarrowSquare, Reduced, Replayed};
+use asg_admit::{DualSquare, NARROW_TOP, Reduced, Replayed};
 use asg_duals::{Duals, short_phases, tight_duals};
 use asg_monoids::NarrowSums;
 use asg_proof::Phase;
@@ -45,13 +45,19 @@ fn products(alloc: Global) -> Result<Vec<Option<u64>>, Fault> {
 }
 
 // Applies phases, where each is admitted; whether all were.
-fn all_apply(narrow: &mut NarrowSquare, phases: &[Phase<u64>], room: &mut [u64]) -> bool {
+fn all_apply(narrow: &mut DualSquare<u64>, phases: &[Phase<u64>], room: &mut [u64]) -> bool {
     for k in 0..phases.len() {
         let phase = &phases[k];
         if phase.steps().len() >= room.len() {
             return false;
         }
-        match narrow.replay(phase.steps(), phase.enters(), phase.leaves(), room) {
+        match narrow.replay(
+            NARROW_TOP,
+            phase.steps(),
+            phase.enters(),
+            phase.leaves(),
+            room,
+        ) {
             Replayed::Applied => {}
             Replayed::Refused => return false,
             Replayed::Full => return false,
@@ -61,7 +67,7 @@ fn all_apply(narrow: &mut NarrowSquare, phases: &[Phase<u64>], room: &mut [u64])
 }
 
 // Whether the cell of each row at its column is 0.
-fn are_zero(narrow: &NarrowSquare, columns: &[u32]) -> bool {
+fn are_zero(narrow: &DualSquare<u64>, columns: &[u32]) -> bool {
     for row in 0..narrow.side() {
         if row as usize >= columns.len() || columns[row as usize] >= narrow.side() {
             return false;
@@ -78,10 +84,10 @@ fn applied(
     alloc: Global,
     reduced: Reduced<u64>,
     phases: &[Phase<u64>],
-) -> Result<Option<NarrowSquare>, NoMemory>
+) -> Result<Option<DualSquare<u64>>, NoMemory>
     requires { IsReduced (bounded_sums narrow_top) reduced }
 {
-    let mut narrow = NarrowSquare::make(alloc, reduced)?;
+    let mut narrow = DualSquare::make(alloc, NARROW_TOP, reduced)?;
     let places = (narrow.side() as usize).saturating_add(1);
     let mut room = vec![in alloc; 0u64; places]?;
     if all_apply(&mut narrow, phases, room.as_mut_slice()) {

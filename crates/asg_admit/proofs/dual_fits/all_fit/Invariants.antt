@@ -1,7 +1,10 @@
-use Rattle.std.proofs.Common.{ℕ, ◌+◌, ◌<◌}
+use Rattle.std.proofs.Common.{ℕ, ◌↔◌, ◌<◌}
+use Rattle.std.specs.Prelude.{IsTrue}
 use Rattle.asg_admit.specs.Duals.{FitsAt}
 use Rattle.asg_admit.proofs.dual_fits.all_fit.Given as goal
 
--- the cells so far do so
+-- whether the cells so far do so
 abbrev pub invariant-loop-k : goal.invariant-loop-k
-invariant-loop-k l = (i : ℕ) → i < l.k → FitsAt l.values l.columns l.raise (l.first + i)
+invariant-loop-k g l =
+    let N = g.N.SumNumber in
+    IsTrue l.fits ↔ ((i : ℕ) → i < l.k → FitsAt (N.numbers l.values) (N.numbers l.columns) (N.number l.raise) i)

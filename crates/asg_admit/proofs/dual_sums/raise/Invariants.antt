@@ -5,9 +5,9 @@ use Rattle.asg_admit.proofs.dual_sums.raise.Given as goal
 
 -- the dual variables so far are raised, and the others stand
 abbrev pub invariant-loop-i : goal.invariant-loop-i
-invariant-loop-i l =
+invariant-loop-i g l =
     record {
       count : length l.duals.items ≡ length l.fn.duals.items;
-      done : (j : ℕ) → j < l.i → slice_index l.duals.items j ≡ slice_index l.fn.duals.items j + sum_before l.steps (min (slice_index l.marks j) (length l.steps));
-      rest : (j : ℕ) → l.i ≤ j → slice_index l.duals.items j ≡ slice_index l.fn.duals.items j;
+      done : (j : ℕ) → j < l.i → slice_index (g.N.SumNumber.numbers l.duals.items) j ≡ slice_index (g.N.SumNumber.numbers l.fn.duals.items) j + sum_before (g.N.SumNumber.numbers l.steps) (min (slice_index l.marks j) (length l.steps));
+      rest : (j : ℕ) → l.i ≤ j → slice_index (g.N.SumNumber.numbers l.duals.items) j ≡ slice_index (g.N.SumNumber.numbers l.fn.duals.items) j;
     }

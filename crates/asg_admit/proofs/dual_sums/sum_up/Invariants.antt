@@ -5,8 +5,8 @@ use Rattle.asg_admit.proofs.dual_sums.sum_up.Given as goal
 
 -- the sums so far
 abbrev pub invariant-loop-t : goal.invariant-loop-t
-invariant-loop-t l =
+invariant-loop-t g l =
     record {
       room : length l.sums ≡ length l.fn.sums;
-      sums : (i : ℕ) → i ≤ l.t → slice_index l.sums i ≡ sum_before l.steps i;
+      sums : (i : ℕ) → i ≤ l.t → slice_index (g.N.SumNumber.numbers l.sums) i ≡ sum_before (g.N.SumNumber.numbers l.steps) i;
     }

@@ -4,8 +4,8 @@ use Rattle.asg_admit.proofs.dual_sums.sum_within.Given as goal
 
 -- the sum so far
 abbrev pub invariant-loop-t : goal.invariant-loop-t
-invariant-loop-t l =
+invariant-loop-t g l =
     record {
-      is : l.sum ≡ sum_before l.steps l.t;
-      few : l.sum ≤ l.m.top;
+      is : g.N.SumNumber.number l.sum ≡ sum_before (g.N.SumNumber.numbers l.steps) l.t;
+      few : g.N.SumNumber.number l.sum ≤ g.N.SumNumber.number l.top;
     }

@@ -4,4 +4,4 @@ use Rattle.asg_admit.proofs.greatest_cells.greatest_of_row.Given as goal
 
 -- the greatest of the cells so far
 abbrev pub invariant-loop-column : goal.invariant-loop-column
-invariant-loop-column l = IsGreatestOf l.column (cell_at l.square l.row) l.greatest
+invariant-loop-column g l = IsGreatestOf l.column (λ k. g.N.SumNumber.present (cell_at l.square l.row k)) (g.N.SumNumber.number l.greatest)

@@ -5,4 +5,4 @@ use Rattle.asg_admit.proofs.list_tests.all_count_right.Given as goal
 
 -- the phases so far count right
 abbrev pub invariant-loop-i : goal.invariant-loop-i
-invariant-loop-i l = All (CountsRight l.side) (take l.i l.phases)
+invariant-loop-i g l = All (CountsRight l.side) (take l.i (g.N.SumNumber.phases l.phases))

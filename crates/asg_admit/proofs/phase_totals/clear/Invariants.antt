@@ -4,7 +4,7 @@ use Rattle.asg_admit.proofs.phase_totals.clear.Given as goal
 
 -- the numbers so far are 0
 abbrev pub invariant-loop-i : goal.invariant-loop-i
-invariant-loop-i l = record {
+invariant-loop-i g l = record {
   count : length l.numbers.items ≡ length l.fn.numbers.items;
-  each : (j : ℕ) → j < l.i → slice_index l.numbers.items j ≡ 0;
+  each : (j : ℕ) → j < l.i → slice_index (g.N.SumNumber.numbers l.numbers.items) j ≡ 0;
 }

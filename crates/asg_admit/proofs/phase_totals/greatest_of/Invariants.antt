@@ -4,7 +4,9 @@ use Rattle.asg_admit.proofs.phase_totals.greatest_of.Given as goal
 
 -- the numbers so far are at most it, and it is one of them or 0
 abbrev pub invariant-loop-i : goal.invariant-loop-i
-invariant-loop-i l = record {
-  above : (j : ℕ) → j < l.i → slice_index l.numbers j ≤ l.greatest;
-  reached : (l.greatest ≡ 0) ⊎ ((j : ℕ) × (j < length l.numbers) × (slice_index l.numbers j ≡ l.greatest));
-}
+invariant-loop-i g l =
+    let N = g.N.SumNumber in
+    record {
+      above : (j : ℕ) → j < l.i → slice_index (N.numbers l.numbers) j ≤ N.number l.greatest;
+      reached : (N.number l.greatest ≡ 0) ⊎ ((j : ℕ) × (j < length l.numbers) × (slice_index (N.numbers l.numbers) j ≡ N.number l.greatest));
+    }

@@ -1,8 +1,11 @@
-use Rattle.std.proofs.Common.{◌≡◌, ℕ, ◌+◌, ◌<◌, ◌≤◌, Some}
+use Rattle.std.proofs.Common.{ℕ, ◌<◌}
 use Rattle.std.specs.Prelude.{slice_index}
 use Rattle.asg_square.specs.Grid.{cell_at}
+use Rattle.asg_admit.specs.Duals.{FitCells}
 use Rattle.asg_admit.proofs.phase_totals.rows_end_well.Given as goal
 
 -- the cells of the rows so far are so
 abbrev pub invariant-loop-row : goal.invariant-loop-row
-invariant-loop-row l = (r k x : ℕ) → r < l.row → k < l.square.side → cell_at l.square r k ≡ Some x → slice_index l.columns k ≤ x + slice_index l.rows r
+invariant-loop-row g l =
+    let N = g.N.SumNumber in
+    (r : ℕ) → r < l.row → FitCells l.square.side (λ k. N.present (cell_at l.square r k)) (slice_index (N.numbers l.rows) r) (N.numbers l.columns)

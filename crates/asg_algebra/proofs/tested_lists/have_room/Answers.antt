@@ -5,7 +5,7 @@ use Rattle.std.proofs.lemmas.List.Elements.{All-push}
 use Rattle.asg_algebra.proofs.tested_lists.have_room.Goals as goal
 
 pub phases-preserved : goal.phases-preserved
-phases-preserved c =
+phases-preserved g c =
     let k = c.phases.k in
     let given = c.args.given.now in
     let phase = c.index-given-k.result in
@@ -15,4 +15,4 @@ phases-preserved c =
     (All-push (λ p. length p.steps < c.args.places) (take k given) phase c.phases.invariant few)
 
 pub returns : goal.returns
-returns c = λ _. subst (All (λ p. length p.steps < c.args.places)) (take_all c.phases.k c.args.given.now c.phases-test.false) c.phases.invariant
+returns g c = λ _. subst (All (λ p. length p.steps < c.args.places)) (take_all c.phases.k c.args.given.now c.phases-test.false) c.phases.invariant

@@ -15,7 +15,7 @@ use std::alloc::Global;
 use std::test::Fail;
 
 // Whether the row has these values.
-fn is_row(row: &DualRow<'_>, values: &[u128; 3]) -> bool
+fn is_row(row: &DualRow<'_, u128>, values: &[u128; 3]) -> bool
     requires { length row.now ≡ 3 }
 {
     for k in 0..3u32 {
@@ -27,7 +27,7 @@ fn is_row(row: &DualRow<'_>, values: &[u128; 3]) -> bool
 }
 
 // Whether the square has these cells, and the index is this.
-fn is_dual_now(dual: &DualSquare, cells: &Cells, index: u128) -> bool {
+fn is_dual_now(dual: &DualSquare<u128>, cells: &Cells, index: u128) -> bool {
     if dual.side() != 3 {
         return false;
     }
@@ -63,12 +63,12 @@ fn settled(
     if !admits(&SUMS, &reduced.now, steps, &phase.enters, &phase.leaves) {
         return Ok(None);
     }
-    let mut dual = DualSquare::make(alloc, &SUMS, reduced)?;
-    if !dual.has_room(&SUMS, sum) {
+    let mut dual = DualSquare::make(alloc, SUMS.top, reduced)?;
+    if !dual.has_room(SUMS.top, sum) {
         return Ok(None);
     }
     let mut room = [0u128; 4];
-    dual.settle(&SUMS, steps, &phase.enters, &phase.leaves, &mut room);
+    dual.settle(SUMS.top, steps, &phase.enters, &phase.leaves, &mut room);
     Ok(Some(dual.reduce()))
 }
 
@@ -126,7 +126,7 @@ fn settles_the_phases_of_the_worked_example_by_dual_variables(rt: HostRuntime) -
 
 // What becomes of a phase; nothing is tried where it has more than three steps.
 fn replayed(
-    dual: &mut DualSquare,
+    dual: &mut DualSquare<u128>,
     steps: &[u128],
     enters: &[u32],
     leaves: &[u32],
@@ -135,17 +135,17 @@ fn replayed(
     if steps.len() > 3 {
         return None;
     }
-    Some(dual.replay(&SUMS, steps, enters, leaves, &mut room))
+    Some(dual.replay(SUMS.top, steps, enters, leaves, &mut room))
 }
 
 // Whether a phase is applied, and the square and the index are then its.
-fn replays(dual: &mut DualSquare, phase: &WorkedPhase) -> bool {
+fn replays(dual: &mut DualSquare<u128>, phase: &WorkedPhase) -> bool {
     let told = replayed(dual, phase.steps, &phase.enters, &phase.leaves);
     told == Some(Replayed::Applied) && is_dual_now(dual, &phase.cells, phase.index)
 }
 
 // Whether the three phases are applied, one after another.
-fn replays_all(dual: &mut DualSquare) -> bool {
+fn replays_all(dual: &mut DualSquare<u128>) -> bool {
     replays(dual, &FIRST) && replays(dual, &SECOND) && replays(dual, &THIRD)
 }
 
@@ -168,13 +168,13 @@ fn unapplied() -> &'static [Unapplied] {
 }
 
 // Whether a phase isn't applied as is told of it.
-fn is_unapplied(dual: &mut DualSquare, phase: &Unapplied) -> bool {
+fn is_unapplied(dual: &mut DualSquare<u128>, phase: &Unapplied) -> bool {
     let (steps, enters, leaves, want) = *phase;
     replayed(dual, steps, enters, leaves) == Some(want)
 }
 
 // Whether each of these phases isn't applied as is told of it.
-fn applies_none(dual: &mut DualSquare) -> bool {
+fn applies_none(dual: &mut DualSquare<u128>) -> bool {
     for phase in unapplied() {
         if !is_unapplied(dual, phase) {
             return false;
@@ -184,13 +184,13 @@ fn applies_none(dual: &mut DualSquare) -> bool {
 }
 
 // Whether these phases change nothing.
-fn keeps_start(dual: &mut DualSquare) -> bool {
+fn keeps_start(dual: &mut DualSquare<u128>) -> bool {
     applies_none(dual) && is_dual_now(dual, &START, 0)
 }
 
 // Whether these phases change nothing, and those of the example lead from the first square to the
 // last then, as it is kept and as it is reduced.
-fn leads_through(dual: DualSquare) -> bool {
+fn leads_through(dual: DualSquare<u128>) -> bool {
     let mut dual = dual;
     if !keeps_start(&mut dual) || !replays_all(&mut dual) {
         return false;
@@ -199,9 +199,9 @@ fn leads_through(dual: DualSquare) -> bool {
 }
 
 // The square before its phases.
-fn start(alloc: Global) -> Result<DualSquare, Fault> {
+fn start(alloc: Global) -> Result<DualSquare<u128>, Fault> {
     let reduced = worked(alloc)?;
-    Ok(DualSquare::make(alloc, &SUMS, reduced)?)
+    Ok(DualSquare::make(alloc, SUMS.top, reduced)?)
 }
 
 #[test]

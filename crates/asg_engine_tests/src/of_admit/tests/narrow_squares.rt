@@ -6,7 +6,7 @@ ghost use Rattle.asg_monoids.specs.BoundedSums.{bounded_sums, narrow_top};
 
 use crate::of_admit::worked_phases::FIRST;
 use crate::samples::reduced_of;
-use asg_admit::{NarrowRow, NarrowSquare, Reduced, Replayed, admits, are_values};
+use asg_admit::{DualRow, DualSquare, NARROW_TOP, Reduced, Replayed, admits, are_values};
 use asg_monoids::NarrowSums;
 use asg_order::fold;
 use asg_samples::Fault;
@@ -45,7 +45,7 @@ const FIRST_CELLS: [[u64; 3]; 3] = [
 const FIRST_INDEX: u64 = 1_000_000_001;
 
 // Whether the row has these values.
-fn is_row(row: &NarrowRow<'_>, values: &[u64; 3]) -> bool
+fn is_row(row: &DualRow<'_, u64>, values: &[u64; 3]) -> bool
     requires { length row.now ≡ 3 }
 {
     for k in 0..3u32 {
@@ -57,7 +57,7 @@ fn is_row(row: &NarrowRow<'_>, values: &[u64; 3]) -> bool
 }
 
 // Whether the square has the cells after the first phase.
-fn is_narrow_first(narrow: &NarrowSquare) -> bool {
+fn is_narrow_first(narrow: &DualSquare<u64>) -> bool {
     if narrow.side() != 3 {
         return false;
     }
@@ -93,7 +93,7 @@ fn settled(
     alloc: Global,
     reduced: Reduced<u64>,
     steps: &[u64],
-) -> Result<Option<NarrowSquare>, NoMemory>
+) -> Result<Option<DualSquare<u64>>, NoMemory>
     requires reduced { IsReduced (bounded_sums narrow_top) reduced }
     requires few { length steps.now < 4 }
 {
@@ -109,18 +109,18 @@ fn settled(
     ) {
         return Ok(None);
     }
-    let mut narrow = NarrowSquare::make(alloc, reduced)?;
-    if !narrow.has_room(fold(&NarrowSums, steps)) {
+    let mut narrow = DualSquare::make(alloc, NARROW_TOP, reduced)?;
+    if !narrow.has_room(NARROW_TOP, fold(&NarrowSums, steps)) {
         return Ok(None);
     }
     let mut room = [0u64; 4];
-    narrow.settle(steps, &FIRST.enters, &FIRST.leaves, &mut room);
+    narrow.settle(NARROW_TOP, steps, &FIRST.enters, &FIRST.leaves, &mut room);
     Ok(Some(narrow))
 }
 
 // Whether the square has the cells and the index after the first phase, as it is kept and as it is
 // reduced.
-fn is_first(narrow: NarrowSquare) -> bool {
+fn is_first(narrow: DualSquare<u64>) -> bool {
     if !is_narrow_first(&narrow) {
         return false;
     }
@@ -146,9 +146,9 @@ fn settles_the_first_phase_of_the_worked_example_in_64_bits(rt: HostRuntime) -> 
 }
 
 // The worked square, as it is kept.
-fn start(alloc: Global) -> Result<NarrowSquare, Fault> {
+fn start(alloc: Global) -> Result<DualSquare<u64>, Fault> {
     let reduced = worked(alloc)?;
-    Ok(NarrowSquare::make(alloc, reduced)?)
+    Ok(DualSquare::make(alloc, NARROW_TOP, reduced)?)
 }
 
 // Sums, and whether there is room for them: none for one of 2^62, and none for one that reaches it
@@ -166,9 +166,9 @@ fn room() -> &'static [(u64, bool)] {
 }
 
 // Whether the square has room for these sums and no others.
-fn has_room_as_told(narrow: &NarrowSquare) -> bool {
+fn has_room_as_told(narrow: &DualSquare<u64>) -> bool {
     for (sum, want) in room() {
-        if narrow.has_room(*sum) != *want {
+        if narrow.has_room(NARROW_TOP, *sum) != *want {
             return false;
         }
     }
@@ -177,7 +177,7 @@ fn has_room_as_told(narrow: &NarrowSquare) -> bool {
 
 // What becomes of a phase; nothing is tried where it has more than three steps.
 fn replayed(
-    narrow: &mut NarrowSquare,
+    narrow: &mut DualSquare<u64>,
     steps: &[u64],
     enters: &[u32],
     leaves: &[u32],
@@ -186,7 +186,7 @@ fn replayed(
     if steps.len() > 3 {
         return None;
     }
-    Some(narrow.replay(steps, enters, leaves, &mut room))
+    Some(narrow.replay(NARROW_TOP, steps, enters, leaves, &mut room))
 }
 
 // Phases that aren't applied, and what becomes of them: a step greater than the least cell of both
@@ -208,13 +208,13 @@ fn unapplied() -> &'static [Unapplied] {
 }
 
 // Whether a phase isn't applied as is told of it.
-fn is_unapplied(narrow: &mut NarrowSquare, phase: &Unapplied) -> bool {
+fn is_unapplied(narrow: &mut DualSquare<u64>, phase: &Unapplied) -> bool {
     let (steps, enters, leaves, want) = *phase;
     replayed(narrow, steps, enters, leaves) == Some(want)
 }
 
 // Whether each of these phases isn't applied as is told of it.
-fn applies_none(narrow: &mut NarrowSquare) -> bool {
+fn applies_none(narrow: &mut DualSquare<u64>) -> bool {
     for phase in unapplied() {
         if !is_unapplied(narrow, phase) {
             return false;
@@ -224,14 +224,14 @@ fn applies_none(narrow: &mut NarrowSquare) -> bool {
 }
 
 // Whether the first phase is applied, and the square and the index are then its.
-fn replays_first(narrow: &mut NarrowSquare) -> bool {
+fn replays_first(narrow: &mut DualSquare<u64>) -> bool {
     let told = replayed(narrow, &[1_000_000_001], &FIRST.enters, &FIRST.leaves);
     told == Some(Replayed::Applied) && is_narrow_first(narrow) && narrow.index() == FIRST_INDEX
 }
 
 // Whether room is told, phases that aren't applied leave the index, and the first phase is applied
 // then.
-fn is_replayed(narrow: &mut NarrowSquare) -> bool {
+fn is_replayed(narrow: &mut DualSquare<u64>) -> bool {
     has_room_as_told(narrow) && applies_none(narrow) && narrow.index() == 0 && replays_first(narrow)
 }
 
@@ -246,7 +246,7 @@ fn replays_phases_in_64_bits(rt: HostRuntime) -> Result<(), Fail> {
 const SEVENS: [Option<u64>; 64] = [Some(7); 64];
 
 // The columns of the first row at which a sum with the value is less than the key, as bits.
-fn lesser(square: &NarrowSquare, sum: u64, keys: &[u64; 64]) -> Option<u64> {
+fn lesser(square: &DualSquare<u64>, sum: u64, keys: &[u64; 64]) -> Option<u64> {
     if square.side() != 64 {
         return None;
     }
@@ -265,14 +265,14 @@ fn two_tens() -> [u64; 64] {
 }
 
 // The square whose first row has a 7 at each column.
-fn sevens(alloc: Global) -> Result<NarrowSquare, Fault> {
+fn sevens(alloc: Global) -> Result<DualSquare<u64>, Fault> {
     let reduced = reduced_of(alloc, &NarrowSums, 64, &SEVENS)?;
-    Ok(NarrowSquare::make(alloc, reduced)?)
+    Ok(DualSquare::make(alloc, NARROW_TOP, reduced)?)
 }
 
 // Whether the columns are told: a sum of 7 and 2 is 9 at each of them, less than a key of 10, and
 // not less than one of 9.
-fn are_told(square: &NarrowSquare) -> bool {
+fn are_told(square: &DualSquare<u64>) -> bool {
     let tens = two_tens();
     lesser(square, 2, &NINES) == Some(0)
         && lesser(square, 2, &tens) == Some(1 + (1 << 62))

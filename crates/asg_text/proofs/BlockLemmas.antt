@@ -112,7 +112,7 @@ digits_between text start end each =
     ap is_ascii_digit (get_or-take (end - start) (drop start text) k 0 before ∙ get_or-drop start text k 0) ∙ each (start + k) (omega arith) (omega arith))
 
 -- and where they are a number in range, the text from the first of them on begins with it
-amount_from : (text : List ℕ) (start end : ℕ) (amount : ℤ) → start ≤ end → ((rest : List ℕ) → IsShortAmount (take (end - start) (drop start text) ++ rest) amount rest) → IsShortAmount (drop start text) amount (drop end text)
+pub amount_from : (text : List ℕ) (start end : ℕ) (amount : ℤ) → start ≤ end → ((rest : List ℕ) → IsShortAmount (take (end - start) (drop start text) ++ rest) amount rest) → IsShortAmount (drop start text) amount (drop end text)
 amount_from text start end amount order is =
     let sum : start + (end - start) ≡ end = omega arith in
     let cut : drop start text ≡ take (end - start) (drop start text) ++ drop end text = chunk-drop start (end - start) text ∙ ap (λ n. take (end - start) (drop start text) ++ drop n text) sum in

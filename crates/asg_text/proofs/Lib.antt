@@ -27,6 +27,7 @@ pub mod TableFills
 pub mod LayoutLemmas
 pub mod PlaceLemmas
 pub mod PairLemmas
+pub mod BlockPairs
 pub mod ScriptLineLemmas
 pub mod ScriptLemmas
 pub mod ScriptLaw

@@ -6,7 +6,6 @@ use Rattle.std.proofs.Math.Seq.{take-add}
 use Rattle.std.proofs.lemmas.Bool.{cases_Bool, cases_lt, and_parts, leb-true, ne_eqb}
 use Rattle.std.proofs.lemmas.Bool.Decides.{Decides-int_eq}
 use Rattle.std.proofs.lemmas.List.{take_more, drop_more, take_all, length-take, get_or-set_same, get_or-set_other}
-use Rattle.std.proofs.lemmas.List.Elements.{All-nil}
 use Rattle.asg_model.specs.declared.parts.Cost.{Cost}
 use Rattle.asg_model.specs.Limits.{most_cost}
 use Rattle.asg_model.specs.Table.{absent}
@@ -64,16 +63,6 @@ cell_faults-append place [] more = ap (λ p. cell_faults p more) (let same : pla
 cell_faults-append place (token ∷ cells) more =
     ap (λ faults. token_faults place token ++ faults) (cell_faults-append (place + 1) cells more ∙ ap (λ p. cell_faults (place + 1) cells ++ cell_faults p more) (let same : place + 1 + length cells ≡ place + length (token ∷ cells) = omega arith in same))
     ∙ sym (append_assoc (token_faults place token) (cell_faults (place + 1) cells) (cell_faults (place + length (token ∷ cells)) more))
-
-pub none_read : (place : ℕ) (all : List (List ℕ)) (firsts : List ℤ) → AreRead place all all 0 firsts []
-none_read place all firsts = record {
-  within = omega arith;
-  left_are = refl;
-  right = refl;
-  slots = λ k before. absurd (omega arith);
-  seconds_are = record { none_or_all = inl refl; in_range = All-nil IsPartInRange };
-  rest_is_zero = λ k past. refl;
-}
 
 module _ {place i : ℕ} {all left : List (List ℕ)} {firsts seconds : List ℤ} (read : AreRead place all left i firsts seconds) where
   -- a further token

@@ -31,22 +31,6 @@ pub blank_adds : (number : ℕ) (fields : List (List ℕ)) (script : List (ℕ �
 blank_adds number fields script blank =
     sym (ap (λ more. script ++ lines_of number more) (ended fields blank) ∙ append-nil script)
 
--- a line that isn't blank, behind as many as there may be, or behind fewer
-pub too_many : (count number : ℕ) (fields : List (List ℕ)) → (length fields == 0) ≡ false → (count == most_script_lines) ≡ true → faults_behind count number fields ≡ TooManyEdits number ∷ []
-too_many count number [] some full = cc
-too_many count number (field ∷ more) some full =
-    ap (λ v. cond v (TooManyEdits number ∷ []) (faults_of_line (number, field ∷ more))) full
-
-pub own_faults : (count number : ℕ) (fields : List (List ℕ)) → (length fields == 0) ≡ false → (count == most_script_lines) ≡ false → faults_behind count number fields ≡ line_faults number (script_line_of fields)
-own_faults count number [] some fewer = cc
-own_faults count number (field ∷ more) some fewer =
-    ap (λ v. cond v (TooManyEdits number ∷ []) (faults_of_line (number, field ∷ more))) fewer
-
-pub own_line : (number : ℕ) (fields : List (List ℕ)) (line : Line) → (length fields == 0) ≡ false → script_line_of fields ≡ Some line → lines_of number fields ≡ (number, line) ∷ []
-own_line number [] line some says = cc
-own_line number (field ∷ more) line some says =
-    ap (λ said. cons_option (option_map (λ line. (number, line)) said) []) says
-
 -- ---- the faults of all lines
 
 pub none_in_both : (xs ys : List ScriptFault) → xs ++ ys ≡ [] → (xs ≡ []) × (ys ≡ [])

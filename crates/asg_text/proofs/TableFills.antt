@@ -1,7 +1,6 @@
 -- A table that is filled by the costs of arcs.
-use Rattle.std.proofs.Common.{◌≡◌, ℕ, ◌+◌, ◌<◌, ◌≤◌, Bool, true, false, cond, ◌&&◌, ◌==◌, List, [], ◌∷◌, length, get_or, take, map, Option, Some, None, refl, ap, ◌∙◌, subst}
+use Rattle.std.proofs.Common.{◌≡◌, ℕ, ◌+◌, ◌<◌, Bool, true, false, cond, ◌&&◌, ◌==◌, List, [], ◌∷◌, length, get_or, take, map, Option, Some, None, refl, ap, ◌∙◌, subst}
 use Rattle.std.specs.Prelude.{ℤ, not, find, All, IfSome, slice_get, option_and_then}
-use Rattle.std.proofs.lemmas.List.{take_all}
 use Rattle.std.proofs.lemmas.List.Elements.{All-nil, All-cons, All-head, All-tail, All-take, All-weaker}
 use Rattle.asg_model.specs.ValueRange.{IsPartInRange}
 use Rattle.asg_text.specs.declared.asn_lines.Arc.{Arc}
@@ -11,7 +10,7 @@ use Rattle.asg_text.specs.AsnArcs.{are_unlike}
 use Rattle.asg_text.specs.Faults.{ArcTwice}
 use Rattle.asg_text.specs.Layouts.{HasCell, with_cost}
 use Rattle.asg_text.specs.Networks.{arc_of_link, known_cost, firsts_between, twice_faults}
-use Rattle.asg_text.proofs.TwiceLemmas.{AreOnce, none_once, one_more_once, twice_here, found_told, ends_flip}
+use Rattle.asg_text.proofs.TwiceLemmas.{AreOnce, one_more_once, twice_here, found_told, ends_flip}
 
 -- costs of arcs that are in range
 arcs_in_range : (links : List Link) → All (λ link. IsPartInRange link.cost) links → All (λ arc. IfSome arc.cost IsPartInRange) (map arc_of_link links)
@@ -33,16 +32,6 @@ known_in_range links all s t = go (find between (map arc_of_link links)) refl
 pub record IsFilled (sources targets : List ℕ) (links : List Link) (i : ℕ) (firsts : List ℤ) : Type 0 where
   pub once : AreOnce (known_cost (take i links)) links i
   pub firsts_are : firsts ≡ firsts_between (known_cost (take i links)) sources targets
-
-pub none_filled : (sources targets : List ℕ) (links : List Link) (firsts : List ℤ) → firsts ≡ firsts_between (λ s t. None) sources targets → IsFilled sources targets links 0 firsts
-none_filled sources targets links firsts is = record {
-  once = none_once (known_cost (take 0 links)) links (λ s t. refl);
-  firsts_are = is;
-}
-
-pub all_filled : (sources targets : List ℕ) (links : List Link) (i : ℕ) (firsts : List ℤ) → length links ≤ i → IsFilled sources targets links i firsts → firsts ≡ firsts_between (known_cost links) sources targets
-all_filled sources targets links i firsts past is =
-    is.firsts_are ∙ ap (λ links. firsts_between (known_cost links) sources targets) (take_all i links past)
 
 cells_in_range : (layout : Layout) (links : List Link) → All (HasCell layout) links → All (λ link. IsPartInRange link.cost) links
 cells_in_range layout links all = All-weaker (HasCell layout) (λ link. IsPartInRange link.cost) (λ link h. h.in_range) links all

@@ -1,11 +1,11 @@
 -- Arcs that repeat others, and the costs that are known of them.
-use Rattle.std.proofs.Common.{Ordering, ◌≡◌, ℕ, suc, ◌+◌, ◌<◌, ◌≤◌, Bool, true, false, cond, ◌&&◌, ◌||◌, ◌==◌, List, [], ◌∷◌, ◌++◌, length, get_or, take, drop, map, Option, Some, None, refl, sym, ap, ◌∙◌, ⊎_elim, arith, rules, subst, append_assoc, append-nil}
+use Rattle.std.proofs.Common.{Ordering, ◌≡◌, ℕ, suc, ◌+◌, ◌<◌, Bool, true, false, cond, ◌&&◌, ◌||◌, ◌==◌, List, [], ◌∷◌, ◌++◌, length, get_or, take, drop, map, Option, Some, None, refl, sym, ap, ◌∙◌, ⊎_elim, arith, rules, subst, append_assoc, append-nil}
 use Rattle.std.specs.Prelude.{ℤ, pos, not, slice_get, find, All, IsSome, option_and_then}
 use Rattle.std.specs.Option.{option_or}
 use Rattle.std.specs.Ordering.{int_eq, nat_cmp, ordering_then, is_eq}
 use Rattle.std.proofs.lemmas.Bool.{cases_Bool, and_parts, eqb-true, eq-eqb, false≢true}
 use Rattle.std.proofs.lemmas.Bool.Decides.{Decides-int_eq, nat_tests}
-use Rattle.std.proofs.lemmas.List.{map-append, get_or_default, take_more, take_all, take-append-drop}
+use Rattle.std.proofs.lemmas.List.{map-append, get_or_default, take_more, take-append-drop}
 use Rattle.std.proofs.lemmas.List.Folds.{find-append}
 use Rattle.std.proofs.lemmas.List.Elements.{All-nil, All-push}
 use Rattle.asg_text.specs.declared.asn_lines.Arc.{Arc}
@@ -191,12 +191,6 @@ twice_more links link =
 pub record AreOnce (F : ℕ → ℕ → Option ℤ) (links : List Link) (i : ℕ) : Type 0 where
   pub once : twice_faults [] (take i links) ≡ []
   pub told : AreTold F (map arc_of_link (take i links))
-
-pub none_once : (F : ℕ → ℕ → Option ℤ) (links : List Link) → ((s t : ℕ) → F s t ≡ None) → AreOnce F links 0
-none_once F links none = record { once = refl; told = none_told F none }
-
-pub all_once : (F : ℕ → ℕ → Option ℤ) (links : List Link) (i : ℕ) → length links ≤ i → AreOnce F links i → twice_faults [] links ≡ []
-all_once F links i past is = ap (twice_faults []) (sym (take_all i links past)) ∙ is.once
 
 module _ (F : ℕ → ℕ → Option ℤ) (links : List Link) (i : ℕ) (link : Link) (within : i < length links) (here : get_or links i link ≡ link) (is : AreOnce F links i) where
   cut : take (i + 1) links ≡ take i links ++ link ∷ []

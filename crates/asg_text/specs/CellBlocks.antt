@@ -20,3 +20,14 @@ pub record AreReadOn (text rest : List ℕ) (from upto : ℕ) (old new : List �
   pub read : (place : ℕ) (all : List (List ℕ)) (seconds : List ℤ)
       → AreRead place all (tokens text) from old seconds
       → AreRead place all (tokens rest) upto new seconds
+
+-- the cells of a table that a text begins with are read further, into both lists of parts
+pub record ArePairsReadOn (text rest : List ℕ) (from upto : ℕ) (old_firsts firsts old_seconds seconds : List ℤ)
+    : Type 0 where
+  pub forward : from ≤ upto
+  pub within : upto ≤ length firsts
+  pub room : length firsts ≡ length old_firsts
+  pub whole : length seconds ≡ length old_seconds
+  pub read : (place : ℕ) (all : List (List ℕ))
+      → AreRead place all (tokens text) from old_firsts old_seconds
+      → AreRead place all (tokens rest) upto firsts seconds

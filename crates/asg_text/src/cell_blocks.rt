@@ -15,8 +15,8 @@ use crate::pieces::Separators;
 use crate::short_integers::behind_space;
 use std::simd::prelude::*;
 
-// How many bytes are searched at once.
-const BLOCK: usize = 64;
+/// How many bytes are searched at once.
+pub(crate) const BLOCK: usize = 64;
 
 // Where fewer numbers are found at once, the next cells are read one by one.
 const FEW: usize = 4;
@@ -53,9 +53,9 @@ pub(crate) fn read_blocks<'a>(text: &'a [u8], firsts: &mut Vec<i64>, from: usize
     Progress { place, rest }
 }
 
-// The text behind the separators that it begins with.
+/// The text behind the separators that it begins with.
 #[inline]
-fn from_token<'a>(text: &'a [u8]) -> &'a [u8]
+pub(crate) fn from_token<'a>(text: &'a [u8]) -> &'a [u8]
     ensures { tokens result.now ≡ tokens text.now }
 {
     match behind_space(text) {
@@ -90,9 +90,9 @@ fn read_block<'a>(text: &'a [u8], firsts: &mut Vec<i64>, from: usize) -> Progres
     }
 }
 
-// Which of the first 64 bytes of the text are no digits: bit k tells it of byte k.
+/// Which of the first 64 bytes of the text are no digits: bit k tells it of byte k.
 #[inline]
-fn other_bytes(text: &[u8]) -> u64
+pub(crate) fn other_bytes(text: &[u8]) -> u64
     requires { 64 ≤ length text.now }
     ensures { AreDigitsFrom 0 text.now result }
 {
@@ -101,10 +101,10 @@ fn other_bytes(text: &[u8]) -> u64
         .to_bitmask()
 }
 
-// The number between two places, of at most ten digits and at most 10^9, where a separator stands
-// behind it.
-#[inline]
-fn amount_between(text: &[u8], start: usize, end: usize) -> Option<i64>
+/// The number between two places, of at most ten digits and at most 10^9, where a separator stands
+/// behind it.
+#[inline(always)]
+pub(crate) fn amount_between(text: &[u8], start: usize, end: usize) -> Option<i64>
     requires order { start ≤ end }
     requires within { end < length text.now }
     requires digits { (k : ℕ) → start ≤ k → k < end
@@ -121,9 +121,9 @@ fn amount_between(text: &[u8], start: usize, end: usize) -> Option<i64>
     }
 }
 
-// The number of digits, where there are at most ten and it is at most 10^9.
-#[inline]
-fn amount_of(digits: &[u8]) -> Option<i64>
+/// The number of digits, where there are at most ten and it is at most 10^9.
+#[inline(always)]
+pub(crate) fn amount_of(digits: &[u8]) -> Option<i64>
     requires { list_all is_ascii_digit digits.now ≡ true }
     ensures { IfSome result (λ amount. (rest : List ℕ)
         → IsShortAmount (digits.now ++ rest) amount rest) }
@@ -140,7 +140,7 @@ fn amount_of(digits: &[u8]) -> Option<i64>
 
 // The number of at most ten digits. Each length has an arm of its own, so that the compiler knows
 // how many digits there are.
-#[inline]
+#[inline(always)]
 fn number_of(digits: &[u8]) -> u64
     requires few { length digits.now ≤ 10 }
     requires digits { list_all is_ascii_digit digits.now ≡ true }

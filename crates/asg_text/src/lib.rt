@@ -23,6 +23,7 @@ mod network;
 mod network_tables;
 mod node_sets;
 mod numbers;
+mod pair_blocks;
 mod pieces;
 mod rect_texts;
 mod refusals;

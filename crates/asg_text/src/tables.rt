@@ -12,6 +12,7 @@ ghost use Rattle.asg_text.specs.Tables.{size_faults, faults_of_cells, reading_of
 use crate::cell_blocks::{Progress, read_blocks};
 use crate::cells::next_cell;
 use crate::numbers;
+use crate::pair_blocks::read_pair_blocks;
 use crate::pieces::{Separators, count_pieces, first_piece};
 use crate::refusals::TextRefusal;
 use crate::slots::{first_part, put_second, second_part};
@@ -19,7 +20,7 @@ use asg_model::limits::{MOST_COLUMNS, MOST_ROWS};
 use asg_model::{Column, Instance, Place, Row};
 use std::alloc::{AllocError, Global};
 
-// How many cells are read one by one where no plain number is found.
+// How many cells are read one by one where neither plain numbers nor pairs are found.
 const SINGLE_CELLS: usize = 16;
 
 /// The header of a table: how many tokens it has, and the sizes that they spell.
@@ -180,8 +181,9 @@ fn fill_costs<'a>(
     let mut rest = cells.text;
     'parts: while place < room {
         let numbers = read_blocks(rest, firsts, place);
-        let upto = room.min(numbers.place + SINGLE_CELLS);
-        rest = fill_upto(alloc, cells, numbers, upto, firsts, seconds)?;
+        let pairs = read_pair_blocks(numbers, firsts, seconds);
+        let upto = room.min(pairs.place + SINGLE_CELLS);
+        rest = fill_upto(alloc, cells, pairs, upto, firsts, seconds)?;
         place = upto;
     }
     Ok(rest)

@@ -4,4 +4,6 @@ use Rattle.asg_text.proofs.tables.fill_costs.Goals as goal
 
 pub fill_upto-requires-clause-before : goal.fill_upto-requires-clause-before
 fill_upto-requires-clause-before c =
-    c.read_blocks-numbers.ensures.read (c.args.cells.header + 1) (tokens c.args.cells.text.now) c.parts.seconds.items c.parts.invariant.read
+    let header = c.args.cells.header + 1 in
+    let all = tokens c.args.cells.text.now in
+    c.read_pair_blocks-pairs.ensures.read header all (c.read_blocks-numbers.ensures.read header all c.parts.seconds.items c.parts.invariant.read)

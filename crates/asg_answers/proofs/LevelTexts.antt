@@ -30,7 +30,7 @@ use Rattle.asg_model.specs.declared.bands.Band.TheVariants.{Whole}
 use Rattle.asg_proof.specs.Levels.{AreLevelsFrom, IsLeftAssignment, ProvesLevels, left_after, left_last}
 use Rattle.asg_proof.specs.Phases.{PhaseOf}
 use Rattle.asg_proof.specs.PromisedProofs.{AreFewLevels, IsUnitPhase}
-use Rattle.asg_parts.specs.Spellings.{IsListOf}
+use Rattle.asg_grammar.specs.Spellings.{IsListOf}
 use Rattle.asg_doc.specs.HasText.{HasPhaseText, HaveLevelText}
 
 -- ---- a value that lists costs

@@ -2,8 +2,8 @@
 use Rattle.std.proofs.Common.{◌≡◌, ℕ, ◌<◌, ◌≤◌, true, false, List, [], ◌++◌, sym, ap, ◌∙◌, inl, inr, subst, arith}
 use Rattle.std.specs.Prelude.{Option}
 use Rattle.std.proofs.lemmas.Bool.{cases_Bool, both_ways}
-use Rattle.asg_doc.specs.Flow.{Wrote, Emptied}
-use Rattle.asg_doc.specs.PageState.{PageState, blank}
+use Rattle.asg_page.specs.Flow.{Wrote, Emptied}
+use Rattle.asg_page.specs.PageState.{PageState, blank}
 use Rattle.asg_io.specs.Laws.{Puts-append, PutsPrefix-append}
 use Rattle.asg_io.specs.Shelf.{Rose}
 use Rattle.asg_io.specs.Sink.{Puts, PutsPrefix}

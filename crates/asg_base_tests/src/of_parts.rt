@@ -1,3 +1,3 @@
-//! Tests of `asg_parts`.
+//! Tests of `asg_grammar`.
 
 mod tests;

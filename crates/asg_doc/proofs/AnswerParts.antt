@@ -9,16 +9,16 @@ use Rattle.std.proofs.lemmas.List.Elements.{All-append}
 use Rattle.asg_model.specs.declared.objectives.Objective.{Objective}
 use Rattle.asg_model.specs.declared.objectives.Value.{Value}
 use Rattle.asg_model.specs.declared.objectives.Value.TheVariants.{One, Two, Many}
-use Rattle.asg_parts.specs.declared.faults.Fault.{Fault}
-use Rattle.asg_parts.specs.declared.faults.Fault.TheVariants.{Refused, NoMemory}
-use Rattle.asg_parts.specs.Lines.{Lacks, line_ends}
-use Rattle.asg_parts.specs.Parts.{Part, and_then, counted, IsReadable}
-use Rattle.asg_parts.specs.Spellings.{Spelling, SpellsOrFails, IsListOf, behind, listed, signed_spelling, signed_pair_spelling}
-use Rattle.asg_parts.specs.laws.JoinLaws.{IsLegible-signed_pair, after_cut}
-use Rattle.asg_parts.specs.laws.LineCuts.{Lacks-none}
-use Rattle.asg_parts.specs.laws.LineLaws.{IsReadable-line}
-use Rattle.asg_parts.specs.laws.PartLaws.{IsReadable-chain, IsReadable-counted, IsReadable-shape, Chain, Shape}
-use Rattle.asg_parts.specs.laws.SpellingLaws.{IsLegible, IsLegible-behind, IsLegible-signed}
+use Rattle.asg_grammar.specs.declared.faults.Fault.{Fault}
+use Rattle.asg_grammar.specs.declared.faults.Fault.TheVariants.{Refused, NoMemory}
+use Rattle.asg_grammar.specs.Lines.{Lacks, line_ends}
+use Rattle.asg_grammar.specs.Parts.{Part, and_then, counted, IsReadable}
+use Rattle.asg_grammar.specs.Spellings.{Spelling, SpellsOrFails, IsListOf, behind, listed, signed_spelling, signed_pair_spelling}
+use Rattle.asg_grammar.specs.laws.JoinLaws.{IsLegible-signed_pair, after_cut}
+use Rattle.asg_grammar.specs.laws.LineCuts.{Lacks-none}
+use Rattle.asg_grammar.specs.laws.LineLaws.{IsReadable-line}
+use Rattle.asg_grammar.specs.laws.PartLaws.{IsReadable-chain, IsReadable-counted, IsReadable-shape, Chain, Shape}
+use Rattle.asg_grammar.specs.laws.SpellingLaws.{IsLegible, IsLegible-behind, IsLegible-signed}
 use Rattle.asg_doc.specs.declared.documents.ValueForm.{ValueForm}
 use Rattle.asg_doc.specs.declared.documents.ValueForm.TheVariants as forms
 use Rattle.asg_doc.specs.DocumentParts.{bound_spelling, value_spelling, value_part, count_part, cell_part, answer_part}

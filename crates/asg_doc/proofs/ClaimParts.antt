@@ -12,8 +12,8 @@ use Rattle.asg_proof.specs.declared.nodes.Node.{Node}
 use Rattle.asg_proof.specs.declared.windows.Window.{Window}
 use Rattle.asg_proof.specs.Phases.{PhaseOf}
 use Rattle.asg_order.specs.declared.words.Word.{Word}
-use Rattle.asg_parts.specs.Parts.{Part, the_line, no_lines, and_then, counted, IsReadable}
-use Rattle.asg_parts.specs.laws.PartLaws.{IsReadable-none, IsReadable-counted, IsReadable-chain, IsReadable-shape, Chain, Shape}
+use Rattle.asg_grammar.specs.Parts.{Part, the_line, no_lines, and_then, counted, IsReadable}
+use Rattle.asg_grammar.specs.laws.PartLaws.{IsReadable-none, IsReadable-counted, IsReadable-chain, IsReadable-shape, Chain, Shape}
 use Rattle.asg_doc.specs.declared.documents.Answer.{Answer}
 use Rattle.asg_doc.specs.declared.documents.Claim.{Claim}
 use Rattle.asg_doc.specs.declared.documents.Claim.TheVariants.{Best, Nothing, Ranked}

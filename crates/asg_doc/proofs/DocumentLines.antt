@@ -5,14 +5,14 @@ use Rattle.std.proofs.lemmas.List.{append-nil, length-append, get_or-append_righ
 use Rattle.std.proofs.lemmas.List.Elements.{All-get_or}
 use Rattle.std.proofs.lemmas.List.Concat.{flat_map-append}
 use Rattle.asg_doc.specs.declared.documents.Document.{Document}
-use Rattle.asg_parts.specs.declared.faults.Fault.{Fault}
-use Rattle.asg_parts.specs.declared.faults.Fault.TheVariants.{Refused, NoMemory}
-use Rattle.asg_parts.specs.Reading.{Halts}
+use Rattle.asg_grammar.specs.declared.faults.Fault.{Fault}
+use Rattle.asg_grammar.specs.declared.faults.Fault.TheVariants.{Refused, NoMemory}
+use Rattle.asg_grammar.specs.Reading.{Halts}
 use Rattle.asg_doc.specs.DocumentParts.{document_part}
 use Rattle.asg_doc.specs.RefusedLine.{AllHaveText, DocumentsStop, DocumentsHalt}
 use Rattle.asg_doc.specs.Text.{claim_lines, lines_of, ended}
-use Rattle.asg_parts.specs.Lines.{whole_lines, line_ends}
-use Rattle.asg_parts.specs.laws.LineCuts.{IsSplit-whole_lines, length-whole_lines}
+use Rattle.asg_grammar.specs.Lines.{whole_lines, line_ends}
+use Rattle.asg_grammar.specs.laws.LineCuts.{IsSplit-whole_lines, length-whole_lines}
 use Rattle.asg_doc.proofs.RefusedLines.{DocumentsStop-document}
 
 -- ---- documents, one after the other

@@ -3,9 +3,9 @@ use Rattle.std.proofs.Common.{◌≡◌, ℕ, List, [], ◌∷◌, ◌++◌, ref
 use Rattle.std.specs.List.{flat_map}
 use Rattle.std.proofs.lemmas.List.{append-nil}
 use Rattle.std.proofs.lemmas.List.Elements.{All-head, All-tail}
-use Rattle.asg_parts.specs.Lines.{whole_lines}
-use Rattle.asg_parts.specs.laws.LineCuts.{ended-append, whole_lines-ended}
-use Rattle.asg_parts.specs.laws.PartLaws.{counted_plain}
+use Rattle.asg_grammar.specs.Lines.{whole_lines}
+use Rattle.asg_grammar.specs.laws.LineCuts.{ended-append, whole_lines-ended}
+use Rattle.asg_grammar.specs.laws.PartLaws.{counted_plain}
 use Rattle.asg_doc.specs.declared.documents.Document.{Document}
 use Rattle.asg_doc.specs.HasText.{HasText}
 use Rattle.asg_doc.specs.Text.{lines_of, ended, text_of, texts_of}

@@ -10,14 +10,14 @@ use Rattle.std.specs.Str.{bytes_eq}
 use Rattle.std.specs.Int.{w64, w128}
 use Rattle.asg_model.specs.declared.objectives.Objective.{Objective}
 use Rattle.asg_model.specs.declared.objectives.Objective.TheVariants.{Sum, SumMax, SumPair, Capped, Bottleneck, BottleneckMax, TimeCost, Balanced, Lex}
-use Rattle.asg_parts.specs.Lines.{Lacks, IsCutAt}
-use Rattle.asg_parts.specs.Parts.{the_line, IsReadable}
-use Rattle.asg_parts.specs.Spellings.{behind, number_spelling, positive_spelling, pair_spelling, list_spelling, listed}
-use Rattle.asg_parts.specs.laws.JoinLaws.{joined_cut, IsLegible-joined, IsLegible-graded}
-use Rattle.asg_parts.specs.laws.LineCuts.{heads_same}
-use Rattle.asg_parts.specs.laws.ListLaws.{IsWord, IsLegible-listed}
-use Rattle.asg_parts.specs.laws.LineLaws.{IsReadable-line, IsReadable-this}
-use Rattle.asg_parts.specs.laws.SpellingLaws.{IsLegible, IsLegible-behind, IsLegible-decoded, IsLegible-number, IsLegible-wide, IsLegible-positive, IsLegible-signed, IsLegible-pair, IsLegible-list, is_plain, Lacks-literal, Lacks-decimal, Lacks-signed, decimal_same}
+use Rattle.asg_grammar.specs.Lines.{Lacks, IsCutAt}
+use Rattle.asg_grammar.specs.Parts.{the_line, IsReadable}
+use Rattle.asg_grammar.specs.Spellings.{behind, number_spelling, positive_spelling, pair_spelling, list_spelling, listed}
+use Rattle.asg_grammar.specs.laws.JoinLaws.{joined_cut, IsLegible-joined, IsLegible-graded}
+use Rattle.asg_grammar.specs.laws.LineCuts.{heads_same}
+use Rattle.asg_grammar.specs.laws.ListLaws.{IsWord, IsLegible-listed}
+use Rattle.asg_grammar.specs.laws.LineLaws.{IsReadable-line, IsReadable-this}
+use Rattle.asg_grammar.specs.laws.SpellingLaws.{IsLegible, IsLegible-behind, IsLegible-decoded, IsLegible-number, IsLegible-wide, IsLegible-positive, IsLegible-signed, IsLegible-pair, IsLegible-list, is_plain, Lacks-literal, Lacks-decimal, Lacks-signed, decimal_same}
 use Rattle.asg_doc.specs.declared.documents.Command.{Command}
 use Rattle.asg_doc.specs.declared.documents.Command.TheVariants.{Solve, Rank, Edit}
 use Rattle.asg_doc.specs.declared.documents.ProofHead.{ProofHead}

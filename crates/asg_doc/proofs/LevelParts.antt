@@ -6,8 +6,8 @@ use Rattle.asg_order.specs.declared.words.Word.{Word}
 use Rattle.asg_proof.specs.declared.levels.Level.{Level}
 use Rattle.asg_proof.specs.LevelLists.{AreLevelParts}
 use Rattle.asg_proof.specs.Phases.{PhaseOf}
-use Rattle.asg_parts.specs.Parts.{Part, and_then, counted, IsReadable}
-use Rattle.asg_parts.specs.laws.PartLaws.{IsReadable-chain, IsReadable-counted, IsReadable-shape, Chain, Shape}
+use Rattle.asg_grammar.specs.Parts.{Part, and_then, counted, IsReadable}
+use Rattle.asg_grammar.specs.laws.PartLaws.{IsReadable-chain, IsReadable-counted, IsReadable-shape, Chain, Shape}
 use Rattle.asg_doc.specs.DocumentParts.{level_head_part, level_part, perm_part, phase_part}
 use Rattle.asg_doc.specs.HasText.{HasLevelText}
 use Rattle.asg_doc.specs.Text.{level_head_text, phase_lines}

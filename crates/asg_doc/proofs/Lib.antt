@@ -1,4 +1,3 @@
-pub mod Flows
 pub mod ListTexts
 pub mod Leaves
 pub mod PhaseParts

@@ -5,13 +5,8 @@ use Rattle.std.specs.Fmt.{decimal, signed_decimal}
 use Rattle.std.proofs.lemmas.List.{take_more, flat_map_more, map-append}
 use Rattle.asg_order.specs.declared.words.Word.{Word}
 use Rattle.asg_proof.specs.declared.windows.Window.{Window}
-use Rattle.asg_parts.specs.laws.LineCuts.{ended-append}
+use Rattle.asg_grammar.specs.laws.LineCuts.{ended-append}
 use Rattle.asg_doc.specs.Text.{spaced, spaced_costs, column_text, spaced_columns, ended, cell_line, step_text, spaced_steps, window_line}
-
-pub spaced_more : (numbers : List ℕ) (i : ℕ) → i < length numbers
-    → spaced (take i numbers) ++ 32 ∷ decimal (get_or numbers i 0) ≡ spaced (take (i + 1) numbers)
-spaced_more numbers i within =
-    flat_map_more (λ number. 32 ∷ decimal number) [] (take i numbers) (get_or numbers i 0) ∙ ap spaced (sym (take_more numbers i 0 within))
 
 pub costs_more : (costs : List ℤ) (i : ℕ) (cost : ℤ) → i < length costs
     → spaced_costs (take i costs) ++ 32 ∷ signed_decimal (get_or costs i cost) ≡ spaced_costs (take (i + 1) costs)

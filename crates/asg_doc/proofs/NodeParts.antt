@@ -9,16 +9,16 @@ use Rattle.asg_proof.specs.declared.nodes.Mark.TheVariants.{Answered, Open, Empt
 use Rattle.asg_proof.specs.declared.nodes.Node.{Node}
 use Rattle.asg_proof.specs.NodeLists.{AreNodeParts, IsMarkPart}
 use Rattle.asg_proof.specs.Phases.{PhaseOf}
-use Rattle.asg_parts.specs.declared.faults.Fault.{Fault}
-use Rattle.asg_parts.specs.declared.faults.Fault.TheVariants.{Refused, NoMemory}
-use Rattle.asg_parts.specs.Lines.{Lacks, IsCutAt}
-use Rattle.asg_parts.specs.Parts.{Part, and_then, counted, IsReadable}
-use Rattle.asg_parts.specs.Spellings.{Spelling, SpellsOrFails, behind, joined, number_spelling, pair_spelling, list_spelling}
-use Rattle.asg_parts.specs.laws.JoinLaws.{IsLegible-joined}
-use Rattle.asg_parts.specs.laws.LineCuts.{cut_unique, heads_same, tails_same}
-use Rattle.asg_parts.specs.laws.LineLaws.{IsReadable-line}
-use Rattle.asg_parts.specs.laws.PartLaws.{IsReadable-chain, IsReadable-counted, IsReadable-shape, Chain, Shape}
-use Rattle.asg_parts.specs.laws.SpellingLaws.{IsLegible, IsLegible-behind, IsLegible-number, IsLegible-pair, IsLegible-positive, IsLegible-list, Lacks-decimal}
+use Rattle.asg_grammar.specs.declared.faults.Fault.{Fault}
+use Rattle.asg_grammar.specs.declared.faults.Fault.TheVariants.{Refused, NoMemory}
+use Rattle.asg_grammar.specs.Lines.{Lacks, IsCutAt}
+use Rattle.asg_grammar.specs.Parts.{Part, and_then, counted, IsReadable}
+use Rattle.asg_grammar.specs.Spellings.{Spelling, SpellsOrFails, behind, joined, number_spelling, pair_spelling, list_spelling}
+use Rattle.asg_grammar.specs.laws.JoinLaws.{IsLegible-joined}
+use Rattle.asg_grammar.specs.laws.LineCuts.{cut_unique, heads_same, tails_same}
+use Rattle.asg_grammar.specs.laws.LineLaws.{IsReadable-line}
+use Rattle.asg_grammar.specs.laws.PartLaws.{IsReadable-chain, IsReadable-counted, IsReadable-shape, Chain, Shape}
+use Rattle.asg_grammar.specs.laws.SpellingLaws.{IsLegible, IsLegible-behind, IsLegible-number, IsLegible-pair, IsLegible-positive, IsLegible-list, Lacks-decimal}
 use Rattle.asg_doc.specs.DocumentParts.{HasFront, branch_spelling, mark_spelling, node_count_part, node_head_part, node_head_spelling, node_part, phase_part, tree_part}
 use Rattle.asg_doc.specs.HasText.{HasMarkText, HasNodeText}
 use Rattle.asg_doc.specs.Text.{node_head_text, node_lines, phase_lines}

@@ -3,10 +3,10 @@ use Rattle.std.proofs.Common.{◌∷◌, ◌++◌, length, codes, refl, ap, arit
 use Rattle.std.specs.List.{flat_map}
 use Rattle.std.specs.Fmt.{decimal}
 use Rattle.asg_model.specs.declared.objectives.Objective.{Objective}
-use Rattle.asg_parts.specs.Parts.{and_then, counted, IsReadable}
-use Rattle.asg_parts.specs.laws.LineLaws.{IsReadable-line}
-use Rattle.asg_parts.specs.laws.PartLaws.{IsReadable-chain, IsReadable-counted, IsReadable-shape, Chain, Shape}
-use Rattle.asg_parts.specs.laws.SpellingLaws.{IsLegible, IsLegible-behind, IsLegible-positive, Lacks-decimal, decimal_same}
+use Rattle.asg_grammar.specs.Parts.{and_then, counted, IsReadable}
+use Rattle.asg_grammar.specs.laws.LineLaws.{IsReadable-line}
+use Rattle.asg_grammar.specs.laws.PartLaws.{IsReadable-chain, IsReadable-counted, IsReadable-shape, Chain, Shape}
+use Rattle.asg_grammar.specs.laws.SpellingLaws.{IsLegible, IsLegible-behind, IsLegible-positive, Lacks-decimal, decimal_same}
 use Rattle.asg_doc.specs.DocumentParts.{answer_count_part, answer_part, answers_part, asked_part, ranked_part, ranking_part, tree_part}
 use Rattle.asg_doc.specs.Text.{answer_lines_behind}
 use Rattle.asg_doc.specs.Words.{asked_spelling, has_grades}

@@ -7,12 +7,12 @@ use Rattle.std.proofs.lemmas.List.Elements.{All-nil, All-cons, All-head, All-app
 use Rattle.std.proofs.lemmas.List.Concat.{flat_map-append}
 use Rattle.asg_doc.specs.declared.documents.Document.{Document}
 use Rattle.asg_doc.specs.HasText.{HasText}
-use Rattle.asg_parts.specs.Reading.{Stops}
+use Rattle.asg_grammar.specs.Reading.{Stops}
 use Rattle.asg_doc.specs.DocumentParts.{document_part}
 use Rattle.asg_doc.specs.RefusedLine.{AllHaveText, BeginsText, IsRefusedLine, IsLongestBegun, IsNoText, DocumentsStop}
 use Rattle.asg_doc.specs.Text.{lines_of, ended, texts_of}
-use Rattle.asg_parts.specs.Lines.{whole_lines, line_ends, Lacks}
-use Rattle.asg_parts.specs.laws.LineCuts.{IsSplit-whole_lines, length-whole_lines, line_ends-append, ended-append, whole_lines-prefix, whole_lines-ended}
+use Rattle.asg_grammar.specs.Lines.{whole_lines, line_ends, Lacks}
+use Rattle.asg_grammar.specs.laws.LineCuts.{IsSplit-whole_lines, length-whole_lines, line_ends-append, ended-append, whole_lines-prefix, whole_lines-ended}
 use Rattle.asg_doc.proofs.DocumentTexts.{documents_rest, texts_are_lines, lines_of_texts}
 
 -- ---- from a document to the list

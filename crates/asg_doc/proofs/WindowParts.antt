@@ -6,14 +6,14 @@ use Rattle.std.specs.Fmt.{signed_decimal}
 use Rattle.std.proofs.lemmas.List.Elements.{All-cons, All-append}
 use Rattle.asg_proof.specs.declared.windows.Window.{Window}
 use Rattle.asg_proof.specs.Windows.{AreWindows}
-use Rattle.asg_parts.specs.Lines.{Lacks, IsCutAt}
-use Rattle.asg_parts.specs.Parts.{IsReadable}
-use Rattle.asg_parts.specs.declared.faults.Fault.{Fault}
-use Rattle.asg_parts.specs.declared.faults.Fault.TheVariants.{Refused, NoMemory}
-use Rattle.asg_parts.specs.Spellings.{Spells, SpellsOrFails, list_spelling, spaced}
-use Rattle.asg_parts.specs.laws.LineCuts.{cut_unique, tails_same}
-use Rattle.asg_parts.specs.laws.LineLaws.{IsReadable-line}
-use Rattle.asg_parts.specs.laws.SpellingLaws.{IsLegible, IsLegible-behind, IsLegible-signed, IsLegible-list, IsCutAt-spaced}
+use Rattle.asg_grammar.specs.Lines.{Lacks, IsCutAt}
+use Rattle.asg_grammar.specs.Parts.{IsReadable}
+use Rattle.asg_grammar.specs.declared.faults.Fault.{Fault}
+use Rattle.asg_grammar.specs.declared.faults.Fault.TheVariants.{Refused, NoMemory}
+use Rattle.asg_grammar.specs.Spellings.{Spells, SpellsOrFails, list_spelling, spaced}
+use Rattle.asg_grammar.specs.laws.LineCuts.{cut_unique, tails_same}
+use Rattle.asg_grammar.specs.laws.LineLaws.{IsReadable-line}
+use Rattle.asg_grammar.specs.laws.SpellingLaws.{IsLegible, IsLegible-behind, IsLegible-signed, IsLegible-list, IsCutAt-spaced}
 use Rattle.asg_doc.specs.DocumentParts.{HasBounds, bound_spelling, window_spelling, window_part}
 use Rattle.asg_doc.specs.HasText.{HasWindowText}
 use Rattle.asg_doc.proofs.Leaves.{wider, no_space-signed}

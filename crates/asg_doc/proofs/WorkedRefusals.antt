@@ -5,8 +5,8 @@ use Rattle.asg_doc.specs.declared.documents.Document.{Document}
 use Rattle.asg_doc.specs.HasText.{HasText}
 use Rattle.asg_doc.specs.RefusedLine.{BeginsText, IsRefusedLine}
 use Rattle.asg_doc.specs.Text.{text_of, texts_of}
-use Rattle.asg_parts.specs.Lines.{line_ends}
-use Rattle.asg_parts.specs.laws.LineCuts.{heads_same}
+use Rattle.asg_grammar.specs.Lines.{line_ends}
+use Rattle.asg_grammar.specs.laws.LineCuts.{heads_same}
 
 -- a text of documents begins with the title
 no_other_letter : (documents : List Document) (rest : List ℕ) → 120 ∷ rest ≡ texts_of documents → ⊥

@@ -11,9 +11,9 @@ use Rattle.asg_proof.specs.declared.nodes.Mark.{Mark}
 use Rattle.asg_proof.specs.declared.nodes.Node.{Node}
 use Rattle.asg_proof.specs.declared.windows.Window.{Window}
 use Rattle.asg_proof.specs.Phases.{PhaseOf}
-use Rattle.asg_parts.specs.Lines.{IsCutAt}
-use Rattle.asg_parts.specs.Parts.{Part, and_then, one_line}
-use Rattle.asg_parts.specs.Spellings.{Spelling, behind, joined, number_spelling, positive_spelling, pair_spelling, list_spelling, listed, spaced}
+use Rattle.asg_grammar.specs.Lines.{IsCutAt}
+use Rattle.asg_grammar.specs.Parts.{Part, and_then, one_line}
+use Rattle.asg_grammar.specs.Spellings.{Spelling, behind, joined, number_spelling, positive_spelling, pair_spelling, list_spelling, listed, spaced}
 use Rattle.asg_doc.specs.declared.documents.Answer.{Answer}
 use Rattle.asg_doc.specs.declared.documents.Claim.{Claim}
 use Rattle.asg_doc.specs.declared.documents.Command.{Command}

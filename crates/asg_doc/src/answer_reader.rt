@@ -1,10 +1,10 @@
 //! Readers of answers: a value behind a word, and cells.
 
 ghost use Rattle.std.specs.Prelude.{◌≡◌};
-ghost use Rattle.asg_parts.specs.Lines.{line_ends};
-ghost use Rattle.asg_parts.specs.Parts.{counted};
-ghost use Rattle.asg_parts.specs.Reading.{ReadsOrFails};
-ghost use Rattle.asg_parts.specs.Spellings.{Spells, SpellsOrFails};
+ghost use Rattle.asg_grammar.specs.Lines.{line_ends};
+ghost use Rattle.asg_grammar.specs.Parts.{counted};
+ghost use Rattle.asg_grammar.specs.Reading.{ReadsOrFails};
+ghost use Rattle.asg_grammar.specs.Spellings.{Spells, SpellsOrFails};
 ghost use Rattle.asg_doc.specs.declared.documents.ValueForm.TheVariants.{One, Two, Many};
 ghost use Rattle.asg_doc.specs.DocumentParts.{value_spelling, value_part, cell_part, answer_part};
 
@@ -12,8 +12,8 @@ use crate::cell_lists::Cells;
 use crate::cost_reader::costs_of;
 use crate::documents::{Answer, ValueForm};
 use crate::words::form_of;
+use asg_grammar::{Fault, Lines, after, signed_number, signed_pair};
 use asg_model::{Objective, Value};
-use asg_parts::{Fault, Lines, after, signed_number, signed_pair};
 use std::alloc::Global;
 
 // The value of one number that a text spells behind a space.

@@ -1,7 +1,7 @@
 //! Readers of what a document claims.
 
-ghost use Rattle.asg_parts.specs.Reading.{Reads, ReadsOrFails};
-ghost use Rattle.asg_parts.specs.Spellings.{SpellsOrFails};
+ghost use Rattle.asg_grammar.specs.Reading.{Reads, ReadsOrFails};
+ghost use Rattle.asg_grammar.specs.Spellings.{SpellsOrFails};
 ghost use Rattle.asg_doc.specs.DocumentParts.{status_part, proof_head_spelling, proof_head_part};
 ghost use Rattle.asg_doc.specs.DocumentParts.{proof_part, proved_part, hall_part, ended_part};
 ghost use Rattle.asg_doc.specs.DocumentParts.{ranking_part, claim_part};
@@ -13,8 +13,8 @@ use crate::phase_reader::phases;
 use crate::ranking_reader::ranking;
 use crate::window_reader::windows;
 use crate::words::{has_grades, status_of};
+use asg_grammar::{Fault, Lines, Refusal, after, number, numbers, positive};
 use asg_model::Objective;
-use asg_parts::{Fault, Lines, Refusal, after, number, numbers, positive};
 use asg_proof::{Ids, Nodes, Proof};
 use std::alloc::Global;
 

@@ -1,12 +1,12 @@
 //! Readers of values that list costs.
 
 ghost use Rattle.std.specs.Prelude.{ℕ, ℤ, List, MatchOption};
-ghost use Rattle.asg_parts.specs.Spellings.{SpellsOrFails, ListsNext, listed};
+ghost use Rattle.asg_grammar.specs.Spellings.{SpellsOrFails, ListsNext, listed};
 ghost use Rattle.asg_doc.specs.DocumentParts.{bound_spelling};
 
 use crate::window_reader::bound_of;
+use asg_grammar::{Fault, after, cut};
 use asg_model::Costs;
-use asg_parts::{Fault, after, cut};
 use std::alloc::Global;
 
 // The cost after a space that comes first, and what follows it.

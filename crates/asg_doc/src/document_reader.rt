@@ -8,15 +8,15 @@ ghost use Rattle.asg_doc.specs.DocumentParts.{command_part, objective_part, docu
 ghost use Rattle.asg_doc.specs.RefusedLine.{AllHaveText, IsRefusal, DocumentsHalt};
 ghost use Rattle.asg_doc.specs.Text.{lines_of, texts_of};
 ghost use Rattle.asg_model.specs.Limits.{longest_file};
-ghost use Rattle.asg_parts.specs.Lines.{ended, whole_lines, line_ends};
-ghost use Rattle.asg_parts.specs.Reading.{Reads, ReadsOrFails};
+ghost use Rattle.asg_grammar.specs.Lines.{ended, whole_lines, line_ends};
+ghost use Rattle.asg_grammar.specs.Reading.{Reads, ReadsOrFails};
 
 use crate::claim_reader::claim;
 use crate::documents::{Command, Document};
 use crate::refusals::DocRefusal;
 use crate::words::{command_of, objective_of};
+use asg_grammar::{Fault, Lines, Refusal, count_ends};
 use asg_model::Objective;
-use asg_parts::{Fault, Lines, Refusal, count_ends};
 use std::alloc::Global;
 
 // The command of its line.

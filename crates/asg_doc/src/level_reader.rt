@@ -1,15 +1,15 @@
 //! Readers of level proofs: an assignment and levels of costs.
 
 ghost use Rattle.std.specs.Prelude.{ℕ, List, MatchOption};
-ghost use Rattle.asg_parts.specs.Parts.{and_then, counted};
-ghost use Rattle.asg_parts.specs.Reading.{Reads, ReadsOrFails};
-ghost use Rattle.asg_parts.specs.Spellings.{Spells, SpellsOrFails, ListsNext, listed};
+ghost use Rattle.asg_grammar.specs.Parts.{and_then, counted};
+ghost use Rattle.asg_grammar.specs.Reading.{Reads, ReadsOrFails};
+ghost use Rattle.asg_grammar.specs.Spellings.{Spells, SpellsOrFails, ListsNext, listed};
 ghost use Rattle.asg_doc.specs.DocumentParts.{column_spelling, perm_part, level_head_spelling};
 ghost use Rattle.asg_doc.specs.DocumentParts.{level_head_part, level_part};
 
 use crate::phase_reader::phases;
 use crate::window_reader::bound_of;
-use asg_parts::{Fault, Lines, Refusal, after, cut, pair, positive};
+use asg_grammar::{Fault, Lines, Refusal, after, cut, pair, positive};
 use asg_proof::{Columns, Level, Levels};
 use std::alloc::Global;
 

@@ -3,15 +3,15 @@
 ghost use Rattle.std.specs.Prelude.{◌∷◌, ◌++◌, ◌<◌, [], All, codes, length};
 ghost use Rattle.std.specs.Fmt.{decimal};
 ghost use Rattle.std.specs.List.{flat_map};
-ghost use Rattle.asg_parts.specs.Lines.{ended};
-ghost use Rattle.asg_doc.specs.Flow.{Wrote};
+ghost use Rattle.asg_grammar.specs.Lines.{ended};
+ghost use Rattle.asg_page.specs.Flow.{Wrote};
 ghost use Rattle.asg_doc.specs.HasText.{HasColumnText, HasLevelText, HaveLevelText};
 ghost use Rattle.asg_doc.specs.Text.{spaced_columns, perm_line, level_head_text, level_lines};
 
-use crate::line_writer::{emit_bound, emit_next, emit_number_line, emit_pair};
-use crate::page_buffer::{Page, emit};
+use crate::line_writer::emit_pair;
 use crate::phase_writer::emit_phases;
 use asg_io::Sink;
+use asg_page::{Page, emit, emit_bound, emit_next, emit_number_line};
 use asg_proof::Level;
 
 // Appends columns from 1 on, each after a space.

@@ -1,37 +1,16 @@
 //! Writes single lines of documents over a page.
 
 ghost use Rattle.std.specs.Prelude.{◌∷◌, ◌++◌, [], map, All, FitsSigned};
-ghost use Rattle.std.specs.Fmt.{decimal, signed_decimal};
 ghost use Rattle.std.specs.Int.{w64};
-ghost use Rattle.asg_parts.specs.Lines.{ended};
-ghost use Rattle.asg_parts.specs.Spellings.{spaced};
+ghost use Rattle.asg_grammar.specs.Lines.{ended};
 ghost use Rattle.asg_doc.specs.declared.documents.ValueForm.{ValueForm};
-ghost use Rattle.asg_doc.specs.Flow.{Wrote};
+ghost use Rattle.asg_page.specs.Flow.{Wrote};
 ghost use Rattle.asg_doc.specs.HasText.{IsWrittenValue};
 ghost use Rattle.asg_doc.specs.Text.{cell_line, spaced_costs, value_text};
 
-use crate::page_buffer::{Page, emit};
 use asg_io::Sink;
 use asg_model::{Costs, Value};
-use itoa::Buffer;
-
-// Appends a line that has two parts.
-pub(crate) fn emit_words<K: Sink>(front: &[u8], back: &[u8], page: &mut Page, out: &mut K)
-    ensures { Wrote K.written K.faults out.old out.new page.old page.new
-        ((front.now ++ back.now) ++ 10 ∷ []) }
-{
-    emit(front, page, out);
-    emit(back, page, out);
-    emit(b"\n", page, out);
-}
-
-// Appends a signed number.
-fn emit_signed<K: Sink>(number: i128, page: &mut Page, out: &mut K)
-    ensures { Wrote K.written K.faults out.old out.new page.old page.new (signed_decimal number) }
-{
-    let mut buffer = Buffer::new();
-    emit(buffer.format(number).as_bytes(), page, out);
-}
+use asg_page::{Page, emit, emit_bound, emit_number, emit_signed};
 
 // Appends one number, behind a space.
 fn emit_one<K: Sink>(number: i128, page: &mut Page, out: &mut K)
@@ -51,14 +30,6 @@ fn emit_two<K: Sink>(first: i128, second: i128, page: &mut Page, out: &mut K)
     emit_signed(first, page, out);
     emit(b":", page, out);
     emit_signed(second, page, out);
-}
-
-// Appends a signed number of 64 bits.
-pub(crate) fn emit_bound<K: Sink>(bound: i64, page: &mut Page, out: &mut K)
-    ensures { Wrote K.written K.faults out.old out.new page.old page.new (signed_decimal bound) }
-{
-    let mut buffer = Buffer::new();
-    emit(buffer.format(bound).as_bytes(), page, out);
 }
 
 // Appends costs, each after a space.
@@ -101,57 +72,6 @@ pub(crate) fn emit_value<K: Sink>(word: &[u8], value: &Value, page: &mut Page, o
 {
     emit(word, page, out);
     emit_numbers(value, page, out);
-    emit(b"\n", page, out);
-}
-
-// Appends the line of a number behind its word.
-pub(crate) fn emit_number_line<K: Sink>(word: &[u8], number: u32, page: &mut Page, out: &mut K)
-    ensures { Wrote K.written K.faults out.old out.new page.old page.new
-        ((word.now ++ decimal number) ++ 10 ∷ []) }
-{
-    let mut buffer = Buffer::new();
-    emit_words(word, buffer.format(number).as_bytes(), page, out);
-}
-
-// Appends a number.
-fn emit_number<K: Sink>(number: u32, page: &mut Page, out: &mut K)
-    ensures { Wrote K.written K.faults out.old out.new page.old page.new (decimal number) }
-{
-    let mut buffer = Buffer::new();
-    emit(buffer.format(number).as_bytes(), page, out);
-}
-
-// Appends a number after a space. One of two digits at most goes right into a page with room for
-// it.
-pub(crate) fn emit_next<K: Sink>(number: u32, page: &mut Page, out: &mut K)
-    ensures { Wrote K.written K.faults out.old out.new page.old page.new (32 ∷ decimal number) }
-{
-    if number >= 100 || !page.has_room(3) {
-        emit(b" ", page, out);
-        emit_number(number, page, out);
-    } else if number < 10 {
-        page.push_digit(number as u8);
-    } else {
-        page.push_pair(number as u8);
-    }
-}
-
-// Appends numbers, each after a space.
-pub(crate) fn emit_spaced<K: Sink>(numbers: &[u32], page: &mut Page, out: &mut K)
-    ensures { Wrote K.written K.faults out.old out.new page.old page.new (spaced numbers.now) }
-{
-    'numbers: for number in numbers {
-        emit_next(*number, page, out);
-    }
-}
-
-// Appends a line that lists numbers behind a word.
-pub(crate) fn emit_list<K: Sink>(word: &[u8], numbers: &[u32], page: &mut Page, out: &mut K)
-    ensures { Wrote K.written K.faults out.old out.new page.old page.new
-        ((word.now ++ spaced numbers.now) ++ 10 ∷ []) }
-{
-    emit(word, page, out);
-    emit_spaced(numbers, page, out);
     emit(b"\n", page, out);
 }
 

@@ -1,15 +1,15 @@
 //! Readers of search trees: nodes, each with its phases.
 
 ghost use Rattle.std.specs.Prelude.{ℕ, List, MatchOption};
-ghost use Rattle.asg_parts.specs.Parts.{counted};
-ghost use Rattle.asg_parts.specs.Reading.{ReadsOrFails};
-ghost use Rattle.asg_parts.specs.Spellings.{SpellsOrFails};
+ghost use Rattle.asg_grammar.specs.Parts.{counted};
+ghost use Rattle.asg_grammar.specs.Reading.{ReadsOrFails};
+ghost use Rattle.asg_grammar.specs.Spellings.{SpellsOrFails};
 ghost use Rattle.asg_doc.specs.DocumentParts.{HasFront, mark_spelling, branch_spelling};
 ghost use Rattle.asg_doc.specs.DocumentParts.{node_head_spelling, node_head_part, node_part};
 ghost use Rattle.asg_doc.specs.DocumentParts.{tree_part};
 
 use crate::phase_reader::phases;
-use asg_parts::{Fault, Lines, after, cut, number, numbers, pair};
+use asg_grammar::{Fault, Lines, after, cut, number, numbers, pair};
 use asg_proof::{Ids, Mark, Node, Nodes};
 use std::alloc::Global;
 

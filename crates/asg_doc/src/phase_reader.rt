@@ -2,13 +2,13 @@
 
 ghost use Rattle.std.specs.Prelude.{◌≡◌, ℕ, Bool, true, false, List, IfSome, MatchOption};
 ghost use Rattle.asg_order.specs.declared.words.Word.{Word as W};
-ghost use Rattle.asg_parts.specs.Parts.{counted};
-ghost use Rattle.asg_parts.specs.Reading.{ReadsOrFails};
-ghost use Rattle.asg_parts.specs.Spellings.{Spells, SpellsOrFails, ListsNext, listed};
+ghost use Rattle.asg_grammar.specs.Parts.{counted};
+ghost use Rattle.asg_grammar.specs.Reading.{ReadsOrFails};
+ghost use Rattle.asg_grammar.specs.Spellings.{Spells, SpellsOrFails, ListsNext, listed};
 ghost use Rattle.asg_doc.specs.DocumentParts.{step_spelling, steps_part, phase_part};
 
+use asg_grammar::{Fault, Lines, after, cut, graded, next_graded, next_long, wide_number};
 use asg_order::Word;
-use asg_parts::{Fault, Lines, after, cut, graded, next_graded, next_long, wide_number};
 use asg_proof::{Phases, StepWords, WrittenPhase};
 use std::alloc::Global;
 

@@ -1,8 +1,8 @@
 //! Readers of rankings: how many answers were asked for, those listed, and their search tree.
 
 ghost use Rattle.std.specs.Prelude.{codes};
-ghost use Rattle.asg_parts.specs.Parts.{counted};
-ghost use Rattle.asg_parts.specs.Reading.{Reads, ReadsOrFails};
+ghost use Rattle.asg_grammar.specs.Parts.{counted};
+ghost use Rattle.asg_grammar.specs.Reading.{Reads, ReadsOrFails};
 ghost use Rattle.asg_doc.specs.DocumentParts.{asked_part, answer_part, answers_part, ranked_part};
 ghost use Rattle.asg_doc.specs.DocumentParts.{ranking_part};
 
@@ -10,8 +10,8 @@ use crate::answer_reader::answer;
 use crate::documents::Answers;
 use crate::node_reader::tree;
 use crate::words::{asked_of, has_grades};
+use asg_grammar::{Fault, Lines, Refusal};
 use asg_model::Objective;
-use asg_parts::{Fault, Lines, Refusal};
 use asg_proof::Nodes;
 use std::alloc::Global;
 

@@ -2,13 +2,13 @@
 
 ghost use Rattle.std.specs.Prelude.{ℕ, ℤ, List, FitsSigned, MatchOption, SomeIff};
 ghost use Rattle.std.specs.Int.{w64};
-ghost use Rattle.asg_parts.specs.Parts.{counted};
-ghost use Rattle.asg_parts.specs.Reading.{ReadsOrFails};
-ghost use Rattle.asg_parts.specs.Spellings.{Spells, SpellsOrFails};
+ghost use Rattle.asg_grammar.specs.Parts.{counted};
+ghost use Rattle.asg_grammar.specs.Reading.{ReadsOrFails};
+ghost use Rattle.asg_grammar.specs.Spellings.{Spells, SpellsOrFails};
 ghost use Rattle.asg_doc.specs.DocumentParts.{HasBounds, bound_spelling, window_spelling};
 ghost use Rattle.asg_doc.specs.DocumentParts.{window_part};
 
-use asg_parts::{Fault, Lines, after, cut, numbers, signed_number};
+use asg_grammar::{Fault, Lines, after, cut, numbers, signed_number};
 use asg_proof::{Ids, Window, Windows};
 use std::alloc::Global;
 

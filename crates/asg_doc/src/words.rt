@@ -1,16 +1,16 @@
 //! The words of documents, written and read.
 
 ghost use Rattle.std.specs.Prelude.{◌≡◌};
-ghost use Rattle.asg_parts.specs.Spellings.{Spells};
+ghost use Rattle.asg_grammar.specs.Spellings.{Spells};
 ghost use Rattle.asg_doc.specs.Words.{command_word, status_word, form_of, has_grades};
 ghost use Rattle.asg_doc.specs.Words.{command_spelling, cap_spelling, named_spelling};
 ghost use Rattle.asg_doc.specs.Words.{asked_spelling};
 ghost use Rattle.asg_doc.specs.Words.{objective_spelling, status_spelling};
 
 use crate::documents::{Command, Status, ValueForm};
+use asg_grammar::{after, number, wide_number};
 use asg_model::limits::{MOST_CAP, MOST_RANKED};
 use asg_model::{Objective, uncapped_named};
-use asg_parts::{after, number, wide_number};
 
 // The word of a command.
 pub(crate) fn word_of_command(command: Command) -> &'static [u8]

@@ -1,6 +1,6 @@
 //! Numbers, lists and lines, read.
 
-use asg_parts::*;
+use asg_grammar::*;
 use std::alloc::Global;
 
 // Whether numbers of 32 bits are read, and others refused.

@@ -6,6 +6,7 @@ use asg_doc::*;
 use asg_io::MemorySink;
 use asg_model::{Objective, Value};
 use asg_order::Word;
+use asg_page::{Page, finish};
 use asg_proof::{Proof, Steps, WrittenPhase};
 use std::alloc::{AllocError, Global};
 use std::test::Fail;

@@ -1,4 +1,4 @@
-use Rattle.asg_parts.specs.laws.PartLaws.{Halts-first, Halts-second, Halts-shape, Halts-stops, IsRead-both, IsRead-shape, ReadsOrFails-err}
+use Rattle.asg_grammar.specs.laws.PartLaws.{Halts-first, Halts-second, Halts-shape, Halts-stops, IsRead-both, IsRead-shape, ReadsOrFails-err}
 use Rattle.asg_doc.specs.DocumentParts.{hall_part}
 use Rattle.asg_doc.proofs.ClaimParts.{ended_chain, ended_shape}
 use Rattle.asg_doc.proofs.Leaves.{hall_law}

@@ -1,7 +1,7 @@
 use Rattle.std.proofs.Common.{subst}
-use Rattle.asg_parts.specs.Parts.{counted}
-use Rattle.asg_parts.specs.Reading.{IsRead, Halts}
-use Rattle.asg_parts.specs.laws.PartLaws.{Halts-first, Halts-second, Halts-shape, ReadsOrFails-err}
+use Rattle.asg_grammar.specs.Parts.{counted}
+use Rattle.asg_grammar.specs.Reading.{IsRead, Halts}
+use Rattle.asg_grammar.specs.laws.PartLaws.{Halts-first, Halts-second, Halts-shape, ReadsOrFails-err}
 use Rattle.asg_doc.specs.DocumentParts.{proof_head_part, phase_part}
 use Rattle.asg_doc.proofs.ClaimParts.{proof_shape, head_rest}
 use Rattle.asg_doc.proofs.claim_reader.proof.Goals as goal

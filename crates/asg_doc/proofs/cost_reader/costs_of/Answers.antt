@@ -2,7 +2,7 @@ use Rattle.std.proofs.Common.{◌++◌, ◌∷◌, [], length, sym, ap, subst, a
 use Rattle.std.specs.Int.{w64}
 use Rattle.std.proofs.lemmas.Bool.{eqb-true, eqb-false}
 use Rattle.std.proofs.lemmas.Int.{to_z-of_z}
-use Rattle.asg_parts.specs.laws.ListLaws.{AreListed, AreListed-more, AreListed-all}
+use Rattle.asg_grammar.specs.laws.ListLaws.{AreListed, AreListed-more, AreListed-all}
 use Rattle.asg_doc.specs.DocumentParts.{bound_spelling}
 use Rattle.asg_doc.proofs.Leaves.{bound_word}
 use Rattle.asg_doc.proofs.cost_reader.costs_of.Goals as goal

@@ -1,8 +1,8 @@
 use Rattle.std.proofs.Common.{sym, subst}
 use Rattle.std.specs.Int.{w64}
 use Rattle.std.proofs.lemmas.Int.{to_z-of_z}
-use Rattle.asg_parts.specs.Reading.{IsRead}
-use Rattle.asg_parts.specs.laws.PartLaws.{Halts-first, Halts-second, Halts-shape, Halts-stops, IsRead-both, IsRead-shape, ReadsOrFails-err}
+use Rattle.asg_grammar.specs.Reading.{IsRead}
+use Rattle.asg_grammar.specs.laws.PartLaws.{Halts-first, Halts-second, Halts-shape, Halts-stops, IsRead-both, IsRead-shape, ReadsOrFails-err}
 use Rattle.asg_doc.specs.DocumentParts.{level_part}
 use Rattle.asg_doc.proofs.LevelParts.{level_shape, head_phases}
 use Rattle.asg_doc.proofs.level_reader.level.Goals as goal

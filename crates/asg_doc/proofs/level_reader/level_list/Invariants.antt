@@ -1,5 +1,5 @@
-use Rattle.asg_parts.specs.Parts.{counted}
-use Rattle.asg_parts.specs.Reading.{IsRead}
+use Rattle.asg_grammar.specs.Parts.{counted}
+use Rattle.asg_grammar.specs.Reading.{IsRead}
 use Rattle.asg_doc.specs.DocumentParts.{level_part}
 use Rattle.asg_doc.proofs.level_reader.level_list.Given as goal
 

@@ -3,7 +3,7 @@ use Rattle.std.specs.Fmt.{signed_decimal}
 use Rattle.std.specs.Int.{w64}
 use Rattle.std.proofs.lemmas.Int.{to_z-of_z}
 use Rattle.asg_doc.specs.Text.{cell_line}
-use Rattle.asg_doc.proofs.Flows.{Wrote-append, Wrote-as}
+use Rattle.asg_page.specs.laws.Flows.{Wrote-append, Wrote-as}
 use Rattle.asg_doc.proofs.level_writer.emit_level_head.Goals as goal
 
 pub returns : goal.returns

@@ -1,6 +1,6 @@
 use Rattle.std.proofs.Common.{take}
 use Rattle.std.specs.List.{flat_map}
-use Rattle.asg_doc.specs.Flow.{Wrote}
+use Rattle.asg_page.specs.Flow.{Wrote}
 use Rattle.asg_doc.specs.Text.{ended, node_lines}
 use Rattle.asg_doc.proofs.node_writer.emit_nodes.Given as goal
 

@@ -1,5 +1,5 @@
 use Rattle.std.proofs.Common.{length}
-use Rattle.asg_parts.specs.laws.ListLaws.{AreListed}
+use Rattle.asg_grammar.specs.laws.ListLaws.{AreListed}
 use Rattle.asg_doc.specs.DocumentParts.{step_spelling}
 use Rattle.asg_doc.proofs.phase_reader.steps_of.Given as goal
 

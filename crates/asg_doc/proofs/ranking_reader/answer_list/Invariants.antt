@@ -1,6 +1,6 @@
 use Rattle.std.proofs.Common.{codes}
-use Rattle.asg_parts.specs.Parts.{counted}
-use Rattle.asg_parts.specs.Reading.{IsRead}
+use Rattle.asg_grammar.specs.Parts.{counted}
+use Rattle.asg_grammar.specs.Reading.{IsRead}
 use Rattle.asg_doc.specs.DocumentParts.{answer_part}
 use Rattle.asg_doc.proofs.ranking_reader.answer_list.Given as goal
 

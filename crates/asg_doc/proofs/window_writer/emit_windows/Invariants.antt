@@ -1,5 +1,5 @@
 use Rattle.std.proofs.Common.{take, map}
-use Rattle.asg_doc.specs.Flow.{Wrote}
+use Rattle.asg_page.specs.Flow.{Wrote}
 use Rattle.asg_doc.specs.Text.{ended, window_line}
 use Rattle.asg_doc.proofs.window_writer.emit_windows.Given as goal
 

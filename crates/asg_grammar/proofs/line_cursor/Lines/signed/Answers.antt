@@ -1,0 +1,6 @@
+use Rattle.asg_grammar.specs.laws.LineLaws.{Reads-line}
+use Rattle.asg_grammar.specs.laws.SpellingLaws.{IsLegible-signed}
+use Rattle.asg_grammar.proofs.line_cursor.Lines.signed.Goals as goal
+
+pub returns : goal.returns
+returns c = Reads-line IsLegible-signed c.read.result (λ p r met. met) c.read.ensures

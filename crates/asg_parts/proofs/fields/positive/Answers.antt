@@ -1,8 +1,0 @@
-use Rattle.std.proofs.Common.{◌≡◌, arith, sym, ◌∙◌}
-use Rattle.asg_parts.specs.laws.SpellingLaws.{wide, decimal_same}
-use Rattle.asg_parts.proofs.fields.positive.Goals as goal
-
-pub returns-then-number-eq0 : goal.returns-then-number-eq0
-returns-then-number-eq0 c = λ n fits is.
-    let same : c.in_ok-number.number ≡ n = decimal_same c.in_ok-number.number n (omega arith) (wide n fits.1) (sym c.in_ok-number.ensures.1 ∙ is) in
-    omega (arith, fits.0)

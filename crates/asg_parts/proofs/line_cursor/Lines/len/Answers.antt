@@ -1,6 +1,0 @@
-use Rattle.std.proofs.Common.{sym, ap, ◌∙◌, length}
-use Rattle.asg_parts.specs.laws.LineCuts.{length-whole_lines}
-use Rattle.asg_parts.proofs.line_cursor.Lines.len.Goals as goal
-
-pub returns : goal.returns
-returns c = c.count_ends.ensures ∙ sym (length-whole_lines c.self.inside.rest.now) ∙ ap length c.self.view_is

@@ -1,6 +1,0 @@
-use Rattle.asg_parts.specs.laws.LineLaws.{Reads-line}
-use Rattle.asg_parts.specs.laws.JoinLaws.{IsLegible-signed_pair}
-use Rattle.asg_parts.proofs.line_cursor.Lines.signed_pair.Goals as goal
-
-pub returns : goal.returns
-returns c = Reads-line IsLegible-signed_pair c.read.result (λ p r met. met) c.read.ensures

@@ -1,6 +1,0 @@
-use Rattle.std.proofs.Common.{◌^◌}
-use Rattle.asg_parts.proofs.SpelledDigits.{IsReading}
-use Rattle.asg_parts.proofs.numerals.wide_number.Given as goal
-
-abbrev pub invariant-loop-byte : goal.invariant-loop-byte
-invariant-loop-byte l = IsReading (2 ^ 128) l.word l.byte-index l.value

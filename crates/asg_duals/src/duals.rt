@@ -29,8 +29,9 @@ impl Model for Duals {
 }
 
 impl Duals {
-    // Of these lists.
-    pub(crate) fn of(columns: Vec<u32>, falls: Vec<u64>, rises: Vec<u64>) -> Duals
+    /// Of these lists: a column and a fall for each row, a rise for each column. Nothing is asked of
+    /// them, and nothing is tested.
+    pub fn of(columns: Vec<u32>, falls: Vec<u64>, rises: Vec<u64>) -> Duals
         ensures { result ≡ record {
           columns = columns.items;
           falls = falls.items;

@@ -16,6 +16,7 @@ mod guessed_squares;
 mod narrow_squares;
 mod present_cells;
 mod solved_squares;
+mod table_outcomes;
 mod trail_phases;
 mod workspaces;
 

@@ -16,6 +16,7 @@ ghost use Rattle.asg_square.specs.Grid.{IsSquareOf};
 use crate::NoMemory;
 use crate::guessed_squares::guessed_outcome;
 use crate::solved_squares::{is_short, outcome};
+use crate::table_outcomes::outcome_by_table;
 use asg_duals::{Duals, short_phases, tight_duals};
 use asg_model::{Cost, Instance, Objective};
 use asg_monoids::laws::narrow_sums;
@@ -120,11 +121,11 @@ fn guessed_narrow_outcome(
     )
 }
 
-/// The outcome of `sum` or `sum-max`, by sums in 64 bits: by phases from dual variables that are
-/// guessed, and where these don't pass the tests by those of the engine, over a square that is made
-/// anew. Where no dual variables are found, the engine solves the square that was made; where some
-/// rows have too few present cells, none are searched for. The error is want of memory.
-pub(crate) fn by_narrow_sums(
+// The outcome of `sum` or `sum-max`, by sums in 64 bits over a square: by phases from dual variables
+// that are guessed, and where these don't pass the tests by those of the engine, over a square that
+// is made anew. Where no dual variables are found, the engine solves the square that was made; where
+// some rows have too few present cells, none are searched for.
+fn outcome_by_square(
     alloc: Global,
     objective: Objective,
     inst: &Instance,
@@ -147,4 +148,24 @@ pub(crate) fn by_narrow_sums(
     }
     let square = narrow_square(alloc, objective, inst)?;
     narrow_outcome(alloc, objective, inst, square)
+}
+
+/// The outcome of `sum` or `sum-max`: by phases that are guessed and tested over the costs as they
+/// stand, where the square is the table of costs, and otherwise by sums in 64 bits over the square.
+/// The error is want of memory.
+pub(crate) fn by_narrow_sums(
+    alloc: Global,
+    objective: Objective,
+    inst: &Instance,
+) -> Result<Outcome, NoMemory>
+    requires objective { IsTrue (is_narrow_objective objective) }
+    requires side { square_side inst.now ≤ most_side }
+    requires passes { PassesNegative objective inst.now }
+    ensures outcome { IfOk result (IsOutcome objective inst.now) }
+    ensures phases { IfOk result (GivesFewPhases (square_side inst.now)) }
+{
+    match outcome_by_table(alloc, objective, inst)? {
+        Some(found) => Ok(found),
+        None => outcome_by_square(alloc, objective, inst),
+    }
 }

@@ -29,8 +29,8 @@ fn push_words<M: Written>(
     Ok(())
 }
 
-// The phases with each step as its word.
-fn words_of<M: Written>(
+/// The phases with each step as its word. The error is want of memory.
+pub(crate) fn words_of<M: Written>(
     alloc: Global,
     m: &M,
     phases: Vec<Phase<M::Value>>,

@@ -8,6 +8,8 @@ mod of_objectives;
 #[cfg(test)]
 mod of_rank;
 #[cfg(test)]
+mod of_table_phases;
+#[cfg(test)]
 mod of_table_sums;
 #[cfg(test)]
 mod of_thresh;

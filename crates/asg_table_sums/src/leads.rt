@@ -56,7 +56,7 @@ fn table_of(
 /// Columns of the rows of an instance, as many as are placed, with rises of the columns under which
 /// each row may have the least of its cells, or the greatest; `None` where none were found, as
 /// where a cell is absent. No clause says that they serve. The error is want of memory.
-pub(crate) fn lead(
+pub fn lead(
     alloc: Global,
     objective: Objective,
     inst: &Instance,
@@ -77,7 +77,7 @@ pub(crate) fn lead(
 }
 
 /// The choice of these columns among so many. The error is want of memory.
-pub(crate) fn choice_of(
+pub fn choice_of(
     alloc: Global,
     rows: u32,
     columns: &[u32],

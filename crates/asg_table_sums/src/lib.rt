@@ -6,7 +6,8 @@
 //! stays out below it. Such a choice is best, since what the columns rise by is no less for it than
 //! for any other, and as many rows stay out. A search guesses the columns and the rises
 //! (`asg_dual_search`), and what it finds is tested in one pass over the costs; contracts see what
-//! the test shows. The program's brief lines are made by it, for which no phases are needed.
+//! the test shows. The program's brief lines are made by it, for which no phases are needed. What the
+//! search finds is handed out too: phases are made of it elsewhere.
 #![tactic(auto)]
 
 mod fullness;
@@ -15,6 +16,7 @@ mod leads;
 mod level_choices;
 mod level_rows;
 
+pub use leads::{choice_of, lead};
 pub use level_choices::best_by_table;
 
 /// There was not enough memory.

@@ -1,0 +1,29 @@
+use Rattle.std.proofs.Common.{◌≡◌, ℕ, List, map, ap, sym, subst, ◌∙◌}
+use Rattle.std.specs.Prelude.{All}
+use Rattle.asg_model.specs.Shapes.{square_side}
+use Rattle.asg_monoids.specs.BoundedSums.{bounded_sums, narrow_top, plain_word}
+use Rattle.asg_order.specs.declared.words.Word.{Word}
+use Rattle.asg_order.specs.Monoid.{IsValue}
+use Rattle.asg_proof.specs.FoldProofs.{ProvesPhases}
+use Rattle.asg_proof.specs.Phases.{PhaseOf, worded}
+use Rattle.asg_proof.specs.PromisedProofs.{AreFewPhases}
+use Rattle.asg_objectives.proofs.table_outcomes.proved_outcome.Goals as goal
+
+pub words_of-requires : goal.words_of-requires
+words_of-requires c =
+    subst (λ (ps : List (PhaseOf ℕ)). All (λ phase. All (IsValue (bounded_sums narrow_top)) phase.steps) ps) c.as_slice.ensures.value
+    (c.in_ok-proves.ensures.values c.if-not-branch.false)
+
+pub returns-clause-outcome : goal.returns-clause-outcome
+returns-clause-outcome c =
+    let X = c.args.inst.now in
+    let words : map (worded plain_word) c.as_slice.result.now ≡ c.in_ok-words.words = ap (map (worded plain_word)) c.as_slice.ensures.value ∙ sym c.in_ok-words.ensures in
+    record {
+      valid = c.is_valid.ensures.0 c.if-not-is_valid.false;
+      proved = subst (λ (ws : List (PhaseOf Word)). ProvesPhases c.args.objective X c.args.choice ws) words (c.in_ok-proves.ensures.proved c.if-not-branch.false);
+    }
+
+pub returns-clause-phases : goal.returns-clause-phases
+returns-clause-phases c =
+    let words : map (worded plain_word) c.as_slice.result.now ≡ c.in_ok-words.words = ap (map (worded plain_word)) c.as_slice.ensures.value ∙ sym c.in_ok-words.ensures in
+    subst (λ (ws : List (PhaseOf Word)). AreFewPhases (square_side c.args.inst.now) ws) words (c.in_ok-proves.ensures.few c.if-not-branch.false)

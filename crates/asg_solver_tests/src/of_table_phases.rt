@@ -1,0 +1,3 @@
+//! Tests of `asg_table_phases`.
+
+mod tests;

@@ -1,0 +1,139 @@
+//! Phases that prove a choice of a square of two rows, by hand.
+
+ghost use Rattle.std.specs.Prelude.{IsTrue};
+ghost use Rattle.asg_monoids.specs.NarrowObjectives.{is_narrow_objective};
+
+use asg_admit::PhaseTotals;
+use asg_model::{Choice, Objective, Place};
+use asg_proof::Phase;
+use asg_samples::{Fault, Sample};
+use asg_table_phases::{NoMemory, fits_table, is_table_square, proves};
+use std::alloc::Global;
+use std::test::Fail;
+
+// The square `1 3 / 2 5`, whose least sum is 5.
+const LEAST: Sample<'static> = Sample {
+    rows: &[true, true],
+    columns: &[(1, true), (1, true)],
+    firsts: &[1, 3, 2, 5],
+    seconds: &[0, 0, 0, 0],
+    place: Place::All,
+};
+
+// The square `-1 -3 / -2 -5`, whose greatest sum is -5.
+const GREATEST: Sample<'static> = Sample {
+    rows: &[true, true],
+    columns: &[(1, true), (1, true)],
+    firsts: &[-1, -3, -2, -5],
+    seconds: &[0, 0, 0, 0],
+    place: Place::All,
+};
+
+// Two rows in three columns.
+const WIDE: Sample<'static> = Sample {
+    rows: &[true, true],
+    columns: &[(1, true), (1, true), (1, true)],
+    firsts: &[4, 1, 4, 2, 0, 5],
+    seconds: &[0, 0, 0, 0, 0, 0],
+    place: Place::All,
+};
+
+// By how much each cost is shifted.
+const SHIFT: u64 = 1_000_000_000;
+
+// A phase of these lists.
+fn phase(
+    alloc: Global,
+    steps: &[u64],
+    enters: &[u32],
+    leaves: &[u32],
+) -> Result<Phase<u64>, NoMemory> {
+    let steps = Vec::from_slice(alloc, steps)?;
+    let enters = Vec::from_slice(alloc, enters)?;
+    let leaves = Vec::from_slice(alloc, leaves)?;
+    Ok(Phase::of(steps, enters, leaves))
+}
+
+// The rows fall to their least costs, 1 and 2, and then the second column by the last step, which
+// is 2 where the rest of its first cell is taken.
+fn phases(alloc: Global, last: u64) -> Result<Vec<Phase<u64>>, NoMemory> {
+    let mut phases = Vec::new(alloc);
+    phases.push(phase(alloc, &[SHIFT + 1], &[0, 1], &[1, 1])?)?;
+    phases.push(phase(alloc, &[SHIFT + 2, last], &[1, 0], &[1, 2])?)?;
+    Ok(phases)
+}
+
+// The choice of these columns.
+fn choice_of(alloc: Global, first: u32, second: u32) -> Result<Choice, NoMemory> {
+    let mut choice = Choice::make(alloc, 2)?;
+    choice.set(0, Some(first));
+    choice.set(1, Some(second));
+    Ok(choice)
+}
+
+// Whether phases with this last step prove the choice of these columns.
+fn are_proved(
+    alloc: Global,
+    objective: Objective,
+    sample: &Sample<'_>,
+    columns: (u32, u32),
+    last: u64,
+) -> Result<bool, Fault>
+    requires { IsTrue (is_narrow_objective objective) }
+{
+    let inst = sample.instance(alloc)?;
+    if !is_table_square(&inst) {
+        return Ok(false);
+    }
+    let phases = phases(alloc, last)?;
+    let choice = choice_of(alloc, columns.0, columns.1)?;
+    let is_proved = proves(alloc, objective, &inst, &choice, phases.as_slice())?;
+    Ok(is_proved)
+}
+
+#[test]
+fn least_sum_is_proved(rt: HostRuntime) -> Result<(), Fail> {
+    assert!(rt; are_proved(rt.alloc(), Objective::Sum, &LEAST, (1, 0), 2)?);
+    Ok(())
+}
+
+#[test]
+fn greatest_sum_is_proved(rt: HostRuntime) -> Result<(), Fail> {
+    assert!(rt; are_proved(rt.alloc(), Objective::SumMax, &GREATEST, (1, 0), 2)?);
+    Ok(())
+}
+
+#[test]
+fn another_sum_is_not(rt: HostRuntime) -> Result<(), Fail> {
+    assert!(rt; !are_proved(rt.alloc(), Objective::Sum, &LEAST, (0, 1), 2)?);
+    Ok(())
+}
+
+#[test]
+fn steps_past_a_cell_do_not_fit(rt: HostRuntime) -> Result<(), Fail> {
+    assert!(rt; !are_proved(rt.alloc(), Objective::Sum, &LEAST, (0, 1), 3)?);
+    Ok(())
+}
+
+#[test]
+fn more_columns_are_no_square(rt: HostRuntime) -> Result<(), Fail> {
+    let inst = WIDE.instance(rt.alloc())?;
+    assert!(rt; !is_table_square(&inst));
+    Ok(())
+}
+
+// Whether no phases fit the least square.
+fn none_fit(alloc: Global) -> Result<bool, Fault> {
+    let inst = LEAST.instance(alloc)?;
+    if !is_table_square(&inst) {
+        return Ok(false);
+    }
+    let totals = PhaseTotals::none(alloc, inst.rows().len() as u32)?;
+    Ok(fits_table(Objective::Sum, &inst, &totals))
+}
+
+#[test]
+fn no_phases_fit(rt: HostRuntime) -> Result<(), Fail> {
+    assert!(rt; none_fit(rt.alloc())?);
+    Ok(())
+}

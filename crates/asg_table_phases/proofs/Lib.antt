@@ -1,0 +1,4 @@
+mod TableCells
+mod RowCosts
+mod AdmittedTables
+mod ProvedChoices

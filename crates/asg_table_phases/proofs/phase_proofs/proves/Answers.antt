@@ -1,0 +1,36 @@
+use Rattle.std.proofs.Common.{◌^◌, length, sym, ap, subst, ◌∙◌, arith}
+use Rattle.std.specs.Prelude.{IfSome, Option}
+use Rattle.asg_admit.specs.PhaseTotals.{AreTotals, Totals}
+use Rattle.asg_model.specs.Shapes.{square_side}
+use Rattle.asg_monoids.specs.BoundedSums.{narrow_top}
+use Rattle.asg_monoids.specs.Entered.{sum_entered}
+use Rattle.asg_square.specs.Cells.{square_cell}
+use Rattle.asg_table_phases.specs.Sizes.{AreSized}
+use Rattle.asg_table_phases.proofs.ProvedChoices.{admitted_values, few_phases, proves_choice}
+use Rattle.asg_table_phases.proofs.TableCells.{side_is}
+use Rattle.asg_table_phases.proofs.phase_proofs.proves.Goals as goal
+
+pub returns-clause-proved : goal.returns-clause-proved
+returns-clause-proved c = λ yes.
+    let phases = c.args.phases.now in
+    let are = subst (λ (found : Option Totals). IfSome found (AreTotals phases)) c.in-Some.is c.in_ok-totals.ensures.totals in
+    proves_choice c.args.objective c.requires.objective c.args.inst.now c.args.choice.now phases
+    (c.fits_table.ensures.admitted c.if-not-fits_table.false (2 ^ 120) phases (omega arith) are)
+    (c.fits_table.ensures.index c.if-not-fits_table.false (2 ^ 120) phases (omega arith) are ∙ sym c.sum.ensures ∙ c.adds_up_to.ensures yes)
+
+pub returns-clause-few : goal.returns-clause-few
+returns-clause-few c = λ _.
+    let X = c.args.inst.now in
+    let phases = c.args.phases.now in
+    let are = subst (λ (found : Option Totals). IfSome found (AreTotals phases)) c.in-Some.is c.in_ok-totals.ensures.totals in
+    few_phases narrow_top (square_side X) phases (square_cell X 0 (sum_entered c.args.objective))
+    (c.fits_table.ensures.admitted c.if-not-fits_table.false narrow_top phases (omega arith) are)
+    (subst (λ n. AreSized n phases) (ap length c.rows-side.ensures.rows ∙ sym (side_is X c.requires.table)) (c.are_sized.ensures c.if-not-are_sized.false))
+
+pub returns-clause-values : goal.returns-clause-values
+returns-clause-values c = λ _.
+    let X = c.args.inst.now in
+    let phases = c.args.phases.now in
+    let are = subst (λ (found : Option Totals). IfSome found (AreTotals phases)) c.in-Some.is c.in_ok-totals.ensures.totals in
+    admitted_values narrow_top (square_side X) phases (square_cell X 0 (sum_entered c.args.objective))
+    (c.fits_table.ensures.admitted c.if-not-fits_table.false narrow_top phases (omega arith) are)

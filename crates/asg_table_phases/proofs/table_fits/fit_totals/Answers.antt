@@ -1,0 +1,16 @@
+use Rattle.std.proofs.Common.{ℕ, List, subst, arith}
+use Rattle.asg_table_phases.specs.TableRows.{FitsRows}
+use Rattle.asg_table_phases.proofs.table_fits.fit_totals.Goals as goal
+
+pub returns : goal.returns
+returns c = λ yes.
+    let X = c.args.inst.now in
+    let o = c.args.objective in
+    let totals = c.args.totals.now in
+    record {
+      few = omega (arith, c.if-sum-gt-MOST_SUM.false, c.sum.ensures);
+      ends =
+          subst (λ (xs : List ℕ). FitsRows o X xs totals.columns) c.rows-rows.ensures.rows
+          (subst (λ (xs : List ℕ). FitsRows o X c.rows-rows.result.now xs) c.columns-columns.ensures.columns
+          (c.rows_fit.ensures yes));
+    }

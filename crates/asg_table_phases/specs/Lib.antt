@@ -1,0 +1,3 @@
+pub mod TableSquares
+pub mod TableRows
+pub mod Sizes

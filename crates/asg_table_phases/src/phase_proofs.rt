@@ -1,0 +1,71 @@
+//! Whether phases prove a choice of an instance whose square is its table.
+
+ghost use Rattle.std.specs.Prelude.{◌≡◌, ◌≤◌, ◌^◌, All, IfOk, IfSome, IsTrue, length, map};
+ghost use Rattle.asg_admit.specs.PhaseTotals.{AreTotals};
+ghost use Rattle.asg_model.specs.Shapes.{square_side};
+ghost use Rattle.asg_monoids.specs.BoundedSums.{bounded_sums, narrow_top, plain_word};
+ghost use Rattle.asg_monoids.specs.Entered.{sum_entered};
+ghost use Rattle.asg_monoids.specs.NarrowObjectives.{is_narrow_objective};
+ghost use Rattle.asg_order.specs.Bridge.{choice_fold};
+ghost use Rattle.asg_order.specs.Monoid.{IsValue};
+ghost use Rattle.asg_proof.specs.FoldProofs.{ProvesPhases};
+ghost use Rattle.asg_proof.specs.Phases.{worded};
+ghost use Rattle.asg_proof.specs.PromisedProofs.{AreFewPhases};
+ghost use Rattle.asg_table_phases.specs.TableSquares.{IsTableSquare};
+
+use crate::NoMemory;
+use crate::phase_sizes::are_sized;
+use crate::phase_sums::totals_of;
+use crate::table_fits::fits_table;
+use asg_admit::PhaseTotals;
+use asg_model::{Choice, Instance, Objective};
+use asg_monoids::SumKind;
+use asg_proof::Phase;
+use asg_replays::chosen_fold;
+use std::alloc::Global;
+
+// Whether the entered costs of a choice add up to so much.
+fn adds_up_to(objective: Objective, inst: &Instance, choice: &Choice, sum: u64) -> bool
+    requires { IsTrue (is_narrow_objective objective) }
+    ensures { IsTrue result → sum
+        ≡ choice_fold (bounded_sums (2 ^ 120)) (sum_entered objective) inst.now choice.now }
+{
+    let _rows = inst.rows();
+    let kind = SumKind::of(objective);
+    let fold = chosen_fold(&kind, inst, choice);
+    fold == u128::from(sum)
+}
+
+/// Whether phases prove for `sum` or `sum-max` exactly the fold of a choice of an instance whose
+/// square is its table: they are admitted in turn, and what their steps add up to is what the
+/// entered costs of the choice do. They are at most as many as the side, and each has 1 to side
+/// steps. The answer `false` tells nothing. The time is that of one pass over the costs. The error
+/// is want of memory.
+pub fn proves(
+    alloc: Global,
+    objective: Objective,
+    inst: &Instance,
+    choice: &Choice,
+    phases: &[Phase<u64>],
+) -> Result<bool, NoMemory>
+    requires objective { IsTrue (is_narrow_objective objective) }
+    requires table { IsTableSquare inst.now }
+    ensures proved { IfOk result (λ is. IsTrue is
+        → ProvesPhases objective inst.now choice.now (map (worded plain_word) phases.now)) }
+    ensures few { IfOk result (λ is. IsTrue is
+        → AreFewPhases (square_side inst.now) (map (worded plain_word) phases.now)) }
+    ensures values { IfOk result (λ is. IsTrue is
+        → All (λ phase. All (IsValue (bounded_sums narrow_top)) phase.steps) phases.now) }
+{
+    let side = inst.rows().len();
+    if !are_sized(phases, side) {
+        return Ok(false);
+    }
+    let Some(totals) = totals_of(alloc, side as u32, phases)? else {
+        return Ok(false);
+    };
+    if !fits_table(objective, inst, &totals) {
+        return Ok(false);
+    }
+    Ok(adds_up_to(objective, inst, choice, totals.sum()))
+}

@@ -1,0 +1,74 @@
+//! Whether no cell of a table ends below 0 after phases.
+
+ghost use Rattle.std.specs.Prelude.{◌≡◌, ◌≤◌, ℕ, IsTrue, List, length};
+ghost use Rattle.asg_admit.specs.PhaseTotals.{AreTotals};
+ghost use Rattle.asg_model.specs.Shapes.{square_side};
+ghost use Rattle.asg_monoids.specs.BoundedSums.{bounded_sums, bounded_difference, narrow_top};
+ghost use Rattle.asg_monoids.specs.Entered.{sum_entered};
+ghost use Rattle.asg_monoids.specs.NarrowObjectives.{is_narrow_objective};
+ghost use Rattle.asg_proof.specs.Phases.{PhaseOf, AreAdmittedPhases, index_of};
+ghost use Rattle.asg_square.specs.Cells.{square_cell};
+ghost use Rattle.asg_table_phases.specs.TableRows.{AreLow, FitTotals};
+ghost use Rattle.asg_table_phases.specs.TableSquares.{IsTableSquare};
+
+use crate::table_rows::rows_fit;
+use asg_admit::laws::one_pass_law;
+use asg_admit::{NARROW_TOP, PhaseTotals};
+use asg_model::{Instance, Objective};
+
+// The greatest sum of steps with which no entered cost comes to more than 2^62.
+const MOST_SUM: u64 = NARROW_TOP - 2_000_000_000;
+
+// Whether each number is at most where sums stop.
+fn are_low(numbers: &[u64]) -> bool
+    ensures { IsTrue result → AreLow numbers.now }
+{
+    'numbers: for place in 0..numbers.len() {
+        if numbers[place] > NARROW_TOP {
+            return false;
+        }
+    }
+    true
+}
+
+// Whether no sum comes near where sums stop, and no live cell ends below 0.
+fn fit_totals(objective: Objective, inst: &Instance, totals: &PhaseTotals<u64>) -> bool
+    requires { length totals.now.rows ≡ length inst.now.rows }
+    ensures { IsTrue result → FitTotals objective inst.now totals.now }
+{
+    if totals.sum() > MOST_SUM {
+        return false;
+    }
+    let rows = totals.rows();
+    let columns = totals.columns();
+    if !are_low(rows) {
+        return false;
+    }
+    if !are_low(columns) {
+        return false;
+    }
+    rows_fit(objective, inst, rows, columns)
+}
+
+/// Whether phases with these totals are admitted in turn from the square of an instance, where no
+/// sum comes near 2^62 and no live cell, as it enters for `sum` or `sum-max`, ends below 0. The
+/// answer `false` tells nothing. The time is that of one pass over the costs. It takes no memory.
+pub fn fits_table(objective: Objective, inst: &Instance, totals: &PhaseTotals<u64>) -> bool
+    requires objective { IsTrue (is_narrow_objective objective) }
+    requires table { IsTableSquare inst.now }
+    requires side { length totals.now.rows ≡ length inst.now.rows }
+    ensures admitted { IsTrue result
+        → (top : ℕ) (phases : List (PhaseOf ℕ)) → narrow_top ≤ top
+        → AreTotals phases totals.now
+        → AreAdmittedPhases (bounded_sums top) bounded_difference (square_side inst.now) phases
+        (square_cell inst.now 0 (sum_entered objective)) }
+    ensures index { IsTrue result
+        → (top : ℕ) (phases : List (PhaseOf ℕ))
+        → narrow_top ≤ top
+        → AreTotals phases totals.now
+        → index_of (bounded_sums top) phases ≡ totals.now.sum }
+{
+    one_pass_law();
+    let _rows = inst.rows();
+    fit_totals(objective, inst, totals)
+}

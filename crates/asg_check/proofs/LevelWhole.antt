@@ -1,6 +1,6 @@
 -- A walk over all levels: one level more, what is left in the end, and whether they hold in all.
 use Rattle.std.proofs.Common.{◌≡◌, ◌↔◌, ◌∙◌, ℕ, ◌+◌, ◌<◌, ◌≤◌, ◌&&◌, not, Bool, true, false, cond, List, [], ◌∷◌, ◌++◌, length, take, get_or, Option, Some, None, refl, sym, ap, subst, arith, is_some, ℤ, ⊎_elim}
-use Rattle.std.specs.Prelude.{IfSome, IsTrue, int_lt, nat_lt, slice_get, sum_by, unsigned_abs}
+use Rattle.std.specs.Prelude.{IfSome, int_lt, nat_lt, slice_get, unsigned_abs}
 use Rattle.std.specs.Option.{option_map, option_map_or}
 use Rattle.std.proofs.lemmas.Bool.{false≢true, and_parts, cases_lt}
 use Rattle.std.proofs.lemmas.Int.{ints}
@@ -10,7 +10,6 @@ use Rattle.asg_model.specs.declared.bands.Band.TheVariants.{Whole}
 use Rattle.asg_model.specs.declared.parts.Cost.{Cost}
 use Rattle.asg_model.specs.declared.parts.Place.{Place}
 use Rattle.asg_model.specs.declared.parts.Place.TheVariants.{All, Exactly}
-use Rattle.asg_model.specs.Counts.{placed}
 use Rattle.asg_model.specs.Instances.{IsInstance}
 use Rattle.asg_model.specs.Limits.{most_cost}
 use Rattle.asg_model.specs.Live.{live_at}
@@ -18,7 +17,7 @@ use Rattle.asg_model.specs.Problem.{Problem}
 use Rattle.asg_model.specs.Shapes.{square_side}
 use Rattle.asg_monoids.specs.BoundedSums.{bounded_difference}
 use Rattle.asg_square.specs.BitTable.{BitTable, has_bit}
-use Rattle.asg_square.specs.Cells.{choice_of, corner_cell, extra_column_cell, labelled_cell, square_cell}
+use Rattle.asg_square.specs.Cells.{corner_cell, extra_column_cell, labelled_cell, square_cell}
 use Rattle.asg_square.specs.Labels.{column_label, row_label}
 use Rattle.asg_square.specs.Presence.{has_cell, has_corner, is_labelled_within, leaves_rows}
 use Rattle.asg_proof.specs.declared.levels.Level.{Level}
@@ -28,7 +27,7 @@ use Rattle.asg_proof.specs.laws.LevelTurns.{last_cost-push, left_last-is, left_s
 use Rattle.asg_proof.specs.laws.LiveCosts.{first_part_in_range}
 use Rattle.asg_proof.specs.laws.PhaseLists.{is_some-phases}
 use Rattle.asg_check.specs.declared.level_walks.Walk.{Walk}
-use Rattle.asg_check.specs.LevelReasons.{HoldInAll, IsColumnList, IsNoLevelAt, cost_before, left_before}
+use Rattle.asg_check.specs.LevelReasons.{IsColumnList, IsNoLevelAt, cost_before, left_before}
 use Rattle.asg_check.specs.LevelWalks.{HasPassed, IsBehind, IsLeft, free_cost}
 
 -- ---- one level more
@@ -194,18 +193,3 @@ module _ (X : Problem) (choice : List (Option ℕ)) (perm : List ℕ) (levels : 
         is.each r (get_or perm r 0) h (columns.within r 0 here)
         ∙ only_left (left_last X None (has_cell X Whole) levels r (get_or perm r 0)) (square_cell X false (λ cost. true) r (get_or perm r 0)) (a.present r h),
   )
-
-  -- the three tests are those of the definition
-  pub holds_by : (left same count : Bool) → (IsTrue left ↔ IsLeftAssignment X perm levels) → (IsTrue same ↔ (choice_of X perm ≡ choice)) → (IsTrue count ↔ (sum_by (λ (level : Level). level.count) levels ≡ placed X))
-      → IsTrue (left && same && count) ↔ HoldInAll X choice perm levels
-  holds_by left same count a b c = (
-    λ all.
-        let last = and_parts (left && same) count all in
-        let first = and_parts left same last.0 in
-        record { assignment = a.0 first.0; chosen = b.0 first.1; total = c.0 last.1 },
-    λ w. both (left && same) count (both left same (a.1 w.assignment) (b.1 w.chosen)) (c.1 w.total),
-  )
-    where
-      both : (x y : Bool) → x ≡ true → y ≡ true → (x && y) ≡ true
-      both true y e h = h
-      both false y e h = absurd (false≢true e)

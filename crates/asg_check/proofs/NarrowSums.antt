@@ -1,5 +1,5 @@
 -- Sums in 64 bits are sums below a greater top, and sums that stop at a cap are sums in 64 bits.
-use Rattle.std.proofs.Common.{◌≡◌, ◌⊎◌, ◌≤◌, ℕ, List, Option, inl, inr, sym, ap, subst, ◌∙◌, arith}
+use Rattle.std.proofs.Common.{◌≡◌, ◌⊎◌, ◌≤◌, ℕ, true, List, Option, inl, inr, sym, ap, subst, ◌∙◌, arith}
 use Rattle.std.specs.Prelude.{min}
 use Rattle.std.proofs.lemmas.Bool.Decides.{nat_tests}
 use Rattle.asg_model.specs.Problem.{Problem}
@@ -11,6 +11,7 @@ use Rattle.asg_order.specs.declared.words.Word.{Word}
 use Rattle.asg_order.specs.Monoid.{IsValue}
 use Rattle.asg_monoids.specs.BoundedSums.{bounded_sums, bounded_difference, narrow_top, plain_word}
 use Rattle.asg_monoids.specs.Entered.{cost_reach, sum_entered, top_of}
+use Rattle.asg_monoids.specs.NarrowObjectives.{is_narrow_objective}
 use Rattle.asg_admit.specs.declared.reduced.Reduced.{Reduced}
 use Rattle.asg_admit.specs.Reduced.{IsReduced}
 use Rattle.asg_proof.specs.Phases.{PhaseOf, AreAdmittedPhases, index_of}
@@ -62,3 +63,8 @@ narrow_values objective (inr is) law cost = subst (λ o. MayEnter o cost_reach c
 pub wide_top : (objective : Objective) (top : ℕ) → (objective ≡ Sum) ⊎ (objective ≡ SumMax) → top ≡ top_of objective → narrow_top ≤ top
 wide_top objective top (inl is) stops = subst (λ t. narrow_top ≤ t) (sym (stops ∙ ap top_of is)) (omega arith)
 wide_top objective top (inr is) stops = subst (λ t. narrow_top ≤ t) (sym (stops ∙ ap top_of is)) (omega arith)
+
+-- `sum` and `sum-max` are solved by sums in 64 bits
+pub narrow_is : (objective : Objective) → (objective ≡ Sum) ⊎ (objective ≡ SumMax) → is_narrow_objective objective ≡ true
+narrow_is objective (inl is) = ap is_narrow_objective is
+narrow_is objective (inr is) = ap is_narrow_objective is

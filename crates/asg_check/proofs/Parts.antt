@@ -39,9 +39,6 @@ module _ (Against : Spot → Type 0) (Fails : ℕ → Type 0) (number : ℕ → 
   none_there none whole Overall = whole
   none_there none whole (At place) = λ there. let one = found place there in none one.0 one.2
 
-  pub none_fails : Nowhere Against → (n : ℕ) → ¬ Fails n
-  none_fails none n fails = none (At (pos (number n))) (stands n fails)
-
   pub tested_parts : (reason : Reason) (bound : ℕ) → ((n : ℕ) → Fails n → n < bound) → ((n : ℕ) → Dec (Fails n)) → Dec (Against Overall) → Tested Against reason
   tested_parts reason bound within each whole = by (least_below Fails each bound)
     where

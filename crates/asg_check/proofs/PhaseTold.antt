@@ -36,6 +36,36 @@ use Rattle.asg_check.proofs.ToldReasons.{bad_told, none_bad, nowhere, overall}
 
 -- ---- from a square
 
+module _ {V : Type 0} (M : Monoid V) (laws : IsOrderedMonoid M) (difference : V → V → V) (word_of : V → Word) (side : ℕ) (square : ℕ → ℕ → Option V) (value : V) (words : List (PhaseOf Word)) (index : V) (have : HaveIndex M difference word_of side square index words) where
+  abbrev AdmittedHere : List (PhaseOf Word) → Type 0
+  AdmittedHere = AreAdmittedFrom M difference word_of side square
+
+  none_is_bad : (n : ℕ) → n < length words → ¬ ¬ AdmittedHere (take (suc n) words)
+  none_is_bad n less none = none (admitted-take M difference word_of side square (suc n) words have.admitted)
+
+  -- all are admitted, and the index is the value
+  proved_from : (value_of : Word → Option V) → HasWords M word_of value_of → index ≡ value → Tells (StandsFrom M difference word_of side square value words) phase_reasons Yes
+  proved_from value_of spelled same =
+      inr (none_bad AdmittedHere words none_is_bad, inr (nowhere (no_other_from M difference word_of value_of spelled side square value words have.admitted (have.same ∙ same)), refl))
+
+  -- all are admitted, and the index isn't the value
+  differs_from : (index ≢ value) → Tells (StandsFrom M difference word_of side square value words) phase_reasons (No 7 (pos 0))
+  differs_from differ =
+      let other : HaveIndexBut M difference word_of side square value words = record { admitted = have.admitted; other = λ same. differ (sym have.same ∙ same) } in
+      inr (none_bad AdmittedHere words none_is_bad, inl (overall IndexDiffers other))
+
+  -- the index is a value
+  pub index_value : IsValue M index
+  index_value = subst (λ i. IsValue M i) have.same (index_is_value M laws difference side have.admitted.phases square have.admitted.admitted)
+
+  -- all are admitted, and the verdict tells whether the index is the value
+  pub told_have : (value_of : Word → Option V) → HasWords M word_of value_of → (verdict : Verdict) → ((index ≡ value) × (verdict ≡ Yes)) ⊎ ((index ≢ value) × (verdict ≡ No 7 (pos 0)))
+      → Tells (StandsFrom M difference word_of side square value words) phase_reasons verdict
+  told_have value_of spelled verdict (inl same) =
+      subst (λ v. Tells (StandsFrom M difference word_of side square value words) phase_reasons v) (sym same.1) (proved_from value_of spelled same.0)
+  told_have value_of spelled verdict (inr differ) =
+      subst (λ v. Tells (StandsFrom M difference word_of side square value words) phase_reasons v) (sym differ.1) (differs_from differ.0)
+
 module _ {V : Type 0} (M : Monoid V) (laws : IsOrderedMonoid M) (difference : V → V → V) (word_of : V → Word) (start : Reduced V) (value : V) (words : List (PhaseOf Word)) where
   abbrev Admitted : List (PhaseOf Word) → Type 0
   Admitted = AreAdmittedFrom M difference word_of start.now.side (cell_at start.now)
@@ -51,33 +81,6 @@ module _ {V : Type 0} (M : Monoid V) (laws : IsOrderedMonoid M) (difference : V 
       let one = bad_told Admitted words place first.there first.bad earlier in
       inl (record { spot = one.spot; stands = one.stands; least = one.least; told = told ∙ ap (No 6) (ap pos more) ∙ one.told })
 
-  module _ (index : V) (have : HaveIndex M difference word_of start.now.side (cell_at start.now) index words) where
-    none_is_bad : (n : ℕ) → n < length words → ¬ ¬ Admitted (take (suc n) words)
-    none_is_bad n less none = none (admitted-take M difference word_of start.now.side (cell_at start.now) (suc n) words have.admitted)
-
-    -- all are admitted, and the index is the value
-    proved_from : (value_of : Word → Option V) → HasWords M word_of value_of → index ≡ value → Tells (StandsFrom M difference word_of start.now.side (cell_at start.now) value words) phase_reasons Yes
-    proved_from value_of spelled same =
-        inr (none_bad Admitted words none_is_bad, inr (nowhere (no_other_from M difference word_of value_of spelled start.now.side (cell_at start.now) value words have.admitted (have.same ∙ same)), refl))
-
-    -- all are admitted, and the index isn't the value
-    differs_from : (index ≢ value) → Tells (StandsFrom M difference word_of start.now.side (cell_at start.now) value words) phase_reasons (No 7 (pos 0))
-    differs_from differ =
-        let other : HaveIndexBut M difference word_of start.now.side (cell_at start.now) value words = record { admitted = have.admitted; other = λ same. differ (sym have.same ∙ same) } in
-        inr (none_bad Admitted words none_is_bad, inl (overall IndexDiffers other))
-
-    -- the index is a value
-    pub index_value : IsValue M index
-    index_value = subst (λ i. IsValue M i) have.same (index_is_value M laws difference start.now.side have.admitted.phases (cell_at start.now) have.admitted.admitted)
-
-    -- all are admitted, and the verdict tells whether the index is the value
-    pub told_have : (value_of : Word → Option V) → HasWords M word_of value_of → (verdict : Verdict) → ((index ≡ value) × (verdict ≡ Yes)) ⊎ ((index ≢ value) × (verdict ≡ No 7 (pos 0)))
-        → Tells (StandsFrom M difference word_of start.now.side (cell_at start.now) value words) phase_reasons verdict
-    told_have value_of spelled verdict (inl same) =
-        subst (λ v. Tells (StandsFrom M difference word_of start.now.side (cell_at start.now) value words) phase_reasons v) (sym same.1) (proved_from value_of spelled same.0)
-    told_have value_of spelled verdict (inr differ) =
-        subst (λ v. Tells (StandsFrom M difference word_of start.now.side (cell_at start.now) value words) phase_reasons v) (sym differ.1) (differs_from differ.0)
-
   -- phases that lead from the square, of which no step was taken, to another have its index
   pub replayed_index : start.index ≡ M.unit → (after : Reduced V) → AreReplayed M difference word_of words start after → HaveIndex M difference word_of start.now.side (cell_at start.now) after.index words
   replayed_index is_unit after all = record {
@@ -90,7 +93,7 @@ module _ {V : Type 0} (M : Monoid V) (laws : IsOrderedMonoid M) (difference : V 
   -- then the verdict tells whether it is the value
   pub told_index : start.index ≡ M.unit → (after : Reduced V) → AreReplayed M difference word_of words start after → (value_of : Word → Option V) → HasWords M word_of value_of → (verdict : Verdict)
       → ((after.index ≡ value) × (verdict ≡ Yes)) ⊎ ((after.index ≢ value) × (verdict ≡ No 7 (pos 0))) → Tells (StandsFrom M difference word_of start.now.side (cell_at start.now) value words) phase_reasons verdict
-  told_index is_unit after all value_of spelled verdict either = told_have after.index (replayed_index is_unit after all) value_of spelled verdict either
+  told_index is_unit after all value_of spelled verdict either = told_have M laws difference word_of start.now.side (cell_at start.now) value words after.index (replayed_index is_unit after all) value_of spelled verdict either
 
 -- ---- over an instance
 

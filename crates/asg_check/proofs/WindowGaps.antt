@@ -198,13 +198,6 @@ pub record IsPassed (costs : List ℤ) (spans : List Span) (place count : ℕ) :
   pub had : (k : ℕ) (d : ℤ) → k < place → in_spans spans (get_or costs k d) ≡ true
   pub ended : (j : ℕ) (s : Span) (d : ℤ) → j < count → place < length costs → (get_or spans j s).last <ℤ get_or costs place d
 
-pub none_passed : (costs : List ℤ) (spans : List Span) → IsPassed costs spans 0 0
-none_passed costs spans = record {
-  within = omega arith;
-  had = λ k d none. absurd (omega (arith, none));
-  ended = λ j s d none _. absurd (omega (arith, none));
-}
-
 has_cost : (lo last v : ℤ) → lo ≤ℤ v → v ≤ℤ last → (int_le lo v && int_le v last) ≡ true
 has_cost lo last v from up_to = grind (arith, ints)
 

@@ -14,8 +14,8 @@ use crate::NoMemory;
 use crate::square_verdicts::index_verdict;
 use crate::sum_replays::{Stop, first_stop};
 use crate::verdicts::Verdict;
-use asg_admit::{NarrowSquare, Reduced};
-use asg_monoids::Bounded;
+use asg_admit::{DualSquare, NARROW_TOP, Reduced};
+use asg_monoids::{Bounded, NarrowSums};
 use asg_proof::WrittenPhase;
 use asg_proof::laws::lesser_tops_law;
 use asg_replays::list_index;
@@ -57,7 +57,7 @@ fn narrow_index(
     ensures { IfOk result (λ found. IfSome found (λ index. HaveIndex (bounded_sums narrow_top)
         bounded_difference plain_word start.now.side (cell_at start.now) index phases.now)) }
 {
-    match list_index(alloc, &start.now, phases)? {
+    match list_index(alloc, &NarrowSums, &start.now, phases)? {
         Some(index) => Ok(Some(index)),
         None => replays_index(alloc, start, phases),
     }
@@ -74,14 +74,14 @@ fn replays_index(
     ensures { IfOk result (λ found. IfSome found (λ index. HaveIndex (bounded_sums narrow_top)
         bounded_difference plain_word start.now.side (cell_at start.now) index phases.now)) }
 {
-    let mut square = NarrowSquare::make(alloc, start)?;
+    let mut square = DualSquare::make(alloc, NARROW_TOP, start)?;
     replayed_index(alloc, &mut square, phases)
 }
 
 // The same of phases that are replayed on a square that is kept by dual variables.
 fn replayed_index(
     alloc: Global,
-    square: &mut NarrowSquare,
+    square: &mut DualSquare<u64>,
     phases: &[WrittenPhase],
 ) -> Result<Option<u64>, NoMemory>
     requires reduced { IsReduced (bounded_sums narrow_top) square.old }

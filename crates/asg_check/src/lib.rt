@@ -31,6 +31,7 @@ mod square_verdicts;
 mod sum_replays;
 mod sum_squares;
 mod sum_verdicts;
+mod table_verdicts;
 mod verdicts;
 mod window_gaps;
 mod window_verdicts;

@@ -1,7 +1,7 @@
 //! What stands against phases for a choice of an instance.
 
-ghost use Rattle.std.specs.Prelude.{◌≡◌, ◌≤◌, IsTrue, IfOk, IfSome};
-ghost use Rattle.asg_model.specs.declared.objectives.Objective.TheVariants.{Capped, TimeCost};
+ghost use Rattle.std.specs.Prelude.{◌≡◌, ◌⊎◌, ◌≤◌, IsTrue, IfOk, IfSome};
+ghost use Rattle.asg_model.specs.declared.objectives.Objective.TheVariants.{Capped, Sum, SumMax, TimeCost};
 ghost use Rattle.asg_model.specs.Instances.{IsInstance};
 ghost use Rattle.asg_model.specs.Limits.{most_side};
 ghost use Rattle.asg_model.specs.Refused.{PassesNegative};
@@ -18,6 +18,7 @@ use crate::grade_verdicts::grade_verdict;
 use crate::narrow_starts::{capped_start, narrow_start};
 use crate::square_verdicts::square_verdict;
 use crate::sum_verdicts::{narrow_verdict, sum_verdict};
+use crate::table_verdicts::table_told;
 use crate::verdicts::Verdict;
 use asg_model::{Choice, Instance, Objective};
 use asg_monoids::{PeakKind, SumKind, TimeKind};
@@ -100,16 +101,53 @@ fn narrow_told(
         return Ok(None);
     }
     match objective {
-        Objective::Sum | Objective::SumMax => {
-            let kind = SumKind::of(objective);
-            let start = narrow_start(alloc, objective, inst)?;
-            let fold = chosen_fold(&kind, inst, choice);
-            let told = narrow_verdict(alloc, kind.monoid(), start, phases, fold)?;
-            Ok(told)
-        }
+        Objective::Sum | Objective::SumMax => { plain_told(alloc, objective, inst, choice, phases) }
         Objective::Capped(cap) => capped_told(alloc, cap, inst, choice, phases),
         _ => Ok(None),
     }
+}
+
+// The same for `sum` and `sum-max`: by the table, and where that doesn't tell it by the square.
+fn plain_told(
+    alloc: Global,
+    objective: Objective,
+    inst: &Instance,
+    choice: &Choice,
+    phases: &[WrittenPhase],
+) -> Result<Option<Verdict>, NoMemory>
+    requires narrow { (objective ≡ Sum) ⊎ (objective ≡ SumMax) }
+    requires instance { IsInstance inst.now }
+    requires side { square_side inst.now ≤ most_side }
+    requires passes { PassesNegative objective inst.now }
+    ensures { IfOk result (λ told. IfSome told (Tells
+        (StandsFor objective inst.now choice.now phases.now) phase_reasons)) }
+{
+    match table_told(alloc, objective, inst, choice, phases)? {
+        Some(told) => Ok(Some(told)),
+        None => narrow_square_told(alloc, objective, inst, choice, phases),
+    }
+}
+
+// The same by the square.
+fn narrow_square_told(
+    alloc: Global,
+    objective: Objective,
+    inst: &Instance,
+    choice: &Choice,
+    phases: &[WrittenPhase],
+) -> Result<Option<Verdict>, NoMemory>
+    requires narrow { (objective ≡ Sum) ⊎ (objective ≡ SumMax) }
+    requires instance { IsInstance inst.now }
+    requires side { square_side inst.now ≤ most_side }
+    requires passes { PassesNegative objective inst.now }
+    ensures { IfOk result (λ told. IfSome told (Tells
+        (StandsFor objective inst.now choice.now phases.now) phase_reasons)) }
+{
+    let kind = SumKind::of(objective);
+    let start = narrow_start(alloc, objective, inst)?;
+    let fold = chosen_fold(&kind, inst, choice);
+    let told = narrow_verdict(alloc, kind.monoid(), start, phases, fold)?;
+    Ok(told)
 }
 
 // The same for `capped`, where the cap is below 2^62.

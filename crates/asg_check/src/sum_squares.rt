@@ -9,7 +9,7 @@ ghost use Rattle.asg_square.specs.Grid.{cell_at};
 ghost use Rattle.asg_replays.specs.Replays.{IsAdmittedFrom, IsReplayed};
 
 use crate::NoMemory;
-use asg_admit::{DualSquare, NarrowSquare, Replayed};
+use asg_admit::{DualSquare, NARROW_TOP, Replayed};
 use asg_monoids::{Bounded, NarrowSums};
 use asg_proof::WrittenPhase;
 use asg_replays::{make_room, read_steps};
@@ -46,7 +46,7 @@ pub(crate) trait SumSquare {
             → as_reduced self.new ≡ as_reduced self.old) };
 }
 
-impl SumSquare for DualSquare {
+impl SumSquare for DualSquare<u128> {
     type Sum = u128;
 
     ghost as_reduced = { λ dual. dual };
@@ -65,7 +65,7 @@ impl SumSquare for DualSquare {
         }
         make_room(m, room, values.len())?;
         Ok(self.replay(
-            m,
+            m.top,
             values.as_slice(),
             phase.enters(),
             phase.leaves(),
@@ -75,7 +75,7 @@ impl SumSquare for DualSquare {
 }
 
 // A phase with a step that is no sum in 64 bits finds no room.
-impl SumSquare for NarrowSquare {
+impl SumSquare for DualSquare<u64> {
     ghost use Rattle.asg_monoids.specs.BoundedSums.{narrow_top};
 
     type Sum = u64;
@@ -96,6 +96,7 @@ impl SumSquare for NarrowSquare {
         }
         make_room(&NarrowSums, room, values.len())?;
         Ok(self.replay(
+            NARROW_TOP,
             values.as_slice(),
             phase.enters(),
             phase.leaves(),

@@ -8,20 +8,23 @@ ghost use Rattle.asg_order.specs.Monoid.{IsValue};
 ghost use Rattle.asg_square.specs.Grid.{cell_at};
 ghost use Rattle.asg_check.specs.Reasons.{Tells, phase_reasons};
 ghost use Rattle.asg_check.specs.Replays.{StandsFrom};
+ghost use Rattle.asg_replays.specs.WholeLists.{HaveIndex};
 
 use crate::NoMemory;
 use crate::square_verdicts::{index_verdict, square_verdict};
 use crate::sum_replays::{Stop, first_stop};
 use crate::verdicts::{Reason, Verdict};
-use asg_admit::{DualSquare, NarrowSquare, Reduced};
-use asg_monoids::Bounded;
+use asg_admit::{DualSquare, NARROW_TOP, Reduced};
+use asg_monoids::{Bounded, NarrowSums};
 use asg_proof::WrittenPhase;
 use asg_replays::{has_long, list_index};
+use asg_square::Square;
 use std::alloc::Global;
 
 // The verdict on phases that are to be admitted in turn from the square, of which no step was taken
-// yet, and to have the value as their index. Dual variables serve while no sum comes near the top;
-// from there on, and where a phase is long, the cells are rewritten. The error is want of memory.
+// yet, and to have the value as their index: by one pass over the cells for all of them, and where
+// that doesn't tell it phase by phase. Where a phase is long, the cells are rewritten. The error is
+// want of memory.
 pub(crate) fn sum_verdict(
     alloc: Global,
     m: &Bounded,
@@ -38,7 +41,48 @@ pub(crate) fn sum_verdict(
     if has_long(phases, start.now.side()) {
         return square_verdict(alloc, m, start, phases, 0, value);
     }
-    let dual = DualSquare::make(alloc, m, start)?;
+    match wide_index(alloc, m, &start.now, phases)? {
+        Some(index) => Ok(index_verdict(m, index, value)),
+        None => replays_verdict(alloc, m, start, phases, value),
+    }
+}
+
+// The index of phases that are admitted in turn from a square, where one pass over the cells tells
+// that they are: only of sums that stop at 2^120. The error is want of memory.
+fn wide_index(
+    alloc: Global,
+    m: &Bounded,
+    square: &Square<u128>,
+    phases: &[WrittenPhase],
+) -> Result<Option<u128>, NoMemory>
+    ensures { IfOk result (λ found. IfSome found (λ index. HaveIndex (bounded_sums m.now.top)
+        bounded_difference plain_word square.now.side (cell_at square.now) index phases.now)) }
+{
+    if m.top != 1 << 120 {
+        return Ok(None);
+    }
+    match list_index(alloc, m, square, phases)? {
+        Some(index) => Ok(Some(index)),
+        None => Ok(None),
+    }
+}
+
+// The same phase by phase. Dual variables serve while no sum comes near the top; from there on the
+// cells are rewritten.
+fn replays_verdict(
+    alloc: Global,
+    m: &Bounded,
+    start: Reduced<u128>,
+    phases: &[WrittenPhase],
+    value: u128,
+) -> Result<Verdict, NoMemory>
+    requires reduced { IsReduced (bounded_sums m.now.top) start }
+    requires unit { start.index ≡ 0 }
+    requires value { IsValue (bounded_sums m.now.top) value }
+    ensures { IfOk result (Tells (StandsFrom (bounded_sums m.now.top) bounded_difference plain_word
+        start.now.side (cell_at start.now) value phases.now) phase_reasons) }
+{
+    let dual = DualSquare::make(alloc, m.top, start)?;
     dual_verdict(alloc, m, dual, phases, value)
 }
 
@@ -46,7 +90,7 @@ pub(crate) fn sum_verdict(
 fn dual_verdict(
     alloc: Global,
     m: &Bounded,
-    mut dual: DualSquare,
+    mut dual: DualSquare<u128>,
     phases: &[WrittenPhase],
     value: u128,
 ) -> Result<Verdict, NoMemory>
@@ -81,7 +125,7 @@ pub(crate) fn narrow_verdict(
         bounded_difference plain_word start.now.side (cell_at start.now) value phases.now)
         phase_reasons)) }
 {
-    match list_index(alloc, &start.now, phases)? {
+    match list_index(alloc, &NarrowSums, &start.now, phases)? {
         Some(index) => Ok(Some(index_verdict(m, index as u128, value))),
         None => narrow_replays_verdict(alloc, m, start, phases, value),
     }
@@ -103,7 +147,7 @@ fn narrow_replays_verdict(
         bounded_difference plain_word start.now.side (cell_at start.now) value phases.now)
         phase_reasons)) }
 {
-    let mut narrow = NarrowSquare::make(alloc, start)?;
+    let mut narrow = DualSquare::make(alloc, NARROW_TOP, start)?;
     narrow_dual_verdict(alloc, m, &mut narrow, phases, value)
 }
 
@@ -111,7 +155,7 @@ fn narrow_replays_verdict(
 fn narrow_dual_verdict(
     alloc: Global,
     m: &Bounded,
-    narrow: &mut NarrowSquare,
+    narrow: &mut DualSquare<u64>,
     phases: &[WrittenPhase],
     value: u128,
 ) -> Result<Option<Verdict>, NoMemory>

@@ -3,8 +3,9 @@
 //! The steps of a phase are words; each is read as a value of the monoid, and the phases are
 //! applied in turn to a reduced square, up to the first that isn't admitted after those before it.
 //! Long phases are applied by parts, so that their values never stand in memory all at once.
-//! Where sums fit in 64 bits, one pass over the cells can tell that a whole list is admitted, and a
-//! whole list can be replayed by dual variables, so that the cells are written once.
+//! One pass over the cells can tell that a whole list of phases of sums is admitted, and where sums
+//! fit in 64 bits, a whole list can be replayed by dual variables, so that the cells are written
+//! once.
 //! Contracts say from which square the phases are admitted, and to which they lead. The checkers of
 //! phases, of levels and of search trees stand on it.
 #![tactic(auto)]
@@ -17,7 +18,7 @@ mod whole_lists;
 pub use narrow_lists::narrow_led;
 pub use replays::{first_bad, has_long, make_room, read_steps};
 pub use starts::{chosen_fold, start};
-pub use whole_lists::list_index;
+pub use whole_lists::{list_index, take_all};
 
 /// There was not enough memory.
 pub type NoMemory = std::alloc::AllocError;

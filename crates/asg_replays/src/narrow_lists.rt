@@ -9,7 +9,7 @@ ghost use Rattle.asg_replays.specs.Replays.{AreReplayed, IsReplayed};
 
 use crate::NoMemory;
 use crate::replays::{make_room, read_steps};
-use asg_admit::{NarrowSquare, Reduced, Replayed};
+use asg_admit::{DualSquare, NARROW_TOP, Reduced, Replayed};
 use asg_monoids::NarrowSums;
 use asg_proof::WrittenPhase;
 use std::alloc::Global;
@@ -29,7 +29,7 @@ fn is_applied(told: Replayed) -> bool
 // was. Its steps are read into the list of values, which keeps its room, as the other list does.
 // The error is want of memory.
 fn replay_narrow(
-    square: &mut NarrowSquare,
+    square: &mut DualSquare<u64>,
     values: &mut Vec<u64>,
     room: &mut Vec<u64>,
     phase: &WrittenPhase,
@@ -42,6 +42,7 @@ fn replay_narrow(
     }
     make_room(&NarrowSums, room, values.len())?;
     let told = square.replay(
+        NARROW_TOP,
         values.as_slice(),
         phase.enters(),
         phase.leaves(),
@@ -54,7 +55,7 @@ fn replay_narrow(
 // error is want of memory.
 fn replay_all(
     alloc: Global,
-    square: &mut NarrowSquare,
+    square: &mut DualSquare<u64>,
     phases: &[WrittenPhase],
 ) -> Result<bool, NoMemory>
     requires { IsReduced (bounded_sums narrow_top) square.old }
@@ -90,7 +91,7 @@ pub fn narrow_led(
         now,
         index: start.index,
     };
-    let mut square = NarrowSquare::make(alloc, reduced)?;
+    let mut square = DualSquare::make(alloc, NARROW_TOP, reduced)?;
     if !replay_all(alloc, &mut square, phases)? {
         return Ok(None);
     }

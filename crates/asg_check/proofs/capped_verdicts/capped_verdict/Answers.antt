@@ -21,11 +21,11 @@ have_index c =
 pub index_verdict-requires-clause-index : goal.index_verdict-requires-clause-index
 index_verdict-requires-clause-index c =
     let top = c.args.m.now.top in
-    index_value (bounded_sums top) (bounded_laws top) bounded_difference plain_word c.args.start c.args.value c.args.phases.now c.in-Some.index
+    index_value (bounded_sums top) (bounded_laws top) bounded_difference plain_word c.args.start.now.side (cell_at c.args.start.now) c.args.value c.args.phases.now c.in-Some.index
     (have_index (goal.at.index_verdict-requires-clause-index c).Then-index-m)
 
 pub returns-in-Some : goal.returns-in-Some
 returns-in-Some c =
     let top = c.args.m.now.top in
-    told_have (bounded_sums top) (bounded_laws top) bounded_difference plain_word c.args.start c.args.value c.args.phases.now c.in-Some.index
+    told_have (bounded_sums top) (bounded_laws top) bounded_difference plain_word c.args.start.now.side (cell_at c.args.start.now) c.args.value c.args.phases.now c.in-Some.index
     (have_index (goal.at.returns-in-Some c).Then-index-m) (bounded_value top) (bounded_word_laws top) c.index_verdict.result c.index_verdict.ensures

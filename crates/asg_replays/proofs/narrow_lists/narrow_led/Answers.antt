@@ -5,8 +5,8 @@ use Rattle.asg_replays.specs.Replays.{AreReplayed}
 use Rattle.asg_square.specs.Grid.{Grid}
 use Rattle.asg_replays.proofs.narrow_lists.narrow_led.Goals as goal
 
-pub make-requires : goal.make-requires
-make-requires c =
+pub make-requires-clause-reduced : goal.make-requires-clause-reduced
+make-requires-clause-reduced c =
     let start = c.args.start.now in
     subst (λ (Q : Grid ℕ). IsReduced (bounded_sums narrow_top) (record { now = Q; index = start.index })) (sym c.in_ok-now.ensures) c.requires
 

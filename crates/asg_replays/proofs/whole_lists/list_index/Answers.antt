@@ -2,12 +2,12 @@ use Rattle.std.proofs.Common.{sym, ◌∙◌, arith}
 use Rattle.asg_replays.proofs.whole_lists.list_index.Goals as goal
 
 pub none-requires : goal.none-requires
-none-requires c =
+none-requires g c =
     let few = c.side.ensures.grid.table.few in
     omega (arith, few, c.side.ensures.side)
 
 pub returns : goal.returns
-returns c = λ top above.
+returns g c = λ top above.
     let are = c.in_ok-take_all.ensures.taken c.if-not-branch.false in
     record {
       admitted = record {

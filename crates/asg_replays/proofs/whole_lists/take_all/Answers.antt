@@ -6,17 +6,17 @@ use Rattle.asg_replays.specs.WholeLists.{AreTotalsOf}
 use Rattle.asg_replays.proofs.whole_lists.take_all.Goals as goal
 
 pub phases-init : goal.phases-init
-phases-init c =
+phases-init g c =
     let words = c.args.phases.now in
     let none : drop (length words - 0) words ≡ [] = drop_all (length words - 0) words (omega arith) in
-    let taken : AreTotalsOf [] c.args.totals.now = record { phases = []; written = refl; come = c.requires } in
+    let taken : AreTotalsOf [] c.args.totals.now = record { phases = []; written = refl; come = c.requires.none } in
     record {
       taken = subst (λ ws. AreTotalsOf ws c.args.totals.now) (sym none) taken;
       side = refl;
     }
 
 pub phases-preserved : goal.phases-preserved
-phases-preserved c =
+phases-preserved g c =
     let words = c.args.phases.now in
     let j : ℕ = length words - (c.phases.back + 1) in
     let phase : PhaseOf Word = c.index-phases-count.result in
@@ -31,7 +31,7 @@ phases-preserved c =
     }
 
 pub returns-clause-taken : goal.returns-clause-taken
-returns-clause-taken c = λ _.
+returns-clause-taken g c = λ _.
     let words = c.args.phases.now in
     let done : length words - c.phases.back ≡ 0 = omega (arith, c.phases-test.false) in
     subst (λ n. AreTotalsOf (drop n words) c.phases.totals) done c.phases.invariant.taken

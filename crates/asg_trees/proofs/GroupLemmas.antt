@@ -2,7 +2,7 @@
 use Rattle.std.proofs.Common.{◌≡◌, ◌≢◌, ℕ, zero, suc, ◌+◌, ◌-◌, ◌<◌, ◌≤◌, Bool, true, false, cond, List, [], length, get_or, set, refl, sym, ap, subst, ◌∙◌, arith, ⊎_elim, take}
 use Rattle.std.specs.Prelude.{nat_lt, count_by}
 use Rattle.std.proofs.lemmas.Bool.{cases_lt, cases_eq, lt-ltb, le-ltb}
-use Rattle.std.proofs.lemmas.List.{get_or-set_same, get_or-set_other, length-set, length-map, get_or-map, get_or_default}
+use Rattle.std.proofs.lemmas.List.{get_or-set_same, get_or-set_other, length-set, length-map, get_or-map}
 use Rattle.std.proofs.lemmas.List.Sums.{count_by_more_no}
 use Rattle.asg_proof.specs.declared.nodes.Node.{Node}
 use Rattle.asg_proof.specs.declared.nodes.Mark.TheVariants.{Answered, Open, Empty}
@@ -100,21 +100,6 @@ module _ (keys : List ℕ) where
         (linked_out (omega (arith, many)))))
         (cases_lt key (count + 1))
 
-  -- no number is above the last
-  pub none_linked : (count : ℕ) (first next : List ℕ) → ((k : ℕ) → get_or first k 0 ≡ 0) → length first ≡ count + 1 → length next ≡ length keys + 1 → AreGroupsAbove keys count (length keys) first next
-  none_linked count first next zeros firsts nexts = record {
-    first_count = firsts;
-    next_count = nexts;
-    firsts = λ k low. record {
-      none = λ zero j after upto. absurd (omega (arith, after, upto));
-      later = λ some. absurd (some (zeros k));
-      upto = omega (arith, zeros k);
-      same = λ some. absurd (some (zeros k));
-      between = λ some. absurd (some (zeros k));
-    };
-    nexts = λ m after upto. absurd (omega (arith, after, upto));
-  }
-
 -- ---- nodes
 
 -- what is read past the last node
@@ -126,10 +111,6 @@ parent_key nodes n from upto = get_or-map (λ (node : Node). node.parent) nodes 
 
 pub answer_key : (nodes : List Node) (n : ℕ) → 1 ≤ n → n ≤ length nodes → key_at (answer_keys nodes) n ≡ answer_number (node_at nodes n).mark
 answer_key nodes n from upto = get_or-map (λ (node : Node). answer_number node.mark) nodes (n - 1) no_node 0 (omega (arith, from, upto))
-
--- a node that is read
-pub node_read : (nodes : List Node) (n : ℕ) (x : Node) → 1 ≤ n → n ≤ length nodes → x ≡ get_or nodes (n - 1) x → x ≡ node_at nodes n
-node_read nodes n x from upto is = is ∙ get_or_default nodes (n - 1) x no_node (omega (arith, from, upto))
 
 -- nodes that don't name a parent aren't counted among its children
 pub count_skip : (nodes : List Node) (p : Node → Bool) (a d : ℕ) → a + d ≤ length nodes → ((j : ℕ) → a < j → j ≤ a + d → p (node_at nodes j) ≡ false) → count_by p (take (a + d) nodes) ≡ count_by p (take a nodes)
@@ -161,13 +142,6 @@ given_by nodes a number from some is =
       there = (is.later some, upto);
       marked = answered_by (node_at nodes number).mark a from (sym (answer_key nodes number (is.later some) upto) ∙ is.same some);
     }
-
--- where it is 0, no node has it
-pub lacking_by : (nodes : List Node) (a : ℕ) → IsNextAnswer nodes a 0 → ¬ IsGiven nodes a
-lacking_by nodes a is = λ given.
-    let keys = length-map nodes (λ (node : Node). answer_number node.mark) in
-    is.none refl given.node given.there.0 (omega (arith, given.there.1, keys))
-    (answer_key nodes given.node given.there.0 given.there.1 ∙ ap answer_number given.marked)
 
 -- the first node of an answer is one that has it, where no node before it has
 pub first_is : (nodes : List Node) (a n first : ℕ) → 1 ≤ n → n ≤ length nodes → answer_number (node_at nodes n).mark ≡ a → IsNextAnswer nodes a first → (first ≡ n → (m : ℕ) → 1 ≤ m → m < n → answer_number (node_at nodes m).mark ≢ a) × (((m : ℕ) → 1 ≤ m → m < n → answer_number (node_at nodes m).mark ≢ a) → first ≡ n)

@@ -145,13 +145,6 @@ module _ {V : Type 0} (X : Problem) (f : List (Option ℕ)) (all : X.place ≡ P
   same_label branch other r None past = refl
   same_label branch other r (Some d) past = same_side branch other (row_number X r) (takes d (get_or f r None)) past
 
-  -- a mask keeps the cells of other rows
-  pub mask_others : (branch : ℕ) (bits : BitTable) → IsMaskOf X f branch bits → KeepsOtherRows X bits
-  mask_others branch bits mask = record {
-    size = mask.size;
-    each = λ r k hr hk off. mask.each r k hr hk ∙ other_kept branch r k off;
-  }
-
   module _ (branch : ℕ) (before after : BitTable) where
     -- all numbers are marked
     made : (most : ℕ) → length X.rows ≤ most → KeepsOtherRows X before → MarksRows X f Q.column_labels (square_side X) branch 0 most (length X.rows) before after → IsMaskOf X f branch after

@@ -1,7 +1,6 @@
 -- Counting: different numbers of a list, and the elements that pass a test.
-use Rattle.std.proofs.Common.{◌≡◌, ◌≢◌, ℕ, suc, ◌<◌, ◌≤◌, Bool, true, false, cond, List, [], ◌∷◌, length, map, get_or, refl, sym, ◌∙◌, ap, ⊎_elim, arith}
+use Rattle.std.proofs.Common.{◌≡◌, ◌≢◌, ℕ, ◌<◌, ◌≤◌, Bool, true, false, cond, List, [], ◌∷◌, length, map, refl, sym, ◌∙◌, ap, arith}
 use Rattle.std.specs.Prelude.{All, AllPairs, Contains, filter, sum_by, count_by}
-use Rattle.std.proofs.lemmas.Bool.{cases_Bool, false_from_ne_true}
 use Rattle.std.proofs.lemmas.Bool.Decides.{Decides-eqb}
 use Rattle.std.proofs.lemmas.Cmp.{nat_eq_equiv}
 use Rattle.std.proofs.lemmas.List.{length-map, get_or-map}
@@ -58,18 +57,3 @@ count_by-none p (x ∷ xs) none =
     let head : cond {A = ℕ} (p x) 1 0 ≡ 0 = ap (λ (b : Bool). cond {A = ℕ} b 1 0) (All-head (λ y. p y ≡ false) x xs none) in
     let rest = count_by-none p xs (All-tail (λ y. p y ≡ false) x xs none) in
     omega (arith, sum_by-cons (λ y. cond (p y) 1 0) x xs)
-
--- where no two elements pass, at most one does
-pub count_by-le_one : {X : Type 0} (p : X → Bool) (xs : List X) → AllPairs (λ x y. p x ≡ true → p y ≡ true → ⊥) xs → count_by p xs ≤ 1
-count_by-le_one p [] apart = omega arith
-count_by-le_one p (x ∷ xs) apart =
-    ⊎_elim
-    (λ yes.
-    let head : cond {A = ℕ} (p x) 1 0 ≡ 1 = ap (λ (b : Bool). cond {A = ℕ} b 1 0) yes in
-    let rest = count_by-none p xs (λ k d h. false_from_ne_true (p (get_or xs k d)) (apart 0 (suc k) d (omega arith) (omega arith) yes)) in
-    omega (arith, sum_by-cons (λ y. cond (p y) 1 0) x xs))
-    (λ no_pass.
-    let head : cond {A = ℕ} (p x) 1 0 ≡ 0 = ap (λ (b : Bool). cond {A = ℕ} b 1 0) no_pass in
-    let rest = count_by-le_one p xs (λ i j d h k. apart (suc i) (suc j) d (omega arith) (omega arith)) in
-    omega (arith, sum_by-cons (λ y. cond (p y) 1 0) x xs))
-    (cases_Bool (p x))

@@ -3,16 +3,15 @@ use Rattle.std.proofs.Common.{◌≡◌, ◌∙◌, ap, ℕ, true, false, Bool, 
 use Rattle.std.specs.Prelude.{IfSome, IsSome}
 use Rattle.asg_check.specs.declared.verdicts.Form.TheVariants.{Rank as RankForm}
 use Rattle.asg_check.specs.DocumentForm.{MayBeAsked}
-use Rattle.asg_model.specs.Limits.{most_ranked}
 use Rattle.asg_model.specs.Problem.{Problem}
 use Rattle.asg_model.specs.declared.objectives.Objective.{Objective}
 use Rattle.asg_model.specs.declared.objectives.Objective.TheVariants.{Sum, SumMax, SumPair, Capped, Bottleneck, BottleneckMax, TimeCost, Balanced, Lex}
-use Rattle.asg_doc.specs.Words.{HasWord, IsAsked}
+use Rattle.asg_doc.specs.Words.{HasWord}
 use Rattle.asg_requests.specs.Bounds.{IsJob, IsWithin, cap_of, choices_ranked}
 use Rattle.asg_model.specs.Objectives.{most_cap}
 use Rattle.asg_requests.specs.declared.requests.Job.{Job}
 use Rattle.asg_requests.specs.declared.requests.Task.{Task}
-use Rattle.asg_requests.specs.declared.requests.Task.TheVariants.{Rank, Check}
+use Rattle.asg_requests.specs.declared.requests.Task.TheVariants.{Check}
 use Rattle.asg_scripts.specs.Scripts.{script_in, solved_instances}
 use Rattle.asg_answers.specs.declared.status.Status.{Status}
 use Rattle.asg_app.specs.AnswersStage.{UnlessMiscounted}
@@ -47,15 +46,6 @@ ranks_asked : (job : Job) (count : ℕ) (X : Problem) → choices_ranked job.tas
 ranks_asked job count X ranks within placed =
     let some : IsSome (choices_ranked job.task) = subst IsSome (sym ranks) refl in
     (within.ranks_algebraic some, placed ∙ within.ranks_all some)
-
--- and so many choices can be asked for
-pub ranked_count : (job : Job) (count : ℕ) → job.task ≡ Rank count → IsJob job → IsAsked count
-ranked_count job count is within =
-    let found : IsWithin 1 most_ranked count = subst (λ task. IfSome (choices_ranked task) (IsWithin 1 most_ranked)) is within.ranked in
-    (omega (arith, found.0), found.1)
-
-pub rank_may_be_asked : (job : Job) (count : ℕ) (X : Problem) → job.task ≡ Rank count → IsJob job → X.place ≡ job.place → MayBeAsked (RankForm count) job.objective X
-rank_may_be_asked job count X is within placed = ranks_asked job count X (ap choices_ranked is) within placed
 
 -- what a request to check asks for may be asked
 pub may_be_asked : (job : Job) (answer : List ℕ) (count : Option ℕ) (X : Problem) → job.task ≡ Check answer None count → IsJob job → X.place ≡ job.place → MayBeAsked (form_asked count) job.objective X

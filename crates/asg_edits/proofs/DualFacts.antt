@@ -1,18 +1,17 @@
 -- What a session of sums by dual variables does, as an editor sees it.
-use Rattle.std.proofs.Common.{◌≡◌, ◌<◌, ◌≤◌, ◌++◌, true, [], length, refl, sym, ap, ◌∙◌, arith}
+use Rattle.std.proofs.Common.{◌≡◌, ◌++◌, true, [], refl, ap, ◌∙◌, arith}
 use Rattle.std.specs.Prelude.{IsTrue}
-use Rattle.std.proofs.lemmas.List.{append_assoc, append-nil, length-append}
+use Rattle.std.proofs.lemmas.List.{append_assoc, length-append}
 use Rattle.asg_model.specs.declared.edits.Edit.{Edit}
 use Rattle.asg_model.specs.declared.objectives.Objective.{Objective}
 use Rattle.asg_model.specs.declared.objectives.Objective.TheVariants.{Sum, SumMax}
 use Rattle.asg_model.specs.Edits.{edited}
 use Rattle.asg_model.specs.Problem.{Problem}
-use Rattle.asg_model.specs.Shapes.{square_side}
 use Rattle.asg_monoids.specs.Entered.{is_sum_objective, top_of}
 use Rattle.asg_monoids.specs.NarrowObjectives.{is_narrow_objective}
 use Rattle.asg_proof.specs.KeptWords.{KeepsFact, KeepsPhases}
 use Rattle.asg_sum_edits.specs.Sessions.{SumsOf}
-use Rattle.asg_edits.specs.Editors.{EditorOf, Edits, GoesTo, SettlesTo, most_unsure, seen_by_duals}
+use Rattle.asg_edits.specs.Editors.{EditorOf, Edits, GoesTo, SettlesTo, seen_by_duals}
 use Rattle.asg_edits.proofs.MonoidFacts.{sum_fact}
 
 narrow_is_sum : (objective : Objective) → IsTrue (is_narrow_objective objective) → is_sum_objective objective ≡ true
@@ -41,15 +40,6 @@ duals_edited s t edit narrow objective instance = record {
 }
 
 -- ---- settling
-
-pub settles_by : (s : SumsOf) (new : EditorOf) → new.objective ≡ s.objective → new.instance ≡ s.instance → length new.phases ≤ square_side s.instance → new.unsure < most_unsure → SettlesTo (seen_by_duals s) new
-settles_by s new objective instance few unsure = record { objective = objective; instance = instance; more = new.phases; phases = refl; few = omega (arith, few, unsure) }
-
-pub settles_at : (editor : EditorOf) → SettlesTo editor editor
-settles_at editor = record { objective = refl; instance = refl; more = []; phases = sym (append-nil editor.phases); few = omega arith }
-
-pub goes_at : (old new : EditorOf) → SettlesTo old new → GoesTo old new
-goes_at old new settles = record { objective = settles.objective; instance = settles.instance; more = settles.more; phases = settles.phases; few = omega (arith, settles.few) }
 
 pub goes_on : (old mid new : EditorOf) → SettlesTo old mid → GoesTo mid new → GoesTo old new
 goes_on old mid new settles goes = record {

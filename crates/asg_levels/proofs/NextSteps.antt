@@ -43,14 +43,6 @@ module _ (middle after : BitTable) (words : List ℕ) (row number left word : �
 
 -- ---- one word more of the columns that are out
 
-pub columns_none : (before : BitTable) (leaves : List ℕ) → ClearsColumns before before leaves 0
-columns_none before leaves = record {
-  rows = refl;
-  columns = refl;
-  done = λ r c hr hc h. absurd (omega (arith, h));
-  rest = λ r c h. refl;
-}
-
 pub columns_more : (before middle after : BitTable) (leaves : List ℕ) (number word : ℕ) → before.columns ≡ length leaves → ClearsColumns before middle leaves number → ClearsWord middle after number word
     → ((k : ℕ) → k < 64 → 64 * number + k < length leaves → is_bit_set word k ≡ (get_or leaves (64 * number + k) 0 == 0))
     → ClearsColumns before after leaves (number + 1)
@@ -81,15 +73,6 @@ columns_more before middle after leaves number word size so clear bits = record 
         (cases_lt c (64 * number))
 
 -- ---- one row more
-
-pub renews_none : (before zeros ones : BitTable) (enters ins outs : List ℕ) → RenewsRows before before zeros ones enters ins outs 0
-renews_none before zeros ones enters ins outs = record {
-  rows = refl;
-  columns = refl;
-  entered = λ r c h. absurd (omega (arith, h));
-  others = λ r c h. refl;
-  rest = λ r c h. refl;
-}
 
 module _ (before middle after zeros ones : BitTable) (enters ins outs : List ℕ) (row : ℕ) (so : RenewsRows before middle zeros ones enters ins outs row) where
   renews_entered : zeros.columns ≡ middle.columns → ones.columns ≡ middle.columns → get_or enters row 0 ≡ 0 → TightensWords middle after zeros ones outs (get_or ins row 0) row (word_count middle.columns) → RenewsRows before after zeros ones enters ins outs (row + 1)

@@ -55,16 +55,6 @@ equal_mask numbers x k long h =
     ∙ get_or-map (λ y. eqb y x) (take 64 numbers) k 0 false (omega (arith, length-take 64 numbers))
     ∙ ap (λ y. eqb y x) (get_or-take 64 numbers k 0 h)
 
--- no number is 1 less than 0
-pub none_lesser : (n : ℕ) → (n + 1 == 0) ≡ false
-none_lesser n = grind arith
-
-pub one_less : (n x : ℕ) → 1 ≤ x → (n + 1 == x) ≡ (n == x - 1)
-one_less n x h =
-    same_bool (n + 1 == x) (n == x - 1)
-    (λ e. (Decides-eqb n (x - 1)).1 (omega (arith, eqb-true (n + 1) x e)))
-    (λ e. (Decides-eqb (n + 1) x).1 (omega (arith, eqb-true n (x - 1) e, h)))
-
 pub one_more_each : (n x : ℕ) → (n + 1 == x + 1) ≡ (n == x)
 one_more_each n x =
     same_bool (n + 1 == x + 1) (n == x)

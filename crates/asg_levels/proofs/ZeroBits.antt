@@ -15,9 +15,6 @@ use Rattle.asg_levels.specs.NextStep.{AreZeroBits}
 abbrev pub IsZeroMask : List ℕ → ℕ → ℕ → Type 0
 IsZeroMask numbers count word = (k : ℕ) → HasBit word k ↔ ((k < count) × (get_or numbers k 0 ≡ 0))
 
-pub mask_none : (numbers : List ℕ) → IsZeroMask numbers 0 0
-mask_none numbers k = (λ has. let none = bit_at-zero k in absurd (omega (arith, none, has)), λ both. absurd (omega (arith, both.0)))
-
 mask_set : (numbers : List ℕ) (place word : ℕ) → place < 64 → get_or numbers place 0 ≡ 0 → IsZeroMask numbers place word → IsZeroMask numbers (place + 1) (bit_or word (1 * 2 ^ place % 2 ^ 64))
 mask_set numbers place word h zero bits k = (
   λ has.

@@ -67,13 +67,6 @@ pub perfect_of : (side : ℕ) (m : List (Option ℕ)) (zeros ones : BitTable) �
 perfect_of side m zeros ones perfect =
     (columns_of side m, assignment_of side m (IsMarked ones side) perfect (bit_square zeros ones) (λ r c marked. bit_there (has_bit zeros r c) (has_bit ones r c) marked.bit))
 
--- marks of fewer cells
-pub leaves_out : (side : ℕ) (before after : BitTable) (entries : List Entry) (from to : ℕ) → MarksFewer before after entries from to → LeavesOut side before after entries from to
-leaves_out side before after entries from to fewer r c = (
-  λ marked. let both = (fewer r c).0 marked.bit in (record { row = marked.row; column = marked.column; bit = both.0 }, both.1),
-  λ h. record { row = h.0.row; column = h.0.column; bit = (fewer r c).1 (h.0.bit, h.1) },
-)
-
 zero_bit : (b d : Bool) → cond {A = Option ℕ} b (Some 0) (cond d (Some 1) None) ≡ Some 0 → b ≡ true
 zero_bit true d e = refl
 zero_bit false true e = let same : 1 ≡ 0 = same_Some 1 0 e in absurd (omega (arith, same))

@@ -1,5 +1,5 @@
 -- One cost gone through: left out, or made a level.
-use Rattle.std.proofs.Common.{◌≡◌, ℕ, zero, suc, ◌+◌, ◌<◌, ◌≤◌, Bool, true, false, cond, not, ◌&&◌, List, [], ◌∷◌, ◌++◌, length, get_or, Option, Some, None, refl, sym, ◌∙◌, ap, subst, arith, is_some, ℤ, ◌<ℤ◌, ◌≤ℤ◌, ⊎_elim}
+use Rattle.std.proofs.Common.{◌≡◌, ℕ, zero, suc, ◌+◌, ◌<◌, ◌≤◌, Bool, true, false, cond, not, ◌&&◌, List, [], ◌∷◌, ◌++◌, length, get_or, Option, Some, None, refl, sym, ◌∙◌, ap, subst, arith, is_some, ℤ, ◌≤ℤ◌, ⊎_elim}
 use Rattle.std.specs.Prelude.{IsSome, int_lt, int_le}
 use Rattle.std.specs.Ordering.{int_eq}
 use Rattle.std.specs.Option.{option_map_or}
@@ -41,9 +41,6 @@ same_bool true true f g = refl
 same_bool true false f g = sym (f refl)
 same_bool false true f g = g refl
 same_bool false false f g = refl
-
-less_costs : (m n : ℕ) → m < n → cost_of m <ℤ cost_of n
-less_costs m n h = omega (arith, ints, h)
 
 upto_cost : (m n : ℕ) (v : ℤ) → m < n → cost_of n ≤ℤ v → cost_of m ≤ℤ v
 upto_cost m n v h k = omega (arith, ints, h, k)

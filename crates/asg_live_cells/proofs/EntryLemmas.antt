@@ -4,7 +4,7 @@ use Rattle.std.specs.Prelude.{All}
 use Rattle.std.specs.Int.{bit_at}
 use Rattle.std.proofs.lemmas.Bool.{false≢true, cases_lt, cases_eq, lt-ltb}
 use Rattle.std.proofs.lemmas.Option.{same_Some}
-use Rattle.std.proofs.lemmas.List.Elements.{All-nil, All-push, Contains-append_left, Contains-push}
+use Rattle.std.proofs.lemmas.List.Elements.{All-push, Contains-append_left, Contains-push}
 use Rattle.asg_square.specs.BitTable.{is_bit_set}
 use Rattle.asg_square.specs.Grid.{Grid, cell_at}
 use Rattle.asg_square.specs.WordBits.{HasBit}
@@ -14,37 +14,6 @@ use Rattle.asg_live_cells.specs.declared.live_cells.Entry.{Entry}
 use Rattle.asg_live_cells.specs.LiveCells.{entry_of, IsEntryOf, IsUnder, IsBefore, AddsEntry, AreEntriesBefore}
 use Rattle.asg_live_cells.specs.UnderWords.{is_under}
 use Rattle.asg_live_cells.proofs.UnderLemmas.{past_none}
-
--- no place comes before the first
-pub entries_none : (Q : Grid ℕ) (limit : ℕ) → AreEntriesBefore Q limit 0 0 []
-entries_none Q limit = record {
-  each = All-nil (IsEntryOf Q);
-  under = All-nil (IsUnder limit);
-  every = λ r c grade row column before live under cell. absurd (⊎_elim (λ h. omega arith) (λ h. let past = h.1 in omega arith) before);
-}
-
--- the places before the end of a row, or past it, are those before the next row
-pub entries_row : (Q : Grid ℕ) (limit row column : ℕ) (entries : List Entry) → Q.side ≤ column → AreEntriesBefore Q limit row column entries → AreEntriesBefore Q limit (row + 1) 0 entries
-entries_row Q limit row column entries past_all e = record {
-  each = e.each;
-  under = e.under;
-  every = λ r c grade row_below column_below before live under cell.
-      e.every r c grade row_below column_below
-      (⊎_elim
-      (λ (h : r < row + 1). ⊎_elim (λ (less : r < row). inl less) (λ (more : row ≤ r). inr (omega (arith, h, more), omega (arith, column_below, past_all))) (cases_lt r row))
-      (λ h. let past = h.1 in absurd (omega arith))
-      before)
-      live under cell;
-}
-
--- a place without a live cell of a grade under the limit
-pub adds_none : (Q : Grid ℕ) (limit row column : ℕ) (entries : List Entry) → ((grade : ℕ) → 0 < grade → grade < limit → cell_at Q row column ≡ Some grade → ⊥) → AddsEntry Q limit row column entries entries
-adds_none Q limit row column entries none = record {
-  each = λ h. h;
-  under = λ h. h;
-  kept = λ e h. h;
-  here = λ grade live under cell. absurd (none grade live under cell);
-}
 
 -- a place with a live cell of a grade under the limit, whose entry is added
 pub adds_one : (Q : Grid ℕ) (limit row column grade : ℕ) (entries : List Entry) → row < Q.side → column < Q.side → 0 < grade → grade < limit → cell_at Q row column ≡ Some grade → AddsEntry Q limit row column entries (entries ++ entry_of grade row column ∷ [])

@@ -7,16 +7,6 @@ use Rattle.asg_live_cells.specs.LiveCells.{entry_at}
 use Rattle.asg_live_cells.specs.Marks.{IsNamed, MarksMore, MarksFewer}
 use Rattle.asg_live_cells.specs.laws.Puts.{put_more, put_fewer}
 
--- no cell is named between a place and itself
-named_none : (entries : List Entry) (from r c : ℕ) → IsNamed entries from from r c → ⊥
-named_none entries from r c n = let low = n.after in let high = n.before in omega (arith, low, high)
-
-pub more_none : (B : BitTable) (entries : List Entry) (from : ℕ) → MarksMore B B entries from from
-more_none B entries from r c = (λ h. inl h, λ h. ⊎_elim (λ had. had) (λ n. absurd (named_none entries from r c n)) h)
-
-pub fewer_none : (B : BitTable) (entries : List Entry) (from : ℕ) → MarksFewer B B entries from from
-fewer_none B entries from r c = (λ h. (h, named_none entries from r c), λ h. h.0)
-
 -- the cells that are named up to the next place
 named_kept : (entries : List Entry) (from to r c : ℕ) → IsNamed entries from to r c → IsNamed entries from (to + 1) r c
 named_kept entries from to r c n = record { place = n.place; after = n.after; before = let high = n.before in omega (arith, high); row = n.row; column = n.column }

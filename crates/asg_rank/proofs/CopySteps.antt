@@ -1,7 +1,7 @@
 -- Lists that are copied element by element.
-use Rattle.std.proofs.Common.{◌≡◌, ℕ, ◌+◌, ◌<◌, ◌≤◌, List, [], ◌∷◌, ◌++◌, length, take, Some, sym, ◌∙◌, arith}
+use Rattle.std.proofs.Common.{◌≡◌, ℕ, ◌+◌, ◌<◌, List, [], ◌∷◌, ◌++◌, length, take, Some, sym, ◌∙◌, arith}
 use Rattle.std.specs.Prelude.{slice_get, slice_set}
-use Rattle.std.proofs.lemmas.List.{take_all, take_more, take_more_set}
+use Rattle.std.proofs.lemmas.List.{take_more, take_more_set}
 use Rattle.std.proofs.lemmas.Option.{get_or_from_slice_get}
 
 -- one element more
@@ -11,7 +11,3 @@ copied_more copy list k x within size same found =
     take_more_set copy k x (omega (arith, size, within))
     ∙ (λ i. same i ++ sym (get_or_from_slice_get list k x x found) i ∷ [])
     ∙ sym (take_more list k x within)
-
--- and all of them
-pub copied_all : {A : Type 0} (copy list : List A) (k : ℕ) → length list ≤ k → length copy ≡ length list → take k copy ≡ take k list → copy ≡ list
-copied_all copy list k past size same = sym (take_all k copy (omega (arith, size, past))) ∙ same ∙ take_all k list past

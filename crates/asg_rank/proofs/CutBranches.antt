@@ -21,10 +21,6 @@ use Rattle.asg_rank.proofs.BitSteps.{label_is, labelled_active, active_labelled}
 abbrev pub cut_rows : Problem → List (Option ℕ) → ℕ → ℕ → ℕ → ℕ → Bool
 cut_rows X f branch row r k = cond (nat_lt r row) (keeps_cell X f branch r k) true
 
--- before the first row nothing was cut
-pub cut_no_rows : (X : Problem) (f : List (Option ℕ)) (branch r k : ℕ) → cut_rows X f branch 0 r k ≡ true
-cut_no_rows X f branch r k = ap (λ b. cond b (keeps_cell X f branch r k) true) (le-ltb r 0 (omega arith))
-
 -- after a row the branch was, up to there
 pub cut_all_rows : (X : Problem) (f : List (Option ℕ)) (branch rows r k : ℕ) → r < rows → cut_rows X f branch rows r k ≡ keeps_cell X f branch r k
 cut_all_rows X f branch rows r k below = ap (λ b. cond b (keeps_cell X f branch r k) true) (lt-ltb r rows below)

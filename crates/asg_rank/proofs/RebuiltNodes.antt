@@ -1,17 +1,15 @@
 -- The square of the part of a node below the root, from that of the part of the node above it.
-use Rattle.std.proofs.Common.{◌≡◌, ℕ, ◌+◌, ◌*◌, ◌<◌, ◌≤◌, Bool, List, [], ◌∷◌, length, Option, Some, None, refl, sym, ◌∙◌, ap, subst, arith}
-use Rattle.std.specs.Prelude.{IfSome, option_map, unwrap_or, slice_index_or}
+use Rattle.std.proofs.Common.{◌≡◌, ℕ, ◌+◌, ◌*◌, ◌<◌, ◌≤◌, Bool, List, [], ◌∷◌, length, Option, Some, sym, ◌∙◌, ap, subst, arith}
+use Rattle.std.specs.Prelude.{slice_index_or}
 use Rattle.asg_model.specs.Counts.{placed}
 use Rattle.asg_model.specs.Problem.{Problem}
 use Rattle.asg_model.specs.Shapes.{square_side}
 use Rattle.asg_order.specs.Monoid.{Monoid, IsOrderedMonoid}
 use Rattle.asg_admit.specs.declared.reduced.Reduced.{Reduced}
-use Rattle.asg_pool.specs.Forest.{Forest, Branch, trail_at, IsLive, phases_of, phases_to, last_phase, IsForest, IsGrown}
-use Rattle.asg_pool.specs.laws.Trails.{last_phase-push}
+use Rattle.asg_pool.specs.Forest.{Forest, phases_of, phases_to, last_phase, IsForest}
 use Rattle.asg_proof.specs.Children.{child}
 use Rattle.asg_proof.specs.Masks.{masked, keeps_cell}
 use Rattle.asg_proof.specs.Phases.{PhaseOf, entered_at, staying_at, square_after, after_phase, IsAdmittedPhase, AreAdmittedPhases}
-use Rattle.asg_proof.specs.PromisedProofs.{IsPhaseOver}
 use Rattle.asg_proof.specs.Steps.{IsAdmittedStep}
 use Rattle.asg_proof.specs.laws.MaskedSquares.{square_after-masked, square_cell-child}
 use Rattle.asg_square.specs.Cells.{square_cell}
@@ -26,17 +24,6 @@ use Rattle.asg_rank.specs.Trees.{given_at, IsChildOf, IsWinner, IsTree}
 use Rattle.asg_rank.proofs.Parts.{IsPlaced, placed_at, AreBefore, part_rows, part_columns, part_place}
 use Rattle.asg_rank.proofs.RebuildSteps.{kept_value, cut_child, own_admitted, settled_own}
 use Rattle.asg_rank.proofs.Shapes.{same_keeps, labels_from_part}
-
--- the last phase of a live trail is over the side
-pub last_over : {V : Type 0} (F : Forest V) (t : ℕ) → IsForest F → IsLive F t → IsPhaseOver F.side (last_phase (phases_of F t))
-last_over {V} F t forest live = by (trail_at F t) refl (forest t)
-  where
-    by : (o : Option (Branch V)) → trail_at F t ≡ o → IfSome (trail_at F t) (IsGrown F) → IsPhaseOver F.side (last_phase (phases_of F t))
-    by None e h = absurd (cc (e, live))
-    by (Some branch) e h =
-        let is = subst (λ o. IfSome o (IsGrown F)) e h in
-        let list : phases_of F t ≡ branch.phases = ap (λ (o : Option (Branch V)). unwrap_or (option_map (λ b. b.phases) o) []) e in
-        subst (IsPhaseOver F.side) (sym (ap last_phase (list ∙ is.list) ∙ last_phase-push (phases_to F branch.parent) is.phase)) is.over
 
 -- phases that are admitted from a square are admitted from it without some cells
 module _ {V : Type 0} (M : Monoid V) (difference : V → V → V) (side : ℕ) (keep : ℕ → ℕ → Bool) where

@@ -89,9 +89,6 @@ pub record IsClimbing {V : Type 0} (F : Forest V) (last next : Option ℕ) (trai
   pub so_far : (rest : List ℕ) → AreTrailsTo F next rest → AreTrailsTo F last (trails ++ rest)
 
 module _ {V : Type 0} (F : Forest V) (last : Option ℕ) where
-  pub climb_first : IfSome last (IsLive F) → IsClimbing F last last []
-  climb_first live = record { live = live; so_far = λ rest h. h }
-
   pub climb_next : IsForest F → (t : ℕ) (trails : List ℕ) → IsClimbing F last (Some t) trails → IsClimbing F last (parent_of F t) (trails ++ t ∷ [])
   climb_next forest t trails climbs = record {
     live = (split F forest t climbs.live).parent;

@@ -8,7 +8,6 @@ mod LeadLemmas
 mod LeftLemmas
 mod EditedSquares
 mod SessionLemmas
-mod ChainLemmas
 mod LedLemmas
 mod RepairLemmas
 mod PushLemmas

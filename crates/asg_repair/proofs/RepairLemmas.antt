@@ -1,5 +1,5 @@
 -- What is kept through an edit.
-use Rattle.std.proofs.Common.{◌≡◌, ◌⊎◌, ℕ, ◌<◌, ◌≤◌, List, [], length, take, Option, sym, subst, arith, ⊎_elim, inl, inr, ap, ◌∙◌}
+use Rattle.std.proofs.Common.{◌≡◌, ◌⊎◌, ℕ, ◌<◌, ◌≤◌, List, [], length, Option, sym, subst, arith, ⊎_elim, inl, inr, ap, ◌∙◌}
 use Rattle.std.proofs.lemmas.Bool.{cases_lt}
 use Rattle.asg_admit.specs.declared.reduced.Reduced.{Reduced}
 use Rattle.asg_model.specs.declared.parts.Cost.{Cost}
@@ -17,7 +17,6 @@ use Rattle.asg_repair.specs.Sessions.{IsLed}
 use Rattle.std.proofs.lemmas.List.{length-map}
 use Rattle.asg_pool.specs.Forest.{Forest, phases_of, last_phase}
 use Rattle.asg_repair.specs.PhasesAlong.{phases_along}
-use Rattle.asg_repair.proofs.LeftLemmas.{map_take}
 use Rattle.asg_admit.specs.laws.KeptPhases.{kept_so_many}
 
 module _ {V : Type 0} (M : Monoid V) (difference : V → V → V) where
@@ -45,9 +44,6 @@ module _ {V : Type 0} (M : Monoid V) (difference : V → V → V) where
       (subst (λ list. AreLeft M difference list side before after seen (length trails) count) along
       (subst (λ n. AreLeft M difference (phases_along F trails) n before after seen (length trails) count) same left))
       outside
-
-  pub prefix_along : (count : ℕ) (F : Forest V) (trails : List ℕ) (P : List (PhaseOf V)) → phases_along F trails ≡ P → take count P ≡ phases_along F (take count trails)
-  prefix_along count F trails P along = sym (map_take (λ t. last_phase (phases_of F t)) trails count ∙ ap (take count) along)
 
 module _ {V : Type 0} (M : Monoid V) (laws : IsOrderedMonoid M) (difference : V → V → V) (enter : Cost → V) (X : Problem) where
   -- phases that lead on from the square as it was filled

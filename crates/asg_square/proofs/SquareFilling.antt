@@ -40,14 +40,6 @@ filled_more side before now after r c cell x puts is filled s d within =
     ∙ ap (cond (eqb s r && eqb d c) x) (filled s d within)
     ∙ step_by c d x (cell d) (before s d) (eqb s r) (λ e. is ∙ sym (ap cell e))
 
--- nothing yet
-pub filled_none : {A : Type 0} (side : ℕ) (before : ℕ → ℕ → A) (r : ℕ) (cell : ℕ → A) → FilledTo side before before r 0 cell
-filled_none side before r cell s d within = none (eqb s r)
-  where
-    none : (b : Bool) → before s d ≡ cond (b && ltb d 0) (cell d) (before s d)
-    none true = rw (le-ltb d 0 (omega arith)) refl
-    none false = refl
-
 -- the whole row
 pub filled_row : {A : Type 0} (side : ℕ) (before now : ℕ → ℕ → A) (r : ℕ) (cell : ℕ → A) → FilledTo side before now r side cell → (s d : ℕ) → d < side → now s d ≡ cond (eqb s r) (cell d) (before s d)
 filled_row side before now r cell filled s d within = filled s d within ∙ whole (eqb s r)

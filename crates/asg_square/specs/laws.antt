@@ -8,6 +8,5 @@ pub mod Rows
 pub mod Copies
 pub mod CopyRuns
 pub mod Places
-pub mod Changes
 pub mod Masks
 pub mod HallColumns

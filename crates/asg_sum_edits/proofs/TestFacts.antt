@@ -1,9 +1,9 @@
 -- What the tests of a guess show.
-use Rattle.std.proofs.Common.{◌≡◌, ℕ, zero, suc, ◌+◌, ◌*◌, ◌<◌, ◌≤◌, Bool, true, false, cond, ◌&&◌, List, [], ◌∷◌, length, get_or, Option, Some, None, refl, sym, ap, subst, ◌∙◌, ⊎_elim, arith, ℤ, pos, ◌+ℤ◌, ◌-ℤ◌}
-use Rattle.std.specs.Prelude.{IsTrue, is_some, slice_get, slice_index, slice_index_or, sum, ◌≤ℤ◌}
+use Rattle.std.proofs.Common.{◌≡◌, ℕ, zero, suc, ◌+◌, ◌*◌, ◌<◌, ◌≤◌, Bool, true, false, cond, ◌&&◌, List, [], ◌∷◌, length, get_or, Option, Some, None, refl, sym, ap, subst, ◌∙◌, arith, ℤ, pos, ◌+ℤ◌, ◌-ℤ◌}
+use Rattle.std.specs.Prelude.{IsTrue, slice_get, slice_index, slice_index_or, sum, ◌≤ℤ◌}
 use Rattle.std.specs.Option.{option_map_or}
 use Rattle.std.specs.Ordering.{int_eq}
-use Rattle.std.proofs.lemmas.Bool.{cases_lt, and_parts, false≢true}
+use Rattle.std.proofs.lemmas.Bool.{and_parts, false≢true}
 use Rattle.std.proofs.lemmas.Int.{ints}
 use Rattle.asg_model.specs.declared.objectives.Objective.{Objective}
 use Rattle.asg_model.specs.declared.objectives.Objective.TheVariants.{Sum, SumMax}
@@ -11,7 +11,6 @@ use Rattle.asg_model.specs.declared.objectives.Value.TheVariants.{One}
 use Rattle.asg_model.specs.declared.parts.Column.{Column}
 use Rattle.asg_model.specs.declared.parts.Cost.{Cost}
 use Rattle.asg_model.specs.Instances.{IsInstance}
-use Rattle.asg_model.specs.laws.Rows.{is_active-from_live, row-from_active}
 use Rattle.asg_model.specs.Live.{cost_at, is_active, is_open, live_at}
 use Rattle.asg_model.specs.Problem.{Problem}
 use Rattle.asg_model.specs.Table.{AreRowParts, absent, table_cost}
@@ -23,7 +22,7 @@ use Rattle.asg_monoids.specs.laws.SumOrders.{near_a}
 use Rattle.asg_monoids.specs.NarrowObjectives.{is_narrow_objective}
 use Rattle.asg_order.specs.laws.ChosenCosts.{costs_may_enter, length-costs_of}
 use Rattle.asg_proof.specs.laws.LiveCosts.{lies_within}
-use Rattle.asg_sum_edits.specs.SumDuals.{AreAbove, AreFirstsAbove, IsOneToOne, IsRowAbove, chosen_sum, first_entered, number_of}
+use Rattle.asg_sum_edits.specs.SumDuals.{AreFirstsAbove, IsOneToOne, IsRowAbove, chosen_sum, first_entered, number_of}
 use Rattle.asg_sum_edits.proofs.LeastLaw.{narrow_passes}
 
 -- ---- rows
@@ -53,24 +52,10 @@ row_above objective X r fall rises firsts seconds parts over each c x live =
 pub row_below : (objective : Objective) (X : Problem) (r before fall : ℕ) (rises : List ℕ) → IsRowAbove objective X r before rises → fall ≤ before → IsRowAbove objective X r fall rises
 row_below objective X r before fall rises above low c x live = omega (arith, above c x live, low)
 
--- rows past the last have no live cell
-pub all_above : (objective : Objective) (X : Problem) (falls rises : List ℕ) (n : ℕ) → n ≡ length X.rows → ((r : ℕ) → r < n → IsRowAbove objective X r (slice_index falls r) rises) → AreAbove objective X falls rises
-all_above objective X falls rises n is each r c x live =
-    each r (omega (arith, is, row-from_active X r (is_active-from_live X r c (ap is_some live)))) c x live
-
 past : (xs : List ℕ) (k : ℕ) → length xs ≤ k → get_or xs k 0 ≡ 0
 past [] k h = refl
 past (x ∷ xs) zero h = absurd (omega (arith, h))
 past (x ∷ xs) (suc k) h = past xs k (omega (arith, h))
-
--- where rises rose, falls hold still
-pub risen_above : (objective : Objective) (X : Problem) (falls before after : List ℕ) → AreAbove objective X falls before → ((k : ℕ) → k < length before → slice_index before k ≤ slice_index after k) → AreAbove objective X falls after
-risen_above objective X falls before after above risen r c x live =
-    let low = above r c x live in
-    ⊎_elim
-    (λ (within : c < length before). omega (arith, low, risen c within))
-    (λ (beyond : length before ≤ c). omega (arith, low, past before c beyond))
-    (cases_lt c (length before))
 
 -- ---- sums
 

@@ -44,20 +44,6 @@ grades_one Q place within absent =
       past = λ k h. other k (λ e. omega (arith, e, h));
     }
 
--- some cells, and those after them
-pub grades_more : (Q A B : Grid ℕ) (first middle end : ℕ) → first ≤ middle → middle ≤ end → Grades Q A first middle → Grades A B middle end → Grades Q B first end
-grades_more Q A B first middle end low high a b = record {
-  same = ap (λ (g : Grid ℕ). record g { cells = Q.cells }) b.same ∙ a.same;
-  size = b.size ∙ a.size;
-  inside = λ k from below.
-      ⊎_elim
-      (λ (h : k < middle). b.before k h ∙ a.inside k from h)
-      (λ (h : middle ≤ k). b.inside k h below ∙ ap (λ o. Some (unwrap_or o no_grade)) (a.past k h))
-      (cases_lt k middle);
-  before = λ k h. b.before k (omega (arith, h, low)) ∙ a.before k h;
-  past = λ k h. b.past k h ∙ a.past k (omega (arith, h, high));
-}
-
 -- once all absent cells have the grade of no cell, the values are the grades
 pub grades_are : (Q A : Grid ℕ) (values : List ℕ) → length values ≡ Q.side * Q.side → Grades Q A 0 (Q.side * Q.side) → AreAllValuesOf A.cells values → AreGradesOf Q values
 grades_are Q A values count graded are = record {

@@ -5,10 +5,6 @@ use Rattle.std.proofs.lemmas.List.{get_or_append_left, get_or_past, get_or_push,
 use Rattle.asg_window.specs.declared.gaps.Gap.{Gap}
 use Rattle.asg_window.specs.Gaps.{low_at, AreChained}
 
--- no gap yet
-pub chained_none : (spread : ℕ) → AreChained [] 1 spread
-chained_none spread = record { first = omega arith; links = λ k d h. absurd (omega (arith, h)) }
-
 -- a less spread
 pub chained_less : (gaps : List Gap) (low spread less : ℕ) → less ≤ spread → AreChained gaps low spread → AreChained gaps low less
 chained_less gaps low spread less h chain = record {

@@ -25,15 +25,6 @@ cell_column Q r c h =
     (λ (past : Q.side ≤ c). absurd (false≢true (sym (ap (λ b. is_some (cond b (get_or Q.cells (r * Q.side + c) None) None)) (le-ltb c Q.side past)) ∙ h)))
     (cases_lt c Q.side)
 
--- of no row yet
-pub extremes_none : (Q : Grid ℕ) (perm : List ℕ) (extremes : Extremes) → extremes.least ≡ no_bound → extremes.greatest ≡ 0 → AreExtremes Q perm 0 extremes
-extremes_none Q perm extremes low high = record {
-  top = omega (arith, high);
-  holds = λ r grade h cell live. absurd (omega arith);
-  least = λ bound fits each. omega (arith, low, fits);
-  greatest = λ bound each. omega (arith, high);
-}
-
 -- one more row
 pub extremes_more : (Q : Grid ℕ) (perm : List ℕ) (row : ℕ) (before after : Extremes) → AreExtremes Q perm row before → IsOneMore before (cell_at Q row (slice_index perm row)) after → AreExtremes Q perm (row + 1) after
 extremes_more Q perm row before after e more = record {

@@ -105,17 +105,6 @@ first_value true d x e = cc (e)
 first_value false true x e = cc (e)
 first_value false false x e = absurd (cc (e))
 
-pub units_none : (side : ℕ) (zeros ones : BitTable) (ins outs : List ℕ) → ((k : ℕ) → get_or ins k 0 ≡ 0) → ((k : ℕ) → get_or outs k 0 ≡ 0) → AreCountedUnits side zeros ones ins outs []
-units_none side zeros ones ins outs in_none out_none = record {
-  units = record { plain = refl; admitted = tt; index = refl };
-  duals = record {
-    there = λ r c. none_there (has_bit zeros r c) (has_bit ones r c);
-    value = λ r c x e. let first = first_value (has_bit zeros r c) (has_bit ones r c) x e in omega (arith, first, in_none r, out_none c);
-    few_ins = λ r h. omega (arith, in_none r);
-    few = λ c. omega (arith, out_none c);
-  };
-}
-
 -- ---- the cells that are 0
 
 some_more : (x : ℕ) → (suc x == 0) ≡ false

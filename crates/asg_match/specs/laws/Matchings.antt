@@ -29,10 +29,6 @@ Matches-set_cases m i v r c e =
 pub Matches-set_other : (m : List (Option ℕ)) (i : ℕ) (v : Option ℕ) (r c : ℕ) → r ≢ i → Matches m r c → Matches (set m i v) r c
 Matches-set_other m i v r c n e = get_or-set_other m i r v None n ∙ e
 
--- the row that is written has the new column
-pub Matches-set_same : (m : List (Option ℕ)) (i r c : ℕ) → r ≡ i → i < length m → Matches (set m i (Some c)) r c
-Matches-set_same m i r c q h = get_or-set_at m i r (Some c) None q h
-
 -- what an index reads is what the row has
 pub Matches-read : (m : List (Option ℕ)) (r c : ℕ) (x : Option ℕ) → r < length m → x ≡ get_or m r x → x ≡ Some c → Matches m r c
 Matches-read m r c x h e f = sym (get_or_read m r x h e None) ∙ f

@@ -2,7 +2,7 @@
 use Rattle.std.proofs.Common.{◌≡◌, sym, ap, ◌∙◌, subst, cond}
 use Rattle.asg_order.specs.Monoid.{Monoid, IsValue, IsLe, IsOrderedMonoid}
 use Rattle.asg_order.specs.Differences.{HasDifferences}
-use Rattle.asg_order.specs.laws.Orders.{reflexive, le_product}
+use Rattle.asg_order.specs.laws.Orders.{reflexive}
 
 module _ {V : Type 0} (M : Monoid V) (laws : IsOrderedMonoid M) (difference : V → V → V) (has : HasDifferences M difference) where
   -- where c is at most x, x is the product of c and the difference
@@ -14,11 +14,6 @@ module _ {V : Type 0} (M : Monoid V) (laws : IsOrderedMonoid M) (difference : V 
   le_product_of_difference x c vx vc =
       let vd = has.difference_is_value x c vx vc in
       (has.least x c (difference x c) vx vc vd).0 (reflexive M laws (difference x c) vd)
-
-  -- a difference from c is at most the value
-  pub difference_le : (x c : V) → IsValue M x → IsValue M c → IsLe M (difference x c) x
-  difference_le x c vx vc =
-      (has.least x c x vx vc vx).1 (subst (IsLe M x) (laws.commutative x c vx vc) (le_product M laws x c vx vc))
 
   -- the greater value has the greater difference
   pub difference_monotone : (x y c : V) → IsValue M x → IsValue M y → IsValue M c → IsLe M x y → IsLe M (difference x c) (difference y c)

@@ -15,9 +15,6 @@ module _ {V : Type 0} {F G : Forest V} {k : ℕ} {branch : Option (Branch V)} wh
   pub IsLive-kept : Changes F G k branch → (t : ℕ) → t ≢ k → IsLive F t → IsLive G t
   IsLive-kept changes t other live = ap is_some (changes.others t other) ∙ live
 
-  pub phases_kept : Changes F G k branch → (t : ℕ) → t ≢ k → phases_of G t ≡ phases_of F t
-  phases_kept changes t other = ap (λ (o : Option (Branch V)). unwrap_or (option_map (λ b. b.phases) o) []) (changes.others t other)
-
 -- a trail that was pushed is live, with its parent's list and then its phase
 pub IsLive-pushed : {V : Type 0} {F G : Forest V} {k : ℕ} {branch : Branch V} → Changes F G k (Some branch) → IsLive G k
 IsLive-pushed changes = ap is_some changes.changed

@@ -38,8 +38,3 @@ root_side {V} M difference Q records root is = is.lead.labels.side ∙ ap (λ (g
 pub instance_side : {V : Type 0} {M : Monoid V} {difference : V → V → V} {enter : Cost → V} {X : Problem} {records : ℕ} {root : Root V} → IsInstanceRoot M difference enter X records root → root.reduced.now.side ≡ square_side X
 instance_side {V} {M} {difference} {enter} {X} {records} {root} is =
     root_side M difference is.square records root is.solved ∙ is.of_instance.labels.side
-
--- the root of an instance is so by an equal monoid too
-pub equal_root : {T V : Type 0} {records : ℕ} (monoid_of : T → Monoid V) (difference : T → V → V → V) (enter : Cost → V) (X : Problem) (root : Root V) (a b : T) → a ≡ b → IsInstanceRoot (monoid_of a) (difference a) enter X records root → IsInstanceRoot (monoid_of b) (difference b) enter X records root
-equal_root {T} {V} {records} monoid_of difference enter X root a b e is =
-    subst (λ (z : T). IsInstanceRoot (monoid_of z) (difference z) enter X records root) e is

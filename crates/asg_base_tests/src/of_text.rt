@@ -1,5 +1,6 @@
 //! Tests of `asg_text`.
 
+mod read_files;
 mod rect_texts;
 mod refused_files;
 mod scripts;

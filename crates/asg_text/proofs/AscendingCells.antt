@@ -17,7 +17,7 @@ use Rattle.std.proofs.lemmas.Nat.{div-add-mod', div-mul-add, mod-mul-add}
 use Rattle.asg_model.specs.declared.parts.Cost.{Cost}
 use Rattle.asg_model.specs.Instances.{by_places}
 use Rattle.asg_model.specs.Live.{cost_at}
-use Rattle.asg_text.specs.Readings.{cells_of_rows}
+use Rattle.asg_tokens.specs.Readings.{cells_of_rows}
 
 abbrev Cell : Type 0
 Cell = (ℕ × ℕ) × Cost

@@ -5,13 +5,13 @@ use Rattle.std.proofs.lemmas.List.FromFn.{length-map-range_with_len}
 use Rattle.asg_model.specs.declared.parts.Cost.{Cost}
 use Rattle.asg_model.specs.Problem.{Problem}
 use Rattle.asg_text.specs.declared.formats.Format.TheVariants.{Square, Rect}
-use Rattle.asg_text.specs.Numbers.{size_of}
-use Rattle.asg_text.specs.Pieces.{tokens}
-use Rattle.asg_text.specs.Readings.{Spells, row_of, column_of, table_of}
+use Rattle.asg_tokens.specs.Numbers.{size_of}
+use Rattle.asg_tokens.specs.Pieces.{tokens}
+use Rattle.asg_tokens.specs.Readings.{Spells, row_of, column_of, table_of}
 use Rattle.asg_text.specs.RectTexts.{IsPlain}
-use Rattle.asg_text.specs.Tables.{cell_of, table_faults, reading_of_table, reading_of_square, reading_of_rect}
+use Rattle.asg_tokens.specs.Tables.{cell_of, table_faults, reading_of_table, reading_of_square, reading_of_rect}
 use Rattle.asg_text.specs.Texts.{reading_of}
-use Rattle.asg_text.proofs.Spelled.{spelled}
+use Rattle.asg_tokens.specs.laws.Spelled.{spelled}
 
 table_is_plain : (n m : ℕ) (costs : List (Option Cost)) → IsPlain (table_of (range_with_len 1 n) (range_with_len 1 m) costs)
 unfolding table_of

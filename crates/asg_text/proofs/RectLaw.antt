@@ -16,11 +16,11 @@ use Rattle.asg_model.specs.Limits.{most_rows, most_columns, longest_file}
 use Rattle.asg_model.specs.Live.{cost_at}
 use Rattle.asg_model.specs.Problem.{Problem, problem_of}
 use Rattle.asg_text.specs.declared.formats.Format.TheVariants.{Rect}
-use Rattle.asg_text.specs.Faults.{NoRows, TooLarge, TokenCount, fault_where}
-use Rattle.asg_text.specs.Pieces.{tokens}
-use Rattle.asg_text.specs.Readings.{Spells, reading_with, cells_of_rows, table_of}
+use Rattle.asg_tokens.specs.Faults.{NoRows, TooLarge, TokenCount, fault_where}
+use Rattle.asg_tokens.specs.Pieces.{tokens}
+use Rattle.asg_tokens.specs.Readings.{Spells, reading_with, cells_of_rows, table_of}
 use Rattle.asg_text.specs.RectTexts.{IsPlain, cell_text, costs_of_row, row_line, size_line, rect_text}
-use Rattle.asg_text.specs.Tables.{cell_of, cell_faults, size_faults, reading_of_table, reading_of_rect}
+use Rattle.asg_tokens.specs.Tables.{cell_of, cell_faults, size_faults, reading_of_table, reading_of_rect}
 use Rattle.asg_text.specs.Texts.{reading_of}
 use Rattle.asg_text.proofs.AscendingCells.{index_of, ascend, same_table, cost_of_index}
 use Rattle.asg_text.proofs.RectLengths.{IsShort, cells_are_short, size_is_short, length-line, length-lines, few_bytes}

@@ -3,10 +3,10 @@ use Rattle.std.proofs.Common.{◌≡◌, ℕ, List, [], ◌∷◌, ◌++◌, ref
 use Rattle.std.specs.Prelude.{All}
 use Rattle.std.specs.List.{flat_map, join_with_byte}
 use Rattle.std.proofs.lemmas.List.Elements.{All-head, All-tail}
-use Rattle.asg_text.specs.Pieces.{pieces, tokens, is_space}
+use Rattle.asg_tokens.specs.Pieces.{pieces, tokens, is_space}
 use Rattle.asg_text.specs.RectTexts.{token_line}
-use Rattle.asg_text.proofs.FirstPiece.{pieces_behind}
-use Rattle.asg_text.proofs.ShortLemmas.{word_first}
+use Rattle.asg_tokens.specs.laws.FirstPiece.{pieces_behind}
+use Rattle.asg_tokens.specs.laws.ShortLemmas.{word_first}
 use Rattle.asg_text.proofs.WrittenNumbers.{IsToken}
 
 -- of one line, before other text

@@ -9,11 +9,11 @@ use Rattle.std.proofs.lemmas.List.Elements.{All-nil, All-cons, All-head, All-tai
 use Rattle.asg_model.specs.declared.parts.Cost.{Cost}
 use Rattle.asg_model.specs.Instances.{IsCostInRange}
 use Rattle.asg_model.specs.Limits.{most_cost}
-use Rattle.asg_text.specs.Pieces.{is_space}
+use Rattle.asg_tokens.specs.Pieces.{is_space}
 use Rattle.asg_text.specs.RectTexts.{cell_text, cost_text}
-use Rattle.asg_text.specs.Tables.{cell_of, cell_faults, token_faults}
-use Rattle.asg_text.proofs.CellLemmas.{absent_faults, absent_cell, right_faults, right_cell, integer_is_present, plain_in_range}
-use Rattle.asg_text.proofs.PairLemmas.{pair_present, spells_pair}
+use Rattle.asg_tokens.specs.Tables.{cell_of, cell_faults, token_faults}
+use Rattle.asg_tokens.specs.laws.CellLemmas.{absent_faults, absent_cell, right_faults, right_cell, integer_is_present, plain_in_range}
+use Rattle.asg_tokens.specs.laws.PairLemmas.{pair_present, spells_pair}
 use Rattle.asg_text.proofs.WrittenNumbers.{IsToken, part_integer}
 
 -- the token of a cell without a fault, wherever it stands

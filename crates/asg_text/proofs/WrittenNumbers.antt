@@ -1,6 +1,6 @@
 -- The texts of numbers as tokens.
-use Rattle.std.proofs.Common.{◌≡◌, ◌==◌, ℕ, suc, ◌<◌, ◌≤◌, true, false, cond, List, [], ◌∷◌, length, Some, None, refl, ap, ◌∙◌, arith}
-use Rattle.std.specs.Prelude.{ℤ, pos, negsuc, neg_ℤ, nat_le, All, unsigned_abs, option_and_then}
+use Rattle.std.proofs.Common.{◌≡◌, ◌==◌, ℕ, suc, ◌<◌, ◌≤◌, true, false, List, [], ◌∷◌, length, Some, refl, ap, ◌∙◌, arith}
+use Rattle.std.specs.Prelude.{ℤ, pos, negsuc, neg_ℤ, All, unsigned_abs}
 use Rattle.std.specs.Fmt.{decimal, signed_decimal}
 use Rattle.std.specs.List.{list_all}
 use Rattle.std.specs.Char.{is_ascii_digit}
@@ -10,10 +10,10 @@ use Rattle.std.proofs.lemmas.Fmt.{decimal_is_IsNumeral}
 use Rattle.std.proofs.lemmas.List.Elements.{All-cons}
 use Rattle.std.proofs.lemmas.Str.Parse.{digit_from_value}
 use Rattle.asg_model.specs.Limits.{most_cost}
-use Rattle.asg_text.specs.Numbers.{integer_of, size_of}
-use Rattle.asg_text.specs.Pieces.{is_space}
-use Rattle.asg_text.proofs.NumberLemmas.{number_of_digits}
-use Rattle.asg_text.proofs.ShortLemmas.{no_spaces, no_colons, digits_spell, minus_spells}
+use Rattle.asg_tokens.specs.Numbers.{integer_of, size_of}
+use Rattle.asg_tokens.specs.Pieces.{is_space}
+use Rattle.asg_tokens.specs.laws.NumberLemmas.{size_of_digits}
+use Rattle.asg_tokens.specs.laws.ShortLemmas.{no_spaces, no_colons, digits_spell, minus_spells}
 
 -- bytes that a text may have as a token
 pub record IsToken (token : List ℕ) : Type 0 where
@@ -51,11 +51,9 @@ pub size_token : (n : ℕ) → n ≤ 1000 → IsToken (decimal n)
 size_token n few = digits_token (decimal n) n (decimal_digits n (omega arith))
 
 pub size_spells : (n : ℕ) → n ≤ 1000 → size_of (decimal n) ≡ Some n
-unfolding size_of
 size_spells n few =
     let d = decimal_digits n (omega arith) in
-    ap (option_and_then (λ size. cond (nat_le size 4294967295) (Some size) None)) (number_of_digits (decimal n) d.some d.are ∙ ap Some d.value)
-    ∙ ap (λ v. cond v (Some n) None) (le-leb n 4294967295 (omega arith))
+    size_of_digits (decimal n) d.some d.are (omega (arith, d.value)) ∙ ap Some d.value
 
 -- the text of a part of a cost
 plain_integer : (digits : List ℕ) (n : ℕ) → AreDigits digits n → IsInteger digits (pos n)

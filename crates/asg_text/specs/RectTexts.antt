@@ -7,7 +7,7 @@ use Rattle.asg_model.specs.declared.parts.Cost.{Cost}
 use Rattle.asg_model.specs.declared.parts.Place.TheVariants.{All}
 use Rattle.asg_model.specs.Live.{cost_at}
 use Rattle.asg_model.specs.Problem.{Problem}
-use Rattle.asg_text.specs.Readings.{row_of, column_of}
+use Rattle.asg_tokens.specs.Readings.{row_of, column_of}
 
 -- a plain instance: rows that are all active, columns that are all open for one row, the ids of
 -- both from 1 on, and all rows to be placed

@@ -1,6 +1,6 @@
 use Rattle.std.specs.Prelude.{◌≡◌, ℕ, List, ◌∷◌}
-use Rattle.asg_text.specs.Numbers.{size_of}
-use Rattle.asg_text.specs.Pieces.{tokens}
+use Rattle.asg_tokens.specs.Numbers.{size_of}
+use Rattle.asg_tokens.specs.Pieces.{tokens}
 
 -- a square file and a rect file have the same size, in both places of the rect file, and the same
 -- cells

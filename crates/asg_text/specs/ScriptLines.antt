@@ -6,8 +6,8 @@ use Rattle.asg_model.specs.declared.parts.Cost.{Cost}
 use Rattle.asg_model.specs.Edits.{given_cost}
 use Rattle.asg_text.specs.declared.script_lines.Line.{Line}
 use Rattle.asg_text.specs.declared.script_lines.Line.TheVariants.{Edit as Edits, Solve}
-use Rattle.asg_text.specs.Numbers.{size_of}
-use Rattle.asg_text.specs.Tables.{cost_of, is_in_range}
+use Rattle.asg_tokens.specs.Numbers.{size_of}
+use Rattle.asg_tokens.specs.Tables.{cost_of, is_in_range}
 
 -- the line that gives a cell this cost
 abbrev pub cost_line : ℕ → ℕ → Cost → Line

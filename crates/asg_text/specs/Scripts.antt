@@ -5,7 +5,7 @@ use Rattle.std.specs.List.{filter_map, flat_map}
 use Rattle.std.specs.Str.Lines.{lines}
 use Rattle.asg_text.specs.declared.script_lines.Line.{Line}
 use Rattle.asg_text.specs.declared.script_refusals.ScriptRefusal.{ScriptRefusal}
-use Rattle.asg_text.specs.Pieces.{fields}
+use Rattle.asg_tokens.specs.Pieces.{fields}
 use Rattle.asg_text.specs.ScriptFaults.{ScriptFault, BadScriptLine, TooManyEdits, CostRange, script_fault_of}
 use Rattle.asg_text.specs.ScriptLines.{script_line_of, is_line_in_range}
 

@@ -3,11 +3,11 @@ use Rattle.std.specs.Prelude.{ℕ, List, map}
 use Rattle.std.specs.Str.Lines.{lines}
 use Rattle.asg_text.specs.declared.formats.Format.{Format}
 use Rattle.asg_text.specs.declared.formats.Format.TheVariants.{Asn, Square, Rect}
-use Rattle.asg_text.specs.Pieces.{tokens}
-use Rattle.asg_text.specs.Readings.{Reading}
-use Rattle.asg_text.specs.Tables.{reading_of_square, reading_of_rect}
-use Rattle.asg_text.specs.AsnLines.{line_of}
-use Rattle.asg_text.specs.AsnArcs.{reading_of_asn}
+use Rattle.asg_tokens.specs.Pieces.{tokens}
+use Rattle.asg_tokens.specs.Readings.{Reading}
+use Rattle.asg_tokens.specs.Tables.{reading_of_square, reading_of_rect}
+use Rattle.asg_networks.specs.AsnLines.{line_of}
+use Rattle.asg_networks.specs.AsnArcs.{reading_of_asn}
 
 -- the reading of a file of this format: by its tokens, or by what each of its lines says
 unfoldable pub reading_of : Format → List ℕ → Reading

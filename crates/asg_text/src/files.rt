@@ -2,14 +2,13 @@
 
 ghost use Rattle.std.specs.Prelude.{◌≡◌, ◌≤◌, length, IfOk, IfErr};
 ghost use Rattle.asg_model.specs.Limits.{longest_file};
-ghost use Rattle.asg_text.specs.Readings.{Spells, TellsOf};
+ghost use Rattle.asg_tokens.specs.Readings.{Spells, TellsOf};
 ghost use Rattle.asg_text.specs.Texts.{reading_of};
 
-use crate::asn::read_asn;
 use crate::formats::Format;
-use crate::refusals::TextRefusal;
-use crate::tables::{read_rect, read_square};
 use asg_model::Instance;
+use asg_networks::read_asn;
+use asg_tokens::{TextRefusal, read_rect, read_square};
 use std::alloc::Global;
 
 /// The instance that an input file spells, or the earliest fault for which it is refused. All rows

@@ -8,13 +8,14 @@ ghost use Rattle.asg_text.specs.declared.script_lines.Line.{Line};
 ghost use Rattle.asg_model.specs.Instances.{IsInstance};
 ghost use Rattle.asg_model.specs.Problem.{Problem};
 ghost use Rattle.asg_model.specs.Limits.{longest_file};
-ghost use Rattle.asg_text.specs.Readings.{Spells};
+ghost use Rattle.asg_tokens.specs.Readings.{Spells};
 ghost use Rattle.asg_text.specs.RectTexts.{IsPlain, rect_text};
 ghost use Rattle.asg_text.specs.SameCells.{HaveSameCells};
 ghost use Rattle.asg_text.specs.Texts.{reading_of};
 
 use crate::formats::Format;
 use asg_model::laws::whole_table_law;
+use asg_networks::laws::asn_law;
 
 /// A square file and a rect file with the same size and the same cells spell the same instance.
 pub fn same_cells_law()
@@ -28,6 +29,7 @@ pub fn instance_law()
         reading_of format bytes ≡ Spells X → IsInstance X }
 {
     whole_table_law();
+    asn_law();
 }
 
 /// What a square or a rect file spells is a plain instance, so that it has a rect text.

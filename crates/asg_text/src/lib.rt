@@ -5,39 +5,21 @@
 //! Contracts see what a text is read as, `reading_of`: a function of the lines and fields, or the
 //! tokens, of the whole text, which spells an instance or refuses the text for its earliest fault.
 //! A script has a line for each edit of an instance and for each answer that is due; what it is
-//! read as is `reading_of_script`. The program's commands read by them.
+//! read as is `reading_of_script`. An instance as such files spell it has its text as a rect file.
+//! The program's commands read and write by them.
 #![tactic(auto)]
 
-mod asn;
-mod asn_lines;
-mod cell_blocks;
-mod cells;
 mod files;
 mod formats;
 pub mod laws;
-mod layouts;
-mod line_fields;
-mod lines;
-mod links;
-mod network;
-mod network_tables;
-mod node_sets;
-mod numbers;
-mod pair_blocks;
-mod pieces;
 mod rect_texts;
-mod refusals;
 mod script_lines;
 mod script_refusals;
 mod scripts;
-mod short_integers;
-mod slots;
-mod tables;
 
 pub use files::read;
 pub use formats::Format;
 pub use rect_texts::write_rect;
-pub use refusals::TextRefusal;
 pub use script_lines::Line;
 pub use script_refusals::ScriptRefusal;
 pub use scripts::{MOST_SCRIPT_LINES, read_script};

@@ -5,7 +5,7 @@ ghost use Rattle.std.specs.Fmt.{decimal, signed_decimal};
 ghost use Rattle.std.specs.List.{flat_map, join_with_byte, range_with_len};
 ghost use Rattle.asg_model.specs.Limits.{longest_file};
 ghost use Rattle.asg_model.specs.Table.{absent, table_cost};
-ghost use Rattle.asg_text.specs.Readings.{Spells};
+ghost use Rattle.asg_tokens.specs.Readings.{Spells};
 ghost use Rattle.asg_text.specs.RectSteps.{next_text};
 ghost use Rattle.asg_text.specs.RectTexts.{IsPlain, cell_text, cost_text, row_line, size_line, rect_text};
 ghost use Rattle.asg_text.specs.Texts.{reading_of};

@@ -2,14 +2,11 @@
 
 ghost use Rattle.std.specs.Prelude.{◌≡◌};
 ghost use Rattle.std.specs.Option.{option_map};
-ghost use Rattle.asg_text.specs.Pieces.{fields};
+ghost use Rattle.asg_tokens.specs.Pieces.{fields};
 ghost use Rattle.asg_text.specs.ScriptLines.{cost_line, cost_line_of, forbid_line_of, id_of, line_in_range, script_line_of, solve_line_of};
 
-use crate::cells;
-use crate::line_fields::{is_at_end, is_word};
-use crate::numbers::size;
-use crate::pieces::{Separators, first_piece};
 use asg_model::{Cost, Edit};
+use asg_tokens::{Separators, first_piece, is_at_end, is_word, size};
 
 /// A line of a script that isn't blank.
 #[derive(Clone, Copy, Debug, PartialEq, Eq)]
@@ -56,7 +53,7 @@ fn read_cost(text: &[u8]) -> Option<Option<Line>>
     }
     let row = size(row.bytes)?;
     let col = size(col.bytes)?;
-    let cost = cells::cost(cost.bytes)?;
+    let cost = asg_tokens::cost(cost.bytes)?;
     Some(cost_line(row, col, cost))
 }
 

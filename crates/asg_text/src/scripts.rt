@@ -2,16 +2,15 @@
 
 ghost use Rattle.std.specs.Prelude.{◌≡◌, ◌≤◌, ◌∷◌, ◌++◌, [], Some, length, IfOk, OnOk, IfErr, IfSome};
 ghost use Rattle.asg_model.specs.Limits.{longest_file};
-ghost use Rattle.asg_text.specs.Pieces.{fields};
+ghost use Rattle.asg_tokens.specs.Pieces.{fields};
 ghost use Rattle.asg_text.specs.ScriptFaults.{script_fault_of};
 ghost use Rattle.asg_text.specs.ScriptLines.{script_line_of};
 ghost use Rattle.asg_text.specs.ScriptSteps.{IsEarliestFault, faults_behind, lines_of};
 ghost use Rattle.asg_text.specs.Scripts.{SpellsLines, TellsOfScript, line_faults, most_script_lines, reading_of_script};
 
-use crate::line_fields::is_at_end;
-use crate::lines::first_line;
 use crate::script_lines::{Line, read_line};
 use crate::script_refusals::ScriptRefusal;
+use asg_tokens::{first_line, is_at_end};
 use std::alloc::Global;
 
 /// The greatest number of lines of a script that aren't blank.

@@ -62,15 +62,22 @@ fn shelf_of_three(alloc: Global) -> Result<MemoryShelf, AllocError> {
     Ok(MemoryShelf::with(alloc, files, Vec::from_slice(alloc, &[9, 5])?))
 }
 
-// Whether the shelf answers so.
-fn answers_fetches(alloc: Global) -> Result<bool, AllocError> {
-    let mut shelf = shelf_of_three(alloc)?;
+// Whether a shelf answers so.
+fn are_fetched(alloc: Global, shelf: &mut MemoryShelf) -> bool {
     for (name, limit, answer) in &FETCHES {
-        if fetched(alloc, &mut shelf, name, *limit, b"abcd") != *answer {
-            return Ok(false);
+        if fetched(alloc, shelf, name, *limit, b"abcd") != *answer {
+            return false;
         }
     }
-    Ok(true)
+    true
+}
+
+// Whether that of the three files does.
+fn answers_fetches(alloc: Global) -> Result<bool, AllocError> {
+    let mut shelf = shelf_of_three(alloc)?;
+    let are_fetched = are_fetched(alloc, &mut shelf);
+    drop(shelf);
+    Ok(are_fetched)
 }
 
 #[test]
@@ -101,15 +108,22 @@ fn small_sink(alloc: Global) -> Result<MemorySink, AllocError> {
     MemorySink::with(alloc, 20, fails)
 }
 
-// Whether its puts answer so, and write that.
-fn answers_puts(alloc: Global) -> Result<bool, AllocError> {
-    let mut out = small_sink(alloc)?;
+// Whether the puts of a sink answer so, and write that.
+fn are_put(out: &mut MemorySink) -> bool {
     for (piece, want, written) in &PUTS {
         if out.put(piece.as_bytes()) != *want || out.bytes() != written.as_bytes() {
-            return Ok(false);
+            return false;
         }
     }
-    Ok(true)
+    true
+}
+
+// Whether those of the small one do.
+fn answers_puts(alloc: Global) -> Result<bool, AllocError> {
+    let mut out = small_sink(alloc)?;
+    let are_put = are_put(&mut out);
+    drop(out);
+    Ok(are_put)
 }
 
 #[test]
@@ -140,29 +154,45 @@ const LIMITS: [(usize, Result<bool, FetchFault>); 4] = [
     (0, Err(FetchFault::TooLong)),
 ];
 
-// Whether it is read back.
-fn is_read(rt: &HostRuntime, name: &str, long: &[u8]) -> bool {
-    let mut shelf = RealShelf::new(rt.alloc(), rt);
+// Whether it is fetched so from a shelf.
+fn is_fetched<F: Shelf>(alloc: Global, shelf: &mut F, name: &str, long: &[u8]) -> bool {
     for (limit, answer) in &LIMITS {
-        if fetched(rt.alloc(), &mut shelf, name, *limit, long) != *answer {
+        if fetched(alloc, shelf, name, *limit, long) != *answer {
             return false;
         }
     }
     true
 }
 
+// Whether it is read back.
+fn is_read(rt: &HostRuntime, name: &str, long: &[u8]) -> bool {
+    let mut shelf = RealShelf::new(rt.alloc(), rt);
+    let is_fetched = is_fetched(rt.alloc(), &mut shelf, name, long);
+    drop(shelf);
+    is_fetched
+}
+
 // Whether a fetch of a file that isn't there fails.
 fn is_missed(rt: &HostRuntime, name: &str) -> bool {
     let mut shelf = RealShelf::new(rt.alloc(), rt);
-    fetched(rt.alloc(), &mut shelf, name, 0, b"") == Err(FetchFault::Failed)
+    let is_so = fetched(rt.alloc(), &mut shelf, name, 0, b"") == Err(FetchFault::Failed);
+    drop(shelf);
+    is_so
 }
 
-// Whether a file of this name is written, read back, and missed once it is removed.
+// Whether a file of this name and these bytes is written, read back, and missed once it is removed.
+fn are_kept(rt: &HostRuntime, name: &str, long: &[u8]) -> Result<bool, Fail> {
+    let are_kept = is_written(rt, name, long)? && is_read(rt, name, long);
+    fs::remove_file(rt, name)?;
+    Ok(are_kept && is_missed(rt, name))
+}
+
+// Whether the long one is.
 fn is_kept(rt: &HostRuntime, name: &str) -> Result<bool, Fail> {
     let long = long_bytes(rt.alloc())?;
-    let is_kept = is_written(rt, name, &long)? && is_read(rt, name, &long);
-    fs::remove_file(rt, name)?;
-    Ok(is_kept && is_missed(rt, name))
+    let are_kept = are_kept(rt, name, &long);
+    drop(long);
+    are_kept
 }
 
 // A path of this process's own.

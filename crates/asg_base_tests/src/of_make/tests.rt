@@ -28,7 +28,11 @@ fn cells() -> &'static [Cell] {
 // Whether the instance of the seed 7 and three rows and columns has this cost in a cell.
 fn has_cost(alloc: Global, row: u32, column: u32, a: i64) -> bool {
     match generated(alloc, 7, 3) {
-        Ok(inst) => inst.live(row, column) == Some(Cost { a, b: 0 }),
+        Ok(inst) => {
+            let is_so = inst.live(row, column) == Some(Cost { a, b: 0 });
+            drop(inst);
+            is_so
+        }
         Err(_) => false,
     }
 }

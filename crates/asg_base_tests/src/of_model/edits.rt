@@ -212,7 +212,9 @@ fn has_costs(inst: &Instance, want: &[Option<Cost>; 9]) -> bool {
 // Whether the plain square is edited so.
 fn is_edited(alloc: Global, cells: Cells, case: &Edited) -> Result<bool, Fault> {
     let mut inst = square(alloc, cells, &PLAIN)?;
-    Ok(are_answered(&mut inst, case.0) && has_costs(&inst, &case.1))
+    let is_so = are_answered(&mut inst, case.0) && has_costs(&inst, &case.1);
+    drop(inst);
+    Ok(is_so)
 }
 
 #[test]
@@ -230,19 +232,24 @@ const WITHOUT_SECONDS: Sample<'static> = Sample {
     ..PLAIN
 };
 
-// Whether one cell of it gets a second part, and no other.
-fn widens(alloc: Global, cells: Cells) -> Result<bool, Fault> {
-    let mut inst = square(alloc, cells, &WITHOUT_SECONDS)?;
+// Whether one cell of an instance gets a second part, and no other.
+fn gets_second(inst: &mut Instance) -> bool {
     let edit = Edit::Cost {
         row: 2,
         col: 2,
         cost: Cost { a: 4, b: 8 },
     };
-    Ok(
-        refusal_of(&mut inst, Objective::SumPair, edit).is_none()
-            && inst.live(1, 1) == Some(Cost { a: 4, b: 8 })
-            && inst.live(1, 2) == Some(Cost { a: 5, b: 0 }),
-    )
+    refusal_of(inst, Objective::SumPair, edit).is_none()
+        && inst.live(1, 1) == Some(Cost { a: 4, b: 8 })
+        && inst.live(1, 2) == Some(Cost { a: 5, b: 0 })
+}
+
+// Whether one cell of that square does.
+fn widens(alloc: Global, cells: Cells) -> Result<bool, Fault> {
+    let mut inst = square(alloc, cells, &WITHOUT_SECONDS)?;
+    let is_so = gets_second(&mut inst);
+    drop(inst);
+    Ok(is_so)
 }
 
 #[test]

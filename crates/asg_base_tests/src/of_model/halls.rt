@@ -53,7 +53,17 @@ static HALLS: [(Sample<'static>, &[Hall]); 4] = [
     (SMALLER, &HALL_OF_SMALLER),
 ];
 
-// Whether rows are told to be a Hall set or not, of the square of a sample.
+// Whether rows are told to be a Hall set or not.
+fn are_told(inst: &Instance, cases: &[Hall]) -> bool {
+    for (band, rows, want) in cases {
+        if is_hall(inst, *band, rows) != *want {
+            return false;
+        }
+    }
+    true
+}
+
+// Whether they are told so of the square of a sample.
 fn tells_halls(
     alloc: Global,
     cells: Cells,
@@ -61,12 +71,9 @@ fn tells_halls(
     cases: &[Hall],
 ) -> Result<bool, Fault> {
     let inst = square(alloc, cells, sample)?;
-    for (band, rows, want) in cases {
-        if is_hall(&inst, *band, rows) != *want {
-            return Ok(false);
-        }
-    }
-    Ok(true)
+    let are_told = are_told(&inst, cases);
+    drop(inst);
+    Ok(are_told)
 }
 
 // Whether the rows of each square are told so.

@@ -27,7 +27,9 @@ fn has_costs(inst: &Instance, want: &[i64; 9]) -> bool {
 fn keeps_off_diagonal(alloc: Global, cells: Cells) -> Result<bool, Fault> {
     let mut inst = square(alloc, cells, &PLAIN)?;
     inst.retain(&|row: u32, column: u32| row != column);
-    Ok(has_costs(&inst, &OFF_DIAGONAL))
+    let is_so = has_costs(&inst, &OFF_DIAGONAL);
+    drop(inst);
+    Ok(is_so)
 }
 
 #[test]

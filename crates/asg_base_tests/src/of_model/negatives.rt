@@ -30,6 +30,16 @@ const NONE_REFUSED: Refused = [
 ];
 
 // Whether these cells are refused.
+fn are_refused(inst: &Instance, cases: &Refused) -> bool {
+    for (objective, want) in cases {
+        if negative(*objective, inst) != *want {
+            return false;
+        }
+    }
+    true
+}
+
+// Whether those of the square of a sample are.
 fn refuses(
     alloc: Global,
     cells: Cells,
@@ -37,12 +47,9 @@ fn refuses(
     cases: &Refused,
 ) -> Result<bool, Fault> {
     let inst = square(alloc, cells, sample)?;
-    for (objective, want) in cases {
-        if negative(*objective, &inst) != *want {
-            return Ok(false);
-        }
-    }
-    Ok(true)
+    let are_refused = are_refused(&inst, cases);
+    drop(inst);
+    Ok(are_refused)
 }
 
 // Squares, and what each objective refuses, for a caller that needn't know them.

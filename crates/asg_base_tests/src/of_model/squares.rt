@@ -101,13 +101,20 @@ fn in_map(alloc: Global, sample: &Sample<'_>, table: &Instance) -> Result<Instan
     Ok(Instance::with(rows, columns, cells, table.place()))
 }
 
-// The instance of a sample of three rows and three columns, in a map.
-fn mapped(alloc: Global, sample: &Sample<'_>) -> Result<Instance, Fault> {
-    let table = sample.instance(alloc)?;
+// The same, where the table has three rows and three columns.
+fn of_three(alloc: Global, sample: &Sample<'_>, table: &Instance) -> Result<Instance, Fault> {
     if table.rows().len() != 3 || table.columns().len() != 3 {
         return Err(Fault::IllFormed);
     }
-    Ok(in_map(alloc, sample, &table)?)
+    Ok(in_map(alloc, sample, table)?)
+}
+
+// The instance of a sample of three rows and three columns, in a map.
+fn mapped(alloc: Global, sample: &Sample<'_>) -> Result<Instance, Fault> {
+    let table = sample.instance(alloc)?;
+    let mapped = of_three(alloc, sample, &table);
+    drop(table);
+    mapped
 }
 
 /// How an instance has its cells.

@@ -40,7 +40,17 @@ static CHOICES: [(Sample<'static>, &[Chosen]); 4] = [
     (SMALLER, &OF_SMALLER),
 ];
 
-// Whether each choice is told so of the square of a sample.
+// Whether each choice is told so.
+fn are_told(alloc: Global, inst: &Instance, cases: &[Chosen]) -> Result<bool, NoMemory> {
+    for case in cases {
+        if !tells_choice(alloc, inst, case)? {
+            return Ok(false);
+        }
+    }
+    Ok(true)
+}
+
+// Whether each is of the square of a sample.
 fn tells_choices(
     alloc: Global,
     cells: Cells,
@@ -48,12 +58,9 @@ fn tells_choices(
     cases: &[Chosen],
 ) -> Result<bool, Fault> {
     let inst = square(alloc, cells, sample)?;
-    for case in cases {
-        if !tells_choice(alloc, &inst, case)? {
-            return Ok(false);
-        }
-    }
-    Ok(true)
+    let are_told = are_told(alloc, &inst, cases);
+    drop(inst);
+    Ok(are_told?)
 }
 
 // Whether each choice of each square is told so.
@@ -162,13 +169,17 @@ fn holed(alloc: Global, cells: Cells) -> Result<Instance, Fault> {
 // Whether it is read.
 fn reads(alloc: Global, cells: Cells) -> Result<bool, Fault> {
     let inst = holed(alloc, cells)?;
-    Ok(has_a_hole(&inst) && has_parts(&inst))
+    let is_so = has_a_hole(&inst) && has_parts(&inst);
+    drop(inst);
+    Ok(is_so)
 }
 
 // Whether the plain square without its third row and column places two rows and leaves none out.
 fn places_two(alloc: Global, cells: Cells) -> Result<bool, Fault> {
     let inst = square(alloc, cells, &SMALLER)?;
-    Ok(inst.placed() == 2 && inst.slack() == 0)
+    let is_so = inst.placed() == 2 && inst.slack() == 0;
+    drop(inst);
+    Ok(is_so)
 }
 
 #[test]
@@ -180,11 +191,20 @@ fn reads_the_square(rt: HostRuntime) -> Result<(), Fail> {
     Ok(())
 }
 
-// Whether a copy of the square with a hole is one.
+// Whether a copy of an instance is the square with a hole.
+fn is_copied(alloc: Global, inst: &Instance) -> Result<bool, NoMemory> {
+    let copy = inst.copy(alloc)?;
+    let is_so = has_a_hole(&copy);
+    drop(copy);
+    Ok(is_so)
+}
+
+// Whether a copy of that square is.
 fn copies(alloc: Global, cells: Cells) -> Result<bool, Fault> {
     let inst = holed(alloc, cells)?;
-    let copy = inst.copy(alloc)?;
-    Ok(has_a_hole(&copy))
+    let is_copied = is_copied(alloc, &inst);
+    drop(inst);
+    Ok(is_copied?)
 }
 
 #[test]
@@ -227,7 +247,9 @@ fn narrows(inst: &mut Instance) -> bool {
 // Whether the square with a hole is reshaped so.
 fn reshapes(alloc: Global, cells: Cells) -> Result<bool, Fault> {
     let mut inst = holed(alloc, cells)?;
-    Ok(widens(&mut inst) && narrows(&mut inst))
+    let is_so = widens(&mut inst) && narrows(&mut inst);
+    drop(inst);
+    Ok(is_so)
 }
 
 #[test]

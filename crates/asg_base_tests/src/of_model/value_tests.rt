@@ -121,6 +121,13 @@ const OF_TURNED: [Case; 1] = [(
     (-5, -5, (-5, -21), -5, -1, -2, (-1, -7), 1, &[-1, -2, -2]),
 )];
 
+// Whether it is the one, and lets it go.
+fn was_wanted(value: Value, want: Want<'_>) -> bool {
+    let is_so = is_wanted(&value, want);
+    drop(value);
+    is_so
+}
+
 // Whether the choice is valid, and its values are those that are wanted.
 fn has_values(
     alloc: Global,
@@ -133,7 +140,7 @@ fn has_values(
     }
     for (objective, want) in &wanted(nine) {
         let value = value(alloc, *objective, inst, choice)?;
-        if !is_wanted(&value, *want) {
+        if !was_wanted(value, *want) {
             return Ok(false);
         }
     }
@@ -147,6 +154,16 @@ fn gives_case(alloc: Global, inst: &Instance, case: &Case) -> Result<bool, NoMem
 }
 
 // Whether each choice has them.
+fn gives_cases(alloc: Global, inst: &Instance, cases: &[Case]) -> Result<bool, NoMemory> {
+    for case in cases {
+        if !gives_case(alloc, inst, case)? {
+            return Ok(false);
+        }
+    }
+    Ok(true)
+}
+
+// Whether each choice of the square of a sample has them.
 fn gives_values(
     alloc: Global,
     cells: Cells,
@@ -154,12 +171,9 @@ fn gives_values(
     cases: &[Case],
 ) -> Result<bool, Fault> {
     let inst = square(alloc, cells, sample)?;
-    for case in cases {
-        if !gives_case(alloc, &inst, case)? {
-            return Ok(false);
-        }
-    }
-    Ok(true)
+    let gives_cases = gives_cases(alloc, &inst, cases);
+    drop(inst);
+    Ok(gives_cases?)
 }
 
 // Squares, and choices of each with their values, for a caller that needn't know them.
@@ -226,11 +240,20 @@ fn value_of(alloc: Global, told: Want<'_>) -> Result<Value, NoMemory> {
     })
 }
 
+// Whether the first value of a case, which is made, is told to be better than the second.
+fn is_better_than(alloc: Global, case: &Better, x: &Value) -> Result<bool, NoMemory> {
+    let y = value_of(alloc, case.2)?;
+    let is_better = better(case.0, x, &y);
+    drop(y);
+    Ok(is_better)
+}
+
 // Whether the first value of a case is told to be better.
 fn is_better(alloc: Global, case: &Better) -> Result<bool, NoMemory> {
     let x = value_of(alloc, case.1)?;
-    let y = value_of(alloc, case.2)?;
-    Ok(better(case.0, &x, &y))
+    let is_better = is_better_than(alloc, case, &x);
+    drop(x);
+    is_better
 }
 
 // Whether the better values are told.

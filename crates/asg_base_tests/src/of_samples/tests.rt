@@ -55,7 +55,9 @@ fn has_cells(inst: &Instance) -> bool {
 // Whether the instance of the pairs is made.
 fn makes_pairs(alloc: Global) -> Result<bool, Fault> {
     let inst = PAIRS.instance(alloc)?;
-    Ok(has_parts(&inst) && has_cells(&inst))
+    let is_so = has_parts(&inst) && has_cells(&inst);
+    drop(inst);
+    Ok(is_so)
 }
 
 #[test]
@@ -76,7 +78,9 @@ fn is_of_products(inst: &Instance) -> bool {
 // Whether that one is made.
 fn makes_products(alloc: Global) -> Result<bool, Fault> {
     let inst = four_by_four(alloc, Place::All, true, false, &PRODUCTS)?;
-    Ok(is_of_products(&inst))
+    let is_so = is_of_products(&inst);
+    drop(inst);
+    Ok(is_so)
 }
 
 #[test]

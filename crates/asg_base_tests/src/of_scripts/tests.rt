@@ -162,15 +162,22 @@ fn is_refused(alloc: Global, inst: &Instance, case: &Refused) -> bool {
     refusal_of(alloc, case.0, inst, case.1) == Some(want)
 }
 
-// The place of the first script that isn't held so.
-fn first_not_held(alloc: Global) -> Result<Option<usize>, Fault> {
-    let inst = SQUARE.instance(alloc)?;
+// The place of the first script that isn't held so over an instance.
+fn first_not_held_over(alloc: Global, inst: &Instance) -> Option<usize> {
     for (place, case) in held().iter().enumerate() {
-        if !is_held(alloc, &inst, case) {
-            return Ok(Some(place));
+        if !is_held(alloc, inst, case) {
+            return Some(place);
         }
     }
-    Ok(None)
+    None
+}
+
+// The place of the first that isn't over the square.
+fn first_not_held(alloc: Global) -> Result<Option<usize>, Fault> {
+    let inst = SQUARE.instance(alloc)?;
+    let place = first_not_held_over(alloc, &inst);
+    drop(inst);
+    Ok(place)
 }
 
 #[test]
@@ -179,15 +186,22 @@ fn lines_are_held_in_order(rt: HostRuntime) -> Result<(), Fail> {
     Ok(())
 }
 
-// The place of the first script that isn't refused so.
-fn first_refused_otherwise(alloc: Global) -> Result<Option<usize>, Fault> {
-    let inst = SQUARE.instance(alloc)?;
+// The place of the first script that isn't refused so over an instance.
+fn first_refused_otherwise_over(alloc: Global, inst: &Instance) -> Option<usize> {
     for (place, case) in refused().iter().enumerate() {
-        if !is_refused(alloc, &inst, case) {
-            return Ok(Some(place));
+        if !is_refused(alloc, inst, case) {
+            return Some(place);
         }
     }
-    Ok(None)
+    None
+}
+
+// The place of the first that isn't over the square.
+fn first_refused_otherwise(alloc: Global) -> Result<Option<usize>, Fault> {
+    let inst = SQUARE.instance(alloc)?;
+    let place = first_refused_otherwise_over(alloc, &inst);
+    drop(inst);
+    Ok(place)
 }
 
 #[test]
@@ -206,11 +220,23 @@ fn long_script(alloc: Global, solves: u32, end: &[u8]) -> Result<Vec<u8>, NoMemo
     Ok(text)
 }
 
-// How such a script is refused, if it is.
+// How such a script is refused over an instance, if it is.
+fn long_refusal_over(
+    alloc: Global,
+    inst: &Instance,
+    solves: u32,
+    end: &[u8],
+) -> Result<Option<ScriptRefused>, NoMemory> {
+    let text = long_script(alloc, solves, end)?;
+    Ok(refusal_of(alloc, Objective::Sum, inst, &text))
+}
+
+// How it is refused over the square.
 fn long_refusal(alloc: Global, solves: u32, end: &[u8]) -> Result<Option<ScriptRefused>, Fault> {
     let inst = SQUARE.instance(alloc)?;
-    let text = long_script(alloc, solves, end)?;
-    Ok(refusal_of(alloc, Objective::Sum, &inst, &text))
+    let refusal = long_refusal_over(alloc, &inst, solves, end);
+    drop(inst);
+    Ok(refusal?)
 }
 
 // The refusal of this number at this line.

@@ -35,7 +35,11 @@ fn rewritten(alloc: Global, file: &[u8]) -> Option<Vec<u8>> {
     }
     plain_law();
     match read(alloc, Format::Rect, file) {
-        Ok(inst) => write_rect(alloc, &inst).ok(),
+        Ok(inst) => {
+            let text = write_rect(alloc, &inst);
+            drop(inst);
+            text.ok()
+        }
         Err(_) => None,
     }
 }

@@ -1,6 +1,7 @@
 //! Files that are refused, each with its earliest fault.
 
-use asg_text::{Format, TextRefusal};
+use asg_text::Format;
+use asg_tokens::TextRefusal;
 
 /// A file, and its earliest fault.
 pub(crate) type Refused = (&'static [u8], TextRefusal);
@@ -16,7 +17,7 @@ static REFUSED: [(Format, &'static [Refused]); 3] = [
     (Format::Rect, &RECT),
 ];
 
-const ASN: [Refused; 47] = [
+const ASN: [Refused; 51] = [
     (b"", TextRefusal::NoProblemLine),
     (b"\n\nc p asn 1 1\n", TextRefusal::NoProblemLine),
     (b"p asn 2 0\np asn 2 0", TextRefusal::SecondProblemLine(2)),
@@ -46,6 +47,22 @@ const ASN: [Refused; 47] = [
     (b"p asn 2 1\nn 1\na 1 2 5 6", TextRefusal::BadArc(3)),
     (b"p asn 2 1\nn 1\na 1 2 5:6", TextRefusal::BadArc(3)),
     (b"p asn 2 1\nn 1\na 1 3 1000000001", TextRefusal::BadArc(3)),
+    (
+        b"p asn 3 1\nn 1\na 1 4 5\nc no such node\n",
+        TextRefusal::BadArc(3),
+    ),
+    (
+        b"p asn 3 1\nn 1\na 2 3 5\nc no source\n",
+        TextRefusal::BadArc(3),
+    ),
+    (
+        b"p asn 3 1\nn 1\na 1 2 5 6\nc too many\n",
+        TextRefusal::BadArc(3),
+    ),
+    (
+        b"p asn 3 2\nn 1\na 1 2 5\na 1 2 6\nc unlike\n",
+        TextRefusal::ArcTwice(4),
+    ),
     (
         b"p asn 2 1\nn 1\na 1 2 1000000001",
         TextRefusal::CostRange(3),

@@ -1,170 +1,12 @@
 //! Tests of the readers, over tables of files.
 
+use crate::of_text::read_files::{CellOf, File, files};
 use crate::of_text::refused_files::{Refused, refused};
 use asg_model::limits::LONGEST_FILE;
 use asg_model::{Column, Cost, Instance, Row};
-use asg_text::{Format, TextRefusal, read};
+use asg_text::{Format, read};
+use asg_tokens::TextRefusal;
 use std::alloc::Global;
-
-// A cell, by the ids of its row and its column.
-type CellOf = (u32, u32, i64, i64);
-
-// A file, its row ids, its column ids, and its cells row by row.
-type File<'a> = (Format, &'a [u8], &'a [u32], &'a [u32], &'a [CellOf]);
-
-static FILES: [File<'static>; 20] = [
-    (
-        Format::Asn,
-        b"p asn 4 2\nn 1\nn 2\na 1 3 5\na 2 3 6\n",
-        &[1, 2],
-        &[3, 4],
-        &[(1, 3, 5, 0), (2, 3, 6, 0)],
-    ),
-    (
-        Format::Asn,
-        b"p asn 4 2\nn 1\nn 2\na 1 3 5\na 1 3 5\n",
-        &[1, 2],
-        &[3, 4],
-        &[(1, 3, 5, 0)],
-    ),
-    (
-        Format::Asn,
-        b"c a small instance\np asn 6 9\nn 1\nn 2\nn 3\n\
-          a 1 4 4\na 1 5 1\na 1 6 3\na 2 4 2\na 2 5 0\na 2 6 5\na 3 4 3\na 3 5 2\na 3 6 2\n",
-        &[1, 2, 3],
-        &[4, 5, 6],
-        &[
-            (1, 4, 4, 0),
-            (1, 5, 1, 0),
-            (1, 6, 3, 0),
-            (2, 4, 2, 0),
-            (2, 5, 0, 0),
-            (2, 6, 5, 0),
-            (3, 4, 3, 0),
-            (3, 5, 2, 0),
-            (3, 6, 2, 0),
-        ],
-    ),
-    (
-        Format::Asn,
-        b"  comment\r\n\r\n\tp\tasn 05 3\r\nn 4\r\nn 2\nn 04\n\
-          a 2 5 -1000000000 \na 4 1 0007\nn 3\n\na 3 1 -0",
-        &[4, 2, 3],
-        &[1, 5],
-        &[(2, 5, -1_000_000_000, 0), (4, 1, 7, 0), (3, 1, 0, 0)],
-    ),
-    (Format::Asn, b"p asn 1 0\nn 1", &[1], &[], &[]),
-    (
-        Format::Square,
-        b"3\n4 1 3\n2 0 5\n3 2 2\n",
-        &[1, 2, 3],
-        &[1, 2, 3],
-        &[
-            (1, 1, 4, 0),
-            (1, 2, 1, 0),
-            (1, 3, 3, 0),
-            (2, 1, 2, 0),
-            (2, 2, 0, 0),
-            (2, 3, 5, 0),
-            (3, 1, 3, 0),
-            (3, 2, 2, 0),
-            (3, 3, 2, 0),
-        ],
-    ),
-    (
-        Format::Square,
-        b"1\n-1000000000\n",
-        &[1],
-        &[1],
-        &[(1, 1, -1_000_000_000, 0)],
-    ),
-    (
-        Format::Square,
-        b"1 1000000000",
-        &[1],
-        &[1],
-        &[(1, 1, 1_000_000_000, 0)],
-    ),
-    (
-        Format::Square,
-        b"0001\n0000000000000000000000000000000000000000000007",
-        &[1],
-        &[1],
-        &[(1, 1, 7, 0)],
-    ),
-    (
-        Format::Square,
-        b"2\r\n1 2\r\n-3 -0\r\n",
-        &[1, 2],
-        &[1, 2],
-        &[(1, 1, 1, 0), (1, 2, 2, 0), (2, 1, -3, 0), (2, 2, 0, 0)],
-    ),
-    (
-        Format::Square,
-        b"\t \n2\t1\t\t2\n\n3\r4 \t",
-        &[1, 2],
-        &[1, 2],
-        &[(1, 1, 1, 0), (1, 2, 2, 0), (2, 1, 3, 0), (2, 2, 4, 0)],
-    ),
-    (
-        Format::Square,
-        b"2\n3:5 1:0\n- 3:-1000000000",
-        &[1, 2],
-        &[1, 2],
-        &[(1, 1, 3, 5), (1, 2, 1, 0), (2, 2, 3, -1_000_000_000)],
-    ),
-    (Format::Square, b"2 - - - -", &[1, 2], &[1, 2], &[]),
-    (
-        Format::Rect,
-        b"2 3\n5 - 1\n- 2 1\n",
-        &[1, 2],
-        &[1, 2, 3],
-        &[(1, 1, 5, 0), (1, 3, 1, 0), (2, 2, 2, 0), (2, 3, 1, 0)],
-    ),
-    (
-        Format::Rect,
-        b"2 4\n-1000000000 - 0000000012 1000000000 \r\n-  -7\t3:1 000000000005\n          ",
-        &[1, 2],
-        &[1, 2, 3, 4],
-        &[
-            (1, 1, -1_000_000_000, 0),
-            (1, 3, 12, 0),
-            (1, 4, 1_000_000_000, 0),
-            (2, 2, -7, 0),
-            (2, 3, 3, 1),
-            (2, 4, 5, 0),
-        ],
-    ),
-    (
-        Format::Rect,
-        b"3 1 7 8 -9:00",
-        &[1, 2, 3],
-        &[1],
-        &[(1, 1, 7, 0), (2, 1, 8, 0), (3, 1, -9, 0)],
-    ),
-    (Format::Rect, b"2 0", &[1, 2], &[], &[]),
-    (
-        Format::Rect,
-        b"1 2 -1:2 00000000000000000012 ",
-        &[1],
-        &[1, 2],
-        &[(1, 1, -1, 2), (1, 2, 12, 0)],
-    ),
-    (
-        Format::Rect,
-        b"2 2 0 0:1 0 0",
-        &[1, 2],
-        &[1, 2],
-        &[(1, 1, 0, 0), (1, 2, 0, 1), (2, 1, 0, 0), (2, 2, 0, 0)],
-    ),
-    (
-        Format::Rect,
-        b"1 1\n1000000000:-1000000000",
-        &[1],
-        &[1],
-        &[(1, 1, 1_000_000_000, -1_000_000_000)],
-    ),
-];
 
 // Whether these are rows with these ids.
 fn are_rows(rows: &[Row], ids: &[u32]) -> bool {
@@ -232,14 +74,13 @@ fn is_read(alloc: Global, file: &File<'static>) -> bool {
         return false;
     }
     match read(alloc, format, text) {
-        Ok(inst) => has(&inst, rows, columns, cells),
+        Ok(inst) => {
+            let is_so = has(&inst, rows, columns, cells);
+            drop(inst);
+            is_so
+        }
         Err(_) => false,
     }
-}
-
-// The files, for a caller that needn't know them.
-fn files() -> &'static [File<'static>] {
-    &FILES
 }
 
 #[test]
@@ -256,7 +97,10 @@ fn refusal_of(alloc: Global, format: Format, text: &[u8]) -> Option<TextRefusal>
         return None;
     }
     match read(alloc, format, text) {
-        Ok(_) => None,
+        Ok(inst) => {
+            drop(inst);
+            None
+        }
         Err(told) => Some(told),
     }
 }

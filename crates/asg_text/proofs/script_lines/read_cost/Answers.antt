@@ -1,6 +1,6 @@
 use Rattle.std.proofs.Common.{◌∙◌, ap, sym, ◌∷◌, Some}
 use Rattle.std.specs.Option.{option_map}
-use Rattle.asg_text.specs.Pieces.{fields}
+use Rattle.asg_tokens.specs.Pieces.{fields}
 use Rattle.asg_text.specs.ScriptLines.{cost_line_of, line_in_range}
 use Rattle.asg_text.proofs.ScriptLineLemmas.{no_fourth, ended, cost_said}
 use Rattle.asg_text.proofs.script_lines.read_cost.Goals as goal

@@ -1,6 +1,6 @@
 use Rattle.std.proofs.Common.{◌∙◌, ap, sym, ◌∷◌}
 use Rattle.std.specs.Option.{option_map}
-use Rattle.asg_text.specs.Pieces.{fields}
+use Rattle.asg_tokens.specs.Pieces.{fields}
 use Rattle.asg_text.specs.ScriptLines.{forbid_line_of, line_in_range}
 use Rattle.asg_text.proofs.ScriptLineLemmas.{no_third}
 use Rattle.asg_text.proofs.script_lines.read_forbid.Goals as goal

@@ -1,5 +1,5 @@
 use Rattle.std.proofs.Common.{sym, ap, ◌∙◌, Some}
-use Rattle.asg_text.specs.Pieces.{fields}
+use Rattle.asg_tokens.specs.Pieces.{fields}
 use Rattle.asg_text.specs.ScriptLines.{script_line_of}
 use Rattle.asg_text.proofs.ScriptLineLemmas.{kept_line, kept_faults, past_faults, formless}
 use Rattle.asg_text.proofs.scripts.line_at.Goals as goal

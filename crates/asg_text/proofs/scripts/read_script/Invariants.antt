@@ -1,6 +1,6 @@
 use Rattle.std.proofs.Common.{◌≡◌, ◌≤◌, ◌+◌, length, map}
 use Rattle.std.specs.Str.Lines.{lines}
-use Rattle.asg_text.specs.Pieces.{fields}
+use Rattle.asg_tokens.specs.Pieces.{fields}
 use Rattle.asg_text.specs.Scripts.{numbered_from, most_script_lines}
 use Rattle.asg_text.proofs.ScriptLemmas.{AreTaken}
 use Rattle.asg_text.proofs.scripts.read_script.Given as goal

@@ -1,0 +1,14 @@
+pub mod FieldLemmas
+pub mod ArcLines
+pub mod OneMoreLine
+pub mod NetworkLemmas
+pub mod NetworkTables
+pub mod AsnReading
+pub mod SpelledNetworks
+pub mod LineRanges
+pub mod TwiceLemmas
+pub mod FirstTwice
+pub mod NodeSetLemmas
+pub mod TableFills
+pub mod LayoutLemmas
+pub mod PlaceLemmas

@@ -1,0 +1,9 @@
+use Rattle.std.proofs.Common.{◌∷◌, map, sym, ap, ◌∙◌}
+use Rattle.std.specs.Str.Lines.{lines}
+use Rattle.asg_networks.specs.AsnLines.{line_of}
+use Rattle.asg_networks.proofs.asn.first_said_of_any.Goals as goal
+
+pub returns-clause-says : goal.returns-clause-says
+returns-clause-says c =
+    ap (map line_of) c.in_ok-first.ensures.first
+    ∙ ap (λ line. line ∷ map line_of (lines c.in_ok-first.first.rest.now)) (sym c.read_line.ensures.says)

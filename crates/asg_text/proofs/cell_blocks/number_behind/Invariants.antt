@@ -1,7 +1,0 @@
-use Rattle.std.proofs.Common.{◌≡◌, take}
-use Rattle.std.specs.Str.Parse.{digits_value}
-use Rattle.asg_text.proofs.cell_blocks.number_behind.Given as goal
-
--- the number of the digits so far
-abbrev pub invariant-loop-k : goal.invariant-loop-k
-invariant-loop-k l = l.number ≡ digits_value 10 (take l.k l.digits)

@@ -1,5 +1,0 @@
-use Rattle.asg_text.proofs.FirstTwice.{IsLeastOf}
-use Rattle.asg_text.proofs.links.first_unlike.Given as goal
-
-abbrev pub invariant-loop-at : goal.invariant-loop-at
-invariant-loop-at l = IsLeastOf l.links l.places l.at l.first

@@ -1,7 +1,0 @@
-use Rattle.std.proofs.Common.{rules}
-use Rattle.std.proofs.lemmas.List.Sorted.{IsNonDecreasingBy-from_sort_by_key}
-use Rattle.asg_text.specs.LinkOrder.{order_number}
-use Rattle.asg_text.proofs.links.sort_by_ends.Goals as goal
-
-pub returns-clause-ascending : goal.returns-clause-ascending
-returns-clause-ascending c = IsNonDecreasingBy-from_sort_by_key (order_number c.args.links.now) _ c.sort_unstable_by_key.ensures.sorted (λ a r q k. search rules)

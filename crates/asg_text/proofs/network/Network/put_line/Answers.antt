@@ -1,8 +1,0 @@
-use Rattle.std.proofs.Common.{[], ◌∷◌, ◌++◌, sym, subst}
-use Rattle.asg_text.specs.Networks.{IsNetworkOf}
-use Rattle.asg_text.proofs.NetworkLemmas.{empty_kept}
-use Rattle.asg_text.proofs.network.Network.put_line.Goals as goal
-
-pub returns-in-Empty-clause-taken : goal.returns-in-Empty-clause-taken
-returns-in-Empty-clause-taken c = λ before is number_is.
-    subst (λ line. IsNetworkOf (before ++ line ∷ []) c.args.self.now) (sym c.in-Empty.is) (empty_kept before c.args.self.now c.args.self.now c.args.number is number_is)

@@ -1,9 +1,0 @@
-use Rattle.std.proofs.Common.{◌+◌}
-use Rattle.asg_text.specs.Pieces.{tokens}
-use Rattle.asg_text.proofs.tables.fill_costs.Goals as goal
-
-pub fill_upto-requires-clause-before : goal.fill_upto-requires-clause-before
-fill_upto-requires-clause-before c =
-    let header = c.args.cells.header + 1 in
-    let all = tokens c.args.cells.text.now in
-    c.read_pair_blocks-pairs.ensures.read header all (c.read_blocks-numbers.ensures.read header all c.parts.seconds.items c.parts.invariant.read)

@@ -1,0 +1,5 @@
+pub mod BlockLemmas
+pub mod EightDigits
+pub mod WordDigits
+pub mod BlockCells
+pub mod BlockPairs

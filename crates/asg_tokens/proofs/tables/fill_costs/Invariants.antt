@@ -1,0 +1,14 @@
+use Rattle.std.proofs.Common.{◌≡◌, ◌+◌, ◌-◌, ◌≤◌, length}
+use Rattle.asg_tokens.specs.Pieces.{tokens}
+use Rattle.asg_tokens.specs.Slots.{AreRead}
+use Rattle.asg_tokens.proofs.tables.fill_costs.Given as goal
+
+abbrev pub invariant-parts : goal.invariant-parts
+invariant-parts l = record {
+  within : l.place ≤ l.room;
+  room : length l.firsts.items ≡ length l.fn.firsts.items;
+  read : AreRead (l.cells.header + 1) (tokens l.cells.text.now) (tokens l.rest) l.place l.firsts.items l.seconds.items;
+}
+
+abbrev pub decreases-parts : goal.decreases-parts
+decreases-parts l = l.room - l.place

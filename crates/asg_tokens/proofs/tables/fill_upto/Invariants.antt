@@ -1,0 +1,10 @@
+use Rattle.std.proofs.Common.{◌≡◌, ◌+◌, length}
+use Rattle.asg_tokens.specs.Pieces.{tokens}
+use Rattle.asg_tokens.specs.Slots.{AreRead}
+use Rattle.asg_tokens.proofs.tables.fill_upto.Given as goal
+
+abbrev pub invariant-loop-place : goal.invariant-loop-place
+invariant-loop-place l = record {
+  room : length l.firsts.items ≡ length l.fn.firsts.items;
+  read : AreRead (l.cells.header + 1) (tokens l.cells.text.now) (tokens l.rest) l.place l.firsts.items l.seconds.items;
+}

@@ -1,0 +1,10 @@
+pub mod Numbers
+pub mod Pieces
+pub mod Separators
+pub mod Faults
+pub mod Readings
+pub mod Tables
+pub mod NextCells
+pub mod Slots
+pub mod CellBlocks
+pub mod laws

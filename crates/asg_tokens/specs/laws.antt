@@ -1,0 +1,11 @@
+pub mod FirstPiece
+pub mod NumberLemmas
+pub mod ShortLemmas
+pub mod CellLemmas
+pub mod PairLemmas
+pub mod LineCuts
+pub mod Refusing
+pub mod ReadCells
+pub mod TableInstances
+pub mod Spelled
+pub mod SpelledTables

@@ -7,11 +7,10 @@ use Rattle.asg_order.specs.Monoid.{Monoid}
 use Rattle.asg_square.specs.BitTable.{is_bit_set, AreWordsOf}
 use Rattle.asg_square.specs.CellTable.{AreValuesOf}
 use Rattle.asg_square.specs.Grid.{Grid, cell_at}
-use Rattle.asg_admit.specs.Admission.{AllowsAt, AllowsRow, cell_in_row}
-use Rattle.asg_admit.specs.MarkedCells.{is_marked}
-use Rattle.asg_admit.proofs.AdmissionLemmas.{row_read}
+use Rattle.asg_admit.specs.Admission.{AllowsAt, AllowsRow, cell_in_row, is_marked}
+use Rattle.asg_admit.specs.laws.AdmissionLemmas.{row_read}
 use Rattle.asg_admit.proofs.MarkLemmas.{marked_at, bit_set}
-use Rattle.asg_admit.proofs.WordBits.{HasBit}
+use Rattle.asg_admit.specs.laws.WordBits.{HasBit}
 
 module _ {V : Type 0} (row : ℕ → Option V) (side : ℕ) (values : List V) (words : List ℕ) (are_values : AreValuesOf row side values) (are_words : AreWordsOf (λ k. is_some (row k)) side words) where
   -- no mark stands past the last column

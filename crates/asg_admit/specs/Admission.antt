@@ -32,11 +32,15 @@ AreBalanced enters leaves from n =
     (i : ℕ) → i < n → count_below (has_mark enters (from + i)) (length enters)
     ≡ count_below (has_mark leaves (from + i)) (length leaves)
 
+-- a mark stands at the column of a row of words
+abbrev pub is_marked : List ℕ → ℕ → Bool
+is_marked words k = is_bit_set (slice_index words (k / 64)) (k % 64)
+
 -- the cell at a column of a row that stands as its values and as words whose bits say which are
 -- present
 abbrev pub cell_in_row : {V : Type 0} → List V → List ℕ → ℕ → Option V
 cell_in_row values words k =
-    if is_bit_set (slice_index words (k / 64)) (k % 64) then slice_get values k else None
+    if is_marked words k then slice_get values k else None
 
 -- the cell, if it is present, allows the steps
 abbrev pub AllowsAt : {V : Type 0} → Monoid V → (V → V → V) → List V → ℕ → ℕ → Option V → Type 0

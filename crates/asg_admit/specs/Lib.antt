@@ -2,14 +2,6 @@ pub mod Settled
 pub mod KeptCells
 pub mod Admission
 pub mod Settling
-pub mod LeftColumns
 pub mod LeastCells
-pub mod JoinedSteps
 pub mod Reduced
-pub mod Duals
-pub mod PhaseTotals
-pub mod NarrowRows
-pub mod MarkedCells
-pub mod LowCells
 pub mod laws
-pub mod SumNumbers

@@ -26,17 +26,6 @@ pub record SettlesRow {V : Type 0} (M : Monoid V) (difference : V → V → V) (
       ≡ option_map (settled M difference steps enter (slice_index leaves k)) (cell_at before row k)
   pub others : (r k : ℕ) → r ≢ row → cell_at after r k ≡ cell_at before r k
 
--- in a column that leaves at this step, the cells of rows that never enter are those after the
--- steps, and all others stay
-pub record SettlesColumn {V : Type 0} (M : Monoid V) (difference : V → V → V) (steps : List V)
-    (enters : List ℕ) (leave : ℕ) (before after : Grid V) (column : ℕ) : Type 0 where
-  pub labels : KeepsLabels before after
-  pub waiting : (r : ℕ) → r < before.side → length steps ≤ slice_index enters r → cell_at after r column
-      ≡ option_map (settled M difference steps (slice_index enters r) leave) (cell_at before r column)
-  pub entered : (r : ℕ) → slice_index enters r < length steps
-      → cell_at after r column ≡ cell_at before r column
-  pub others : (r k : ℕ) → k ≢ column → cell_at after r k ≡ cell_at before r k
-
 -- the rows that never enter are those after the phase, and all others stay
 pub record SettlesWaiting {V : Type 0} (M : Monoid V) (difference : V → V → V) (phase : PhaseOf V)
     (before after : Grid V) : Type 0 where

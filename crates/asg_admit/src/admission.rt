@@ -36,8 +36,8 @@ pub fn admits<M: DMonoid>(
     rows_allow(m, square, steps, enters, leaves)
 }
 
-// Whether the lists are those of a phase over the square, whatever its cells.
-pub(crate) fn is_over<M: DMonoid>(
+/// Whether the lists are those of a phase over the square, whatever its cells.
+pub fn is_over<M: DMonoid>(
     m: &M,
     square: &Square<M::Value>,
     steps: &[M::Value],

@@ -27,8 +27,9 @@ use asg_square::Square;
 // A place for each column.
 const PLACES: usize = MOST_SIDE as usize;
 
-// Whether each cell of each row allows the steps.
-pub(crate) fn blocks_allow<M: DMonoid>(
+/// Whether each cell of each row allows the steps. `room` has more places than there are steps, and
+/// what is in it before and afterwards means nothing.
+pub fn blocks_allow<M: DMonoid>(
     m: &M,
     square: &Square<M::Value>,
     steps: &[M::Value],
@@ -66,8 +67,8 @@ fn no_marks() -> [bool; PLACES]
     [false; PLACES]
 }
 
-// The least mark after a step, at most this next one.
-pub(crate) fn next_mark(marks: &[u32], from: usize, next: usize) -> usize
+/// The least mark after a step, at most this next one.
+pub fn next_mark(marks: &[u32], from: usize, next: usize) -> usize
     requires { from < next }
     ensures after { from < result }
     ensures within { result ≤ next }

@@ -13,9 +13,9 @@ const WINDOW: usize = 2_000;
 // How many steps are few: their counts are kept in less room.
 const FEW: usize = 128;
 
-// Whether at each step the rows that have entered and the columns that stay are one more than the
-// side. After the first step that is so where as many rows enter as columns leave.
-pub(crate) fn are_counted(enters: &[u32], leaves: &[u32], end: usize) -> bool
+/// Whether at each step the rows that have entered and the columns that stay are one more than the
+/// side. After the first step that is so where as many rows enter as columns leave.
+pub fn are_counted(enters: &[u32], leaves: &[u32], end: usize) -> bool
     requires leaves { length leaves.now ≡ length enters.now }
     requires few { length enters.now ≤ most_side }
     ensures { IsTrue result ↔ AreCounted enters.now leaves.now end }

@@ -1,13 +1,12 @@
 //! The cells of a row that are less than a value which allows all steps of a phase: what allows the
 //! steps does so in every greater value, so these alone are left to be tested.
 
-ghost use Rattle.std.specs.Prelude.{◌≡◌, ◌<◌, ◌≤◌, ◌+◌, ℕ, Some, IfSome, MatchOption, length, All, slice_get};
+ghost use Rattle.std.specs.Prelude.{◌≡◌, ◌<◌, ◌≤◌, ◌+◌, ℕ, IsTrue, Some, IfSome, MatchOption, length, All, slice_get};
 ghost use Rattle.std.specs.Int.{bit_at};
 ghost use Rattle.asg_admit.specs.Settled.{AllowsAll};
 ghost use Rattle.asg_model.specs.Limits.{most_side};
 ghost use Rattle.asg_order.specs.Monoid.{IsLe, IsValue};
 
-use crate::low_cells::kept;
 use crate::products::product_of;
 use crate::replayed_cells::{cut, lessened};
 use asg_order::DMonoid;
@@ -86,4 +85,15 @@ fn bits_below<M: DMonoid>(
         rest &= !(1 << k);
     }
     below
+}
+
+// The word, without a bit that isn't to be kept.
+#[inline]
+fn kept(word: u64, bit: u32, is_kept: bool) -> u64
+    requires { bit < 64 }
+    ensures inside { (k : ℕ) → bit_at result k ≡ 1 → bit_at word k ≡ 1 }
+    ensures others { (k : ℕ) → bit_at word k ≡ 1 → (k ≡ bit → IsTrue is_kept)
+        → bit_at result k ≡ 1 }
+{
+    if is_kept { word } else { word & !(1 << bit) }
 }

@@ -7,8 +7,8 @@ ghost use Rattle.asg_order.specs.Monoid.{IsValue};
 use asg_order::DMonoid;
 use asg_order::laws::differences;
 
-// The products of the steps between a place and each place.
-pub(crate) fn spread<M: DMonoid>(m: &M, steps: &[M::Value], from: usize, room: &mut [M::Value])
+/// The products of the steps between a place and each place.
+pub fn spread<M: DMonoid>(m: &M, steps: &[M::Value], from: usize, room: &mut [M::Value])
     requires room { length steps.now < length room.old }
     requires values { All (IsValue (M.monoid_of m.now)) steps.now }
     requires from { from ≤ length steps.now }
@@ -39,8 +39,8 @@ pub fn range<M: DMonoid>(m: &M, steps: &[M::Value], from: u32, to: u32) -> M::Va
     product_of(m, steps, from as usize, to as usize)
 }
 
-// The product of the steps from one place up to and without another.
-pub(crate) fn product_of<M: DMonoid>(m: &M, steps: &[M::Value], from: usize, to: usize) -> M::Value
+/// The product of the steps from one place up to and without another.
+pub fn product_of<M: DMonoid>(m: &M, steps: &[M::Value], from: usize, to: usize) -> M::Value
     requires values { All (IsValue (M.monoid_of m.now)) steps.now }
     requires order { from ≤ to }
     requires end { to ≤ length steps.now }

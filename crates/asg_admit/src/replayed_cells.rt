@@ -71,17 +71,17 @@ pub(crate) fn lessened<M: DMonoid>(
     Some(now)
 }
 
-// A mark, cut to the number of steps.
+/// A mark, cut to the number of steps.
 #[inline]
-pub(crate) fn cut(mark: u32, end: usize) -> usize
+pub fn cut(mark: u32, end: usize) -> usize
     ensures { result ≡ min mark end }
 {
     (mark as usize).min(end)
 }
 
-// A value after the steps, by the product of the steps between its marks.
+/// A value after the steps, by the product of the steps between its marks.
 #[inline]
-pub(crate) fn settled_value<M: DMonoid>(
+pub fn settled_value<M: DMonoid>(
     m: &M,
     steps: &[M::Value],
     product: M::Value,

@@ -2,8 +2,7 @@
 
 ghost use Rattle.std.specs.Prelude.{◌≡◌, ◌↔◌, ◌<◌, ◌≤◌, ◌+◌, ◌*◌, ℕ, Some, length, All, IsTrue, slice_get, slice_index};
 ghost use Rattle.std.specs.Int.{bit_at};
-ghost use Rattle.asg_admit.specs.Admission.{AllowsAt, cell_in_row};
-ghost use Rattle.asg_admit.specs.MarkedCells.{is_marked};
+ghost use Rattle.asg_admit.specs.Admission.{AllowsAt, cell_in_row, is_marked};
 ghost use Rattle.asg_model.specs.Limits.{most_side};
 ghost use Rattle.asg_order.specs.Monoid.{IsValue};
 ghost use Rattle.asg_square.specs.BitTable.{word_count};

@@ -46,18 +46,18 @@ pub fn step<M: DMonoid>(
 {
     step_law(m);
     reduced.now.side();
-    step_rows(m, &mut reduced.now, enters, leaves, t, c);
+    step_rows(m, &mut reduced.now, enters, leaves, t as usize, c);
     reduced.index = m.op(reduced.index, c);
     reduced.now.side();
 }
 
 // Steps each row.
-fn step_rows<M: DMonoid>(
+pub(crate) fn step_rows<M: DMonoid>(
     m: &M,
     square: &mut Square<M::Value>,
     enters: &[u32],
     leaves: &[u32],
-    t: u32,
+    t: usize,
     c: M::Value,
 )
     requires enters { length enters.now ≡ square.old.side }
@@ -70,7 +70,15 @@ fn step_rows<M: DMonoid>(
         (entered_at enters.now t) (staying_at leaves.now t) c (cell_at square.old) r k }
 {
     for row in 0..square.side() {
-        step_row(m, square, leaves, t, c, row, enters[row as usize] <= t);
+        step_row(
+            m,
+            square,
+            leaves,
+            t,
+            c,
+            row,
+            enters[row as usize] as usize <= t,
+        );
     }
 }
 
@@ -79,7 +87,7 @@ fn step_row<M: DMonoid>(
     m: &M,
     square: &mut Square<M::Value>,
     leaves: &[u32],
-    t: u32,
+    t: usize,
     c: M::Value,
     row: u32,
     entered: bool,
@@ -100,7 +108,7 @@ fn step_row<M: DMonoid>(
             row,
             column,
             entered,
-            t < leaves[column as usize],
+            t < leaves[column as usize] as usize,
         );
     }
 }

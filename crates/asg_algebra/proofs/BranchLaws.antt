@@ -10,15 +10,15 @@ use Rattle.asg_order.specs.Differences.{HasDifferences}
 use Rattle.asg_pool.specs.Forest.{Forest}
 use Rattle.asg_proof.specs.Phases.{after_phase}
 use Rattle.asg_square.specs.Grid.{cell_at}
-use Rattle.asg_algebra.specs.declared.growth.Growth.{Growth}
+use Rattle.asg_growth.specs.declared.growth.Growth.{Growth}
 use Rattle.asg_algebra.specs.Branches.{IsAtLimit, IsBranch, IsLeft}
-use Rattle.asg_algebra.specs.Growths.{never, leads_in, IsSearch, IsReady, phase_in}
-use Rattle.asg_algebra.specs.Leads.{lead_at, place_at}
-use Rattle.asg_algebra.specs.Rest.{IsRest}
+use Rattle.asg_growth.specs.Growths.{never, leads_in, IsSearch, IsReady, phase_in}
+use Rattle.asg_growth.specs.Leads.{lead_at, place_at}
+use Rattle.asg_growth.specs.Rest.{IsRest}
 use Rattle.asg_algebra.specs.Served.{made_of}
 use Rattle.asg_algebra.specs.Solved.{ArePushed}
 use Rattle.asg_algebra.proofs.FinishLaws.{finished_phase}
-use Rattle.asg_algebra.proofs.GrowthLaws.{few_rows}
+use Rattle.asg_growth.specs.laws.GrowthLaws.{few_rows}
 use Rattle.asg_algebra.proofs.PhaseEnds.{phase_so_far}
 
 module _ {V : Type 0} {M : Monoid V} (laws : IsOrderedMonoid M) {difference : V → V → V} (has : HasDifferences M difference) (before : Reduced V) {m : List (Option ℕ)} {b : Growth V} {sum : V} where

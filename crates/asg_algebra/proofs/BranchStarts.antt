@@ -9,8 +9,8 @@ use Rattle.asg_order.specs.Monoid.{Monoid}
 use Rattle.asg_square.specs.Grid.{cell_at}
 use Rattle.asg_square.specs.Masked.{keeps}
 use Rattle.asg_square.specs.laws.Masks.{cell_at-masked}
-use Rattle.asg_algebra.specs.Masked.{masked_reduced}
-use Rattle.asg_algebra.specs.Rest.{IsRest, IsRestOf}
+use Rattle.asg_growth.specs.Masked.{masked_reduced}
+use Rattle.asg_growth.specs.Rest.{IsRest, IsRestOf}
 
 module _ {V : Type 0} (M : Monoid V) (side : ℕ) (square : ℕ → ℕ → Option V) (index : V) (m : List (Option ℕ)) (root : ℕ) (below : root < length m) (rest : IsRest M side square index m) (keep : ℕ → ℕ → Bool) (kept : (r k : ℕ) → r ≢ root → Matches m r k → keep r k ≡ true) where
   abbrev cleared : List (Option ℕ)

@@ -17,20 +17,20 @@ use Rattle.asg_proof.specs.Phases.{phase_of, square_after, IsAdmittedPhase}
 use Rattle.asg_proof.specs.laws.PhaseSteps.{is_some-after}
 use Rattle.asg_square.specs.Cells.{IsPresent}
 use Rattle.asg_square.specs.Grid.{Grid, cell_at}
-use Rattle.asg_algebra.specs.declared.growth.Growth.{Growth}
-use Rattle.asg_algebra.specs.Growing.{IsAbsorbed}
-use Rattle.asg_algebra.specs.Growths.{never, leads_in, IsSearch, IsReady, IsPlanted, HasNoLead}
-use Rattle.asg_algebra.specs.Leads.{lead_at, place_at}
-use Rattle.asg_algebra.specs.Nearest.{AreNearest}
-use Rattle.asg_algebra.specs.Rest.{IsRest, cut}
+use Rattle.asg_growth.specs.declared.growth.Growth.{Growth}
+use Rattle.asg_growth.specs.Growing.{IsAbsorbed}
+use Rattle.asg_growth.specs.Growths.{never, leads_in, IsSearch, IsReady, IsPlanted, HasNoLead}
+use Rattle.asg_growth.specs.Leads.{lead_at, place_at}
+use Rattle.asg_growth.specs.Nearest.{AreNearest}
+use Rattle.asg_growth.specs.Rest.{IsRest, cut}
 use Rattle.asg_algebra.specs.Served.{made_of, IsServed}
 use Rattle.asg_algebra.specs.Solved.{ArePushed, unmatched}
-use Rattle.asg_algebra.specs.Underway.{IsUnderway}
-use Rattle.asg_algebra.proofs.GrowthLaws.{open_unseen, search_cell}
-use Rattle.asg_algebra.proofs.NearestLemmas.{AreNearest-none}
+use Rattle.asg_growth.specs.Underway.{IsUnderway}
+use Rattle.asg_growth.specs.laws.GrowthLaws.{open_unseen, search_cell}
+use Rattle.asg_growth.specs.laws.NearestLemmas.{AreNearest-none}
 use Rattle.asg_algebra.proofs.PhaseEnds.{phase_ends, planted}
 use Rattle.asg_algebra.proofs.SolvedLaws.{LeadTo-made}
-use Rattle.asg_algebra.proofs.UnderwayLaws.{IsDeficient-now}
+use Rattle.asg_growth.specs.laws.UnderwayLaws.{IsDeficient-now}
 
 -- a present cell of a square lies in one of its columns
 pub present_below : {V : Type 0} (Q : Grid V) (r k : ℕ) → IsSome (cell_at Q r k) → k < Q.side

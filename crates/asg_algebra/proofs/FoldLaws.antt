@@ -10,7 +10,7 @@ use Rattle.asg_order.specs.Monoid.{Monoid, IsValue, IsOrderedMonoid, fold_of}
 use Rattle.asg_order.specs.laws.Products.{fold_is_value, fold-cons, neutral_right}
 use Rattle.asg_proof.specs.Steps.{HasSide, HasValues, assignment_fold}
 use Rattle.asg_square.specs.Cells.{assignment_values}
-use Rattle.asg_algebra.specs.Growing.{IsAbsorbed}
+use Rattle.asg_growth.specs.Growing.{IsAbsorbed}
 use Rattle.asg_model.specs.laws.Listing.{All-filter_map}
 
 IfSome-from : {B : Type 0} (o : Option B) (P : B → Type 0) → ((y : B) → o ≡ Some y → P y) → IfSome o P

@@ -1,27 +1,8 @@
-pub mod SplitCounts
-pub mod GrowingLaws
-pub mod SearchingLaws
-pub mod KeyLaws
-pub mod KeyStates
-pub mod WordLemmas
-pub mod LeadLemmas
-pub mod OfferLemmas
-pub mod ScanLemmas
-pub mod NearestLemmas
-pub mod UnderwayLaws
 pub mod PhaseEnds
-pub mod GrowthLaws
-pub mod EnteringLaws
 pub mod SolvedLaws
 pub mod FinishLaws
 pub mod BranchLaws
 pub mod BranchStarts
-pub mod ApartRows
-pub mod ApartCounts
-pub mod ApartGrowths
-pub mod ApartPhases
-pub mod ApartWords
-pub mod ApartBranches
 pub mod SolvingLaws
 pub mod FoldLaws
 mod TakenLaws

@@ -19,14 +19,14 @@ use Rattle.asg_admit.specs.Reduced.{IsReduced, IsPhaseTo}
 use Rattle.asg_admit.specs.Settled.{step_of, between}
 use Rattle.asg_square.specs.Grid.{cell_at}
 use Rattle.asg_pool.specs.Forest.{Forest}
-use Rattle.asg_algebra.specs.Rest.{IsRest, cut}
+use Rattle.asg_growth.specs.Rest.{IsRest, cut}
 use Rattle.asg_algebra.specs.Served.{made_of}
 use Rattle.asg_algebra.specs.Solved.{IsPush, ArePushed}
-use Rattle.asg_algebra.specs.Underway.{IsUnderway}
+use Rattle.asg_growth.specs.Underway.{IsUnderway}
 use Rattle.asg_match.specs.laws.Trees.{IsTree-root}
-use Rattle.asg_algebra.specs.Growing.{IsAbsorbed, IsGrowing}
-use Rattle.asg_algebra.proofs.GrowingLaws.{AllAllowed-flipped}
-use Rattle.asg_algebra.proofs.SearchingLaws.{square_after-same, AreAdmitted-same}
+use Rattle.asg_growth.specs.Growing.{IsAbsorbed, IsGrowing}
+use Rattle.asg_growth.specs.laws.GrowingLaws.{AllAllowed-flipped}
+use Rattle.asg_growth.specs.laws.SearchingLaws.{square_after-same, AreAdmitted-same}
 
 pub get_or-cut : (n : ℕ) (marks : List ℕ) (r : ℕ) → get_or (cut n marks) r 0 ≡ min (get_or marks r 0) n
 get_or-cut n marks r =

@@ -11,8 +11,8 @@ use Rattle.asg_order.specs.Monoid.{Monoid, IsOrderedMonoid}
 use Rattle.asg_pool.specs.Forest.{Forest, IsLive, phases_to}
 use Rattle.asg_proof.specs.Phases.{PhaseOf}
 use Rattle.asg_square.specs.Grid.{cell_at}
-use Rattle.asg_algebra.specs.Growing.{IsAbsorbed}
-use Rattle.asg_algebra.specs.Rest.{IsRestOf}
+use Rattle.asg_growth.specs.Growing.{IsAbsorbed}
+use Rattle.asg_growth.specs.Rest.{IsRestOf}
 use Rattle.asg_algebra.specs.Served.{IsServed}
 use Rattle.asg_algebra.specs.Solved.{LeadTo, KeepsRows, HasSolved, unmatched}
 use Rattle.asg_algebra.proofs.SolvedLaws.{LeadTo-none, LeadTo-join, ArePushed-live, ArePushed-spare, ArePushed-side, ArePushed-list, ArePushed-kept}

@@ -4,7 +4,6 @@ use Rattle.std.specs.Prelude.{IfSome}
 use Rattle.std.proofs.lemmas.List.{take_more, take-append-drop}
 use Rattle.std.proofs.lemmas.List.Elements.{All-cons, All-nil}
 use Rattle.asg_admit.specs.Reduced.{IsReduced, IsPhaseTo}
-use Rattle.asg_admit.specs.declared.dual_squares.Replayed.TheVariants.{Applied, Full}
 use Rattle.asg_admit.specs.declared.reduced.Reduced.{Reduced}
 use Rattle.asg_match.specs.Matching.{IsMatched, IsPerfect}
 use Rattle.asg_order.specs.Monoid.{Monoid, IsOrderedMonoid, fold_of}
@@ -14,11 +13,8 @@ use Rattle.asg_proof.specs.Phases.{PhaseOf, phase_of, AreAdmittedPhases, IsAdmit
 use Rattle.asg_proof.specs.laws.PhaseLists.{steps_value, AreAdmittedPhases-back}
 use Rattle.asg_square.specs.Grid.{cell_at}
 use Rattle.asg_algebra.proofs.SolvedLaws.{LeadTo-join, ArePushed-spare, ArePushed-live, ArePushed-side, ArePushed-list, ArePushed-kept}
-use Rattle.asg_algebra.specs.Growing.{IsAbsorbed}
+use Rattle.asg_growth.specs.Growing.{IsAbsorbed}
 use Rattle.asg_algebra.specs.Solved.{IsPush, LeadTo, HasSolved, KeepsRows, unmatched}
-
-pub applied_is_not_full : Applied ≢ Full
-applied_is_not_full e = cc e
 
 module _ {V : Type 0} (M : Monoid V) (laws : IsOrderedMonoid M) (difference : V → V → V) where
   -- a phase that is applied and pushed leads on

@@ -1,7 +1,7 @@
 -- The memory of a solver.
 use Rattle.std.specs.Prelude.{◌≢◌, ℕ, ◌<◌, All, AllPairs}
-use Rattle.asg_algebra.specs.declared.growth.Growth.{Growth}
-use Rattle.asg_algebra.specs.Growths.{IsRoomy}
+use Rattle.asg_growth.specs.declared.growth.Growth.{Growth}
+use Rattle.asg_growth.specs.Growths.{IsRoomy}
 
 -- memory for a side, and rows below it, without repeats
 pub record IsBench {V : Type 0} (side : ℕ) (growth : Growth V) : Type 0 where

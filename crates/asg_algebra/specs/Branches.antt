@@ -12,9 +12,9 @@ use Rattle.asg_algebra.specs.declared.branching.Branch.{Branch}
 use Rattle.asg_algebra.specs.declared.branching.Branch.TheVariants.{Reached, Left, Short}
 use Rattle.asg_algebra.specs.declared.branching.Probe.{Probe}
 use Rattle.asg_algebra.specs.declared.branching.Probe.TheVariants.{Stuck, Exit, Beyond}
-use Rattle.asg_algebra.specs.declared.growth.Growth.{Growth}
-use Rattle.asg_algebra.specs.Growths.{Searches, IsReady, HasNoLead}
-use Rattle.asg_algebra.specs.Rest.{IsRest}
+use Rattle.asg_growth.specs.declared.growth.Growth.{Growth}
+use Rattle.asg_growth.specs.Growths.{Searches, IsReady, HasNoLead}
+use Rattle.asg_growth.specs.Rest.{IsRest}
 use Rattle.asg_algebra.specs.Served.{made_of}
 use Rattle.asg_algebra.specs.Solved.{ArePushed}
 

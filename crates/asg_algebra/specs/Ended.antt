@@ -10,7 +10,7 @@ use Rattle.asg_algebra.specs.declared.solving.Progress.{Progress}
 use Rattle.asg_algebra.specs.declared.solving.Progress.TheVariants.{Ended, Full}
 use Rattle.asg_algebra.specs.declared.solving.Solved.{Solved}
 use Rattle.asg_algebra.specs.declared.solving.Solved.TheVariants.{Perfect, Short}
-use Rattle.asg_algebra.specs.Growing.{IsAbsorbed}
+use Rattle.asg_growth.specs.Growing.{IsAbsorbed}
 
 -- the last trail
 abbrev pub last_of : Solved → Option ℕ

@@ -1,17 +1,5 @@
-pub mod Growing
-pub mod Searching
-pub mod Keys
-pub mod Leads
-pub mod Masked
-pub mod Nearest
-pub mod Scanned
-pub mod Underway
-pub mod Rest
-pub mod Growths
 pub mod Solved
 pub mod Served
 pub mod Benches
 pub mod Ended
 pub mod Branches
-pub mod Apart
-pub mod ApartGrowths

@@ -8,7 +8,7 @@ use Rattle.asg_order.specs.Monoid.{Monoid}
 use Rattle.asg_pool.specs.Forest.{Forest, IsLive, trail_at, Changes, grown_on, phases_to}
 use Rattle.asg_proof.specs.Phases.{PhaseOf, AreAdmittedPhases, after_phases, index_of}
 use Rattle.asg_square.specs.Grid.{cell_at}
-use Rattle.asg_algebra.specs.Growing.{IsAbsorbed}
+use Rattle.asg_growth.specs.Growing.{IsAbsorbed}
 
 -- one phase was pushed on a trail, or on none, and gave a new trail; nothing else changed
 pub record IsPush {V : Type 0} (before after : Forest V) (parent : Option ℕ) (phase : PhaseOf V)

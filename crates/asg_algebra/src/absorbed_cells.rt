@@ -5,10 +5,10 @@ ghost use Rattle.asg_match.specs.Matching.{column_at, IsFree, AllAllowed};
 ghost use Rattle.asg_admit.specs.Reduced.{IsReduced};
 ghost use Rattle.asg_order.specs.Monoid.{IsValue};
 ghost use Rattle.asg_square.specs.Grid.{cell_at};
-ghost use Rattle.asg_algebra.specs.Growing.{IsAbsorbed};
+ghost use Rattle.asg_growth.specs.Growing.{IsAbsorbed};
 ghost use Rattle.asg_algebra.specs.Solved.{KeepsRows};
 
-use crate::reduced_squares::ReducedSquare;
+use asg_growth::ReducedSquare;
 use asg_match::Matching;
 use asg_order::DMonoid;
 

@@ -5,7 +5,7 @@ ghost use Rattle.std.specs.Prelude.{IfOk, All, AllPairs, vec_len, vec_capacity};
 ghost use Rattle.asg_match.specs.ColumnSet.{word_count};
 
 use crate::NoMemory;
-use crate::growth::Growth;
+use asg_growth::Growth;
 use asg_match::Branches;
 use std::alloc::Global;
 use std::marker::Model;

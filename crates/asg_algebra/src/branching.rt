@@ -7,27 +7,23 @@ ghost use Rattle.asg_order.specs.Monoid.{IsValue};
 ghost use Rattle.asg_pool.specs.Forest.{IsLive};
 ghost use Rattle.asg_algebra.specs.Benches.{IsBench};
 ghost use Rattle.asg_algebra.specs.Branches.{IsAtLimit, Probes, Branches};
-ghost use Rattle.asg_algebra.specs.Growths.{IsRoomy, Searches, phase_in};
-ghost use Rattle.asg_algebra.specs.Masked.{masked_reduced};
-ghost use Rattle.asg_algebra.specs.Rest.{IsRestOf};
+ghost use Rattle.asg_growth.specs.Growths.{IsRoomy, Searches, phase_in};
+ghost use Rattle.asg_growth.specs.Masked.{masked_reduced};
+ghost use Rattle.asg_growth.specs.Rest.{IsRestOf};
 ghost use Rattle.asg_algebra.specs.Served.{made_of};
 ghost use Rattle.asg_algebra.specs.Solved.{ArePushed};
 
-use crate::apart_branches::branch_apart;
 use crate::bench::Bench;
-use crate::growth::{Growth, Round, advance_round};
-use crate::masked::Masked;
 use crate::phases::cut_marks;
-use crate::reduced_squares::RowSquare;
-use crate::roots::plant;
 use asg_admit::Reduced;
+use asg_growth::{Growth, Masked, Round, RowSquare, advance_round, plant};
 use asg_match::{Exit, Matching, flip};
 use asg_order::DMonoid;
 use asg_pool::{Region, Trail};
 
 // How a tree grew.
 #[derive(Clone, Copy)]
-pub(crate) enum Probe {
+enum Probe {
     // No column can be reached.
     Stuck,
     // A column that no row has.
@@ -62,7 +58,7 @@ fn is_at_limit<M: DMonoid>(m: &M, index: M::Value, sum: M::Value, limit: Option<
 }
 
 // Grows the tree up to the first column that no row has, or up to the limit.
-pub(crate) fn grow_within<M: DMonoid, S: RowSquare<M>>(
+fn grow_within<M: DMonoid, S: RowSquare<M>>(
     m: &M,
     reduced: &S,
     index: M::Value,
@@ -96,7 +92,7 @@ pub(crate) fn grow_within<M: DMonoid, S: RowSquare<M>>(
 }
 
 // Pushes the phase of the search on the trail, if it has a step.
-pub(crate) fn push<V: Copy>(
+fn push<V: Copy>(
     growth: &mut Growth<V>,
     region: &mut Region<V>,
     trail: Option<Trail>,
@@ -160,78 +156,6 @@ fn serve_branch<M: DMonoid, S: RowSquare<M>>(
     }
 }
 
-// What `branch_from` comes to, by a tree on all the cells.
-fn branch_whole<M: DMonoid>(
-    m: &M,
-    reduced: &Reduced<M::Value>,
-    words: &[u64],
-    matching: &mut Matching,
-    growth: &mut Growth<M::Value>,
-    region: &mut Region<M::Value>,
-    trail: &Option<Trail>,
-    root: u32,
-    limit: &Option<M::Value>,
-) -> Branch<M::Value>
-    requires rest { IsRestOf (M.monoid_of m.now) (masked_reduced reduced.now words.now)
-        matching.old }
-    requires small { reduced.now.now.side ≤ most_side }
-    requires bench { IsBench reduced.now.now.side growth.old }
-    requires root { root < reduced.now.now.side }
-    requires root_free { column_at matching.old root ≡ None }
-    requires limit { IfSome limit.now (IsValue (M.monoid_of m.now)) }
-    requires spare { 1 ≤ region.old.spare }
-    requires live { IfSome trail.now (IsLive region.old) }
-    requires region_side { region.old.side ≡ reduced.now.now.side }
-    ensures branches { Branches (M.monoid_of m.now) (M.difference m.now)
-        (masked_reduced reduced.entry.now words.now) matching.old matching.new limit.now region.old
-        region.new trail.now root growth.new.tree.rows.items result }
-    ensures bench { IsBench reduced.entry.now.now.side growth.new }
-{
-    let square = Masked {
-        square: reduced,
-        words,
-    };
-    serve_branch(m, &square, matching, growth, region, *trail, root, *limit)
-}
-
-// What `branch_from` comes to: by a tree without the columns that are apart, where it succeeds, and
-// else by one on all the cells.
-fn branch_either<M: DMonoid>(
-    m: &M,
-    reduced: &Reduced<M::Value>,
-    words: &[u64],
-    matching: &mut Matching,
-    growth: &mut Growth<M::Value>,
-    region: &mut Region<M::Value>,
-    trail: &Option<Trail>,
-    root: u32,
-    limit: &Option<M::Value>,
-) -> Branch<M::Value>
-    requires rest { IsRestOf (M.monoid_of m.now) (masked_reduced reduced.now words.now)
-        matching.old }
-    requires small { reduced.now.now.side ≤ most_side }
-    requires bench { IsBench reduced.now.now.side growth.old }
-    requires root { root < reduced.now.now.side }
-    requires root_free { column_at matching.old root ≡ None }
-    requires limit { IfSome limit.now (IsValue (M.monoid_of m.now)) }
-    requires spare { 1 ≤ region.old.spare }
-    requires live { IfSome trail.now (IsLive region.old) }
-    requires region_side { region.old.side ≡ reduced.now.now.side }
-    ensures branches { Branches (M.monoid_of m.now) (M.difference m.now)
-        (masked_reduced reduced.entry.now words.now) matching.old matching.new limit.now region.old
-        region.new trail.now root growth.new.tree.rows.items result }
-    ensures bench { IsBench reduced.entry.now.now.side growth.new }
-{
-    match branch_apart(
-        m, reduced, words, matching, growth, region, trail, root, limit,
-    ) {
-        Some(branch) => branch,
-        None => branch_whole(
-            m, reduced, words, matching, growth, region, trail, root, limit,
-        ),
-    }
-}
-
 /// Gives a row that has no column one on a square of which some cells are left out; the square
 /// isn't touched. `words` has for each row as many words of 64 bits as its columns need: the cells
 /// whose bit is set count.
@@ -270,15 +194,18 @@ pub fn branch_from<M: DMonoid>(
     ensures bench_side { bench.new.side ≡ bench.old.side }
 {
     let _ = reduced.now.side();
-    branch_either(
-        m,
-        reduced,
+    let square = Masked {
+        square: reduced,
         words,
+    };
+    serve_branch(
+        m,
+        &square,
         matching,
         &mut bench.growth,
         region,
-        &trail,
+        trail,
         root,
-        &limit,
+        limit,
     )
 }

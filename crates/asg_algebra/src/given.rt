@@ -10,10 +10,10 @@ ghost use Rattle.asg_algebra.specs.Solved.{HasSolved, unmatched};
 
 use crate::NoMemory;
 use crate::absorbed_cells::match_columns;
-use crate::reduced_squares::ReducedSquare;
 use crate::solving::Solved;
 use crate::square_solvers::SolvedSquare;
 use crate::taken::take_phases;
+use asg_growth::ReducedSquare;
 use asg_match::Matching;
 use asg_order::DMonoid;
 use asg_pool::Region;

@@ -8,9 +8,9 @@ ghost use Rattle.asg_proof.specs.Phases.{PhaseOf, AreAdmittedPhases, after_phase
 ghost use Rattle.asg_proof.specs.Steps.{HasSide, HasValues, assignment_fold};
 ghost use Rattle.asg_square.specs.Cells.{IsAssignment};
 ghost use Rattle.asg_square.specs.Masked.{keeps};
-ghost use Rattle.asg_algebra.specs.Growing.{IsAbsorbed};
-ghost use Rattle.asg_algebra.specs.Masked.{masked_reduced};
-ghost use Rattle.asg_algebra.specs.Rest.{IsRest, IsRestOf};
+ghost use Rattle.asg_growth.specs.Growing.{IsAbsorbed};
+ghost use Rattle.asg_growth.specs.Masked.{masked_reduced};
+ghost use Rattle.asg_growth.specs.Rest.{IsRest, IsRestOf};
 
 use asg_order::DMonoid;
 use asg_proof::laws::phases_law;

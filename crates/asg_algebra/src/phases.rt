@@ -9,14 +9,12 @@ ghost use Rattle.asg_order.specs.Monoid.{fold_of};
 ghost use Rattle.asg_pool.specs.Forest.{IsLive};
 ghost use Rattle.asg_proof.specs.Phases.{IsAdmittedPhase};
 ghost use Rattle.asg_square.specs.Grid.{cell_at};
-ghost use Rattle.asg_algebra.specs.Growths.{IsRoomy, Searches, IsReady, Closes, phase_in};
-ghost use Rattle.asg_algebra.specs.Rest.{cut, IsRestOf};
+ghost use Rattle.asg_growth.specs.Growths.{IsRoomy, Searches, IsReady, Closes, phase_in};
+ghost use Rattle.asg_growth.specs.Rest.{cut, IsRestOf};
 ghost use Rattle.asg_algebra.specs.Served.{made_of, Serves};
 ghost use Rattle.asg_algebra.specs.Solved.{ArePushed};
 
-use crate::growth::{Growth, grow};
-use crate::reduced_squares::ReducedSquare;
-use crate::roots::{plant, refill};
+use asg_growth::{Growth, ReducedSquare, grow, plant, refill};
 use asg_match::{Exit, Matching, flip};
 use asg_order::DMonoid;
 use asg_pool::{Region, Trail};

@@ -3,21 +3,18 @@
 ghost use Rattle.std.specs.Prelude.{◌≡◌, ◌≤◌, ℕ, List, None, length, IfOk, IfSome, OnErr};
 ghost use Rattle.asg_admit.specs.Reduced.{IsReduced};
 ghost use Rattle.asg_match.specs.Matching.{AllAllowed, Matches};
-ghost use Rattle.asg_monoids.specs.Maxima.{maxima, maxima_difference};
 ghost use Rattle.asg_pool.specs.Forest.{IsLive};
 ghost use Rattle.asg_square.specs.Grid.{cell_at};
 ghost use Rattle.asg_algebra.specs.Ended.{last_of, EndsIn};
-ghost use Rattle.asg_algebra.specs.Growing.{IsAbsorbed};
+ghost use Rattle.asg_growth.specs.Growing.{IsAbsorbed};
 ghost use Rattle.asg_algebra.specs.Solved.{HasSolved, unmatched};
 
 use crate::NoMemory;
 use crate::bench::Bench;
-use crate::given::solve_kept_given;
-use crate::reduced_squares::ReducedSquare;
 use crate::solving::{Progress, Solved, serve_all, solve};
 use asg_admit::Reduced;
+use asg_growth::ReducedSquare;
 use asg_match::Matching;
-use asg_monoids::Greatest;
 use asg_order::{DMonoid, Written};
 use asg_pool::{Region, Trail};
 use asg_proof::Phase;
@@ -34,7 +31,8 @@ pub struct SolvedSquare<V: Copy> {
 
 /// The monoids of the objectives, each with the way to solve its squares that is fastest: sums by
 /// dual variables while none comes near the top, so that a phase costs the rows that it looked at
-/// and not the cells of the whole square; graded values by their low cells.
+/// and not the cells of the whole square; maxima and graded values by cells that are rewritten after
+/// each phase.
 pub trait SquareSolver: Written {
     /// Does what [`solve`] does to a reduced square, under the same conditions. The error is want
     /// of memory; then the matching, the region and the bench are as they were. The time grows with
@@ -103,8 +101,8 @@ pub trait SquareSolver: Written {
         ensures kept_region { OnErr result (region.new ≡ region.old) };
 }
 
-// Solves a square whose cells are rewritten after each phase.
-fn solve_rewriting<M: DMonoid>(
+/// Solves a square whose cells are rewritten after each phase.
+pub(crate) fn solve_rewriting<M: DMonoid>(
     m: &M,
     reduced: Reduced<M::Value>,
     matching: &mut Matching,
@@ -167,66 +165,5 @@ pub(crate) fn solve_kept<M: DMonoid, S: ReducedSquare<M> + Drop>(
         Progress::Full(last) => {
             solve_rewriting(m, square.into_reduced(), matching, bench, region, last)
         }
-    }
-}
-
-impl SquareSolver for Greatest {
-    fn solve_square(
-        &self,
-        alloc: Global,
-        reduced: Reduced<u64>,
-        matching: &mut Matching,
-        bench: &mut Bench<u64>,
-        region: &mut Region<u64>,
-        trail: Option<Trail>,
-    ) -> Result<SolvedSquare<u64>, NoMemory>
-        requires reduced { IsReduced maxima reduced }
-        requires matching_side { length matching.old ≡ reduced.now.side }
-        requires absorbed { AllAllowed (IsAbsorbed maxima reduced.index
-            (cell_at reduced.now)) matching.old }
-        requires bench_side { bench.old.side ≡ reduced.now.side }
-        requires region_side { region.old.side ≡ reduced.now.side }
-        requires spare { unmatched matching.old ≤ region.old.spare }
-        requires live { IfSome trail (IsLive region.old) }
-        ensures solved { IfOk result (λ s. HasSolved maxima
-            maxima_difference reduced s.reduced matching.old matching.new
-            region.old region.new trail (last_of s.ended)) }
-        ensures ends { IfOk result (λ s. EndsIn maxima s.reduced
-            matching.new bench.new.rows s.ended) }
-        ensures bench_side { bench.new.side ≡ bench.old.side }
-        ensures kept_matching { OnErr result (matching.new ≡ matching.old) }
-        ensures kept_region { OnErr result (region.new ≡ region.old) }
-        ensures kept_bench { OnErr result (bench.new ≡ bench.old) }
-    {
-        let _ = alloc;
-        Ok(solve_rewriting(self, reduced, matching, bench, region, trail))
-    }
-
-    fn solve_given(
-        &self,
-        alloc: Global,
-        reduced: Reduced<u64>,
-        matching: &mut Matching,
-        region: &mut Region<u64>,
-        given: &[Phase<u64>],
-        columns: &[u32],
-    ) -> Result<Option<SolvedSquare<u64>>, NoMemory>
-        requires reduced { IsReduced maxima reduced }
-        requires matching_side { length matching.old ≡ reduced.now.side }
-        requires empty { (r c : ℕ) → Matches matching.old r c → ⊥ }
-        requires few { length given.now ≤ unmatched matching.old }
-        requires spare { length given.now ≤ region.old.spare }
-        requires region_side { region.old.side ≡ reduced.now.side }
-        ensures solved { IfOk result (λ found. IfSome found (λ s. HasSolved maxima
-            maxima_difference reduced s.reduced matching.old matching.new region.old
-            region.new None (last_of s.ended))) }
-        ensures ends { (rows : List ℕ) → IfOk result (λ found. IfSome found (λ s.
-            EndsIn maxima s.reduced matching.new rows s.ended)) }
-        ensures kept_matching { OnErr result (matching.new ≡ matching.old) }
-        ensures kept_region { OnErr result (region.new ≡ region.old) }
-    {
-        solve_kept_given(
-            alloc, self, reduced, matching, region, given, columns, false,
-        )
     }
 }

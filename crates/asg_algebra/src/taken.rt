@@ -7,7 +7,7 @@ ghost use Rattle.asg_proof.specs.Phases.{AreAdmittedPhases, IsAdmittedPhase};
 ghost use Rattle.asg_square.specs.Grid.{cell_at};
 ghost use Rattle.asg_algebra.specs.Solved.{LeadTo};
 
-use crate::reduced_squares::ReducedSquare;
+use asg_growth::ReducedSquare;
 use asg_order::{DMonoid, fold};
 use asg_pool::{Region, Trail};
 use asg_proof::Phase;

@@ -6,7 +6,7 @@ ghost use Rattle.asg_proof.specs.Phases.{AreAdmittedPhases};
 ghost use Rattle.asg_square.specs.Grid.{cell_at};
 
 use crate::NoMemory;
-use asg_admit::{ListTest, SumNumber};
+use asg_phase_totals::{ListTest, SumNumber};
 use asg_proof::Phase;
 use asg_square::Square;
 use std::alloc::Global;

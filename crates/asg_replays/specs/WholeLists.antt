@@ -1,6 +1,6 @@
 -- Whole lists of phases: what they come to, and their index.
 use Rattle.std.specs.Prelude.{◌≡◌, ℕ, List, ◌∷◌, map, Option}
-use Rattle.asg_admit.specs.PhaseTotals.{AreTotals, Totals}
+use Rattle.asg_phase_totals.specs.PhaseTotals.{AreTotals, Totals}
 use Rattle.asg_monoids.specs.BoundedSums.{plain_word}
 use Rattle.asg_order.specs.declared.words.Word.{Word}
 use Rattle.asg_order.specs.Monoid.{Monoid}

@@ -2,15 +2,17 @@
 
 ghost use Rattle.std.specs.Prelude.{◌≡◌, IfOk, IfSome, IsTrue};
 ghost use Rattle.asg_admit.specs.Reduced.{IsReduced};
-ghost use Rattle.asg_admit.specs.declared.dual_squares.Replayed.TheVariants.{Applied};
+ghost use Rattle.asg_dual_squares.specs.declared.dual_squares.Replayed.TheVariants.{Applied};
 ghost use Rattle.asg_monoids.specs.BoundedSums.{bounded_sums, bounded_difference, plain_word};
 ghost use Rattle.asg_monoids.specs.BoundedSums.{narrow_top};
 ghost use Rattle.asg_replays.specs.Replays.{AreReplayed, IsReplayed};
 
 use crate::NoMemory;
 use crate::replays::{make_room, read_steps};
-use asg_admit::{DualSquare, NARROW_TOP, Reduced, Replayed};
+use asg_admit::Reduced;
+use asg_dual_squares::{DualSquare, Replayed};
 use asg_monoids::NarrowSums;
+use asg_phase_totals::NARROW_TOP;
 use asg_proof::WrittenPhase;
 use std::alloc::Global;
 

@@ -10,9 +10,10 @@ ghost use Rattle.asg_replays.specs.PhaseParts.{counted_from, first_part, part_of
 ghost use Rattle.asg_replays.specs.Replays.{IsAdmittedFrom, IsBadFrom, IsReplayed, LeadOn};
 
 use crate::NoMemory;
-use asg_admit::{Reduced, replay_within};
+use asg_admit::Reduced;
 use asg_order::{Ordered, Written};
 use asg_proof::{Steps, WrittenPhase};
+use asg_settling::replay_within;
 use std::alloc::Global;
 
 /// Reads the values that have the words, in order, into the list in place of what it had, and tells

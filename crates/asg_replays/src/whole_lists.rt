@@ -1,15 +1,15 @@
 //! Whole lists of phases of sums, tested in one pass over the cells of a square.
 
 ghost use Rattle.std.specs.Prelude.{◌≡◌, ◌≤◌, ℕ, [], List, IfOk, IfSome, IsTrue, length, map};
-ghost use Rattle.asg_admit.specs.PhaseTotals.{AreTotals};
+ghost use Rattle.asg_phase_totals.specs.PhaseTotals.{AreTotals};
 ghost use Rattle.asg_monoids.specs.BoundedSums.{bounded_sums, bounded_difference, plain_word};
 ghost use Rattle.asg_square.specs.Grid.{cell_at};
 ghost use Rattle.asg_replays.specs.WholeLists.{AreTotalsOf, HaveIndex, TakesIn};
 
 use crate::NoMemory;
 use crate::replays::{make_room, read_steps};
-use asg_admit::{PhaseTotals, SumNumber};
 use asg_order::Written;
+use asg_phase_totals::{PhaseTotals, SumNumber};
 use asg_proof::WrittenPhase;
 use asg_square::Square;
 use std::alloc::Global;

@@ -1,7 +1,7 @@
 -- Phases whose totals fit a table are admitted from the square of the instance.
 use Rattle.std.proofs.Common.{◌≡◌, ℕ, ◌<◌, ◌≤◌, true, List, length, sym, ◌∙◌, subst, arith}
 use Rattle.std.specs.Prelude.{Option}
-use Rattle.asg_admit.specs.PhaseTotals.{AreTotals, CountAndRaise, EndAtLeast0, StayBelow, Totals, sum_of_steps}
+use Rattle.asg_phase_totals.specs.PhaseTotals.{AreTotals, CountAndRaise, EndAtLeast0, StayBelow, Totals, sum_of_steps}
 use Rattle.asg_model.specs.declared.objectives.Objective.{Objective}
 use Rattle.asg_model.specs.Instances.{IsInstance}
 use Rattle.asg_model.specs.Problem.{Problem}

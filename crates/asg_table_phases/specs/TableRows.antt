@@ -1,6 +1,6 @@
 -- The rows of a table, by a number for each row and each column.
 use Rattle.std.specs.Prelude.{◌≡◌, ℕ, ◌+◌, ◌*◌, ◌<◌, ◌≤◌, List, length, Some, slice_index}
-use Rattle.asg_admit.specs.PhaseTotals.{Totals}
+use Rattle.asg_phase_totals.specs.PhaseTotals.{Totals}
 use Rattle.asg_model.specs.declared.objectives.Objective.{Objective}
 use Rattle.asg_model.specs.declared.parts.Cost.{Cost}
 use Rattle.asg_model.specs.Limits.{most_cost}

@@ -1,7 +1,7 @@
 //! Whether phases prove a choice of an instance whose square is its table.
 
 ghost use Rattle.std.specs.Prelude.{◌≡◌, ◌≤◌, ◌^◌, All, IfOk, IfSome, IsTrue, length, map};
-ghost use Rattle.asg_admit.specs.PhaseTotals.{AreTotals};
+ghost use Rattle.asg_phase_totals.specs.PhaseTotals.{AreTotals};
 ghost use Rattle.asg_model.specs.Shapes.{square_side};
 ghost use Rattle.asg_monoids.specs.BoundedSums.{bounded_sums, narrow_top, plain_word};
 ghost use Rattle.asg_monoids.specs.Entered.{sum_entered};
@@ -17,9 +17,9 @@ use crate::NoMemory;
 use crate::phase_sizes::are_sized;
 use crate::phase_sums::totals_of;
 use crate::table_fits::fits_table;
-use asg_admit::PhaseTotals;
 use asg_model::{Choice, Instance, Objective};
 use asg_monoids::SumKind;
+use asg_phase_totals::PhaseTotals;
 use asg_proof::Phase;
 use asg_replays::chosen_fold;
 use std::alloc::Global;

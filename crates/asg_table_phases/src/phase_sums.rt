@@ -1,12 +1,12 @@
 //! What phases come to.
 
 ghost use Rattle.std.specs.Prelude.{◌≡◌, ◌≤◌, ◌∷◌, [], List, ℕ, IfOk, IfSome, IsTrue, length};
-ghost use Rattle.asg_admit.specs.PhaseTotals.{AreTotals};
+ghost use Rattle.asg_phase_totals.specs.PhaseTotals.{AreTotals};
 ghost use Rattle.asg_model.specs.Limits.{most_side};
 ghost use Rattle.asg_proof.specs.Phases.{PhaseOf};
 
 use crate::NoMemory;
-use asg_admit::PhaseTotals;
+use asg_phase_totals::PhaseTotals;
 use asg_proof::Phase;
 use std::alloc::Global;
 

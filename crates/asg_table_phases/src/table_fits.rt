@@ -1,7 +1,7 @@
 //! Whether no cell of a table ends below 0 after phases.
 
 ghost use Rattle.std.specs.Prelude.{◌≡◌, ◌≤◌, ℕ, IsTrue, List, length};
-ghost use Rattle.asg_admit.specs.PhaseTotals.{AreTotals};
+ghost use Rattle.asg_phase_totals.specs.PhaseTotals.{AreTotals};
 ghost use Rattle.asg_model.specs.Shapes.{square_side};
 ghost use Rattle.asg_monoids.specs.BoundedSums.{bounded_sums, bounded_difference, narrow_top};
 ghost use Rattle.asg_monoids.specs.Entered.{sum_entered};
@@ -12,9 +12,9 @@ ghost use Rattle.asg_table_phases.specs.TableRows.{AreLow, FitTotals};
 ghost use Rattle.asg_table_phases.specs.TableSquares.{IsTableSquare};
 
 use crate::table_rows::rows_fit;
-use asg_admit::laws::one_pass_law;
-use asg_admit::{NARROW_TOP, PhaseTotals};
 use asg_model::{Instance, Objective};
+use asg_phase_totals::laws::one_pass_law;
+use asg_phase_totals::{NARROW_TOP, PhaseTotals};
 
 // The greatest sum of steps with which no entered cost comes to more than 2^62.
 const MOST_SUM: u64 = NARROW_TOP - 2_000_000_000;

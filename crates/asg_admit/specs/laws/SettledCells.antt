@@ -189,12 +189,6 @@ module _ {V : Type 0} (M : Monoid V) (difference : V → V → V) (step : ℕ �
       ∙ ap (λ b. moved M difference false b (step t) (cell_after M difference step enter leave x t)) (lt-ltb t leave (omega arith))
       ∙ cell_after-before t (omega arith) (omega arith)
 
-  -- a cell whose row has entered and whose column stays is lessened
-  pub cell_after-less : (t : ℕ) → enter ≤ t → t < leave → cell_after M difference step enter leave x (suc t) ≡ difference (cell_after M difference step enter leave x t) (step t)
-  cell_after-less t h k =
-      ap (λ b. moved M difference b (ltb t leave) (step t) (cell_after M difference step enter leave x t)) (le-leb enter t h)
-      ∙ ap (λ b. moved M difference true b (step t) (cell_after M difference step enter leave x t)) (lt-ltb t leave k)
-
   -- a cell whose row has entered and whose column has left stays
   pub cell_after-late : (from t : ℕ) → enter ≤ from → leave ≤ from → from ≤ t → cell_after M difference step enter leave x t ≡ cell_after M difference step enter leave x from
   cell_after-late from zero h k l = ap (cell_after M difference step enter leave x) (let e : zero ≡ from = omega arith in e)

@@ -5,15 +5,16 @@ ghost use Rattle.asg_monoids.specs.BoundedSums.{bounded_sums};
 
 mod dual_squares;
 mod graded_phases;
-mod graded_squares;
+mod graded_replays;
 mod narrow_squares;
 mod one_pass;
 
 use crate::of_admit::worked_phases::{
     FIRST, SECOND, SHIFT, START, SUMS, THIRD, WorkedPhase, is_now, worked,
 };
-use asg_admit::{Reduced, admits, are_values, range, replay, replay_cell, settle, step};
+use asg_admit::{Reduced, admits, are_values, range, replay, replay_cell, step};
 use asg_order::Ordered;
+use asg_settling::settle;
 use std::test::Fail;
 
 // Whether a phase is replayed, and the square and the index are then its.

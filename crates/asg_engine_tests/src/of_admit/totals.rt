@@ -4,8 +4,9 @@
 ghost use Rattle.std.specs.Prelude.{◌≡◌, ◌<◌, ◌≤◌, All, IfOk, IfSome, length};
 
 use crate::samples::reduced_of;
-use asg_admit::{ListTest, PhaseTotals, Reduced};
+use asg_admit::Reduced;
 use asg_monoids::{Bounded, NarrowSums};
+use asg_phase_totals::{ListTest, PhaseTotals};
 use asg_proof::Phase;
 use asg_samples::Fault;
 use asg_square::{NoMemory, Square};

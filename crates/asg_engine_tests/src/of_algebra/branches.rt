@@ -73,7 +73,9 @@ fn branch_at<M: DMonoid>(
         root,
         limit,
     );
-    ended(branch, &desk.matching, root)
+    let ended = ended(branch, &desk.matching, root);
+    drop(desk);
+    ended
 }
 
 // The same of a square with these cells.
@@ -89,10 +91,13 @@ fn branch_of<M: DMonoid>(
     let reduced = reduced_of(alloc, m, side, cells)?;
     let side = reduced.now.side();
     if side > MOST_SIDE || root >= side || !is_limit(m, limit) {
+        drop(reduced);
         return Err(Fault::IllFormed);
     }
     let desk = desk_for(alloc, side)?;
-    Ok(branch_at(m, &reduced, words, desk, root, limit))
+    let ended = branch_at(m, &reduced, words, desk, root, limit);
+    drop(reduced);
+    Ok(ended)
 }
 
 // The kept cells of each row, the root, the limit, and how the branch ends.

@@ -40,7 +40,10 @@ fn expected_index<V: Copy>(
             let (index, is_expected) = told(solved, desk, columns);
             if is_expected { Some(index) } else { None }
         }
-        None => None,
+        None => {
+            drop(desk);
+            None
+        }
     }
 }
 
@@ -67,8 +70,14 @@ fn index_at<M: SquareSolver>(
         &mut desk.region,
         given,
         columns,
-    )?;
-    Ok(expected_index(found, desk, columns))
+    );
+    match found {
+        Ok(found) => Ok(expected_index(found, desk, columns)),
+        Err(want) => {
+            drop(desk);
+            Err(want)
+        }
+    }
 }
 
 // The same of a square with these cells.
@@ -83,6 +92,7 @@ fn index_by<M: SquareSolver>(
     let reduced = reduced_of(alloc, m, side, cells)?;
     let side = reduced.now.side();
     if given.len() > side as usize {
+        drop(reduced);
         return Ok(None);
     }
     let desk = desk_for(alloc, side)?;

@@ -21,7 +21,10 @@ pub(crate) fn index_of<V: Copy>(reduced: &Reduced<V>) -> V {
 /// expected.
 pub(crate) fn told<V: Copy>(solved: SolvedSquare<V>, desk: Desk<V>, columns: &[u32]) -> (V, bool) {
     let is_expected = has_perfect(solved.ended, &desk.matching, columns);
-    (index_of(&solved.reduced), is_expected)
+    let index = index_of(&solved.reduced);
+    drop(solved);
+    drop(desk);
+    (index, is_expected)
 }
 
 // What is told of a square once it is solved at a desk, with no column taken.
@@ -39,15 +42,21 @@ fn answer_at<M: SquareSolver>(
     requires spare { reduced.now.side ≤ desk.region.spare }
 {
     let mut desk = desk;
-    let solved = m.solve_square(
+    let found = m.solve_square(
         alloc,
         reduced,
         &mut desk.matching,
         &mut desk.bench,
         &mut desk.region,
         None,
-    )?;
-    Ok(told(solved, desk, columns))
+    );
+    match found {
+        Ok(solved) => Ok(told(solved, desk, columns)),
+        Err(want) => {
+            drop(desk);
+            Err(want)
+        }
+    }
 }
 
 // The same of a square with these cells.

@@ -5,7 +5,7 @@ ghost use Rattle.asg_match.specs.Matching.{Matches};
 ghost use Rattle.asg_pool.specs.Forest.{IsLive};
 ghost use Rattle.asg_square.specs.Grid.{cell_at};
 ghost use Rattle.asg_algebra.specs.Ended.{last_of};
-ghost use Rattle.asg_algebra.specs.Rest.{IsRest};
+ghost use Rattle.asg_growth.specs.Rest.{IsRest};
 
 use crate::of_algebra::desks::{Desk, desk_for, has_perfect};
 use crate::of_algebra::solver_tests::{COLUMNS, GRADED, GRADES, index_of};
@@ -114,11 +114,13 @@ type Told<V> = (V, bool, u32);
 // What is told of what was found.
 fn told<V: Copy>(found: Found<V>, columns: &[u32]) -> Told<V> {
     let is_expected = has_perfect(found.ended, &found.desk.matching, columns);
-    (
+    let told = (
         index_of(&found.reduced),
         is_expected,
         found.desk.region.spare(),
-    )
+    );
+    drop(found);
+    told
 }
 
 // What is told of a square with these cells once it is solved, with no column taken.
@@ -191,7 +193,9 @@ fn are_phases(region: &Region<u128>, last: Option<Trail>, phases: &[Phase]) -> b
 fn has_phases(found: Found<u128>, phases: &[Phase]) -> bool
     requires { IfSome (last_of found.ended) (IsLive found.desk.region) }
 {
-    are_phases(&found.desk.region, last(found.ended), phases)
+    let is_so = are_phases(&found.desk.region, last(found.ended), phases);
+    drop(found);
+    is_so
 }
 
 // Whether the three rows are solved by these phases.
@@ -239,7 +243,9 @@ const ONE_COLUMN: [Option<u64>; 9] = [
 fn told_short(found: Found<u64>) -> (bool, u64, u32) {
     let are_short = matches!(found.ended, Solved::Short(_))
         && found.desk.bench.violator() == [1, 0].as_slice();
-    (are_short, found.reduced.index, found.desk.region.spare())
+    let told = (are_short, found.reduced.index, found.desk.region.spare());
+    drop(found);
+    told
 }
 
 // What is told of the rows with one column.

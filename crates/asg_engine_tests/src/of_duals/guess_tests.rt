@@ -74,13 +74,11 @@ fn index_by<M: DMonoid>(
     requires { IsReduced (M.monoid_of m.now) reduced }
 {
     let mut reduced = reduced;
-    if !all_apply(m, &mut reduced, guess.phases()) {
-        return None;
-    }
-    if !are_absorbed(m, &reduced, guess.columns()) {
-        return None;
-    }
-    Some(reduced.index)
+    let is_good = all_apply(m, &mut reduced, guess.phases())
+        && are_absorbed(m, &reduced, guess.columns());
+    let index = reduced.index;
+    drop(reduced);
+    if is_good { Some(index) } else { None }
 }
 
 // Pairs in one number, whose first parts don't decide.
@@ -108,9 +106,12 @@ const DECIDED: [Option<u128>; 9] = [
 fn pairs_solved(alloc: Global, side: u32, cells: &[Option<u128>]) -> Result<Option<u128>, Fault> {
     let reduced = reduced_of(alloc, &SUMS, side, cells)?;
     let Some(guess) = pair_guess(alloc, &reduced.now)? else {
+        drop(reduced);
         return Ok(None);
     };
-    Ok(index_by(&SUMS, reduced, &guess))
+    let index = index_by(&SUMS, reduced, &guess);
+    drop(guess);
+    Ok(index)
 }
 
 // Pairs whose second parts add up to more than a first part: the least sum isn't that of the least
@@ -171,9 +172,12 @@ fn capped_solved(
 ) -> Result<Option<u128>, Fault> {
     let reduced = reduced_of(alloc, cap, 3, cells)?;
     let Some(guess) = capped_guess(alloc, &reduced.now, cap.top)? else {
+        drop(reduced);
         return Ok(None);
     };
-    Ok(index_by(cap, reduced, &guess))
+    let index = index_by(cap, reduced, &guess);
+    drop(guess);
+    Ok(index)
 }
 
 // Where sums stop, the cells up to there, and what phases lead to.
@@ -220,9 +224,12 @@ fn grades_solved(
 ) -> Result<Option<(u64, u128)>, Fault> {
     let reduced = reduced_of(alloc, &GRADES, side, cells)?;
     let Some(guess) = grade_guess(alloc, &reduced.now)? else {
+        drop(reduced);
         return Ok(None);
     };
-    Ok(index_by(&GRADES, reduced, &guess))
+    let index = index_by(&GRADES, reduced, &guess);
+    drop(guess);
+    Ok(index)
 }
 
 // Squares of graded sums, each with its side, and what phases lead to.
@@ -267,9 +274,12 @@ const NONE: [Option<u64>; 4] = [Some(1), None, Some(1), None];
 fn peaks_solved(alloc: Global, side: u32, cells: &[Option<u64>]) -> Result<Option<u64>, Fault> {
     let reduced = reduced_of(alloc, &Greatest, side, cells)?;
     let Some(guess) = peak_guess(alloc, &reduced.now)? else {
+        drop(reduced);
         return Ok(None);
     };
-    Ok(index_by(&Greatest, reduced, &guess))
+    let index = index_by(&Greatest, reduced, &guess);
+    drop(guess);
+    Ok(index)
 }
 
 // Squares of numbers, each with its side, and what phases lead to.

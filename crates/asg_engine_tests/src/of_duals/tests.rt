@@ -6,9 +6,11 @@ ghost use Rattle.asg_admit.specs.Reduced.{IsReduced};
 ghost use Rattle.asg_monoids.specs.BoundedSums.{bounded_sums, narrow_top};
 
 use crate::samples::reduced_of;
-use asg_admit::{DualSquare, NARROW_TOP, Reduced, Replayed};
+use asg_admit::Reduced;
+use asg_dual_squares::{DualSquare, Replayed};
 use asg_duals::{Duals, short_phases, tight_duals};
 use asg_monoids::NarrowSums;
+use asg_phase_totals::NARROW_TOP;
 use asg_proof::Phase;
 use asg_samples::Fault;
 use asg_square::NoMemory;
@@ -93,6 +95,7 @@ fn applied(
     if all_apply(&mut narrow, phases, room.as_mut_slice()) {
         Ok(Some(narrow))
     } else {
+        drop(narrow);
         Ok(None)
     }
 }
@@ -109,11 +112,10 @@ fn index_by(
     let Some(narrow) = applied(alloc, reduced, phases)? else {
         return Ok(None);
     };
-    if are_zero(&narrow, columns) {
-        Ok(Some(narrow.index()))
-    } else {
-        Ok(None)
-    }
+    let are_good = are_zero(&narrow, columns);
+    let index = narrow.index();
+    drop(narrow);
+    Ok(if are_good { Some(index) } else { None })
 }
 
 // What phases are and add up to: their number, the column of the first row, and the index that they
@@ -134,9 +136,12 @@ fn told_by(alloc: Global, reduced: Reduced<u64>, duals: &Duals) -> Result<Told, 
 fn solved(alloc: Global, side: u32, cells: &[Option<u64>]) -> Result<Option<Told>, Fault> {
     let reduced = reduced_of(alloc, &NarrowSums, side, cells)?;
     let Some(duals) = tight_duals(alloc, &reduced.now)? else {
+        drop(reduced);
         return Ok(None);
     };
-    Ok(Some(told_by(alloc, reduced, &duals)?))
+    let told = told_by(alloc, reduced, &duals);
+    drop(duals);
+    Ok(Some(told?))
 }
 
 // Whether the square of this side with these cells is solved by at most so many phases, which lead

@@ -5,7 +5,7 @@ use Rattle.std.proofs.Math.Facts.{Fits-lt-pow}
 use Rattle.std.proofs.lemmas.Bool.{cases_eq}
 use Rattle.std.proofs.lemmas.Option.{slice_get-get_or, get_or_from_slice_get}
 use Rattle.asg_admit.proofs.AllowingLemmas.{not_false}
-use Rattle.asg_admit.proofs.WordBits.{next_bit, next_has, next_kept, next_smaller}
+use Rattle.asg_admit.specs.laws.WordBits.{next_bit, next_has, next_kept, next_smaller}
 use Rattle.asg_admit.proofs.lesser_cells.bits_below.Goals as goal
 
 pub offset_bounds-values-column : goal.offset_bounds-values-column

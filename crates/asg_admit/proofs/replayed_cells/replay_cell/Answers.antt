@@ -1,5 +1,5 @@
 use Rattle.std.proofs.Common.{◌∙◌}
-use Rattle.asg_admit.proofs.ReplayLemmas.{if_some, cut_settled, allows_cut, refuses_cut}
+use Rattle.asg_admit.specs.laws.ReplayLemmas.{if_some, cut_settled, allows_cut, refuses_cut}
 use Rattle.asg_admit.proofs.replayed_cells.replay_cell.Goals as goal
 
 pub returns-then-leave-enter-clause-settled : goal.returns-then-leave-enter-clause-settled

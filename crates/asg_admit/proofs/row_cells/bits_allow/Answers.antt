@@ -5,8 +5,8 @@ use Rattle.std.proofs.lemmas.Bool.{cases_eq}
 use Rattle.std.proofs.lemmas.Option.{slice_get-get_or}
 use Rattle.std.specs.Int.{bit_at}
 use Rattle.asg_admit.specs.Admission.{AllowsAt}
-use Rattle.asg_admit.proofs.AdmissionLemmas.{not_both, never}
-use Rattle.asg_admit.proofs.WordBits.{next_bit, next_has, next_below, next_kept, next_gone, next_smaller}
+use Rattle.asg_admit.specs.laws.AdmissionLemmas.{not_both, never}
+use Rattle.asg_admit.specs.laws.WordBits.{next_bit, next_has, next_below, next_kept, next_gone, next_smaller}
 use Rattle.asg_admit.proofs.row_cells.bits_allow.Goals as goal
 
 pub offset_bounds-values-column : goal.offset_bounds-values-column

@@ -6,7 +6,7 @@ use Rattle.std.proofs.Math.Bool.{beq}
 use Rattle.asg_proof.specs.Steps.{moved}
 use Rattle.asg_square.specs.Grid.{cell_at}
 use Rattle.asg_admit.specs.Settling.{IsWritten}
-use Rattle.asg_admit.proofs.SquareLemmas.{written}
+use Rattle.asg_admit.specs.laws.SquareLemmas.{written}
 use Rattle.asg_admit.proofs.stepping.step_cell.Goals as goal
 
 not_false : (b : Bool) → not b ≡ false → b ≡ true

@@ -1,9 +1,9 @@
 use Rattle.std.proofs.Common.{◌≢◌, ◌/◌, ◌%◌, ◌<◌, length, get_or, refl, sym, ◌∙◌, ap, subst, arith}
 use Rattle.std.specs.Prelude.{All, AllPairs}
-use Rattle.asg_algebra.specs.Growths.{IsPlanted, IsRoomy}
+use Rattle.asg_growth.specs.Growths.{IsPlanted, IsRoomy}
 use Rattle.asg_algebra.proofs.BranchLaws.{branched, left_at}
 use Rattle.asg_algebra.proofs.FinishLaws.{planted_search, stuck_deficient}
-use Rattle.asg_algebra.proofs.GrowthLaws.{few_rows, place_read, search_place}
+use Rattle.asg_growth.specs.laws.GrowthLaws.{few_rows, place_read, search_place}
 use Rattle.asg_algebra.proofs.branching.serve_branch.Goals as goal
 
 pub grow_within-requires-clause-search : goal.grow_within-requires-clause-search

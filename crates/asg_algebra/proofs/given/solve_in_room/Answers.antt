@@ -1,7 +1,7 @@
 use Rattle.std.proofs.Common.{None, sym, ◌∙◌, subst}
 use Rattle.asg_match.specs.Matching.{IsPerfect}
 use Rattle.asg_square.specs.Grid.{cell_at}
-use Rattle.asg_algebra.specs.Growing.{IsAbsorbed}
+use Rattle.asg_growth.specs.Growing.{IsAbsorbed}
 use Rattle.asg_algebra.specs.Solved.{HasSolved}
 use Rattle.asg_algebra.proofs.TakenLaws.{HasSolved-led, KeepsRows-perfect}
 use Rattle.asg_algebra.proofs.given.solve_in_room.Goals as goal

@@ -6,7 +6,7 @@ use Rattle.asg_admit.specs.Reduced.{IsPhaseTo}
 use Rattle.asg_order.specs.Monoid.{fold_of}
 use Rattle.asg_proof.specs.Phases.{IsAdmittedPhase, phase_of}
 use Rattle.asg_square.specs.Grid.{cell_at}
-use Rattle.asg_algebra.specs.Growths.{phase_in}
+use Rattle.asg_growth.specs.Growths.{phase_in}
 use Rattle.asg_algebra.specs.Served.{made_of}
 use Rattle.asg_algebra.specs.Solved.{ArePushed, IsPush}
 use Rattle.asg_algebra.proofs.PhaseEnds.{no_steps, ArePushed-made}

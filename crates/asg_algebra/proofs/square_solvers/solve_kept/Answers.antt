@@ -3,7 +3,7 @@ use Rattle.asg_admit.specs.Reduced.{IsReduced}
 use Rattle.asg_match.specs.Matching.{AllAllowed}
 use Rattle.asg_square.specs.Grid.{cell_at}
 use Rattle.asg_algebra.specs.Ended.{last_of, EndsIn}
-use Rattle.asg_algebra.specs.Growing.{IsAbsorbed}
+use Rattle.asg_growth.specs.Growing.{IsAbsorbed}
 use Rattle.asg_algebra.specs.Solved.{HasSolved}
 use Rattle.asg_algebra.proofs.SolvedLaws.{ArePushed-side}
 use Rattle.asg_algebra.proofs.SolvingLaws.{HasSolved-join}

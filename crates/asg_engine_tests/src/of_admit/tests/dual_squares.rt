@@ -7,7 +7,8 @@ ghost use Rattle.asg_monoids.specs.BoundedSums.{bounded_sums};
 use crate::of_admit::worked_phases::{
     Cells, FIRST, SECOND, SHIFT, START, SUMS, THIRD, WorkedPhase, is_now, worked,
 };
-use asg_admit::{DualRow, DualSquare, Reduced, Replayed, admits, are_values};
+use asg_admit::{Reduced, admits, are_values};
+use asg_dual_squares::{DualRow, DualSquare, Replayed};
 use asg_order::fold;
 use asg_samples::Fault;
 use asg_square::NoMemory;
@@ -53,18 +54,18 @@ fn settled(
     ensures { IfOk result (λ o. IfSome o (IsReduced (bounded_sums 1000000000000))) }
 {
     let steps = phase.steps;
-    if steps.len() > 3 {
-        return Ok(None);
-    }
-    if !are_values(&SUMS, steps) {
+    if steps.len() > 3 || !are_values(&SUMS, steps) {
+        drop(reduced);
         return Ok(None);
     }
     let sum = fold(&SUMS, steps);
     if !admits(&SUMS, &reduced.now, steps, &phase.enters, &phase.leaves) {
+        drop(reduced);
         return Ok(None);
     }
     let mut dual = DualSquare::make(alloc, SUMS.top, reduced)?;
     if !dual.has_room(SUMS.top, sum) {
+        drop(dual);
         return Ok(None);
     }
     let mut room = [0u128; 4];
@@ -88,6 +89,7 @@ fn settled_as(
     if is_now(&reduced, &phase.cells, phase.index) {
         Ok(Some(reduced))
     } else {
+        drop(reduced);
         Ok(None)
     }
 }
@@ -193,9 +195,13 @@ fn keeps_start(dual: &mut DualSquare<u128>) -> bool {
 fn leads_through(dual: DualSquare<u128>) -> bool {
     let mut dual = dual;
     if !keeps_start(&mut dual) || !replays_all(&mut dual) {
+        drop(dual);
         return false;
     }
-    is_now(&dual.reduce(), &THIRD.cells, THIRD.index)
+    let reduced = dual.reduce();
+    let is_so = is_now(&reduced, &THIRD.cells, THIRD.index);
+    drop(reduced);
+    is_so
 }
 
 // The square before its phases.

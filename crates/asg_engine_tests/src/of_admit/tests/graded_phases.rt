@@ -66,8 +66,7 @@ pub(crate) const SECOND: WorkedPhase = WorkedPhase {
     index: (1, 3),
 };
 
-/// Then one on the third row and all columns, and one on all rows and the third column: the cell of
-/// both that has the grade 2 is low only since that step.
+/// Then one on the third row and all columns, and one on all rows and the third column.
 pub(crate) const THIRD: WorkedPhase = WorkedPhase {
     steps: &[(1, 4), (2, 1)],
     enters: [1, 1, 0],

@@ -6,9 +6,11 @@ ghost use Rattle.asg_monoids.specs.BoundedSums.{bounded_sums, narrow_top};
 
 use crate::of_admit::worked_phases::FIRST;
 use crate::samples::reduced_of;
-use asg_admit::{DualRow, DualSquare, NARROW_TOP, Reduced, Replayed, admits, are_values};
+use asg_admit::{Reduced, admits, are_values};
+use asg_dual_squares::{DualRow, DualSquare, Replayed};
 use asg_monoids::NarrowSums;
 use asg_order::fold;
+use asg_phase_totals::NARROW_TOP;
 use asg_samples::Fault;
 use asg_square::{NoMemory, Square};
 use std::alloc::Global;
@@ -98,6 +100,7 @@ fn settled(
     requires few { length steps.now < 4 }
 {
     if !are_values(&NarrowSums, steps) {
+        drop(reduced);
         return Ok(None);
     }
     if !admits(
@@ -107,10 +110,12 @@ fn settled(
         &FIRST.enters,
         &FIRST.leaves,
     ) {
+        drop(reduced);
         return Ok(None);
     }
     let mut narrow = DualSquare::make(alloc, NARROW_TOP, reduced)?;
     if !narrow.has_room(NARROW_TOP, fold(&NarrowSums, steps)) {
+        drop(narrow);
         return Ok(None);
     }
     let mut room = [0u64; 4];
@@ -122,10 +127,13 @@ fn settled(
 // reduced.
 fn is_first(narrow: DualSquare<u64>) -> bool {
     if !is_narrow_first(&narrow) {
+        drop(narrow);
         return false;
     }
     let reduced = narrow.reduce();
-    is_written_first(&reduced.now) && reduced.index == FIRST_INDEX
+    let is_so = is_written_first(&reduced.now) && reduced.index == FIRST_INDEX;
+    drop(reduced);
+    is_so
 }
 
 // Whether the first phase is settled, and the square and the index are then its.

@@ -7,8 +7,9 @@ ghost use Rattle.asg_monoids.specs.BoundedSums.{bounded_sums};
 
 use crate::of_admit::worked_phases::{FIRST, SECOND, SHIFT, SUMS, THIRD, WorkedPhase, is_now};
 use crate::samples::{THREE, reduced_of};
-use asg_admit::{Reduced, replay_within};
+use asg_admit::Reduced;
 use asg_samples::Fault;
+use asg_settling::replay_within;
 use std::alloc::Global;
 use std::test::Fail;
 

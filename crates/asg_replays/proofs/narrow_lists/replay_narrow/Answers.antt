@@ -1,5 +1,5 @@
 use Rattle.std.proofs.Common.{◌≡◌, map, sym, ap, ◌∙◌, arith}
-use Rattle.asg_admit.specs.declared.dual_squares.Replayed.TheVariants.{Applied, Full}
+use Rattle.asg_dual_squares.specs.declared.dual_squares.Replayed.TheVariants.{Applied, Full}
 use Rattle.asg_monoids.specs.BoundedSums.{plain_word, narrow_top}
 use Rattle.asg_proof.specs.Phases.{phase_of}
 use Rattle.asg_replays.specs.laws.Replaying.{phase-words}

@@ -1,6 +1,6 @@
 use Rattle.std.proofs.Common.{◌^◌, length, sym, ap, subst, ◌∙◌, arith}
 use Rattle.std.specs.Prelude.{IfSome, Option}
-use Rattle.asg_admit.specs.PhaseTotals.{AreTotals, Totals}
+use Rattle.asg_phase_totals.specs.PhaseTotals.{AreTotals, Totals}
 use Rattle.asg_model.specs.Shapes.{square_side}
 use Rattle.asg_monoids.specs.BoundedSums.{narrow_top}
 use Rattle.asg_monoids.specs.Entered.{sum_entered}

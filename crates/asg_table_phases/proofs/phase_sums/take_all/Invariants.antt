@@ -1,5 +1,5 @@
 use Rattle.std.proofs.Common.{◌≡◌, ◌-◌, drop, length}
-use Rattle.asg_admit.specs.PhaseTotals.{AreTotals}
+use Rattle.asg_phase_totals.specs.PhaseTotals.{AreTotals}
 use Rattle.asg_table_phases.proofs.phase_sums.take_all.Given as goal
 
 -- the totals are those of the phases from here on

@@ -1,5 +1,5 @@
 use Rattle.std.proofs.Common.{◌≡◌, ℕ, List, ◌∷◌, ap, ◌∙◌, subst}
-use Rattle.asg_admit.specs.PhaseTotals.{AreTotals}
+use Rattle.asg_phase_totals.specs.PhaseTotals.{AreTotals}
 use Rattle.asg_proof.specs.Phases.{PhaseOf, phase_of}
 use Rattle.asg_table_phases.proofs.phase_sums.take_in.Goals as goal
 

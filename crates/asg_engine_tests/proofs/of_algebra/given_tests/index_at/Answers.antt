@@ -3,6 +3,6 @@ use Rattle.asg_match.specs.Matching.{Matches}
 use Rattle.asg_match.specs.laws.Matchings.{Matches-empty}
 use Rattle.asg_engine_tests.proofs.of_algebra.given_tests.index_at.Goals as goal
 
-pub solve_given-requires-clause-empty : goal.solve_given-requires-clause-empty
-solve_given-requires-clause-empty g c r k has =
+pub solve_given-found-requires-clause-empty : goal.solve_given-found-requires-clause-empty
+solve_given-found-requires-clause-empty g c r k has =
     Matches-empty _ r k (subst (λ m. Matches m r k) c.requires.matching has)

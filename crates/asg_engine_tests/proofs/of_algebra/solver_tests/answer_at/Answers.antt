@@ -6,11 +6,11 @@ use Rattle.asg_match.specs.Matching.{Matches}
 use Rattle.asg_match.specs.laws.Matchings.{Matches-empty}
 use Rattle.asg_engine_tests.proofs.of_algebra.solver_tests.answer_at.Goals as goal
 
-pub solve_square-requires-clause-absorbed : goal.solve_square-requires-clause-absorbed
-solve_square-requires-clause-absorbed g c r k has =
+pub solve_square-found-requires-clause-absorbed : goal.solve_square-found-requires-clause-absorbed
+solve_square-found-requires-clause-absorbed g c r k has =
     absurd (Matches-empty _ r k (subst (λ m. Matches m r k) c.requires.matching has))
 
-pub solve_square-requires-clause-spare : goal.solve_square-requires-clause-spare
-solve_square-requires-clause-spare g c =
+pub solve_square-found-requires-clause-spare : goal.solve_square-found-requires-clause-spare
+solve_square-found-requires-clause-spare g c =
     let rows = ap length c.requires.matching in
     omega (arith, count_by-le-length is_none c.args.desk.matching, rows, length-replicate {A = Option ℕ} c.args.reduced.now.side None, c.requires.spare)

@@ -1,7 +1,0 @@
-use Rattle.asg_square.specs.Grid.{cell_at}
-use Rattle.asg_admit.specs.Duals.{IsGreatest}
-use Rattle.asg_admit.proofs.greatest_cells.greatest_cell.Given as goal
-
--- the greatest of the rows so far
-abbrev pub invariant-loop-row : goal.invariant-loop-row
-invariant-loop-row g l = IsGreatest l.row (λ r k. g.N.SumNumber.present (cell_at l.square r k)) (g.N.SumNumber.number l.greatest)

@@ -1,9 +1,0 @@
-use Rattle.std.proofs.Common.{◌≡◌, ◌≤◌, take}
-use Rattle.asg_admit.specs.PhaseTotals.{sum_of_steps}
-use Rattle.asg_admit.proofs.list_tests.sum_of_list.Given as goal
-
--- the sum of the steps so far, within the top
-abbrev pub invariant-loop-i : goal.invariant-loop-i
-invariant-loop-i g l =
-    let N = g.N.SumNumber in
-    record { sum : N.number l.sum ≡ sum_of_steps (take l.i (N.phases l.phases)); small : N.number l.sum ≤ N.top }

@@ -1,0 +1,4 @@
+mod DualLemmas
+mod LesserLemmas
+mod DualPhases
+mod NarrowPhases

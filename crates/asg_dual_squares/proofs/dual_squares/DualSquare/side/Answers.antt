@@ -1,0 +1,12 @@
+use Rattle.std.proofs.Common.{ℕ, subst}
+use Rattle.asg_square.specs.Grid.{IsGrid}
+use Rattle.asg_admit.specs.declared.reduced.Reduced.{Reduced}
+use Rattle.asg_phase_totals.specs.SumNumbers.{numbered_grid}
+use Rattle.asg_dual_squares.proofs.DualLemmas.{dual_is_grid}
+use Rattle.asg_dual_squares.proofs.dual_squares.DualSquare.side.Goals as goal
+
+pub returns-clause-grid : goal.returns-clause-grid
+returns-clause-grid g c =
+    let N = g.N.SumNumber in
+    let s = c.self.inside in
+    subst (λ (R : Reduced ℕ). IsGrid R.now) c.self.view_is (dual_is_grid (numbered_grid N.cells s.base) c.self.invariant.grid (N.numbers s.rows.items) (N.numbers s.columns.items))

@@ -1,0 +1,4 @@
+pub mod OfferLemmas
+pub mod ScanLemmas
+pub mod EnteringLaws
+pub mod AppliedPhases

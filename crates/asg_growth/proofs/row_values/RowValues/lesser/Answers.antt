@@ -1,0 +1,6 @@
+use Rattle.std.proofs.lemmas.Nat.Bits.{bit_at_ones}
+use Rattle.asg_growth.proofs.row_values.RowValues.lesser.Goals as goal
+
+-- each bit is set
+pub returns : goal.returns
+returns g c k h none = absurd (none (bit_at_ones 64 k h))

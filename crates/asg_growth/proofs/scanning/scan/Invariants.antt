@@ -1,0 +1,17 @@
+use Rattle.std.proofs.Common.{◌/◌, ◌<◌}
+use Rattle.asg_match.specs.ColumnSet.{HasColumn}
+use Rattle.asg_growth.specs.Leads.{leads_of, lead_at, Relaxes, Picks}
+use Rattle.asg_growth.specs.Nearest.{AreNearest}
+use Rattle.asg_growth.specs.Scanned.{AreValued}
+use Rattle.asg_growth.specs.laws.NearestLemmas.{IsBelow}
+use Rattle.asg_growth.proofs.scanning.scan.Given as goal
+
+-- the columns of the words so far were offered their keys
+abbrev pub invariant-loop-number : goal.invariant-loop-number
+invariant-loop-number g l =
+    record {
+      relaxed : Relaxes (g.M.Ordered.monoid_of l.m) (g.R.RowValues.values_of l.values) l.sum l.place (λ k. (k / 64 < l.number) × HasColumn l.present k × HasColumn l.unseen k) (leads_of l.fn.keys l.fn.keyed l.fn.places) (leads_of l.keys l.keyed l.places);
+      valued : AreValued (g.M.Ordered.monoid_of l.m) (leads_of l.keys l.keyed l.places) l.unseen;
+      nearest : AreNearest (g.M.Ordered.monoid_of l.m) (leads_of l.keys l.keyed l.places) l.unseen l.nearest;
+      picks : Picks (g.M.Ordered.monoid_of l.m) (lead_at (g.M.Ordered.monoid_of l.m) (leads_of l.keys l.keyed l.places)) (IsBelow l.number l.unseen) l.best;
+    }

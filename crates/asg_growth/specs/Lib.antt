@@ -1,0 +1,11 @@
+pub mod Growing
+pub mod Searching
+pub mod Keys
+pub mod Leads
+pub mod Masked
+pub mod Nearest
+pub mod Scanned
+pub mod Underway
+pub mod Rest
+pub mod Growths
+pub mod laws

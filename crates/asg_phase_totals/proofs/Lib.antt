@@ -1,0 +1,5 @@
+mod GreatestLemmas
+mod RowWords
+pub mod TotalsLemmas
+pub mod SegmentLemmas
+pub mod WalkLemmas

@@ -1,0 +1,15 @@
+use Rattle.std.proofs.Common.{length, ◌∙◌, ap, sym}
+use Rattle.asg_phase_totals.specs.PhaseTotals.{Totals}
+use Rattle.asg_phase_totals.specs.laws.NumberLemmas.{count_is}
+use Rattle.asg_phase_totals.proofs.phase_totals.PhaseTotals.rows.Goals as goal
+
+pub returns-clause-rows : goal.returns-clause-rows
+returns-clause-rows g c = ap g.N.SumNumber.numbers c.as_slice.ensures.value ∙ ap (λ (t : Totals). t.rows) c.self.view_is
+
+pub returns-clause-count : goal.returns-clause-count
+returns-clause-count g c =
+    let N = g.N.SumNumber in
+    let law = g.met.N.SumNumber.numbers_law in
+    sym (count_is N.number N.numbers law c.as_slice.result.now)
+    ∙ ap (λ xs. length (N.numbers xs)) c.as_slice.ensures.value
+    ∙ ap (λ (t : Totals). length t.rows) c.self.view_is

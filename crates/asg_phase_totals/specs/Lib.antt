@@ -1,0 +1,4 @@
+pub mod Duals
+pub mod PhaseTotals
+pub mod SumNumbers
+pub mod laws

@@ -1,0 +1,3 @@
+mod SettledRows
+mod JoinedLemmas
+mod LeftLemmas

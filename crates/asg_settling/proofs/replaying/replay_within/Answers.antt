@@ -1,0 +1,58 @@
+use Rattle.std.proofs.Common.{refl}
+use Rattle.asg_admit.specs.Reduced.{phase_of}
+use Rattle.asg_admit.specs.laws.AdmissionLemmas.{not_both, never, over_from, over_admitted, allows_from}
+use Rattle.asg_admit.specs.laws.SettleLemmas.{unchanged}
+use Rattle.asg_admit.specs.laws.SquareLemmas.{same_labels}
+use Rattle.asg_settling.proofs.replaying.replay_within.Goals as goal
+
+pub returns-then-not-is_over-clause-admitted : goal.returns-then-not-is_over-clause-admitted
+returns-then-not-is_over-clause-admitted g c =
+    let m = c.args.m.now in
+    never (λ one. not_both c.is_over.result
+    (c.is_over.ensures.1 (over_from (g.M.Ordered.monoid_of m) (g.M.DMonoid.difference m) (phase_of c.args.steps.now c.args.enters.now c.args.leaves.now) c.args.reduced.now.now one))
+    c.if-not-is_over.true)
+
+pub returns-then-not-blocks_allow-clause-admitted : goal.returns-then-not-blocks_allow-clause-admitted
+returns-then-not-blocks_allow-clause-admitted g c =
+    let m = c.args.m.now in
+    never (λ one. not_both c.blocks_allow.result
+    (c.blocks_allow.ensures.allowed.1 (allows_from (g.M.Ordered.monoid_of m) (g.M.DMonoid.difference m) (phase_of c.args.steps.now c.args.enters.now c.args.leaves.now) c.args.reduced.now.now one))
+    c.if-not-blocks_allow.true)
+
+pub settle-requires-clause-admitted : goal.settle-requires-clause-admitted
+settle-requires-clause-admitted g c =
+    let m = c.args.m.now in
+    over_admitted (g.M.Ordered.monoid_of m) (g.M.DMonoid.difference m) (phase_of c.args.steps.now c.args.enters.now c.args.leaves.now) c.args.reduced.now.now
+    (c.is_over.ensures.0 c.if-not-is_over.false) (c.blocks_allow.ensures.allowed.0 c.if-not-blocks_allow.false)
+
+pub returns-clause-admitted : goal.returns-clause-admitted
+returns-clause-admitted g c =
+    let m = c.args.m.now in (
+      λ _. over_admitted (g.M.Ordered.monoid_of m) (g.M.DMonoid.difference m) (phase_of c.args.steps.now c.args.enters.now c.args.leaves.now) c.args.reduced.now.now
+          (c.is_over.ensures.0 c.if-not-is_over.false) (c.blocks_allow.ensures.allowed.0 c.if-not-blocks_allow.false),
+      λ _. refl,
+    )
+
+pub returns-then-not-is_over-clause-refused : goal.returns-then-not-is_over-clause-refused
+returns-then-not-is_over-clause-refused g c = λ _.
+    let m = c.args.m.now in
+    let phase = phase_of c.args.steps.now c.args.enters.now c.args.leaves.now in
+    unchanged (g.M.Ordered.monoid_of m) (g.M.DMonoid.difference m) phase c.args.reduced.now c.requires.reduced
+
+pub returns-then-not-is_over-clause-labels : goal.returns-then-not-is_over-clause-labels
+returns-then-not-is_over-clause-labels g c = same_labels c.args.reduced.now.now
+
+pub returns-then-not-blocks_allow-clause-refused : goal.returns-then-not-blocks_allow-clause-refused
+returns-then-not-blocks_allow-clause-refused g c = λ _.
+    let m = c.args.m.now in
+    let phase = phase_of c.args.steps.now c.args.enters.now c.args.leaves.now in
+    unchanged (g.M.Ordered.monoid_of m) (g.M.DMonoid.difference m) phase c.args.reduced.now c.requires.reduced
+
+pub returns-then-not-blocks_allow-clause-labels : goal.returns-then-not-blocks_allow-clause-labels
+returns-then-not-blocks_allow-clause-labels g c = same_labels c.args.reduced.now.now
+
+pub returns-clause-labels : goal.returns-clause-labels
+returns-clause-labels g c = c.settle.ensures.phase.labels
+
+pub returns-clause-reduced : goal.returns-clause-reduced
+returns-clause-reduced g c = c.settle.ensures.phase.reduced

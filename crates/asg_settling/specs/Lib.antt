@@ -1,0 +1,2 @@
+pub mod LeftColumns
+pub mod JoinedSteps

@@ -6,7 +6,7 @@ use Rattle.std.proofs.lemmas.List.Sums.{count_by-le-length}
 use Rattle.std.proofs.lemmas.List.Elements.{All-nil, All-cons, All-head, All-tail}
 use Rattle.asg_admit.specs.Reduced.{KeepsLabels}
 use Rattle.asg_admit.specs.declared.reduced.Reduced.{Reduced}
-use Rattle.asg_algebra.specs.Growing.{IsAbsorbed}
+use Rattle.asg_growth.specs.Growing.{IsAbsorbed}
 use Rattle.asg_algebra.specs.Solved.{LeadTo, unmatched}
 use Rattle.asg_match.specs.Matching.{Matches, IsPerfect}
 use Rattle.asg_model.specs.declared.bands.Band.TheVariants.{Whole}

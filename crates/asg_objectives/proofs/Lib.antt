@@ -6,3 +6,4 @@ mod MatchedColumns
 mod NarrowOutcomes
 mod PresentWords
 mod CappedSums
+mod ListedGrades

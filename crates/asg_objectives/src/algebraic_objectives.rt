@@ -13,6 +13,7 @@ ghost use Rattle.asg_proof.specs.PromisedProofs.{GivesFewPhases};
 use crate::NoMemory;
 use crate::capped_squares::by_uncut_sums;
 use crate::entered_squares::guessed_algebraic;
+use crate::listed_grades::listed_outcome;
 use crate::narrow_squares::by_narrow_sums;
 use asg_algebra::entered_square;
 use asg_duals::{Guess, capped_guess, grade_guess, pair_guess, peak_guess};
@@ -87,6 +88,10 @@ fn by_grades(alloc: Global, inst: &Instance) -> Result<Outcome, NoMemory>
     let kind = TimeKind::new();
     let square = entered_square(alloc, &kind, inst)?;
     let guess = grade_guess(alloc, &square)?;
+    let listed = listed_outcome(alloc, inst, &square, &guess)?;
+    if let Some(outcome) = listed {
+        return Ok(outcome);
+    }
     guessed_algebraic(alloc, &kind, inst, square, guess)
 }
 

@@ -13,6 +13,7 @@ mod algebraic_objectives;
 mod capped_squares;
 mod entered_squares;
 mod guessed_squares;
+mod listed_grades;
 mod narrow_squares;
 mod present_cells;
 mod solved_squares;

@@ -2,6 +2,8 @@
 #![tactic(auto)]
 
 #[cfg(test)]
+mod of_grade_lists;
+#[cfg(test)]
 mod of_lex;
 #[cfg(test)]
 mod of_objectives;

@@ -1,13 +1,11 @@
 //! Best choices, levels and Hall sets of small instances of every shape, by hand.
 
-ghost use Rattle.std.specs.Prelude.{◌≤◌};
-ghost use Rattle.asg_model.specs.Limits.{most_side};
-ghost use Rattle.asg_model.specs.Shapes.{square_side};
-
 use asg_lex::{LexRefusal, lexicographic};
 use asg_model::Place::{All, Exactly};
 use asg_model::limits::MOST_SIDE;
-use asg_model::{ABSENT, Band, Instance, Objective, Place, Value, is_hall, is_valid, value};
+use asg_model::{
+    ABSENT, Band, Choice, Instance, NoMemory, Objective, Place, Value, is_hall, is_valid, value,
+};
 use asg_proof::{Level, Outcome, Proof};
 use asg_samples::{Fours, ONE_COLUMN, PRODUCTS, SIGNED, Sample, THREE, TWO_COLUMNS, four_by_four};
 use std::alloc::Global;
@@ -95,34 +93,74 @@ fn is_proved(proof: &Proof, costs: &[i64]) -> bool {
     }
 }
 
+// Whether the value is these costs.
+fn is_value(found: &Value, costs: &[i64]) -> bool {
+    matches!(found, Value::Many(many) if many.as_slice() == costs)
+}
+
+// Whether the choice is valid and has the value of these costs.
+fn has_value(
+    alloc: Global,
+    inst: &Instance,
+    choice: &Choice,
+    costs: &[i64],
+) -> Result<bool, NoMemory> {
+    if !is_valid(inst, choice) {
+        return Ok(false);
+    }
+    let found = value(alloc, Objective::Lex, inst, choice)?;
+    let is_value = is_value(&found, costs);
+    drop(found);
+    Ok(is_value)
+}
+
 // Whether the outcome is a valid choice of this value with its proof, or where there is no value, a
 // Hall set of the instance.
-fn is_right(alloc: Global, inst: &Instance, want: &Option<[i64; 4]>) -> Result<bool, Fail>
-    requires { square_side inst.now ≤ most_side }
-{
-    match (lexicographic(alloc, inst)?, want) {
+fn is_due(
+    alloc: Global,
+    inst: &Instance,
+    outcome: &Outcome,
+    want: &Option<[i64; 4]>,
+) -> Result<bool, NoMemory> {
+    match (outcome, want) {
         (Outcome::Best { choice, proof }, Some(costs)) => {
             let costs = present(costs);
-            let found = value(alloc, Objective::Lex, inst, &choice)?;
-            let is_value = matches!(&found, Value::Many(many) if many.as_slice() == costs);
-            Ok(is_value && is_valid(inst, &choice) && is_proved(&proof, costs))
+            Ok(has_value(alloc, inst, choice, costs)? && is_proved(proof, costs))
         }
         (Outcome::Nothing { rows }, None) => Ok(is_hall(inst, Band::Whole, rows.as_slice())),
         _ => Ok(false),
     }
 }
 
+// Whether the outcome of an instance is that.
+fn is_right(alloc: Global, inst: &Instance, want: &Option<[i64; 4]>) -> Result<bool, Fail> {
+    if inst.side() > MOST_SIDE {
+        return Ok(false);
+    }
+    let outcome = lexicographic(alloc, inst)?;
+    let is_due = is_due(alloc, inst, &outcome, want);
+    drop(outcome);
+    Ok(is_due?)
+}
+
 // Whether the instance of a case has its outcome.
 fn is_right_on(alloc: Global, case: &Case) -> Result<bool, Fail> {
     let (place, wide, last, costs, want) = case;
     let inst = four_by_four(alloc, *place, *wide, *last, costs)?;
-    if inst.side() > MOST_SIDE {
-        return Ok(false);
-    }
-    is_right(alloc, &inst, want)
+    let is_right = is_right(alloc, &inst, want);
+    drop(inst);
+    is_right
 }
 
-// Why there is no outcome of an instance of these rows and one column.
+// Why there is no outcome of an instance.
+fn refusal_on(alloc: Global, inst: &Instance) -> Option<LexRefusal> {
+    if inst.side() > MOST_SIDE {
+        return None;
+    }
+    lexicographic(alloc, inst).err()
+}
+
+// Why there is none of that of these rows and one column.
 fn refusal_of(alloc: Global, active: &[bool], firsts: &[i64]) -> Result<Option<LexRefusal>, Fail> {
     let sample = Sample {
         rows: active,
@@ -132,10 +170,9 @@ fn refusal_of(alloc: Global, active: &[bool], firsts: &[i64]) -> Result<Option<L
         place: All,
     };
     let inst = sample.instance(alloc)?;
-    if inst.side() > MOST_SIDE {
-        return Ok(None);
-    }
-    Ok(lexicographic(alloc, &inst).err())
+    let refusal = refusal_on(alloc, &inst);
+    drop(inst);
+    Ok(refusal)
 }
 
 // These cases, for a caller that needn't know them.

@@ -48,7 +48,9 @@ fn is_best_choice(
         return Ok(false);
     }
     let found = value(alloc, objective, inst, choice)?;
-    Ok(is_value(&found, first, second))
+    let is_value = is_value(&found, first, second);
+    drop(found);
+    Ok(is_value)
 }
 
 // Whether the outcome is a best choice that is proved by one to three phases.
@@ -121,7 +123,11 @@ fn gives(
     best: Best,
 ) -> Result<bool, NoMemory> {
     match outcome_of(alloc, objective, inst)? {
-        Some(outcome) => is_best(alloc, objective, inst, &outcome, best),
+        Some(outcome) => {
+            let is_best = is_best(alloc, objective, inst, &outcome, best);
+            drop(outcome);
+            is_best
+        }
         None => Ok(false),
     }
 }
@@ -133,7 +139,11 @@ where
     requires { most_cost ≤ K.reach kind.now }
 {
     match outcome_by(alloc, kind, inst)? {
-        Some(outcome) => is_best(alloc, kind.objective(), inst, &outcome, best),
+        Some(outcome) => {
+            let is_best = is_best(alloc, kind.objective(), inst, &outcome, best);
+            drop(outcome);
+            is_best
+        }
         None => Ok(false),
     }
 }
@@ -151,24 +161,39 @@ fn is_hall_set(inst: &Instance, outcome: &Outcome) -> bool {
 // Whether the outcome of an objective is a Hall set of two rows.
 fn gives_hall_set(alloc: Global, inst: &Instance, objective: Objective) -> Result<bool, NoMemory> {
     match outcome_of(alloc, objective, inst)? {
-        Some(outcome) => Ok(is_hall_set(inst, &outcome)),
+        Some(outcome) => {
+            let is_hall_set = is_hall_set(inst, &outcome);
+            drop(outcome);
+            Ok(is_hall_set)
+        }
         None => Ok(false),
     }
 }
 
-// Tells the first objective whose outcome isn't a best choice of a sample.
+// Tells the first objective whose outcome isn't a best choice of an instance.
+fn first_wrong_of(
+    alloc: Global,
+    inst: &Instance,
+    bests: &[(Objective, Best)],
+) -> Result<Option<Objective>, NoMemory> {
+    for (objective, best) in bests {
+        if !gives(alloc, inst, *objective, *best)? {
+            return Ok(Some(*objective));
+        }
+    }
+    Ok(None)
+}
+
+// The same of that of a sample.
 fn first_wrong(
     alloc: Global,
     sample: &Sample<'_>,
     bests: &[(Objective, Best)],
 ) -> Result<Option<Objective>, Fault> {
     let inst = sample.instance(alloc)?;
-    for (objective, best) in bests {
-        if !gives(alloc, &inst, *objective, *best)? {
-            return Ok(Some(*objective));
-        }
-    }
-    Ok(None)
+    let wrong = first_wrong_of(alloc, &inst, bests);
+    drop(inst);
+    Ok(wrong?)
 }
 
 // Squares and their best choices.
@@ -187,15 +212,22 @@ fn finds_best_choices(rt: HostRuntime) -> Result<(), Fail> {
     Ok(())
 }
 
+// Tells the first objective whose outcome isn't a Hall set of two rows.
+fn first_without_hall_set(alloc: Global, inst: &Instance) -> Result<Option<Objective>, NoMemory> {
+    for (objective, _) in &BEST {
+        if !gives_hall_set(alloc, inst, *objective)? {
+            return Ok(Some(*objective));
+        }
+    }
+    Ok(None)
+}
+
 #[test]
 fn rows_with_one_column(rt: HostRuntime) -> Result<(), Fail> {
     let inst = ONE_COLUMN.instance(rt.alloc())?;
-    for (objective, _) in &BEST {
-        assert!(rt;
-            gives_hall_set(rt.alloc(), &inst, *objective)?,
-            "{objective:?}"
-        );
-    }
+    let wrong = first_without_hall_set(rt.alloc(), &inst);
+    drop(inst);
+    assert_eq!(rt; wrong?, None);
     Ok(())
 }
 
@@ -214,6 +246,8 @@ fn kinds_give(alloc: Global, inst: &Instance) -> Result<bool, NoMemory> {
 #[test]
 fn kinds(rt: HostRuntime) -> Result<(), Fail> {
     let inst = PLAIN.instance(rt.alloc())?;
-    assert!(rt; kinds_give(rt.alloc(), &inst)?);
+    let kinds_give = kinds_give(rt.alloc(), &inst);
+    drop(inst);
+    assert!(rt; kinds_give?);
     Ok(())
 }

@@ -59,10 +59,17 @@ fn node_count(alloc: Global, ranker: &mut Ranker<SumKind>) -> Result<Option<usiz
 
 // Whether two answers are given, the best one first, and there are three nodes for each and the
 // root.
+fn gives_both(alloc: Global, ranker: &mut Ranker<SumKind>) -> Result<bool, NoMemory> {
+    Ok(gives(ranker, 1, &[1, 0, 2]) && node_count(alloc, ranker)? == Some(7))
+}
+
+// Whether a ranker for two answers does so.
 fn gives_two(alloc: Global, inst: &Instance) -> Result<bool, RankRefusal> {
     match ranker_of(alloc, inst, 2)? {
         Some(mut ranker) => {
-            Ok(gives(&mut ranker, 1, &[1, 0, 2]) && node_count(alloc, &mut ranker)? == Some(7))
+            let is_so = gives_both(alloc, &mut ranker);
+            drop(ranker);
+            Ok(is_so?)
         }
         None => Ok(false),
     }
@@ -84,7 +91,11 @@ fn is_none(inst: &Instance, ranker: &mut Ranker<SumKind>) -> bool
 // Whether a ranker has no answer.
 fn gives_none(alloc: Global, inst: &Instance) -> Result<bool, RankRefusal> {
     match ranker_of(alloc, inst, 2)? {
-        Some(mut ranker) => Ok(is_none(inst, &mut ranker)),
+        Some(mut ranker) => {
+            let is_so = is_none(inst, &mut ranker);
+            drop(ranker);
+            Ok(is_so)
+        }
         None => Ok(false),
     }
 }
@@ -92,8 +103,12 @@ fn gives_none(alloc: Global, inst: &Instance) -> Result<bool, RankRefusal> {
 #[test]
 fn gives_answers_in_turn(rt: HostRuntime) -> Result<(), Fail> {
     let plain = PLAIN.instance(rt.alloc())?;
-    assert!(rt; gives_two(rt.alloc(), &plain)?);
+    let gives_two = gives_two(rt.alloc(), &plain);
+    drop(plain);
+    assert!(rt; gives_two?);
     let none = ONE_COLUMN.instance(rt.alloc())?;
-    assert!(rt; gives_none(rt.alloc(), &none)?);
+    let gives_none = gives_none(rt.alloc(), &none);
+    drop(none);
+    assert!(rt; gives_none?);
     Ok(())
 }

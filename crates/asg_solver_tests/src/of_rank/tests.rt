@@ -1,17 +1,16 @@
-//! Rankings, their numbers of nodes, Hall sets and refusals, by hand.
+//! Rankings, their numbers of nodes and Hall sets, by hand.
 
 ghost use Rattle.std.specs.Prelude.{◌≡◌, IsTrue};
 ghost use Rattle.asg_model.specs.Objectives.{is_algebraic};
 
 use crate::of_objectives::samples::{ONE_COLUMN, PLAIN};
-use crate::of_rank::samples::{CELL, Case, cases};
+use crate::of_rank::samples::{Case, cases};
 use asg_model::limits::MOST_SIDE;
 use asg_model::{
     Band, Choice, Instance, Objective, Place, Value, is_hall, is_valid, negative, value,
 };
 use asg_proof::{Mark, Node};
 use asg_rank::{NoMemory, RankOutcome, RankRefusal, ranking};
-use asg_samples::Sample;
 use std::alloc::Global;
 use std::test::Fail;
 
@@ -23,7 +22,7 @@ fn has_monoid(objective: Objective) -> bool
 }
 
 // The ranking of an instance, if one may be asked for.
-fn ranking_of(
+pub(crate) fn ranking_of(
     alloc: Global,
     objective: Objective,
     inst: &Instance,
@@ -61,7 +60,9 @@ fn is_answer(
         return Ok(false);
     }
     let found = value(alloc, case.1, inst, choice)?;
-    Ok(is_value_at(&found, place, case.3, case.4))
+    let is_value = is_value_at(&found, place, case.3, case.4);
+    drop(found);
+    Ok(is_value)
 }
 
 // Whether these are the answers that are due.
@@ -130,19 +131,43 @@ fn are_nodes(case: &Case, placed: usize, nodes: &[Node]) -> bool {
     }
 }
 
-// Whether the ranking of a case is the one that is due.
-fn is_right(alloc: Global, case: &Case) -> Result<bool, Fail> {
-    let inst = case.0.instance(alloc)?;
-    match ranking_of(alloc, case.1, &inst, case.2) {
-        Some(Ok(RankOutcome::Listed { answers, nodes })) => {
+// Whether a ranking of an instance is the one that is due.
+fn is_due(
+    alloc: Global,
+    case: &Case,
+    inst: &Instance,
+    outcome: &RankOutcome,
+) -> Result<bool, NoMemory> {
+    match outcome {
+        RankOutcome::Listed { answers, nodes } => {
             let placed = inst.placed() as usize;
             Ok(
                 are_nodes(case, placed, nodes.as_slice())
-                    && are_answers(alloc, case, &inst, answers.as_slice())?,
+                    && are_answers(alloc, case, inst, answers.as_slice())?,
             )
+        }
+        RankOutcome::Nothing { .. } => Ok(false),
+    }
+}
+
+// Whether the ranking of an instance is.
+fn is_right_of(alloc: Global, case: &Case, inst: &Instance) -> Result<bool, NoMemory> {
+    match ranking_of(alloc, case.1, inst, case.2) {
+        Some(Ok(outcome)) => {
+            let is_due = is_due(alloc, case, inst, &outcome);
+            drop(outcome);
+            is_due
         }
         _ => Ok(false),
     }
+}
+
+// Whether the ranking of a case is.
+fn is_right(alloc: Global, case: &Case) -> Result<bool, Fail> {
+    let inst = case.0.instance(alloc)?;
+    let is_right = is_right_of(alloc, case, &inst);
+    drop(inst);
+    Ok(is_right?)
 }
 
 // The place of the first case whose ranking is another one.
@@ -170,64 +195,79 @@ fn has_few(nodes: &[Node], most: usize) -> bool {
     }
 }
 
+// Whether a ranking has one answer, and its root at most so many phases.
+fn has_few_at(outcome: &RankOutcome, most: usize) -> bool {
+    match outcome {
+        RankOutcome::Listed { answers, nodes } => {
+            answers.len() == 1 && has_few(nodes.as_slice(), most)
+        }
+        RankOutcome::Nothing { .. } => false,
+    }
+}
+
 // Whether the root of a ranking by an objective has at most so many phases.
 fn has_few_at_root(alloc: Global, inst: &Instance, objective: Objective, most: usize) -> bool {
     match ranking_of(alloc, objective, inst, 1) {
-        Some(Ok(RankOutcome::Listed { answers, nodes })) => {
-            answers.len() == 1 && has_few(nodes.as_slice(), most)
+        Some(Ok(outcome)) => {
+            let has_few = has_few_at(&outcome, most);
+            drop(outcome);
+            has_few
         }
         _ => false,
     }
+}
+
+// Whether those of rankings by three objectives have.
+fn have_few(alloc: Global, inst: &Instance) -> bool {
+    has_few_at_root(alloc, inst, Objective::Sum, 2)
+        && has_few_at_root(alloc, inst, Objective::Capped(8), 2)
+        && has_few_at_root(alloc, inst, Objective::Bottleneck, 1)
 }
 
 // For sums, as many as the side has binary digits; for a bottleneck, one to it.
 #[test]
 fn few_phases_at_the_root(rt: HostRuntime) -> Result<(), Fail> {
     let inst = PLAIN.instance(rt.alloc())?;
-    assert!(rt; has_few_at_root(rt.alloc(), &inst, Objective::Sum, 2));
-    assert!(rt; has_few_at_root(rt.alloc(), &inst, Objective::Capped(8), 2));
-    assert!(rt; has_few_at_root(rt.alloc(), &inst, Objective::Bottleneck, 1));
+    let have_few = have_few(rt.alloc(), &inst);
+    drop(inst);
+    assert!(rt; have_few);
     Ok(())
 }
 
-// Whether the outcome for an objective is a Hall set of two rows.
+// Whether the outcome is a Hall set of two rows.
+fn is_hall_set(inst: &Instance, outcome: &RankOutcome) -> bool {
+    match outcome {
+        RankOutcome::Nothing { rows } => {
+            rows.len() == 2 && is_hall(inst, Band::Whole, rows.as_slice())
+        }
+        RankOutcome::Listed { .. } => false,
+    }
+}
+
+// Whether the outcome for an objective is such a set.
 fn gives_hall_set(alloc: Global, inst: &Instance, objective: Objective) -> bool {
     match ranking_of(alloc, objective, inst, 3) {
-        Some(Ok(RankOutcome::Nothing { rows })) => {
-            rows.len() == 2 && is_hall(inst, Band::Whole, rows.as_slice())
+        Some(Ok(outcome)) => {
+            let is_hall_set = is_hall_set(inst, &outcome);
+            drop(outcome);
+            is_hall_set
         }
         _ => false,
     }
 }
 
+// Whether the outcomes for three objectives are.
+fn give_hall_sets(alloc: Global, inst: &Instance) -> bool {
+    gives_hall_set(alloc, inst, Objective::SumPair)
+        && gives_hall_set(alloc, inst, Objective::BottleneckMax)
+        && gives_hall_set(alloc, inst, Objective::TimeCost)
+}
+
 #[test]
 fn rows_with_one_column(rt: HostRuntime) -> Result<(), Fail> {
     let inst = ONE_COLUMN.instance(rt.alloc())?;
-    assert!(rt; gives_hall_set(rt.alloc(), &inst, Objective::SumPair));
-    assert!(rt; gives_hall_set(rt.alloc(), &inst, Objective::BottleneckMax));
-    assert!(rt; gives_hall_set(rt.alloc(), &inst, Objective::TimeCost));
-    Ok(())
-}
-
-// Why there is no ranking of a sample by sums.
-fn refusal_of(alloc: Global, sample: &Sample<'_>, count: u32) -> Result<Option<RankRefusal>, Fail> {
-    let inst = sample.instance(alloc)?;
-    match ranking_of(alloc, Objective::Sum, &inst, count) {
-        Some(Err(refusal)) => Ok(Some(refusal)),
-        _ => Ok(None),
-    }
-}
-
-// Whether the work of a ranking of a sample is refused and told.
-fn tells(alloc: Global, sample: &Sample<'_>, count: u32, work: u64) -> Result<bool, Fail> {
-    Ok(refusal_of(alloc, sample, count)? == Some(RankRefusal::RankTooLarge(work)))
-}
-
-#[test]
-fn refuses_more_work_than_4000000(rt: HostRuntime) -> Result<(), Fail> {
-    assert!(rt; tells(rt.alloc(), &CELL, 4_000_001, 4_000_001)?);
-    assert!(rt; tells(rt.alloc(), &PLAIN, 444_445, 4_000_005)?);
-    assert!(rt; tells(rt.alloc(), &PLAIN, 4_000_000, 36_000_000)?);
-    assert!(rt; tells(rt.alloc(), &PLAIN, 4_294_967_295, 38_654_705_655)?);
+    let give_hall_sets = give_hall_sets(rt.alloc(), &inst);
+    drop(inst);
+    assert!(rt; give_hall_sets);
     Ok(())
 }

@@ -3,8 +3,8 @@
 ghost use Rattle.std.specs.Prelude.{IsTrue};
 ghost use Rattle.asg_monoids.specs.NarrowObjectives.{is_narrow_objective};
 
-use asg_admit::PhaseTotals;
-use asg_model::{Choice, Objective, Place};
+use asg_model::{Choice, Instance, Objective, Place};
+use asg_phase_totals::PhaseTotals;
 use asg_proof::Phase;
 use asg_samples::{Fault, Sample};
 use asg_table_phases::{NoMemory, fits_table, is_table_square, proves};
@@ -54,12 +54,18 @@ fn phase(
     Ok(Phase::of(steps, enters, leaves))
 }
 
-// The rows fall to their least costs, 1 and 2, and then the second column by the last step, which
-// is 2 where the rest of its first cell is taken.
-fn phases(alloc: Global, last: u64) -> Result<Vec<Phase<u64>>, NoMemory> {
-    let mut phases = Vec::new(alloc);
+// Appends two phases: the rows fall to their least costs, 1 and 2, and then the second column by
+// the last step, which is 2 where the rest of its first cell is taken.
+fn add_phases(alloc: Global, phases: &mut Vec<Phase<u64>>, last: u64) -> Result<(), NoMemory> {
     phases.push(phase(alloc, &[SHIFT + 1], &[0, 1], &[1, 1])?)?;
     phases.push(phase(alloc, &[SHIFT + 2, last], &[1, 0], &[1, 2])?)?;
+    Ok(())
+}
+
+// These phases.
+fn phases(alloc: Global, last: u64) -> Result<Vec<Phase<u64>>, NoMemory> {
+    let mut phases = Vec::new(alloc);
+    add_phases(alloc, &mut phases, last)?;
     Ok(phases)
 }
 
@@ -71,7 +77,27 @@ fn choice_of(alloc: Global, first: u32, second: u32) -> Result<Choice, NoMemory>
     Ok(choice)
 }
 
-// Whether phases with this last step prove the choice of these columns.
+// Whether phases with this last step prove the choice of these columns for an instance.
+fn are_proved_for(
+    alloc: Global,
+    objective: Objective,
+    inst: &Instance,
+    columns: (u32, u32),
+    last: u64,
+) -> Result<bool, NoMemory>
+    requires { IsTrue (is_narrow_objective objective) }
+{
+    if !is_table_square(inst) {
+        return Ok(false);
+    }
+    let choice = choice_of(alloc, columns.0, columns.1)?;
+    let phases = phases(alloc, last)?;
+    let are_proved = proves(alloc, objective, inst, &choice, phases.as_slice());
+    drop(phases);
+    are_proved
+}
+
+// Whether they prove it for the instance of a sample.
 fn are_proved(
     alloc: Global,
     objective: Objective,
@@ -82,13 +108,9 @@ fn are_proved(
     requires { IsTrue (is_narrow_objective objective) }
 {
     let inst = sample.instance(alloc)?;
-    if !is_table_square(&inst) {
-        return Ok(false);
-    }
-    let phases = phases(alloc, last)?;
-    let choice = choice_of(alloc, columns.0, columns.1)?;
-    let is_proved = proves(alloc, objective, &inst, &choice, phases.as_slice())?;
-    Ok(is_proved)
+    let are_proved = are_proved_for(alloc, objective, &inst, columns, last);
+    drop(inst);
+    Ok(are_proved?)
 }
 
 #[test]
@@ -118,18 +140,29 @@ fn steps_past_a_cell_do_not_fit(rt: HostRuntime) -> Result<(), Fail> {
 #[test]
 fn more_columns_are_no_square(rt: HostRuntime) -> Result<(), Fail> {
     let inst = WIDE.instance(rt.alloc())?;
-    assert!(rt; !is_table_square(&inst));
+    let is_table_square = is_table_square(&inst);
+    drop(inst);
+    assert!(rt; !is_table_square);
     Ok(())
 }
 
-// Whether no phases fit the least square.
-fn none_fit(alloc: Global) -> Result<bool, Fault> {
-    let inst = LEAST.instance(alloc)?;
-    if !is_table_square(&inst) {
+// Whether no phases fit an instance that is a square.
+fn none_fit_on(alloc: Global, inst: &Instance) -> Result<bool, NoMemory> {
+    if !is_table_square(inst) {
         return Ok(false);
     }
     let totals = PhaseTotals::none(alloc, inst.rows().len() as u32)?;
-    Ok(fits_table(Objective::Sum, &inst, &totals))
+    let none_fit = fits_table(Objective::Sum, inst, &totals);
+    drop(totals);
+    Ok(none_fit)
+}
+
+// Whether none fit the least square.
+fn none_fit(alloc: Global) -> Result<bool, Fault> {
+    let inst = LEAST.instance(alloc)?;
+    let none_fit = none_fit_on(alloc, &inst);
+    drop(inst);
+    Ok(none_fit?)
 }
 
 #[test]

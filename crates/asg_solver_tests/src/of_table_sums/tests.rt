@@ -1,7 +1,10 @@
 //! Best choices of small instances by the costs as they stand, by hand.
 
+ghost use Rattle.std.specs.Prelude.{IsTrue};
+ghost use Rattle.asg_monoids.specs.NarrowObjectives.{is_narrow_objective};
+
 use crate::of_objectives::samples::{ONE_COLUMN, PLAIN};
-use asg_model::{Choice, Objective, Place};
+use asg_model::{Choice, Instance, NoMemory, Objective, Place};
 use asg_samples::{Fault, Sample};
 use asg_table_sums::best_by_table;
 use std::alloc::Global;
@@ -59,6 +62,21 @@ fn is_choice(found: &Option<Choice>, columns: &[u32]) -> bool {
     choice.len() as usize == columns.len()
 }
 
+// Whether an instance's best choice has these columns.
+fn has_columns(
+    alloc: Global,
+    objective: Objective,
+    inst: &Instance,
+    columns: &[u32],
+) -> Result<bool, NoMemory>
+    requires { IsTrue (is_narrow_objective objective) }
+{
+    let found = best_by_table(alloc, objective, inst)?;
+    let is_choice = is_choice(&found, columns);
+    drop(found);
+    Ok(is_choice)
+}
+
 // Whether a sample's best choices have these columns.
 fn gives(
     alloc: Global,
@@ -67,9 +85,10 @@ fn gives(
     greatest: &[u32],
 ) -> Result<bool, Fault> {
     let inst = sample.instance(alloc)?;
-    let sum = best_by_table(alloc, Objective::Sum, &inst)?;
-    let sum_max = best_by_table(alloc, Objective::SumMax, &inst)?;
-    Ok(is_choice(&sum, least) && is_choice(&sum_max, greatest))
+    let sum = has_columns(alloc, Objective::Sum, &inst, least);
+    let sum_max = has_columns(alloc, Objective::SumMax, &inst, greatest);
+    drop(inst);
+    Ok(sum? && sum_max?)
 }
 
 #[test]
@@ -83,7 +102,8 @@ fn least_and_greatest_sums(rt: HostRuntime) -> Result<(), Fail> {
 #[test]
 fn none_where_cells_are_absent(rt: HostRuntime) -> Result<(), Fail> {
     let inst = ONE_COLUMN.instance(rt.alloc())?;
-    let found = best_by_table(rt.alloc(), Objective::Sum, &inst)?;
-    assert!(rt; found.is_none());
+    let found = best_by_table(rt.alloc(), Objective::Sum, &inst);
+    drop(inst);
+    assert!(rt; found?.is_none());
     Ok(())
 }

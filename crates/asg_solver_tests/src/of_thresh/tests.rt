@@ -8,7 +8,7 @@ ghost use Rattle.asg_model.specs.Objectives.{IsBottleneck};
 use asg_model::Place::{All, Exactly};
 use asg_model::limits::MOST_SIDE;
 use asg_model::{
-    ABSENT, Band, Instance, NoMemory, Objective, Place, Value, is_hall, is_valid, value,
+    ABSENT, Band, Choice, Instance, NoMemory, Objective, Place, Value, is_hall, is_valid, value,
 };
 use asg_proof::{Outcome, Proof};
 use asg_samples::{Fault, Fours, ONE_COLUMN, PRODUCTS, SIGNED, THREE, TWO_COLUMNS, four_by_four};
@@ -71,8 +71,48 @@ fn is_proved(objective: Objective, inst: &Instance, cost: i64, proof: &Proof) ->
     }
 }
 
+// Whether the value is this number.
+fn is_value(found: &Value, cost: i64) -> bool {
+    matches!(found, Value::One(one) if *one == i128::from(cost))
+}
+
+// Whether the choice is valid and has this value.
+fn has_value(
+    alloc: Global,
+    objective: Objective,
+    inst: &Instance,
+    choice: &Choice,
+    cost: i64,
+) -> Result<bool, NoMemory> {
+    if !is_valid(inst, choice) {
+        return Ok(false);
+    }
+    let found = value(alloc, objective, inst, choice)?;
+    let is_value = is_value(&found, cost);
+    drop(found);
+    Ok(is_value)
+}
+
 // Whether the outcome is a valid choice of this value with its proof, or where there is no value, a
 // Hall set of the instance.
+fn is_due(
+    alloc: Global,
+    objective: Objective,
+    inst: &Instance,
+    outcome: &Outcome,
+    want: Option<i64>,
+) -> Result<bool, NoMemory> {
+    match (outcome, want) {
+        (Outcome::Best { choice, proof }, Some(cost)) => {
+            let has_value = has_value(alloc, objective, inst, choice, cost)?;
+            Ok(has_value && is_proved(objective, inst, cost, proof))
+        }
+        (Outcome::Nothing { rows }, None) => Ok(is_hall(inst, Band::Whole, rows.as_slice())),
+        _ => Ok(false),
+    }
+}
+
+// Whether the outcome of an instance is that.
 fn is_right(
     alloc: Global,
     objective: Objective,
@@ -82,31 +122,36 @@ fn is_right(
     requires objective { IsBottleneck objective }
     requires side { square_side inst.now ≤ most_side }
 {
-    match (bottleneck(alloc, objective, inst)?, want) {
-        (Outcome::Best { choice, proof }, Some(cost)) => {
-            let found = value(alloc, objective, inst, &choice)?;
-            let is_value = matches!(found, Value::One(one) if one == i128::from(cost));
-            let is_proved = is_proved(objective, inst, cost, &proof);
-            Ok(is_value && is_valid(inst, &choice) && is_proved)
-        }
-        (Outcome::Nothing { rows }, None) => Ok(is_hall(inst, Band::Whole, rows.as_slice())),
-        _ => Ok(false),
-    }
+    let outcome = bottleneck(alloc, objective, inst)?;
+    let is_due = is_due(alloc, objective, inst, &outcome, want);
+    drop(outcome);
+    is_due
 }
 
-// Whether both objectives have the outcomes of a case.
-fn are_right(alloc: Global, case: &Case) -> Result<bool, Fault> {
-    let (place, wide, last, costs, want) = case;
-    let inst = four_by_four(alloc, *place, *wide, *last, costs)?;
+// Whether both objectives have these outcomes.
+fn are_both_right(
+    alloc: Global,
+    inst: &Instance,
+    want: &Option<(i64, i64)>,
+) -> Result<bool, NoMemory> {
     if inst.side() > MOST_SIDE {
         return Ok(false);
     }
     let low = want.map(|values| values.0);
-    if !is_right(alloc, Objective::Bottleneck, &inst, low)? {
+    if !is_right(alloc, Objective::Bottleneck, inst, low)? {
         return Ok(false);
     }
     let high = want.map(|values| values.1);
-    Ok(is_right(alloc, Objective::BottleneckMax, &inst, high)?)
+    is_right(alloc, Objective::BottleneckMax, inst, high)
+}
+
+// Whether the instance of a case has its outcomes.
+fn are_right(alloc: Global, case: &Case) -> Result<bool, Fault> {
+    let (place, wide, last, costs, want) = case;
+    let inst = four_by_four(alloc, *place, *wide, *last, costs)?;
+    let are_right = are_both_right(alloc, &inst, want);
+    drop(inst);
+    Ok(are_right?)
 }
 
 #[test]

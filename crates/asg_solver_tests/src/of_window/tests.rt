@@ -1,12 +1,10 @@
 //! Best choices, windows and Hall sets of small instances of every shape, by hand.
 
-ghost use Rattle.std.specs.Prelude.{◌≤◌};
-ghost use Rattle.asg_model.specs.Limits.{most_side};
-ghost use Rattle.asg_model.specs.Shapes.{square_side};
-
 use asg_model::Place::{All, Exactly};
 use asg_model::limits::MOST_SIDE;
-use asg_model::{ABSENT, Band, Instance, Objective, Place, Value, is_hall, is_valid, value};
+use asg_model::{
+    ABSENT, Band, Choice, Instance, NoMemory, Objective, Place, Value, is_hall, is_valid, value,
+};
 use asg_proof::{Outcome, Proof, Window};
 use asg_samples::{Fours, ONE_COLUMN, PRODUCTS, SIGNED, THREE, TWO_COLUMNS, four_by_four};
 use asg_window::balanced;
@@ -84,30 +82,62 @@ fn is_proved(inst: &Instance, proof: &Proof, spread: i64) -> bool {
     }
 }
 
+// Whether the value is this number.
+fn is_value(found: &Value, spread: i64) -> bool {
+    matches!(found, Value::One(one) if *one == i128::from(spread))
+}
+
+// Whether the choice is valid and has this value.
+fn has_value(
+    alloc: Global,
+    inst: &Instance,
+    choice: &Choice,
+    spread: i64,
+) -> Result<bool, NoMemory> {
+    if !is_valid(inst, choice) {
+        return Ok(false);
+    }
+    let found = value(alloc, Objective::Balanced, inst, choice)?;
+    let is_value = is_value(&found, spread);
+    drop(found);
+    Ok(is_value)
+}
+
 // Whether the outcome is a valid choice of this value with its proof, or where there is no value, a
 // Hall set of the instance.
-fn is_right(alloc: Global, inst: &Instance, want: Option<i64>) -> Result<bool, Fail>
-    requires { square_side inst.now ≤ most_side }
-{
-    match (balanced(alloc, inst)?, want) {
+fn is_due(
+    alloc: Global,
+    inst: &Instance,
+    outcome: &Outcome,
+    want: Option<i64>,
+) -> Result<bool, NoMemory> {
+    match (outcome, want) {
         (Outcome::Best { choice, proof }, Some(spread)) => {
-            let found = value(alloc, Objective::Balanced, inst, &choice)?;
-            let is_value = matches!(found, Value::One(one) if one == i128::from(spread));
-            Ok(is_value && is_valid(inst, &choice) && is_proved(inst, &proof, spread))
+            Ok(has_value(alloc, inst, choice, spread)? && is_proved(inst, proof, spread))
         }
         (Outcome::Nothing { rows }, None) => Ok(is_hall(inst, Band::Whole, rows.as_slice())),
         _ => Ok(false),
     }
 }
 
+// Whether the outcome of an instance is that.
+fn is_right(alloc: Global, inst: &Instance, want: Option<i64>) -> Result<bool, Fail> {
+    if inst.side() > MOST_SIDE {
+        return Ok(false);
+    }
+    let outcome = balanced(alloc, inst)?;
+    let is_due = is_due(alloc, inst, &outcome, want);
+    drop(outcome);
+    Ok(is_due?)
+}
+
 // Whether the instance of a case has its outcome.
 fn is_right_on(alloc: Global, case: &Case) -> Result<bool, Fail> {
     let (place, wide, last, costs, want) = case;
     let inst = four_by_four(alloc, *place, *wide, *last, costs)?;
-    if inst.side() > MOST_SIDE {
-        return Ok(false);
-    }
-    is_right(alloc, &inst, *want)
+    let is_right = is_right(alloc, &inst, *want);
+    drop(inst);
+    is_right
 }
 
 #[test]

@@ -17,3 +17,9 @@ returns-clause-outcome c =
     (IsOutcome TimeCost X)
     (λ outcome by. IsOutcome-grades top c.new-kind.ensures X outcome by)
     c.guessed_algebraic.ensures.outcome
+
+pub returns-in-Some-clause-outcome : goal.returns-in-Some-clause-outcome
+returns-in-Some-clause-outcome c = rw c.in-Some.is at c.in_ok-listed.ensures.outcome
+
+pub returns-in-Some-clause-phases : goal.returns-in-Some-clause-phases
+returns-in-Some-clause-phases c = rw c.in-Some.is at c.in_ok-listed.ensures.phases

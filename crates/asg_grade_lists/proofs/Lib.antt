@@ -1,0 +1,4 @@
+mod EndLemmas
+mod RiseLemmas
+mod AmountLemmas
+mod ListLemmas

@@ -1,0 +1,7 @@
+use Rattle.std.proofs.Common.{take}
+use Rattle.asg_grade_lists.specs.GradeLists.{AreAmountsAt}
+use Rattle.asg_grade_lists.proofs.amounts.read_amounts.Given as goal
+
+-- the steps so far are read
+abbrev pub invariant-steps : goal.invariant-steps
+invariant-steps l = AreAmountsAt l.grade (take l.t l.words) l.amounts.items

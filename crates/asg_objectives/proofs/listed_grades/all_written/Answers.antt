@@ -1,0 +1,7 @@
+use Rattle.std.proofs.Common.{sym, subst}
+use Rattle.std.proofs.lemmas.List.Elements.{All-push}
+use Rattle.asg_proof.specs.Phases.{ArePhases, IsPhase}
+use Rattle.asg_objectives.proofs.listed_grades.all_written.Goals as goal
+
+pub phases-preserved : goal.phases-preserved
+phases-preserved c = subst ArePhases (sym c.in_ok-push.ensures.items) (All-push IsPhase c.phases.list.items c.in_ok-phase.phase c.phases.invariant c.in_ok-phase.ensures)

@@ -1,0 +1,6 @@
+use Rattle.asg_proof.specs.Phases.{ArePhases}
+use Rattle.asg_objectives.proofs.listed_grades.all_written.Given as goal
+
+-- each phase so far is one
+abbrev pub invariant-phases : goal.invariant-phases
+invariant-phases l = ArePhases l.list.items

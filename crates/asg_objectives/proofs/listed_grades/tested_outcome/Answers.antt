@@ -1,0 +1,24 @@
+use Rattle.std.proofs.Common.{◌^◌, sym, ◌∙◌, ap, subst, length, arith}
+use Rattle.asg_grade_lists.specs.GradeLists.{LeadTo}
+use Rattle.asg_square.specs.Grid.{cell_at}
+use Rattle.asg_objectives.proofs.ListedGrades.{list_few, list_proves}
+use Rattle.asg_objectives.proofs.listed_grades.tested_outcome.Goals as goal
+
+pub returns-clause-outcome : goal.returns-clause-outcome
+returns-clause-outcome c =
+    let Q = c.args.square.now in
+    let listed = rw c.in-Some.is at c.in_ok-listed.ensures in
+    let found = rw c.in-Some-found.is at c.in_ok-found.ensures in
+    let lead = subst (λ ws. LeadTo (2 ^ 120) Q.side (cell_at Q) ws c.in-Some.index) c.as_slice.ensures.items (listed (2 ^ 120) (omega arith)) in
+    record {
+      valid = found.0;
+      proved = list_proves c.args.inst.now Q c.requires.square c.args.phases c.in-Some.index lead c.in-Some-found.choice found.1;
+    }
+
+pub returns-clause-phases : goal.returns-clause-phases
+returns-clause-phases c =
+    let Q = c.args.square.now in
+    let listed = rw c.in-Some.is at c.in_ok-listed.ensures in
+    let lead = subst (λ ws. LeadTo (2 ^ 120) Q.side (cell_at Q) ws c.in-Some.index) c.as_slice.ensures.items (listed (2 ^ 120) (omega arith)) in
+    list_few c.args.inst.now Q c.requires.square c.args.phases c.in-Some.index lead
+    (let e = c.len.ensures.count in omega (arith, e, c.side.ensures.side))

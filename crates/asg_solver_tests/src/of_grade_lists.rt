@@ -1,0 +1,3 @@
+//! Tests of `asg_grade_lists`.
+
+mod tests;

@@ -18,7 +18,7 @@ use Rattle.asg_proof.specs.PhaseProofs.{IsRaised}
 use Rattle.asg_proof.specs.Phases.{PhaseOf, worded}
 use Rattle.asg_proof.specs.PromisedProofs.{IsPhaseOver}
 use Rattle.asg_proof.specs.declared.outcomes.Proof.TheVariants.{Phases}
-use Rattle.asg_repair.specs.Edited.{Touches}
+use Rattle.asg_kept_phases.specs.Edited.{Touches}
 use Rattle.asg_repair.specs.Sessions.{IsBestBy}
 use Rattle.asg_square.specs.Cells.{square_cell}
 use Rattle.asg_edits.specs.Edited.{KeepsIn}

@@ -9,7 +9,7 @@ use Rattle.asg_model.specs.declared.objectives.Objective.{Objective}
 use Rattle.asg_model.specs.Edits.{edited, refusal_of}
 use Rattle.asg_model.specs.HallSet.{row_place_of}
 use Rattle.asg_model.specs.Problem.{Problem}
-use Rattle.asg_repair.specs.Edited.{Touches}
+use Rattle.asg_kept_phases.specs.Edited.{Touches}
 
 -- 1 for a row without a column
 abbrev bare : Option ℕ → ℕ

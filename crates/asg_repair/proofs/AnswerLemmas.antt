@@ -1,13 +1,9 @@
 -- What is known when a session answers.
-use Rattle.std.proofs.Common.{◌≡◌, ℕ, zero, suc, ◌+◌, ◌<◌, ◌≤◌, Bool, true, false, cond, List, [], ◌∷◌, length, Option, Some, None, is_some, refl, ap, subst, arith}
-use Rattle.std.specs.Prelude.{All, IsSome, is_none, replicate, slice_index}
-use Rattle.std.proofs.lemmas.Bool.{false≢true}
-use Rattle.std.proofs.lemmas.List.Elements.{All-nil, All-cons}
-use Rattle.std.proofs.lemmas.List.Sums.{sum_by-append}
-use Rattle.asg_algebra.specs.Growing.{IsAbsorbed}
-use Rattle.asg_algebra.specs.Solved.{unmatched}
+use Rattle.std.proofs.Common.{◌≡◌, ℕ, ◌<◌, List, length, Option, is_some, ap, subst}
+use Rattle.std.specs.Prelude.{slice_index}
+use Rattle.asg_growth.specs.Growing.{IsAbsorbed}
 use Rattle.asg_match.specs.HallSets.{GivesHallSets}
-use Rattle.asg_match.specs.Matching.{IsMatched, IsPerfect, Matches}
+use Rattle.asg_match.specs.Matching.{IsPerfect, Matches}
 use Rattle.asg_model.specs.declared.bands.Band.TheVariants.{Whole}
 use Rattle.asg_model.specs.declared.parts.Cost.{Cost}
 use Rattle.asg_model.specs.HallSet.{IsHall}
@@ -15,23 +11,16 @@ use Rattle.asg_model.specs.Instances.{IsInstance}
 use Rattle.asg_model.specs.Problem.{Problem}
 use Rattle.asg_model.specs.ValidChoice.{IsValid}
 use Rattle.asg_order.specs.Bridge.{choice_fold}
-use Rattle.asg_order.specs.Monoid.{Monoid, IsValue}
+use Rattle.asg_order.specs.Monoid.{Monoid}
 use Rattle.asg_proof.specs.PhaseProofs.{EntersValues, ProvesIndex}
-use Rattle.asg_proof.specs.Phases.{PhaseOf, AreAdmittedPhases, after_phase}
+use Rattle.asg_proof.specs.Phases.{PhaseOf}
 use Rattle.asg_admit.specs.declared.reduced.Reduced.{Reduced}
-use Rattle.asg_proof.specs.laws.PhaseSteps.{phase_has_values}
 use Rattle.asg_square.specs.Cells.{IsPresent}
 use Rattle.asg_square.specs.Grid.{cell_at, grid_choice, IsValidWithin}
 use Rattle.asg_repair.specs.Answers.{IsWrittenBy}
-use Rattle.asg_repair.specs.PhasesAlong.{AreOfValues}
-use Rattle.asg_repair.specs.Sessions.{IsBestBy, IsLed, sure_columns}
-use Rattle.asg_repair.proofs.UnmatchedLemmas.{unmatched-le}
-
--- the steps of admitted phases are values
-pub admitted_values : {V : Type 0} (M : Monoid V) (difference : V → V → V) (side : ℕ) (phases : List (PhaseOf V)) (square : ℕ → ℕ → Option V) → AreAdmittedPhases M difference side phases square → AreOfValues M phases
-admitted_values M difference side [] square admitted = All-nil (λ phase. All (IsValue M) phase.steps)
-admitted_values M difference side (phase ∷ rest) square admitted =
-    All-cons (λ p. All (IsValue M) p.steps) phase rest (phase_has_values M difference side phase square admitted.0) (admitted_values M difference side rest (after_phase M difference phase square) admitted.1)
+use Rattle.asg_repair.specs.Sessions.{IsBestBy}
+use Rattle.asg_kept_phases.specs.Led.{IsLed}
+use Rattle.asg_repair.proofs.UnmatchedLemmas.{unmatched_none}
 
 -- absorbed cells are present
 pub present_perfect : {V : Type 0} (M : Monoid V) (index : V) (square : ℕ → ℕ → Option V) (side : ℕ) (matching : List (Option ℕ)) → IsPerfect (IsAbsorbed M index square) side matching → IsPerfect (IsPresent square) side matching
@@ -41,30 +30,6 @@ present_perfect M index square side matching perfect = record {
   all = perfect.all;
   cells = λ r k h. let at = perfect.cells r k h in ap is_some at.there;
 }
-
--- a row and the others
-unmatched_both : (o : Option ℕ) (m : List (Option ℕ)) → unmatched (o ∷ m) ≡ unmatched (o ∷ []) + unmatched m
-unmatched_both o m = sum_by-append (λ o. cond (is_none o) 1 0) (o ∷ []) m
-
-unmatched_first : (o : Option ℕ) → IsSome o → unmatched (o ∷ []) ≡ 0
-unmatched_first None e = absurd (false≢true e)
-unmatched_first (Some k) e = refl
-
--- where every row has a column
-pub unmatched_none : (m : List (Option ℕ)) → ((r : ℕ) → r < length m → IsMatched m r) → unmatched m ≡ 0
-unmatched_none [] all = refl
-unmatched_none (o ∷ m) all =
-    omega (arith, unmatched_both o m, unmatched_first o (all 0 (omega arith)), unmatched_none m (λ r low. all (suc r) (omega (arith, low))))
-
--- where no row has one
-unmatched_all : (n : ℕ) → unmatched (replicate n None) ≡ n
-unmatched_all zero = refl
-unmatched_all (suc n) = omega (arith, unmatched_both None (replicate n None), unmatched_all n)
-
--- rows that are sure to keep their columns still have some
-pub unmatched_sure : (cut : Bool) (before after : List (Option ℕ)) → length after ≡ length before → (cut ≡ false → unmatched after ≤ unmatched before) → unmatched after ≤ unmatched (sure_columns cut before)
-unmatched_sure false before after size fewer = fewer refl
-unmatched_sure true before after size fewer = omega (arith, unmatched-le after, size, unmatched_all (length before))
 
 -- what the led law says of best choices
 abbrev pub BestLaw : {V : Type 0} → Monoid V → (V → V → V) → Type 0

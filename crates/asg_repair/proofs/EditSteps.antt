@@ -20,43 +20,33 @@ use Rattle.asg_proof.specs.Phases.{PhaseOf}
 use Rattle.asg_square.specs.Cells.{square_cell}
 use Rattle.asg_square.specs.Grid.{Grid}
 use Rattle.asg_square.specs.Labels.{column_label}
-use Rattle.asg_repair.specs.declared.named_places.NamedPlaces.{NamedPlaces}
-use Rattle.asg_repair.specs.Edited.{Touches, NamesPlaces}
+use Rattle.asg_kept_phases.specs.declared.named_places.NamedPlaces.{NamedPlaces}
+use Rattle.asg_kept_phases.specs.Edited.{Touches, NamesPlaces}
 use Rattle.asg_repair.specs.declared.works.Work.{Work}
-use Rattle.asg_repair.specs.NamedPlaces.{places_of, IsClearedOf, IsNamed, label_at, HasColumnsOf}
-use Rattle.asg_repair.specs.Sessions.{AreAbsorbedAfter, IsSized, MaySolve, sure_columns}
+use Rattle.asg_kept_phases.specs.NamedPlaces.{places_of, IsNamed, label_at, HasColumnsOf}
+use Rattle.asg_repair.specs.ClearedRows.{IsClearedOf}
+use Rattle.asg_repair.specs.Sessions.{AreAbsorbedAfter, IsSized, sure_columns}
+use Rattle.asg_kept_phases.specs.Led.{MaySolve}
 use Rattle.asg_repair.proofs.EditedCosts.{EntersValues-edited, PassesNegative-edited}
-use Rattle.asg_repair.proofs.EditedShapes.{edited_label, edited_side}
-use Rattle.asg_repair.proofs.NamedLemmas.{label_of_column, named_touched, touched_named, untouched_same}
-use Rattle.std.specs.List.{range_with_len}
-use Rattle.std.specs.Prelude.{map}
+use Rattle.asg_kept_phases.specs.laws.EditedShapes.{HasColumnsOf-edited, edited_side}
+use Rattle.asg_kept_phases.specs.laws.NamedCells.{label_of_column, named_touched, touched_named, untouched_same}
 
 -- the edited instance may be solved
 pub MaySolve-edited : {V : Type 0} (M : Monoid V) (enter : Cost → V) (objective : Objective) (reach : ℕ) (X : Problem) (edit : Edit) → MaySolve M enter objective reach X → refusal_of objective X edit ≡ None → ((cost : Cost) → MayEnter objective reach cost → IsValue M (enter cost)) → IsInstance (edited X edit) → MaySolve M enter objective reach (edited X edit)
 MaySolve-edited M enter objective reach X edit before passes values instance = record {
   instance = instance;
-  small = let same = edited_side X before.instance edit in omega (arith, before.small, same);
+  small = let same = edited_side X edit in omega (arith, before.small, same);
   passes = PassesNegative-edited objective X edit passes before.instance before.passes;
   far = before.far;
   live = EntersValues-edited objective X edit passes M enter reach before.far values before.instance before.live;
 }
 
--- the square has its columns still
-pub HasColumnsOf-edited : {V : Type 0} (X : Problem) → IsInstance X → (edit : Edit) (Q : Grid V) → HasColumnsOf X Q → HasColumnsOf (edited X edit) Q
-HasColumnsOf-edited X is edit Q before = record {
-  side = before.side ∙ sym (edited_side X is edit);
-  columns =
-      before.columns
-      ∙ ap (λ (label : ℕ → Option ℕ). map label (range_with_len 0 (square_side X))) (λ i k. sym (edited_label X is edit k) i)
-      ∙ ap (λ n. map (column_label (edited X edit)) (range_with_len 0 n)) (sym (edited_side X is edit));
-}
-
 -- what a session solves in fits the edited instance
-pub IsSized-edited : {V : Type 0} (X : Problem) → IsInstance X → (edit : Edit) (work : Work V) → IsSized X work → IsSized (edited X edit) work
-IsSized-edited X is edit work sized =
-    let same = edited_side X is edit in
+pub IsSized-edited : {V : Type 0} (X : Problem) (edit : Edit) (work : Work V) → IsSized X work → IsSized (edited X edit) work
+IsSized-edited X edit work sized =
+    let same = edited_side X edit in
     record {
-      square = HasColumnsOf-edited X is edit work.reduced.now sized.square;
+      square = HasColumnsOf-edited X edit work.reduced.now sized.square;
       matching_side = sized.matching_side ∙ sym same;
       is_matching = sized.is_matching;
       bench_side = sized.bench_side ∙ sym same;

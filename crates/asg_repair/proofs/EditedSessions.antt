@@ -18,18 +18,20 @@ use Rattle.asg_proof.specs.Phases.{AreAdmittedPhases}
 use Rattle.asg_square.specs.Cells.{square_cell}
 use Rattle.asg_repair.specs.declared.answers.AnswerRoom.{AnswerRoom}
 use Rattle.asg_repair.specs.declared.answers.Given.TheVariants.{Open}
-use Rattle.asg_repair.specs.declared.named_places.NamedPlaces.{NamedPlaces}
-use Rattle.asg_repair.specs.declared.phase_chains.PhaseChain.{PhaseChain}
+use Rattle.asg_kept_phases.specs.declared.named_places.NamedPlaces.{NamedPlaces}
+use Rattle.asg_kept_phases.specs.declared.phase_chains.PhaseChain.{PhaseChain}
 use Rattle.asg_repair.specs.declared.works.Work.{Work}
-use Rattle.asg_repair.specs.Edited.{Touches, NamesPlaces}
-use Rattle.asg_repair.specs.Mended.{IsLedBut}
-use Rattle.asg_repair.specs.NamedPlaces.{places_of, IsClearedOf}
-use Rattle.asg_repair.specs.PhaseChains.{phases_in, IsCutTo, IsPrepared}
-use Rattle.asg_repair.specs.Sessions.{AreAbsorbedAfter, IsGiven, IsLed, IsSession, IsSized, ids_in, sure_columns}
+use Rattle.asg_kept_phases.specs.Edited.{Touches, NamesPlaces}
+use Rattle.asg_kept_phases.specs.Mended.{IsLedBut}
+use Rattle.asg_kept_phases.specs.NamedPlaces.{places_of}
+use Rattle.asg_repair.specs.ClearedRows.{IsClearedOf}
+use Rattle.asg_kept_phases.specs.PhaseChains.{phases_in, IsCutTo, IsPrepared}
+use Rattle.asg_repair.specs.Sessions.{AreAbsorbedAfter, IsGiven, IsSession, IsSized, ids_in, sure_columns}
+use Rattle.asg_kept_phases.specs.Led.{IsLed}
 use Rattle.asg_repair.proofs.EditSteps.{MaySolve-edited, absorbed_edited, column_kept, length-sure, still_whole, sure_kept, uncut}
-use Rattle.asg_repair.proofs.EditedShapes.{edited_rows, edited_side}
-use Rattle.asg_repair.proofs.LedSquares.{IsLedBut-edited}
-use Rattle.asg_repair.proofs.NamedLemmas.{NamesPlaces-passed}
+use Rattle.asg_kept_phases.specs.laws.EditedShapes.{edited_rows, edited_side}
+use Rattle.asg_kept_phases.specs.laws.LedEdits.{IsLedBut-edited}
+use Rattle.asg_kept_phases.specs.laws.PassedEdits.{NamesPlaces-passed}
 
 module _ {V : Type 0} (M : Monoid V) (difference : V → V → V) (enter : Cost → V) (objective : Objective) (reach : ℕ) (X : Problem) (work : Work V) (phases : PhaseChain V) (led cut : Bool) (room : AnswerRoom)
     (session : IsSession M difference enter objective reach X work phases led cut room)
@@ -71,7 +73,7 @@ module _ {V : Type 0} (M : Monoid V) (difference : V → V → V) (enter : Cost 
         names = NamesPlaces-passed objective X edit passes
 
         side_same : square_side Y ≡ square_side X
-        side_same = edited_side X instance edit
+        side_same = edited_side X edit
 
         taken_are : take kept (phases_in prepared) ≡ take kept (phases_in phases)
         taken_are = ap (take kept) is.phases

@@ -6,11 +6,12 @@ use Rattle.asg_model.specs.declared.parts.Cost.{Cost}
 use Rattle.asg_model.specs.Problem.{Problem}
 use Rattle.asg_model.specs.Shapes.{square_side}
 use Rattle.asg_order.specs.Monoid.{Monoid}
-use Rattle.asg_repair.specs.PhaseChains.{phases_in, IsPhaseChain}
-use Rattle.asg_repair.specs.Sessions.{AreAbsorbed, AreAbsorbedAfter, AreTogether, ids_in, IsAnswerRoom, IsGiven, IsLed, IsSession, IsSized, MaySolve}
+use Rattle.asg_kept_phases.specs.PhaseChains.{phases_in, IsPhaseChain}
+use Rattle.asg_repair.specs.Sessions.{AreAbsorbed, AreAbsorbedAfter, AreTogether, ids_in, IsAnswerRoom, IsGiven, IsSession, IsSized}
+use Rattle.asg_kept_phases.specs.Led.{IsLed, MaySolve}
 use Rattle.asg_repair.specs.declared.answers.AnswerRoom.{AnswerRoom}
 use Rattle.asg_repair.specs.declared.answers.Given.TheVariants.{Open}
-use Rattle.asg_repair.specs.declared.phase_chains.PhaseChain.{PhaseChain}
+use Rattle.asg_kept_phases.specs.declared.phase_chains.PhaseChain.{PhaseChain}
 use Rattle.asg_repair.specs.declared.works.Work.{Work}
 use Rattle.asg_repair.proofs.SessionLemmas.{AreAbsorbedAfter-led}
 

@@ -15,11 +15,12 @@ use Rattle.asg_roots.specs.declared.roots.Root.{Root}
 use Rattle.asg_roots.specs.laws.InstanceRoots.{instance_side}
 use Rattle.asg_roots.specs.Roots.{IsInstanceRoot}
 use Rattle.asg_square.specs.Grid.{IsSquareOf}
-use Rattle.asg_repair.specs.Chains.{IsChain}
+use Rattle.asg_kept_phases.specs.Chains.{IsChain}
 use Rattle.asg_repair.specs.declared.opening.Opened.{Opened}
 use Rattle.asg_repair.specs.Opening.{IsOpened}
-use Rattle.asg_repair.specs.PhaseChains.{IsWayTo}
-use Rattle.asg_repair.specs.Sessions.{AreAbsorbed, IsLed}
+use Rattle.asg_kept_phases.specs.PhaseChains.{IsWayTo}
+use Rattle.asg_repair.specs.Sessions.{AreAbsorbed}
+use Rattle.asg_kept_phases.specs.Led.{IsLed}
 use Rattle.asg_repair.proofs.PushLemmas.{IsLinked, IsLinked-all}
 use Rattle.asg_repair.proofs.SessionLemmas.{IsLed-filled, IsLed-more}
 

@@ -9,8 +9,9 @@ use Rattle.asg_repair.specs.declared.answers.AnswerRoom.{AnswerRoom}
 use Rattle.asg_repair.specs.declared.answers.Given.TheVariants.{Open}
 use Rattle.asg_repair.specs.declared.opening.Opened.{Opened}
 use Rattle.asg_repair.specs.Opening.{IsOpened}
-use Rattle.asg_repair.specs.PhaseChains.{phases_in}
-use Rattle.asg_repair.specs.Sessions.{IsSession, IsAnswerRoom, IsGiven, MaySolve, ids_in}
+use Rattle.asg_kept_phases.specs.PhaseChains.{phases_in}
+use Rattle.asg_repair.specs.Sessions.{IsSession, IsAnswerRoom, IsGiven, ids_in}
+use Rattle.asg_kept_phases.specs.Led.{MaySolve}
 use Rattle.asg_repair.proofs.SessionLemmas.{AreAbsorbedAfter-led}
 
 -- what was opened, with room for answers of which none was given

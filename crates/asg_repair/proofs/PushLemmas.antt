@@ -6,7 +6,7 @@ use Rattle.asg_algebra.specs.Solved.{IsPush, ArePushed}
 use Rattle.asg_pool.specs.Forest.{Branch, Forest, trail_at, IsLive, IsLeaf, IsForest, IsGrown, parent_of}
 use Rattle.asg_pool.specs.laws.Trails.{live_differs, IsLive-kept, IsLive-pushed}
 use Rattle.asg_proof.specs.Phases.{PhaseOf}
-use Rattle.asg_repair.specs.Chains.{IsChain}
+use Rattle.asg_kept_phases.specs.Chains.{IsChain}
 
 -- a chain in which each trail grew on a live one
 pub record IsLinked {V : Type 0} (F : Forest V) (last : Option ℕ) : Type 0 where

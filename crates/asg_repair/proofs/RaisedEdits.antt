@@ -5,7 +5,6 @@ use Rattle.asg_admit.specs.laws.KeptPhases.{kept_all, kept_once}
 use Rattle.asg_model.specs.declared.edits.Edit.{Edit}
 use Rattle.asg_model.specs.declared.parts.Cost.{Cost}
 use Rattle.asg_model.specs.Edits.{edited}
-use Rattle.asg_model.specs.Instances.{IsInstance}
 use Rattle.asg_model.specs.Problem.{Problem}
 use Rattle.asg_model.specs.Shapes.{square_side}
 use Rattle.asg_order.specs.Monoid.{Monoid, IsOrderedMonoid}
@@ -15,7 +14,7 @@ use Rattle.asg_proof.specs.Phases.{PhaseOf, AreAdmittedPhases}
 use Rattle.asg_proof.specs.Steps.{HasValues, AreRaised}
 use Rattle.asg_proof.specs.laws.Squares.{HasValues-square_cell}
 use Rattle.asg_square.specs.Cells.{square_cell}
-use Rattle.asg_repair.proofs.EditedShapes.{edited_side}
+use Rattle.asg_kept_phases.specs.laws.EditedShapes.{edited_side}
 
 -- phases that are admitted from a square are so where its cells were raised or removed
 abbrev pub StayAdmitted : {V : Type 0} → Monoid V → (V → V → V) → Type 0
@@ -35,13 +34,13 @@ RaiseSquares {V} M =
     → IsRaised M enter X Y
     → AreRaised M (square_side X) (square_cell X M.unit enter) (square_cell Y M.unit enter)
 
-pub raised_all : {V : Type 0} (M : Monoid V) → IsOrderedMonoid M → (difference : V → V → V) → StayAdmitted M difference → RaiseSquares M → (enter : Cost → V) (X : Problem) (edit : Edit) (phases : List (PhaseOf V)) (n : ℕ) → IsInstance X → EntersValues M enter X → EntersValues M enter (edited X edit) → IsRaised M enter X (edited X edit) → AreAdmittedPhases M difference (square_side X) phases (square_cell X M.unit enter) → AreKept M difference (square_side (edited X edit)) phases (square_cell (edited X edit) M.unit enter) n → take n phases ≡ phases
-raised_all M laws difference stay squares enter X edit phases n is live live_after raised admitted kept =
+pub raised_all : {V : Type 0} (M : Monoid V) → IsOrderedMonoid M → (difference : V → V → V) → StayAdmitted M difference → RaiseSquares M → (enter : Cost → V) (X : Problem) (edit : Edit) (phases : List (PhaseOf V)) (n : ℕ) → EntersValues M enter X → EntersValues M enter (edited X edit) → IsRaised M enter X (edited X edit) → AreAdmittedPhases M difference (square_side X) phases (square_cell X M.unit enter) → AreKept M difference (square_side (edited X edit)) phases (square_cell (edited X edit) M.unit enter) n → take n phases ≡ phases
+raised_all M laws difference stay squares enter X edit phases n live live_after raised admitted kept =
     let Y = edited X edit in
     let side = square_side X in
     let old = square_cell X M.unit enter in
     let new = square_cell Y M.unit enter in
-    let same = edited_side X is edit in
+    let same = edited_side X edit in
     let values : HasValues M side new = subst (λ k. HasValues M k new) same (HasValues-square_cell M laws enter Y live_after) in
     let still = stay side phases old new (HasValues-square_cell M laws enter X live) values (squares enter X Y live_after raised) admitted in
     let one : AreKept M difference side phases new n = subst (λ k. AreKept M difference k phases new n) same kept in

@@ -11,12 +11,15 @@ use Rattle.asg_proof.specs.PhaseProofs.{EntersValues}
 use Rattle.asg_proof.specs.laws.Squares.{HasValues-square_cell}
 use Rattle.asg_pool.specs.Forest.{Forest}
 use Rattle.asg_proof.specs.Phases.{PhaseOf, AreAdmittedPhases, after_phases, index_of}
-use Rattle.asg_proof.specs.laws.PhaseLists.{after_phases-append, AreAdmittedPhases-append, index_of-append}
+use Rattle.asg_proof.specs.laws.PhaseLists.{after_phases-append, AreAdmittedPhases-append, index_is_value, index_of-append}
 use Rattle.asg_square.specs.Cells.{square_cell}
 use Rattle.asg_square.specs.Grid.{Grid, cell_at, IsSquareOf}
 use Rattle.asg_match.specs.Matching.{column_at, Matches, IsMatching, AllAllowed}
-use Rattle.asg_algebra.specs.Growing.{IsAbsorbed}
-use Rattle.asg_repair.specs.Sessions.{IsLed, AreAbsorbed, AreAbsorbedAfter}
+use Rattle.asg_growth.specs.Growing.{IsAbsorbed}
+use Rattle.asg_kept_phases.specs.Leads.{LeadsTo}
+use Rattle.asg_kept_phases.specs.Led.{IsLed}
+use Rattle.asg_kept_phases.specs.laws.KeptLabels.{HasLabelsOf-kept}
+use Rattle.asg_repair.specs.Sessions.{AreAbsorbed, AreAbsorbedAfter}
 use Rattle.asg_repair.proofs.UnmatchedLemmas.{unmatched-kept}
 
 -- pushes keep the side
@@ -35,12 +38,7 @@ module _ {V : Type 0} (M : Monoid V) (laws : IsOrderedMonoid M) (difference : V 
       subst (λ n. AreAdmittedPhases M difference n more (after_phases M difference phases start)) led.labels.side
       (subst (AreAdmittedPhases M difference before.now.side more) cells_are lead.admitted) in
       record {
-        labels = record {
-          side = lead.labels.side ∙ led.labels.side;
-          rows = lead.labels.rows ∙ led.labels.rows;
-          row_labels = lead.labels.row_labels ∙ led.labels.row_labels;
-          column_labels = lead.labels.column_labels ∙ led.labels.column_labels;
-        };
+        labels = HasLabelsOf-kept X before.now after.now lead.labels led.labels;
         admitted = AreAdmittedPhases-append M difference (square_side X) phases more start led.admitted next;
         cells = λ r k.
             lead.outcome r k
@@ -51,6 +49,22 @@ module _ {V : Type 0} (M : Monoid V) (laws : IsOrderedMonoid M) (difference : V 
             ∙ ap (λ z. M.product z (index_of M more)) led.index
             ∙ sym (index_of-append M laws difference (square_side X) phases more start led.admitted next);
         is_reduced = lead.reduced;
+      }
+
+  -- phases that lead on from the square as it was filled
+  pub IsLed-leads : (phases : List (PhaseOf V)) (before after : Reduced V) → IsLed M difference enter X [] before → AreAdmittedPhases M difference (square_side X) phases (square_cell X M.unit enter) → LeadsTo M difference phases before after → IsLed M difference enter X phases after
+  IsLed-leads phases before after led admitted leads =
+      let start = square_cell X M.unit enter in
+      let cells_are : cell_at before.now ≡ start = λ i r k. led.cells r k i in
+      record {
+        labels = HasLabelsOf-kept X before.now after.now leads.labels led.labels;
+        admitted = admitted;
+        cells = λ r k. leads.cells r k ∙ ap (λ q. after_phases M difference phases q r k) cells_are;
+        index =
+            leads.index
+            ∙ ap (λ z. M.product z (index_of M phases)) led.index
+            ∙ laws.unit_neutral (index_of M phases) (index_is_value M laws difference (square_side X) phases start admitted);
+        is_reduced = leads.is_reduced;
       }
 
 -- the square of an instance, which no phase has changed
@@ -95,10 +109,3 @@ pruned_fewer allows before after size kept all =
 -- a matching over the square that phases led to
 pub AreAbsorbed-pruned : {V : Type 0} (M : Monoid V) (reduced : Reduced V) (matching : List (Option ℕ)) → length matching ≡ reduced.now.side → IsMatching matching → AllAllowed (IsAbsorbed M reduced.index (cell_at reduced.now)) matching → AreAbsorbed M reduced matching
 AreAbsorbed-pruned M reduced matching size is all = record { side = size; columns = is; absorbed = all }
-
--- fewer cells are a matching too
-pub IsMatching-fewer : (before after : List (Option ℕ)) → length after ≡ length before → ((r k : ℕ) → Matches after r k → Matches before r k) → IsMatching before → IsMatching after
-IsMatching-fewer before after size only is = record {
-  below = λ r k h. subst (λ n. k < n) (sym size) (is.below r k (only r k h));
-  apart = λ r s k h i. is.apart r s k (only r k h) (only s k i);
-}

@@ -7,10 +7,12 @@ use Rattle.asg_model.specs.Problem.{Problem}
 use Rattle.asg_model.specs.Shapes.{square_side}
 use Rattle.asg_order.specs.Monoid.{Monoid, IsOrderedMonoid}
 use Rattle.asg_pool.specs.Forest.{IsForest, phases_to}
-use Rattle.asg_repair.specs.Chains.{IsChain}
-use Rattle.asg_repair.specs.PhaseChains.{phases_in, IsPhaseChain}
-use Rattle.asg_repair.specs.Sessions.{AreAbsorbed, IsLed, IsSized}
-use Rattle.asg_repair.specs.declared.phase_chains.PhaseChain.{PhaseChain}
+use Rattle.asg_kept_phases.specs.Chains.{IsChain}
+use Rattle.asg_kept_phases.specs.PhaseChains.{phases_in, IsPhaseChain}
+use Rattle.asg_kept_phases.specs.Led.{IsLed}
+use Rattle.asg_kept_phases.specs.laws.KeptLabels.{HasColumnsOf-kept}
+use Rattle.asg_repair.specs.Sessions.{AreAbsorbed, IsSized}
+use Rattle.asg_kept_phases.specs.declared.phase_chains.PhaseChain.{PhaseChain}
 use Rattle.asg_repair.specs.declared.works.Work.{Work}
 use Rattle.asg_repair.proofs.PushLemmas.{IsLinked-forest, IsLinked-all}
 use Rattle.asg_repair.proofs.SessionLemmas.{IsLed-more, pushed_side}
@@ -20,10 +22,7 @@ module _ {V : Type 0} (M : Monoid V) (difference : V → V → V) (X : Problem) 
   where
     pub IsSized-solved : IsSized X old → new.bench.side ≡ old.bench.side → length new.columns.items ≡ square_side X → square_side X < length new.room.items → IsSized X new
     IsSized-solved sized bench columns room = record {
-      square = record {
-        side = solved.lead.labels.side ∙ sized.square.side;
-        columns = solved.lead.labels.column_labels ∙ sized.square.columns;
-      };
+      square = HasColumnsOf-kept X old.reduced.now new.reduced.now solved.lead.labels sized.square;
       matching_side = solved.rows.side ∙ sized.matching_side;
       is_matching = solved.rows.columns;
       bench_side = bench ∙ sized.bench_side;

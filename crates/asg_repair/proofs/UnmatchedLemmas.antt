@@ -1,10 +1,11 @@
 -- How many rows have no column.
-use Rattle.std.proofs.Common.{◌≡◌, ℕ, suc, ◌+◌, ◌≤◌, List, [], ◌∷◌, length, Option, Some, None, cond, refl, arith}
-use Rattle.std.specs.Prelude.{IsSome, is_none}
+use Rattle.std.proofs.Common.{◌≡◌, ℕ, zero, suc, ◌+◌, ◌<◌, ◌≤◌, Bool, true, false, List, [], ◌∷◌, length, Option, Some, None, cond, refl, arith}
+use Rattle.std.specs.Prelude.{IsSome, is_none, replicate}
 use Rattle.std.proofs.lemmas.Bool.{false≢true}
 use Rattle.std.proofs.lemmas.List.Sums.{sum_by-append, count_by-le-length}
 use Rattle.asg_algebra.specs.Solved.{unmatched}
 use Rattle.asg_match.specs.Matching.{IsMatched}
+use Rattle.asg_repair.specs.Sessions.{sure_columns}
 
 -- at most all rows
 pub unmatched-le : (m : List (Option ℕ)) → unmatched m ≤ length m
@@ -25,3 +26,23 @@ unmatched-kept [] (p ∷ n) e keeps = absurd (omega (arith, e))
 unmatched-kept (o ∷ m) [] e keeps = omega arith
 unmatched-kept (o ∷ m) (p ∷ n) e keeps =
     omega (arith, unmatched-both o m, unmatched-both p n, fewer o p (keeps 0), unmatched-kept m n (omega (arith, e)) (λ r. keeps (suc r)))
+
+unmatched_first : (o : Option ℕ) → IsSome o → unmatched (o ∷ []) ≡ 0
+unmatched_first None e = absurd (false≢true e)
+unmatched_first (Some k) e = refl
+
+-- where every row has a column
+pub unmatched_none : (m : List (Option ℕ)) → ((r : ℕ) → r < length m → IsMatched m r) → unmatched m ≡ 0
+unmatched_none [] all = refl
+unmatched_none (o ∷ m) all =
+    omega (arith, unmatched-both o m, unmatched_first o (all 0 (omega arith)), unmatched_none m (λ r low. all (suc r) (omega (arith, low))))
+
+-- where no row has one
+unmatched_all : (n : ℕ) → unmatched (replicate n None) ≡ n
+unmatched_all zero = refl
+unmatched_all (suc n) = omega (arith, unmatched-both None (replicate n None), unmatched_all n)
+
+-- rows that are sure to keep their columns still have some
+pub unmatched_sure : (cut : Bool) (before after : List (Option ℕ)) → length after ≡ length before → (cut ≡ false → unmatched after ≤ unmatched before) → unmatched after ≤ unmatched (sure_columns cut before)
+unmatched_sure false before after size fewer = fewer refl
+unmatched_sure true before after size fewer = omega (arith, unmatched-le after, size, unmatched_all (length before))

@@ -1,13 +1,5 @@
 pub mod Answers
-pub mod Chains
-pub mod Edited
-pub mod EditedCells
-pub mod Leads
-pub mod LeftPhases
-pub mod Mended
-pub mod NamedPlaces
+pub mod ClearedRows
 pub mod Opening
-pub mod PhaseChains
-pub mod PhasesAlong
 pub mod Sessions
 pub mod laws

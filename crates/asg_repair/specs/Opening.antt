@@ -5,8 +5,9 @@ use Rattle.asg_model.specs.Problem.{Problem}
 use Rattle.asg_model.specs.Shapes.{square_side}
 use Rattle.asg_order.specs.Monoid.{Monoid}
 use Rattle.asg_repair.specs.declared.opening.Opened.{Opened}
-use Rattle.asg_repair.specs.PhaseChains.{phases_in, IsPhaseChain}
-use Rattle.asg_repair.specs.Sessions.{AreAbsorbed, IsLed, IsSized}
+use Rattle.asg_kept_phases.specs.PhaseChains.{phases_in, IsPhaseChain}
+use Rattle.asg_repair.specs.Sessions.{AreAbsorbed, IsSized}
+use Rattle.asg_kept_phases.specs.Led.{IsLed}
 
 -- few phases lead to the square, in which the matched cells are absorbed, and as many records are
 -- spare as the square has rows

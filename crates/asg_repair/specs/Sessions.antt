@@ -1,35 +1,32 @@
 -- What contracts see of a session, and what it keeps.
 use Rattle.std.specs.Prelude.{◌≡◌, ℕ, ◌≤◌, ◌<◌, Bool, true, false, List, length, take, replicate, Option, None}
-use Rattle.asg_admit.specs.Reduced.{IsReduced}
 use Rattle.asg_admit.specs.declared.reduced.Reduced.{Reduced}
-use Rattle.asg_algebra.specs.Growing.{IsAbsorbed}
+use Rattle.asg_growth.specs.Growing.{IsAbsorbed}
 use Rattle.asg_algebra.specs.Solved.{unmatched}
 use Rattle.asg_match.specs.Matching.{IsMatching, AllAllowed}
 use Rattle.asg_model.specs.declared.bands.Band.TheVariants.{Whole}
 use Rattle.asg_model.specs.declared.objectives.Objective.{Objective}
 use Rattle.asg_model.specs.declared.parts.Cost.{Cost}
 use Rattle.asg_model.specs.HallSet.{IsHall}
-use Rattle.asg_model.specs.Instances.{IsInstance}
-use Rattle.asg_model.specs.Limits.{most_cost, most_side}
 use Rattle.asg_model.specs.Problem.{Problem}
-use Rattle.asg_model.specs.Refused.{PassesNegative}
 use Rattle.asg_model.specs.Shapes.{square_side}
 use Rattle.asg_model.specs.ValidChoice.{IsValid}
 use Rattle.asg_order.specs.Bridge.{choice_fold}
 use Rattle.asg_order.specs.Monoid.{Monoid}
-use Rattle.asg_proof.specs.PhaseProofs.{EntersValues, ProvesIndex}
+use Rattle.asg_proof.specs.PhaseProofs.{ProvesIndex}
 use Rattle.asg_proof.specs.Phases.{PhaseOf, AreAdmittedPhases, after_phases, index_of}
 use Rattle.asg_square.specs.Cells.{square_cell}
-use Rattle.asg_square.specs.Grid.{cell_at, HasLabelsOf}
+use Rattle.asg_square.specs.Grid.{cell_at}
 use Rattle.asg_repair.specs.declared.answers.Answered.{Answered}
 use Rattle.asg_repair.specs.declared.answers.Answered.TheVariants.{Best, Nothing}
 use Rattle.asg_repair.specs.declared.answers.AnswerRoom.{AnswerRoom}
 use Rattle.asg_repair.specs.declared.answers.Given.{Given}
 use Rattle.asg_repair.specs.declared.answers.Given.TheVariants.{Chosen, Stuck, Open}
-use Rattle.asg_repair.specs.declared.phase_chains.PhaseChain.{PhaseChain}
+use Rattle.asg_kept_phases.specs.declared.phase_chains.PhaseChain.{PhaseChain}
 use Rattle.asg_repair.specs.declared.works.Work.{Work}
-use Rattle.asg_repair.specs.NamedPlaces.{HasColumnsOf}
-use Rattle.asg_repair.specs.PhaseChains.{phases_in, IsPhaseChain}
+use Rattle.asg_kept_phases.specs.Led.{IsLed, MaySolve}
+use Rattle.asg_kept_phases.specs.NamedPlaces.{HasColumnsOf}
+use Rattle.asg_kept_phases.specs.PhaseChains.{phases_in, IsPhaseChain}
 
 -- what contracts see of a session: the kind of its objective, its instance, the phases so far, the
 -- columns that rows are sure to keep, and what was answered since it was opened or edited
@@ -51,18 +48,6 @@ sure_columns false matching = matching
 abbrev pub given_of : Answered → Given
 given_of Best = Chosen
 given_of Nothing = Stuck
-
--- phases lead from the square of an instance to a reduced square: they are admitted in turn, the
--- cells are those after them, and the index is their product
-pub record IsLed {V : Type 0} (M : Monoid V) (difference : V → V → V) (enter : Cost → V) (X : Problem)
-    (phases : List (PhaseOf V)) (reduced : Reduced V) : Type 0 where
-  pub labels : HasLabelsOf X reduced.now
-  pub admitted :
-      AreAdmittedPhases M difference (square_side X) phases (square_cell X M.unit enter)
-  pub cells : (r k : ℕ) → cell_at reduced.now r k
-      ≡ after_phases M difference phases (square_cell X M.unit enter) r k
-  pub index : reduced.index ≡ index_of M phases
-  pub is_reduced : IsReduced M reduced
 
 -- the columns of the rows are a matching in absorbed cells
 pub record AreAbsorbed {V : Type 0} (M : Monoid V) (reduced : Reduced V) (matching : List (Option ℕ))
@@ -123,15 +108,6 @@ pub record AreTogether {V : Type 0} (M : Monoid V) (difference : V → V → V) 
   pub is_whole : led ≡ true → cut ≡ false
   pub absorbed : cut ≡ false
       → AreAbsorbedAfter M difference enter X (phases_in phases) work.matching
-
--- an instance whose live costs enter as values, of a side that is solved
-pub record MaySolve {V : Type 0} (M : Monoid V) (enter : Cost → V) (objective : Objective) (reach : ℕ)
-    (X : Problem) : Type 0 where
-  pub instance : IsInstance X
-  pub small : square_side X ≤ most_side
-  pub passes : PassesNegative objective X
-  pub far : most_cost ≤ reach
-  pub live : EntersValues M enter X
 
 -- what a session keeps
 pub record IsSession {V : Type 0} (M : Monoid V) (difference : V → V → V) (enter : Cost → V)

@@ -2,7 +2,7 @@
 
 ghost use Rattle.std.specs.Prelude.{◌≡◌, ◌↔◌, ◌<◌, ℕ, length, IsTrue};
 ghost use Rattle.asg_proof.specs.Steps.{HasValues};
-ghost use Rattle.asg_algebra.specs.Growing.{IsAbsorbed};
+ghost use Rattle.asg_growth.specs.Growing.{IsAbsorbed};
 ghost use Rattle.asg_match.specs.Matching.{AllAllowed, Matches};
 ghost use Rattle.asg_order.specs.Monoid.{IsValue};
 ghost use Rattle.asg_square.specs.Grid.{IsGrid, cell_at};
@@ -23,7 +23,7 @@ pub(crate) struct AbsorbedCells<'a, M: DMonoid> {
 }
 
 impl<M: DMonoid> Allowed for AbsorbedCells<'_, M> {
-    ghost use Rattle.asg_algebra.specs.Growing.{IsAbsorbed};
+    ghost use Rattle.asg_growth.specs.Growing.{IsAbsorbed};
     ghost use Rattle.asg_square.specs.Grid.{cell_at};
     ghost use Rattle.asg_repair.specs.laws.AbsorbedLemmas.{absorbed_within};
 

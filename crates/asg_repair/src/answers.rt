@@ -9,8 +9,10 @@ ghost use Rattle.asg_proof.specs.Phases.{PhaseOf};
 ghost use Rattle.asg_square.specs.Cells.{IsPresent};
 ghost use Rattle.asg_square.specs.Grid.{cell_at, HasLabelsOf};
 ghost use Rattle.asg_repair.specs.Answers.{IsWrittenBy};
-ghost use Rattle.asg_repair.specs.Sessions.{ids_in, IsAnswerRoom, IsGiven, IsLed};
-ghost use Rattle.asg_repair.specs.Sessions.{IsSized, MaySolve};
+ghost use Rattle.asg_repair.specs.Sessions.{ids_in, IsAnswerRoom, IsGiven};
+ghost use Rattle.asg_kept_phases.specs.Led.{IsLed};
+ghost use Rattle.asg_repair.specs.Sessions.{IsSized};
+ghost use Rattle.asg_kept_phases.specs.Led.{MaySolve};
 ghost use Rattle.asg_repair.specs.declared.answers.Given.TheVariants.{Chosen, Open, Stuck};
 
 use crate::NoMemory;

@@ -2,7 +2,7 @@
 
 ghost use Rattle.std.specs.Prelude.{◌≡◌, ◌<◌, ℕ, List, Option, length, slice_index};
 ghost use Rattle.asg_admit.specs.declared.reduced.Reduced.{Reduced};
-ghost use Rattle.asg_algebra.specs.Growing.{IsAbsorbed};
+ghost use Rattle.asg_growth.specs.Growing.{IsAbsorbed};
 ghost use Rattle.asg_match.specs.HallSets.{GivesHallSets};
 ghost use Rattle.asg_match.specs.Matching.{IsPerfect, Matches};
 ghost use Rattle.asg_model.specs.declared.bands.Band.TheVariants.{Whole};
@@ -11,29 +11,16 @@ ghost use Rattle.asg_model.specs.ValidChoice.{IsValid};
 ghost use Rattle.asg_order.specs.Bridge.{choice_fold};
 ghost use Rattle.asg_proof.specs.PhaseProofs.{EntersValues, ProvesIndex};
 ghost use Rattle.asg_square.specs.Grid.{cell_at, grid_choice, IsValidWithin};
-ghost use Rattle.asg_repair.specs.Sessions.{IsLed};
+ghost use Rattle.asg_kept_phases.specs.Led.{IsLed};
 ghost use Rattle.asg_proof.specs.Phases.{PhaseOf};
-ghost use Rattle.asg_model.specs.declared.edits.Edit.{Edit};
 ghost use Rattle.asg_model.specs.declared.parts.Cost.{Cost};
 ghost use Rattle.asg_model.specs.Instances.{IsInstance};
 ghost use Rattle.asg_model.specs.Problem.{Problem};
-ghost use Rattle.asg_square.specs.Cells.{square_cell, IsPresent};
-ghost use Rattle.asg_model.specs.Edits.{edited};
-ghost use Rattle.asg_repair.specs.Edited.{Touches, NamesPlaces};
+ghost use Rattle.asg_square.specs.Cells.{IsPresent};
 
 use asg_algebra::laws::fold_law;
 use asg_order::DMonoid;
 use asg_square::laws::{grid_law, square_law};
-
-/// The untouched-cells law: an edit changes cells of the square only where its row and the copies
-/// of its column stand.
-pub fn untouched_law()
-    ensures { (X : Problem) (edit : Edit) (free : ℕ) (enter : Cost → ℕ) (r k : ℕ)
-        → IsInstance X
-        → NamesPlaces X edit
-        → (Touches X edit r k → ⊥)
-        → square_cell (edited X edit) free enter r k ≡ square_cell X free enter r k }
-{}
 
 /// The led law: where phases lead from the square of an instance to one in which a matching gives
 /// every row an absorbed cell, the choice of its columns is valid and its fold is the index; and

@@ -16,25 +16,15 @@
 mod absorbed_cells;
 mod answers;
 mod applied_edits;
-mod changed_cells;
-mod edited_cells;
+mod cleared_rows;
 mod free_rows;
-mod kept_cells;
 pub mod laws;
-mod led_squares;
-mod mended_cells;
-mod named_places;
 mod opening;
-mod phase_chains;
 mod present_cells;
 mod refilled_squares;
-mod released_trails;
 mod session_answers;
 mod sessions;
-mod settled_trails;
-mod trail_lists;
 mod works;
-mod written_chains;
 
 pub use answers::{Answered, Given};
 pub use sessions::Session;

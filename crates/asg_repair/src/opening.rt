@@ -6,11 +6,11 @@ ghost use Rattle.asg_model.specs.Limits.{most_cost, most_side};
 ghost use Rattle.asg_model.specs.Refused.{PassesNegative};
 ghost use Rattle.asg_model.specs.Shapes.{square_side};
 ghost use Rattle.asg_repair.specs.Opening.{IsOpened};
-ghost use Rattle.asg_repair.specs.PhaseChains.{IsWayTo};
+ghost use Rattle.asg_kept_phases.specs.PhaseChains.{IsWayTo};
 
 use crate::NoMemory;
-use crate::phase_chains::PhaseChain;
 use crate::works::{Work, last_trail, prune_work};
+use asg_kept_phases::PhaseChain;
 use asg_model::Instance;
 use asg_order::{Kind, Ordered};
 use asg_roots::{Root, RootGuess, instance_root};

@@ -5,7 +5,7 @@ ghost use Rattle.asg_model.specs.Limits.{most_cost};
 ghost use Rattle.asg_model.specs.Refused.{PassesNegative};
 ghost use Rattle.asg_model.specs.Shapes.{square_side};
 ghost use Rattle.asg_order.specs.Entering.{MayEnter};
-ghost use Rattle.asg_repair.specs.Sessions.{IsLed};
+ghost use Rattle.asg_kept_phases.specs.Led.{IsLed};
 
 use asg_admit::Reduced;
 use asg_model::{Cost, Instance};

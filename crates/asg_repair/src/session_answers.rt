@@ -17,7 +17,7 @@ use crate::answers::{Answered, Given, give};
 use crate::free_rows::free_rows;
 use crate::sessions::Session;
 use crate::works::{lead, solve_on};
-use crate::written_chains::written_chain;
+use asg_kept_phases::written_chain;
 use asg_model::{Choice, Instance};
 use asg_order::Kind;
 use asg_proof::Phases;

@@ -1,6 +1,6 @@
 //! Sessions.
 
-ghost use Rattle.std.specs.Prelude.{◌≡◌, ◌≢◌, ◌≤◌, ◌||◌, ℕ, None, Some, nat_lt, take, length};
+ghost use Rattle.std.specs.Prelude.{◌≡◌, ◌≢◌, ◌≤◌, ◌||◌, ◌&&◌, ℕ, None, Some, nat_eq, nat_lt, take, length};
 ghost use Rattle.std.specs.Prelude.{IfOk, OnOk, OnErr, IfErr};
 ghost use Rattle.asg_match.specs.Matching.{column_at};
 ghost use Rattle.asg_model.specs.declared.edits.EditRefusal.TheVariants.{NoMemory as NoMemoryRefusal};
@@ -9,7 +9,7 @@ ghost use Rattle.asg_model.specs.Limits.{most_cost, most_side};
 ghost use Rattle.asg_model.specs.Refused.{PassesNegative};
 ghost use Rattle.asg_model.specs.Shapes.{square_side};
 ghost use Rattle.asg_proof.specs.PhaseProofs.{IsRaised};
-ghost use Rattle.asg_repair.specs.Edited.{Touches};
+ghost use Rattle.asg_kept_phases.specs.Edited.{Touches};
 ghost use Rattle.asg_proof.specs.KeptPhases.{AreKept};
 ghost use Rattle.asg_repair.specs.declared.answers.Given.TheVariants.{Open};
 ghost use Rattle.asg_square.specs.Cells.{square_cell};
@@ -17,11 +17,9 @@ ghost use Rattle.asg_square.specs.Cells.{square_cell};
 use crate::NoMemory;
 use crate::answers::{AnswerRoom, Given};
 use crate::applied_edits::{edit_instance, follow_edit};
-use crate::led_squares::stays_led;
-use crate::named_places::named_places;
 use crate::opening::{Opened, solve_first};
-use crate::phase_chains::PhaseChain;
 use crate::works::Work;
+use asg_kept_phases::{PhaseChain, places_of};
 use asg_model::{Edit, EditRefusal, Instance};
 use asg_order::{Kind, Ordered};
 use asg_proof::laws::raised_law;
@@ -43,7 +41,7 @@ pub struct Session<K: Kind + Drop> {
 }
 
 impl<K: Kind + Drop> Model for Session<K> {
-    ghost use Rattle.asg_repair.specs.PhaseChains.{phases_in};
+    ghost use Rattle.asg_kept_phases.specs.PhaseChains.{phases_in};
     ghost use Rattle.asg_repair.specs.Sessions.{SessionOf, IsSession, sure_columns, ids_in};
 
     ghost Value = { SessionOf K K.M.Value };
@@ -151,7 +149,7 @@ impl<K: Kind + Drop> Session<K> {
         ensures kind { self.new.kind ≡ self.old.kind }
         ensures unchanged { OnErr result (self.new ≡ self.old) }
     {
-        let places = named_places(&self.inst, edit);
+        let places = places_of(&self.inst, edit);
         let kept = edit_instance(
             &self.kind,
             &mut self.inst,
@@ -183,4 +181,11 @@ fn is_cut_by(was: bool, kept: u32, count: u32) -> bool
     ensures { result ≡ (was || nat_lt kept count) }
 {
     was || kept < count
+}
+
+// Whether all of so many phases are kept that led to the square.
+fn stays_led(was: bool, kept: u32, count: u32) -> bool
+    ensures { result ≡ (was && nat_eq kept count) }
+{
+    was && kept == count
 }

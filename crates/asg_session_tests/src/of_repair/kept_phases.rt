@@ -50,12 +50,19 @@ fn are_told(alloc: Global, session: &Session<SumKind>) -> Result<bool, NoMemory>
     Ok(session.phases(alloc)?.len() == session.length() as usize)
 }
 
-// Whether the phases of the plain square are few at first, are kept, and are told.
+// Whether the phases of a session are few at first, are kept, and are told.
+fn keeps(alloc: Global, session: &mut Session<SumKind>) -> Result<bool, NoMemory> {
+    Ok(session.length() <= 3 && add_one(session) && are_told(alloc, session)?)
+}
+
+// Whether the session of the plain square does so.
 fn are_kept(alloc: Global) -> Result<bool, Fail> {
     let inst = PLAIN.instance(alloc)?;
     match session_of(alloc, SumKind::of(Objective::SumPair), inst)? {
         Some(mut session) => {
-            Ok(session.length() <= 3 && add_one(&mut session) && are_told(alloc, &session)?)
+            let is_so = keeps(alloc, &mut session);
+            drop(session);
+            Ok(is_so?)
         }
         None => Ok(false),
     }

@@ -75,7 +75,11 @@ fn stays(alloc: Global, session: &mut Session<SumKind>) -> Result<bool, NoMemory
 fn plain_stays(alloc: Global) -> Result<bool, Fail> {
     let inst = PLAIN.instance(alloc)?;
     match session_of(alloc, SumKind::of(Objective::Capped(8)), inst)? {
-        Some(mut session) => Ok(stays(alloc, &mut session)?),
+        Some(mut session) => {
+            let is_so = stays(alloc, &mut session);
+            drop(session);
+            Ok(is_so?)
+        }
         None => Ok(false),
     }
 }

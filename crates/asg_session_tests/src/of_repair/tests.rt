@@ -42,7 +42,11 @@ where
 {
     let objective = kind.objective();
     match session_of(alloc, kind, inst)? {
-        Some(mut session) => goes(alloc, objective, &mut session, turns),
+        Some(mut session) => {
+            let is_so = goes(alloc, objective, &mut session, turns);
+            drop(session);
+            is_so
+        }
         None => Ok(false),
     }
 }

@@ -1,5 +1,6 @@
-use Rattle.std.proofs.Common.{sym, subst, ◌∙◌}
-use Rattle.asg_repair.specs.Mended.{IsLedBut}
+use Rattle.std.proofs.Common.{is_some, sym, subst, ◌∙◌}
+use Rattle.std.proofs.lemmas.Bool.{and_parts}
+use Rattle.asg_kept_phases.specs.Mended.{IsLedBut}
 use Rattle.asg_repair.proofs.applied_edits.follow_edit.Goals as goal
 
 pub follow-requires-clause-led : goal.follow-requires-clause-led
@@ -21,6 +22,9 @@ returns-clause-sized g c =
       columns_side = sized.columns_side;
       steps_room = sized.steps_room;
     }
+
+pub returns-clause-only : goal.returns-clause-only
+returns-clause-only g c h = (and_parts c.args.stays (is_some c.args.places.column) (sym c.follow.ensures.told ∙ h)).0
 
 pub returns-clause-cleared : goal.returns-clause-cleared
 returns-clause-cleared g c = record {

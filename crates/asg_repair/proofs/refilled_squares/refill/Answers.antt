@@ -4,7 +4,7 @@ use Rattle.asg_model.specs.Live.{live_at}
 use Rattle.asg_order.specs.Monoid.{IsValue}
 use Rattle.asg_square.specs.Grid.{IsSquareOf}
 use Rattle.asg_proof.specs.laws.LiveCosts.{costs_may_enter}
-use Rattle.asg_repair.specs.Sessions.{IsLed}
+use Rattle.asg_kept_phases.specs.Led.{IsLed}
 use Rattle.asg_repair.proofs.SessionLemmas.{IsLed-filled}
 use Rattle.asg_repair.proofs.refilled_squares.refill.Goals as goal
 

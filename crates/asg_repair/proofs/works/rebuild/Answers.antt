@@ -1,13 +1,12 @@
 use Rattle.std.proofs.Common.{◌∙◌, ap, sym, subst}
-use Rattle.asg_algebra.specs.Growing.{IsAbsorbed}
+use Rattle.asg_growth.specs.Growing.{IsAbsorbed}
 use Rattle.asg_match.specs.Matching.{AllAllowed}
 use Rattle.asg_square.specs.Grid.{cell_at}
-use Rattle.asg_repair.specs.Leads.{LeadsTo}
-use Rattle.asg_repair.specs.PhaseChains.{phases_in}
-use Rattle.asg_repair.specs.PhasesAlong.{phases_along}
-use Rattle.asg_repair.specs.Sessions.{IsLed}
-use Rattle.asg_repair.proofs.RepairLemmas.{IsLed-leads}
-use Rattle.asg_repair.proofs.SessionLemmas.{absorbed-led}
+use Rattle.asg_kept_phases.specs.Leads.{LeadsTo}
+use Rattle.asg_kept_phases.specs.PhaseChains.{phases_in}
+use Rattle.asg_kept_phases.specs.PhasesAlong.{phases_along}
+use Rattle.asg_kept_phases.specs.Led.{IsLed}
+use Rattle.asg_repair.proofs.SessionLemmas.{IsLed-leads, absorbed-led}
 use Rattle.asg_repair.proofs.works.rebuild.Goals as goal
 use Rattle.asg_repair.proofs.works.rebuild.Given.{Over}
 

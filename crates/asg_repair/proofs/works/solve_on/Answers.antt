@@ -1,6 +1,6 @@
 use Rattle.std.proofs.Common.{◌∙◌, arith, refl, false}
 use Rattle.asg_algebra.specs.Ended.{last_of}
-use Rattle.asg_repair.specs.declared.phase_chains.PhaseChain.{PhaseChain}
+use Rattle.asg_kept_phases.specs.declared.phase_chains.PhaseChain.{PhaseChain}
 use Rattle.asg_repair.specs.declared.works.Work.{Work}
 use Rattle.asg_repair.proofs.SolvedLemmas.{IsSized-solved, AreAbsorbed-solved, side-solved, IsPhaseChain-solved, phases-solved, IsLed-solved}
 use Rattle.asg_repair.proofs.UnmatchedLemmas.{unmatched-le}

@@ -7,12 +7,13 @@ use Rattle.asg_model.specs.Shapes.{square_side}
 use Rattle.asg_proof.specs.KeptPhases.{AreKept}
 use Rattle.asg_square.specs.Cells.{square_cell}
 use Rattle.asg_repair.specs.declared.answers.Given.TheVariants.{Open}
-use Rattle.asg_repair.specs.Edited.{Touches}
-use Rattle.asg_repair.specs.Mended.{IsLedBut}
-use Rattle.asg_repair.specs.PhaseChains.{phases_in}
-use Rattle.asg_repair.specs.Sessions.{IsLed, IsSession, IsSized, MaySolve, SessionOf, sure_columns}
+use Rattle.asg_kept_phases.specs.Edited.{Touches}
+use Rattle.asg_kept_phases.specs.Mended.{IsLedBut}
+use Rattle.asg_kept_phases.specs.PhaseChains.{phases_in}
+use Rattle.asg_repair.specs.Sessions.{IsSession, IsSized, SessionOf, sure_columns}
+use Rattle.asg_kept_phases.specs.Led.{IsLed, MaySolve}
 use Rattle.asg_repair.proofs.EditSteps.{IsSized-edited, MaySolve-edited}
-use Rattle.asg_repair.proofs.EditedShapes.{edited_side}
+use Rattle.asg_kept_phases.specs.laws.EditedShapes.{edited_side}
 use Rattle.asg_repair.proofs.EditedSessions.{IsLedBut-kept, IsSession-edited, IsSession-prepared, kept_columns, kept_count, kept_phases}
 use Rattle.asg_repair.proofs.sessions.Session.apply.Given.{Over}
 use Rattle.asg_repair.proofs.sessions.Session.apply.Goals as goal
@@ -57,14 +58,14 @@ pub follow_edit-self-inside-requires-clause-sized : goal.follow_edit-self-inside
 follow_edit-self-inside-requires-clause-sized g c =
     let s = c.self.inside in
     subst (λ (Y : Problem). IsSized Y s.work) (sym c.in_ok-kept.ensures.edited)
-    (IsSized-edited s.inst c.self.invariant.may_solve.instance c.args.edit s.work c.self.invariant.sized)
+    (IsSized-edited s.inst c.args.edit s.work c.self.invariant.sized)
 
 pub follow_edit-self-inside-requires-clause-region_side : goal.follow_edit-self-inside-requires-clause-region_side
 follow_edit-self-inside-requires-clause-region_side g c =
     let s = c.self.inside in
     c.in_ok-kept.ensures.prepared.side
     ∙ c.self.invariant.region_side
-    ∙ sym (edited_side s.inst c.self.invariant.may_solve.instance c.args.edit)
+    ∙ sym (edited_side s.inst c.args.edit)
     ∙ ap (λ (Y : Problem). square_side Y) (sym c.in_ok-kept.ensures.edited)
 
 pub follow_edit-self-inside-requires-clause-led : goal.follow_edit-self-inside-requires-clause-led
@@ -75,14 +76,14 @@ follow_edit-self-inside-requires-clause-led g c =
     let d = g.K.M.DMonoid.difference m in
     let e = g.K.Kind.entered s.kind in
     let passes = subst (λ (t : Seen g). refusal_of (g.K.Kind.objective t.kind) t.instance c.args.edit ≡ None) (sym c.self.view_is) c.requires in
-    let places = c.named_places-places.result in
+    let places = c.places_of-places.result in
     let prepared = c.edit_instance.new.phases in
     let kept = c.in_ok-kept.kept in
     subst (λ (Y : Problem). c.stays_led-stays.result ≡ true → (q : ℕ) → places.column ≡ Some q → IsLedBut M d e Y (take kept (phases_in prepared)) places.row q s.work.reduced) (sym c.in_ok-kept.ensures.edited)
     (λ h q at.
     IsLedBut-kept M d e (g.K.Kind.objective s.kind) (g.K.Kind.reach s.kind) s.inst s.work s.phases s.is_led s.is_cut s.room c.self.invariant c.args.edit passes
     prepared c.in_ok-kept.ensures.prepared c.len-count.result kept c.len-count.ensures c.in_ok-kept.ensures.kept
-    c.stays_led-stays.result c.stays_led-stays.ensures h places c.named_places-places.ensures q at)
+    c.stays_led-stays.result c.stays_led-stays.ensures h places c.places_of-places.ensures q at)
 
 module _ (g : Over) (c : goal.After-self-3-1 g) where
   passed : refusal_of (g.K.Kind.objective c.self.inside.kind) c.self.inside.inst c.args.edit ≡ None
@@ -107,7 +108,7 @@ invariant_of-self-2 g c =
     subst (λ (Y : Problem). IsSession M d e o far Y work after led c.is_cut_by-self-inside.result (record s.room { given = Open })) (sym now)
     (IsSession-edited M d e o far X s.work s.phases s.is_led s.is_cut s.room c.self.invariant c.args.edit (passed g c)
     prepared c.in_ok-kept.ensures.prepared c.len-count.result c.in_ok-kept.kept c.len-count.ensures c.in_ok-kept.ensures.kept
-    after followed.cut c.named_places-places.result c.named_places-places.ensures
+    after followed.cut c.places_of-places.result c.places_of-places.ensures
     work (subst (λ (Y : Problem). IsSized Y work) now followed.sized) followed.cleared
     c.is_cut_by-self-inside.result c.is_cut_by-self-inside.ensures
     (g.met.K.Kind.enters_value s.kind)
@@ -150,7 +151,7 @@ returns-clause-columns g c =
     (kept_columns (g.K.M.Ordered.monoid_of m) (g.K.M.DMonoid.difference m) (g.K.Kind.entered s.kind) (g.K.Kind.objective s.kind) (g.K.Kind.reach s.kind)
     s.inst s.work s.phases s.is_led s.is_cut s.room c.self.invariant c.args.edit (passed g c)
     c.edit_instance.new.phases c.in_ok-kept.ensures.prepared c.len-count.result c.in_ok-kept.kept c.len-count.ensures c.in_ok-kept.ensures.kept
-    after c.follow_edit-self-inside.ensures.cut c.named_places-places.result c.named_places-places.ensures
+    after c.follow_edit-self-inside.ensures.cut c.places_of-places.result c.places_of-places.ensures
     work (subst (λ (Y : Problem). IsSized Y work) c.in_ok-kept.ensures.edited c.follow_edit-self-inside.ensures.sized) c.follow_edit-self-inside.ensures.cleared
     c.is_cut_by-self-inside.result c.is_cut_by-self-inside.ensures)
 
@@ -163,6 +164,6 @@ returns-clause-count g c =
     (kept_count (g.K.M.Ordered.monoid_of m) (g.K.M.DMonoid.difference m) (g.K.Kind.entered s.kind) (g.K.Kind.objective s.kind) (g.K.Kind.reach s.kind)
     s.inst s.work s.phases s.is_led s.is_cut s.room c.self.invariant c.args.edit (passed g c)
     c.edit_instance.new.phases c.in_ok-kept.ensures.prepared c.len-count.result c.in_ok-kept.kept c.len-count.ensures c.in_ok-kept.ensures.kept
-    c.follow_edit-self-inside.new.phases c.follow_edit-self-inside.ensures.cut c.named_places-places.result c.named_places-places.ensures
+    c.follow_edit-self-inside.new.phases c.follow_edit-self-inside.ensures.cut c.places_of-places.result c.places_of-places.ensures
     work (subst (λ (Y : Problem). IsSized Y work) c.in_ok-kept.ensures.edited c.follow_edit-self-inside.ensures.sized) c.follow_edit-self-inside.ensures.cleared
     c.is_cut_by-self-inside.result c.is_cut_by-self-inside.ensures)

@@ -46,7 +46,7 @@ returns-in-Ok-clause-all g c raised =
     let kept = c.in-Ok.ensures.kept in
     let live_after = EntersValues-edited (g.K.Kind.objective t.kind) t.instance c.args.edit (passes g c) M e (g.K.Kind.reach t.kind) far (g.met.K.Kind.enters_value t.kind) instance live in
     kept.1
-    ∙ raised_all M (g.met.K.M.Ordered.laws m) d stay squares e t.instance c.args.edit t.phases kept.0 instance live live_after
+    ∙ raised_all M (g.met.K.M.Ordered.laws m) d stay squares e t.instance c.args.edit t.phases kept.0 live live_after
     (subst (λ (Y : Problem). IsRaised M e t.instance Y) edited_is raised) admitted
     (subst (λ (Y : Problem). AreKept M d (square_side Y) t.phases (square_cell Y M.unit e) kept.0) edited_is kept.2)
 

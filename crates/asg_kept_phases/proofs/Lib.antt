@@ -1,0 +1,9 @@
+mod CellLemmas
+mod KeptThrough
+mod LeadLemmas
+mod LedSquares
+mod LeftLemmas
+mod MendLemmas
+mod OverLemmas
+mod TouchedCells
+mod TrailLemmas

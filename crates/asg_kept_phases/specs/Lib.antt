@@ -1,0 +1,11 @@
+pub mod Chains
+pub mod Edited
+pub mod EditedCells
+pub mod Leads
+pub mod Led
+pub mod LeftPhases
+pub mod Mended
+pub mod NamedPlaces
+pub mod PhaseChains
+pub mod PhasesAlong
+pub mod laws

@@ -1,9 +1,0 @@
-use Rattle.std.proofs.Common.{◌≡◌, take, map}
-use Rattle.asg_proof.specs.Phases.{ArePhases, worded}
-use Rattle.asg_repair.specs.PhasesAlong.{phases_along}
-use Rattle.asg_repair.proofs.written_chains.written_trails.Given as goal
-
-abbrev pub invariant-loop-i : goal.invariant-loop-i
-invariant-loop-i g l =
-    (l.words.items ≡ map (worded (g.M.Written.word_of l.m)) (phases_along l.region (take l.i l.trails)))
-    × ArePhases l.words.items

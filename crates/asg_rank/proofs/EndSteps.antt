@@ -11,17 +11,17 @@ use Rattle.asg_order.specs.Bridge.{choice_fold}
 use Rattle.asg_order.specs.Monoid.{IsLe, IsOrderedMonoid}
 use Rattle.asg_proof.specs.SearchTrees.{last_answer}
 use Rattle.asg_square.specs.Cells.{IsSquareChoice}
-use Rattle.asg_rank.specs.declared.entries.State.TheVariants.{Open}
-use Rattle.asg_rank.specs.declared.trees.Tree.{Tree}
-use Rattle.asg_rank.specs.Entries.{entry_at, is_open_at}
+use Rattle.asg_nodes.specs.declared.entries.State.TheVariants.{Open}
+use Rattle.asg_nodes.specs.declared.trees.Tree.{Tree}
+use Rattle.asg_nodes.specs.Entries.{entry_at, is_open_at}
 use Rattle.asg_rank.specs.Rankings.{IsExhausted}
 use Rattle.asg_rank.specs.Rooms.{answer_room}
-use Rattle.asg_rank.specs.Rules.{Rules, IsSolved}
-use Rattle.asg_rank.specs.Searches.{winner_in, IsBehind, IsKept, IsSearch}
-use Rattle.asg_rank.specs.Slots.{SlotList, slot_of, slot_at}
-use Rattle.asg_rank.proofs.ChoiceSteps.{some_choice}
-use Rattle.asg_rank.proofs.OpenNodes.{open_within, open_here}
-use Rattle.asg_rank.proofs.Parts.{part_instance, part_valid}
+use Rattle.asg_nodes.specs.Rules.{Rules, IsSolved}
+use Rattle.asg_branching.specs.Searches.{winner_in, IsBehind, IsKept, IsSearch}
+use Rattle.asg_nodes.specs.Slots.{SlotList, slot_of, slot_at}
+use Rattle.asg_nodes.specs.laws.ChoiceSteps.{some_choice}
+use Rattle.asg_nodes.specs.laws.OpenNodes.{open_within, open_here}
+use Rattle.asg_nodes.specs.laws.Parts.{part_instance, part_valid}
 
 module _ {V : Type 0} (R : Rules V) (X : Problem) (given : List (List (Option ℕ))) (slots : SlotList V) (T : Tree V) (search : IsSearch R X (length T.entries.items) given slots T) where
   -- where no node is kept, there is room for no more answers, or every valid choice was given

@@ -14,16 +14,16 @@ use Rattle.asg_proof.specs.declared.nodes.Node.{Node}
 use Rattle.asg_proof.specs.Nodes.{node_at, IsNumber}
 use Rattle.asg_proof.specs.Phases.{worded}
 use Rattle.asg_proof.specs.PromisedProofs.{IsPhaseOver}
-use Rattle.asg_rank.specs.declared.entries.Entry.{Entry}
-use Rattle.asg_rank.specs.declared.entries.State.{State}
-use Rattle.asg_rank.specs.declared.entries.State.TheVariants.{Answered, Open}
-use Rattle.asg_rank.specs.declared.trees.Tree.{Tree}
-use Rattle.asg_rank.specs.Entries.{entry_at, child_number}
+use Rattle.asg_nodes.specs.declared.entries.Entry.{Entry}
+use Rattle.asg_nodes.specs.declared.entries.State.{State}
+use Rattle.asg_nodes.specs.declared.entries.State.TheVariants.{Answered, Open}
+use Rattle.asg_nodes.specs.declared.trees.Tree.{Tree}
+use Rattle.asg_nodes.specs.Entries.{entry_at, child_number}
 use Rattle.asg_rank.specs.Rankings.{HaveFewPhases, LeaveLastOpen}
-use Rattle.asg_rank.specs.Rules.{Rules}
-use Rattle.asg_rank.specs.Trees.{given_at, IsTree}
+use Rattle.asg_nodes.specs.Rules.{Rules}
+use Rattle.asg_nodes.specs.Trees.{given_at, IsTree}
 use Rattle.asg_rank.specs.Written.{IsWrittenMark, AreWrittenNodes}
-use Rattle.asg_rank.proofs.Parts.{placed_at}
+use Rattle.asg_nodes.specs.laws.Parts.{placed_at}
 use Rattle.asg_rank.proofs.ToldSteps.{told, phases_over, words_over}
 use Rattle.asg_rank.proofs.WrittenTrees.{sound_node}
 

@@ -1,24 +1,24 @@
 -- What the next answer is.
 use Rattle.std.proofs.Common.{◌≡◌, ℕ, inl, inr, List, length, Option, refl, sym, ◌∙◌, subst, arith, ⊎_elim}
 use Rattle.std.specs.Prelude.{Contains}
+use Rattle.std.proofs.lemmas.List.{length-take-le}
 use Rattle.asg_model.specs.Problem.{Problem}
 use Rattle.asg_model.specs.ValidChoice.{IsValid}
 use Rattle.asg_rank.specs.declared.ranker.Next.TheVariants.{Answer, Done}
-use Rattle.asg_rank.specs.declared.searches.Search.{Search}
-use Rattle.asg_rank.specs.Expansions.{IsOneMore, GivesLeast}
-use Rattle.asg_rank.specs.Rooms.{answer_room}
-use Rattle.asg_rank.specs.Rules.{Rules}
-use Rattle.asg_rank.specs.Searches.{given_of, IsReady}
+use Rattle.asg_branching.specs.declared.searches.Search.{Search}
+use Rattle.asg_branching.specs.Expansions.{IsOneMore}
+use Rattle.asg_rank.specs.Rankers.{GivesLeast}
+use Rattle.asg_nodes.specs.Rules.{Rules}
+use Rattle.asg_branching.specs.Searches.{given_of, IsReady}
 use Rattle.asg_rank.proofs.EndSteps.{nothing_left}
-use Rattle.asg_rank.proofs.GivenSearches.{count_given}
 
-module _ {V : Type 0} (R : Rules V) (X : Problem) (count : ℕ) where
+module _ {V : Type 0} (R : Rules V) (X : Problem) (most : ℕ) where
   -- as many answers as were counted
-  pub counted_ready : (S : Search V) → IsReady R X count S → length (given_of S) ≡ S.given
-  counted_ready S ready = count_given S (let c = ready.memory.choices_fit in let g = ready.memory.given_fit in omega (arith, c, g))
+  pub counted_ready : (S : Search V) → IsReady R X most S → length (given_of S) ≡ S.given
+  counted_ready S ready = let c = ready.memory.choices_fit in let g = ready.memory.given_fit in length-take-le S.given S.choices.items (omega (arith, c, g))
 
   -- where no node is kept
-  pub done_least : (S : Search V) → IsReady R X count S → S.given ≡ length S.slots.used → GivesLeast R X (answer_room X count) (given_of S) (given_of S) Done
+  pub done_least : (S : Search V) → IsReady R X most S → S.given ≡ length S.slots.used → GivesLeast R X most (given_of S) (given_of S) Done
   done_least S ready none = (
     refl,
     ⊎_elim
@@ -28,7 +28,7 @@ module _ {V : Type 0} (R : Rules V) (X : Problem) (count : ℕ) where
   )
 
   -- where one answer more was given
-  pub answered_least : (S U W : Search V) → IsOneMore R X (given_of S) (given_of U) → given_of W ≡ given_of U → IsReady R X count W → GivesLeast R X (answer_room X count) (given_of S) (given_of W) (Answer W.given)
+  pub answered_least : (S U W : Search V) → IsOneMore R X (given_of S) (given_of U) → given_of W ≡ given_of U → IsReady R X most W → GivesLeast R X most (given_of S) (given_of W) (Answer W.given)
   answered_least S U W more same ready =
       let counted = counted_ready W ready in
       let fit = ready.memory.given_fit in

@@ -1,11 +1,10 @@
 -- What a ranker tells once no answer is left.
-use Rattle.std.proofs.Common.{◌≡◌, ◌≢◌, ◌↔◌, ℕ, ◌-◌, ◌*◌, ◌^◌, ◌<◌, ◌≤◌, zero, suc, List, length, Option, sym, ap, subst, arith}
+use Rattle.std.proofs.Common.{◌≡◌, ◌≢◌, ◌↔◌, ℕ, ◌-◌, ◌^◌, ◌<◌, ◌≤◌, List, length, Option, sym, subst, arith}
 use Rattle.std.specs.Prelude.{All, AllPairs}
-use Rattle.std.proofs.Math.Nat.{mul_comm, mul-le-mul_right}
-use Rattle.std.proofs.lemmas.List.{length-take-le}
+use Rattle.std.proofs.Math.Nat.{mul-le-mul_right}
 use Rattle.asg_model.specs.declared.objectives.Objective.{Objective}
 use Rattle.asg_model.specs.declared.parts.Cost.{Cost}
-use Rattle.asg_model.specs.Counts.{active_count, placed_by, placed}
+use Rattle.asg_model.specs.Counts.{placed}
 use Rattle.asg_model.specs.Instances.{IsInstance}
 use Rattle.asg_model.specs.Limits.{most_cost}
 use Rattle.asg_model.specs.Problem.{Problem}
@@ -21,15 +20,18 @@ use Rattle.asg_proof.specs.Ranked.{AreListed}
 use Rattle.asg_proof.specs.laws.LiveCosts.{lies_within}
 use Rattle.asg_proof.specs.SearchTrees.{IsSearchTree}
 use Rattle.asg_square.specs.Cells.{IsSquareChoice}
-use Rattle.asg_rank.specs.declared.entries.State.TheVariants.{Open}
-use Rattle.asg_rank.specs.declared.searches.Search.{Search}
-use Rattle.asg_rank.specs.Entries.{entry_at, child_number}
+use Rattle.asg_nodes.specs.declared.entries.State.TheVariants.{Open}
+use Rattle.asg_branching.specs.declared.searches.Search.{Search}
+use Rattle.asg_nodes.specs.Entries.{entry_at, child_number}
+use Rattle.asg_rank.specs.Rooms.{answer_room}
 use Rattle.asg_rank.specs.Rankings.{AreCountable, IsExhausted, HaveFewPhases, LeaveLastOpen}
-use Rattle.asg_rank.specs.Rules.{Rules}
-use Rattle.asg_rank.specs.Searches.{winner_in, given_of, IsReady}
-use Rattle.asg_rank.specs.Trees.{given_at}
+use Rattle.asg_nodes.specs.Rules.{Rules}
+use Rattle.asg_branching.specs.Searches.{winner_in, given_of, IsReady}
+use Rattle.asg_nodes.specs.Trees.{given_at}
+use Rattle.asg_nodes.specs.laws.Parts.{room_small}
 use Rattle.asg_rank.specs.Written.{IsTold, AreWrittenNodes}
 use Rattle.asg_rank.proofs.FewPhases.{few_phases, last_open}
+use Rattle.asg_rank.proofs.FollowSteps.{counted_ready}
 use Rattle.asg_rank.proofs.RankingSteps.{IsBridged}
 use Rattle.asg_rank.proofs.ToldSteps.{told}
 use Rattle.asg_rank.proofs.TreeEnds.{listed, search_tree}
@@ -39,22 +41,15 @@ pub kind_bridge : {V : Type 0} (R : Rules V) (objective : Objective) (reach : �
 kind_bridge R objective reach X bridges far instance passes f g valid_f valid_g =
     bridges X f g instance.well_formed.few_rows (lies_within reach X far instance) passes valid_f valid_g
 
-le_times : (p n : ℕ) → 1 ≤ p → n ≤ n * p
-le_times zero n some = absurd (omega (arith, some))
-le_times (suc p) n some = let c = mul_comm n (suc p) in omega (arith, c)
-
-module _ {V : Type 0} (R : Rules V) (X : Problem) (count : ℕ) (S : Search V) (ready : IsReady R X count S) (instance : IsInstance X) where
+module _ {V : Type 0} (R : Rules V) (X : Problem) (count : ℕ) (S : Search V) (ready : IsReady R X (answer_room X count) S) (instance : IsInstance X) where
   small : S.given < 2 ^ 32
   small =
-      let all : placed X ≡ active_count X = ap (λ p. placed_by p (active_count X)) ready.rankable.place in
-      let active = instance.well_formed.some_active in
-      let times = le_times (placed X) S.slots.room (omega (arith, all, active)) in
-      let room = ready.memory.small in
+      let few = room_small X instance ready.rankable.place S.slots.room ready.memory.small in
       let fit = ready.memory.given_fit in
-      omega (arith, times, room, fit)
+      omega (arith, few, fit)
 
   given_count : length (given_of S) ≡ S.given
-  given_count = let fit = ready.memory.given_fit in let room = ready.memory.choices_fit in length-take-le S.given S.choices.items (omega (arith, fit, room))
+  given_count = counted_ready R X (answer_room X count) S ready
 
   fits : length (given_of S) < 2 ^ 32
   fits = omega (arith, given_count, small)

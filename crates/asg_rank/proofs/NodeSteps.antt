@@ -8,9 +8,9 @@ use Rattle.asg_proof.specs.declared.nodes.Mark.TheVariants.{Open as MarkOpen}
 use Rattle.asg_proof.specs.declared.nodes.Node.{Node}
 use Rattle.asg_proof.specs.NodeLists.{IsNodePart, AreNodeParts}
 use Rattle.asg_proof.specs.Nodes.{node_at}
-use Rattle.asg_rank.specs.declared.entries.Entry.{Entry}
-use Rattle.asg_rank.specs.declared.trees.Tree.{Tree}
-use Rattle.asg_rank.specs.Entries.{blank, entry_at}
+use Rattle.asg_nodes.specs.declared.entries.Entry.{Entry}
+use Rattle.asg_nodes.specs.declared.trees.Tree.{Tree}
+use Rattle.asg_nodes.specs.Entries.{blank, entry_at}
 use Rattle.asg_rank.specs.Written.{IsWrittenNode, PushesNode, AreWrittenNodes}
 
 -- an entry that was read from a list of the nodes is the node of the next number

@@ -13,22 +13,21 @@ use Rattle.asg_model.specs.ValidChoice.{IsValid}
 use Rattle.asg_order.specs.Monoid.{Monoid, IsOrderedMonoid}
 use Rattle.asg_pool.specs.Forest.{Forest, trail_at}
 use Rattle.asg_algebra.specs.declared.solving.Solved.{Solved}
-use Rattle.asg_rank.specs.declared.desks.Desk.{Desk}
-use Rattle.asg_rank.specs.declared.entries.Entry.{Entry}
-use Rattle.asg_rank.specs.declared.entries.State.TheVariants.{Open, Empty}
-use Rattle.asg_rank.specs.declared.searches.Search.{Search}
-use Rattle.asg_rank.specs.declared.slots.Slot.{Slot}
-use Rattle.asg_rank.specs.declared.trees.Tree.{Tree}
-use Rattle.asg_rank.specs.Entries.{entry_at, entry_of}
-use Rattle.asg_rank.specs.HallPools.{HallSets, hall_at}
+use Rattle.asg_branching.specs.declared.desks.Desk.{Desk}
+use Rattle.asg_nodes.specs.declared.entries.Entry.{Entry}
+use Rattle.asg_nodes.specs.declared.entries.State.TheVariants.{Open, Empty}
+use Rattle.asg_branching.specs.declared.searches.Search.{Search}
+use Rattle.asg_nodes.specs.declared.slots.Slot.{Slot}
+use Rattle.asg_nodes.specs.declared.trees.Tree.{Tree}
+use Rattle.asg_nodes.specs.Entries.{entry_at, entry_of}
+use Rattle.asg_nodes.specs.HallPools.{HallSets, hall_at}
 use Rattle.asg_rank.specs.Opening.{IsPlantable}
-use Rattle.asg_rank.specs.Rooms.{answer_room}
-use Rattle.asg_rank.specs.Rules.{Rules, Leads, IsSolved, IsReducedTo}
-use Rattle.asg_rank.specs.Searches.{winner_in, given_of, AreSlots, IsSearch, IsDesk, IsReady}
-use Rattle.asg_rank.specs.Slots.{SlotList, slot_of, Inserts, Replaces, Refuses, Offers}
-use Rattle.asg_rank.specs.Trees.{HasState, IsNode, IsRoot, IsTree, HasRoomFor}
-use Rattle.asg_rank.proofs.OpenNodes.{open_within, open_here}
-use Rattle.asg_rank.proofs.SlotSteps.{slots_stay, slots_offered}
+use Rattle.asg_nodes.specs.Rules.{Rules, Leads, IsSolved, IsReducedTo}
+use Rattle.asg_branching.specs.Searches.{winner_in, given_of, AreSlots, IsSearch, IsDesk, IsReady}
+use Rattle.asg_nodes.specs.Slots.{SlotList, slot_of, Inserts, Replaces, Refuses, Offers}
+use Rattle.asg_nodes.specs.Trees.{HasState, IsNode, IsRoot, IsTree, HasRoomFor}
+use Rattle.asg_nodes.specs.laws.OpenNodes.{open_within, open_here}
+use Rattle.asg_branching.specs.laws.SlotSteps.{slots_stay, slots_offered}
 
 -- a tree with its root alone
 module _ {V : Type 0} (R : Rules V) (X : Problem) (U : Tree V) (e : Entry V) (items : U.entries.items ≡ e ∷ []) (root : IsRoot e) (leads : Leads R U.region X e.trail e.index)
@@ -158,11 +157,11 @@ module _ {V : Type 0} (R : Rules V) (laws : IsOrderedMonoid R.monoid) (X : Probl
         planted_room =
             let none = is.blank.none_given in
             let room_is = is.blank.room_is in
-            let all : slots.room - S.given ≡ answer_room X count = omega (arith, none, room, room_is) in
-            let rest : slots.room - 1 - S.given ≡ answer_room X count - 1 = omega (arith, none, room, room_is) in
-            let nodes : (slots.room - S.given) * placed X ≡ answer_room X count * placed X = ap (λ n. n * placed X) all in
-            let phases : (slots.room - 1 - S.given) * placed X ≡ (answer_room X count - 1) * placed X = ap (λ n. n * placed X) rest in
-            let fewer : (answer_room X count - 1) * placed X ≤ answer_room X count * placed X = mul-le-mul_right (placed X) (let h : answer_room X count - 1 ≤ answer_room X count = omega arith in h) in
+            let all : slots.room - S.given ≡ count = omega (arith, none, room, room_is) in
+            let rest : slots.room - 1 - S.given ≡ count - 1 = omega (arith, none, room, room_is) in
+            let nodes : (slots.room - S.given) * placed X ≡ count * placed X = ap (λ n. n * placed X) all in
+            let phases : (slots.room - 1 - S.given) * placed X ≡ (count - 1) * placed X = ap (λ n. n * placed X) rest in
+            let fewer : (count - 1) * placed X ≤ count * placed X = mul-le-mul_right (placed X) (let h : count - 1 ≤ count = omega arith in h) in
             let entries = is.blank.entries_fit in
             let spare = is.phases_fit in
             let halls = is.blank.halls_fit in

@@ -16,21 +16,22 @@ use Rattle.asg_order.specs.Monoid.{IsOrderedMonoid}
 use Rattle.asg_proof.specs.Nodes.{answer_at}
 use Rattle.asg_proof.specs.laws.LiveCosts.{lies_within}
 use Rattle.asg_square.specs.Cells.{IsSquareChoice}
-use Rattle.asg_rank.specs.declared.entries.Entry.{Entry}
-use Rattle.asg_rank.specs.declared.entries.State.{State}
-use Rattle.asg_rank.specs.declared.entries.State.TheVariants.{Answered, Open, Empty}
+use Rattle.asg_nodes.specs.declared.entries.Entry.{Entry}
+use Rattle.asg_nodes.specs.declared.entries.State.{State}
+use Rattle.asg_nodes.specs.declared.entries.State.TheVariants.{Answered, Open, Empty}
 use Rattle.asg_rank.specs.declared.ranker.Next.{Next}
-use Rattle.asg_rank.specs.declared.searches.Search.{Search}
-use Rattle.asg_rank.specs.Entries.{blank, entry_at}
-use Rattle.asg_rank.specs.Expansions.{GivesLeast}
-use Rattle.asg_rank.specs.HallPools.{HallSets}
+use Rattle.asg_branching.specs.declared.searches.Search.{Search}
+use Rattle.asg_nodes.specs.Entries.{blank, entry_at}
+use Rattle.asg_rank.specs.Rankers.{GivesLeast}
+use Rattle.asg_nodes.specs.HallPools.{HallSets}
 use Rattle.asg_rank.specs.Rankings.{Gives, IsExhausted}
 use Rattle.asg_rank.specs.Rooms.{answer_room}
-use Rattle.asg_rank.specs.Rules.{Rules}
-use Rattle.asg_rank.specs.Searches.{winner_in, given_of, IsReady, IsRanker}
-use Rattle.asg_rank.specs.Trees.{given_at, HasState, NamesHall, hall_in}
+use Rattle.asg_nodes.specs.Rules.{Rules}
+use Rattle.asg_branching.specs.Searches.{winner_in, given_of, IsReady}
+use Rattle.asg_rank.specs.Rankers.{IsRanker}
+use Rattle.asg_nodes.specs.Trees.{given_at, HasState, NamesHall, hall_in}
 use Rattle.asg_rank.proofs.EndSteps.{none_kept, open_behind}
-use Rattle.asg_rank.proofs.Parts.{AreBefore, part_valid}
+use Rattle.asg_nodes.specs.laws.Parts.{AreBefore, part_valid}
 use Rattle.asg_rank.proofs.RankingSteps.{IsBridged, gives}
 
 -- node number 1, whatever stands for none
@@ -74,7 +75,7 @@ module _ {V : Type 0} (R : Rules V) (objective : Objective) (reach : ℕ) (X : P
       bridged bridges f g valid_f valid_g = bridges X f g instance.well_formed.few_rows (lies_within reach X ranker.reaches instance) ranker.passes valid_f valid_g
 
   -- it is ready for the next one
-  pub ranker_next : (U : Search V) → IsReady R X count U → IsRanker R objective reach X count U
+  pub ranker_next : (U : Search V) → IsReady R X (answer_room X count) U → IsRanker R objective reach X count U
   ranker_next U ready = record { ready = ready; passes = ranker.passes; reaches = ranker.reaches; some = ranker.some }
 
   module _ (none : given_of S ≡ []) (done : IsExhausted X count (given_of S)) (laws : IsOrderedMonoid R.monoid)

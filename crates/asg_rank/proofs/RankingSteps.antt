@@ -15,10 +15,11 @@ use Rattle.asg_proof.specs.Nodes.{answer_at}
 use Rattle.asg_proof.specs.Ranked.{IsBetterChoice, IsNextBest}
 use Rattle.asg_rank.specs.declared.ranker.Next.{Next}
 use Rattle.asg_rank.specs.declared.ranker.Next.TheVariants.{Answer, Done}
-use Rattle.asg_rank.specs.Expansions.{IsLeastNew, GivesLeast}
+use Rattle.asg_branching.specs.Expansions.{IsLeastNew}
+use Rattle.asg_rank.specs.Rankers.{GivesLeast}
 use Rattle.asg_rank.specs.Rankings.{Gives}
 use Rattle.asg_rank.specs.Rooms.{answer_room}
-use Rattle.asg_rank.specs.Rules.{Rules}
+use Rattle.asg_nodes.specs.Rules.{Rules}
 
 -- the bridge between better choices and lesser products, of an instance
 abbrev pub IsBridged : {V : Type 0} → Rules V → Objective → Problem → Type 0

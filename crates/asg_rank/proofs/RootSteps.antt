@@ -30,17 +30,16 @@ use Rattle.asg_square.specs.laws.Masks.{cell_at-masked}
 use Rattle.asg_algebra.specs.declared.solving.Solved.{Solved}
 use Rattle.asg_algebra.specs.declared.solving.Solved.TheVariants.{Perfect, Short}
 use Rattle.asg_algebra.specs.Ended.{last_of}
-use Rattle.asg_algebra.specs.Growing.{IsAbsorbed}
+use Rattle.asg_growth.specs.Growing.{IsAbsorbed}
 use Rattle.asg_roots.specs.declared.roots.Root.{Root}
-use Rattle.asg_rank.specs.declared.searches.Search.{Search}
-use Rattle.asg_rank.specs.Cuts.{AreBitsFor}
+use Rattle.asg_branching.specs.declared.searches.Search.{Search}
+use Rattle.asg_nodes.specs.Cuts.{AreBitsFor}
 use Rattle.asg_rank.specs.Opening.{IsRootOf, IsBlank, IsPlantable, root_in}
 use Rattle.asg_roots.specs.Roots.{IsSolvedRoot, IsInstanceRoot}
 use Rattle.asg_roots.specs.laws.InstanceRoots.{enters_values}
-use Rattle.asg_rank.specs.Rooms.{answer_room}
-use Rattle.asg_rank.specs.Rules.{Rules, Leads, IsSolved, IsReducedTo, reduced_cell}
-use Rattle.asg_rank.specs.Searches.{IsRankable, HasMemory}
-use Rattle.asg_rank.proofs.BitSteps.{keeps_by}
+use Rattle.asg_nodes.specs.Rules.{Rules, Leads, IsSolved, IsReducedTo, reduced_cell}
+use Rattle.asg_branching.specs.Searches.{IsRankable, HasMemory}
+use Rattle.asg_nodes.specs.laws.BitSteps.{keeps_by}
 
 none_outside : {V : Type 0} (o : Option V) → (IsSome o → ⊥) → None ≡ o
 none_outside None not = refl
@@ -163,18 +162,16 @@ rankable_by R objective reach X place small far instance passes values = record 
 }
 
 -- a search over a root that was solved can have its root made
-pub plantable : {V : Type 0} (R : Rules V) → IsOrderedMonoid R.monoid → (X : Problem) (count : ℕ) → 1 ≤ count → IsRankable R X → ((free : V) (enter : Cost → V) (r c : ℕ) → is_some (square_cell X free enter r c) ≡ has_cell X Whole r c) → (room records : ℕ) → room ≡ answer_room X count → records ≡ square_side X + (room - 1) * placed X
-    → (S : Search V) (ended : Solved) (matching : List (Option ℕ)) → IsInstanceRoot R.monoid R.difference R.enter X records (root_in S ended matching) → IsBlank X room S → HasMemory X S → IsPlantable R X count S ended matching
-plantable R laws X count some rankable presence room records room_is are S ended matching is blank memory =
+pub plantable : {V : Type 0} (R : Rules V) → IsOrderedMonoid R.monoid → (X : Problem) → IsRankable R X → ((free : V) (enter : Cost → V) (r c : ℕ) → is_some (square_cell X free enter r c) ≡ has_cell X Whole r c) → (room records : ℕ) → 1 ≤ room → records ≡ square_side X + (room - 1) * placed X
+    → (S : Search V) (ended : Solved) (matching : List (Option ℕ)) → IsInstanceRoot R.monoid R.difference R.enter X records (root_in S ended matching) → IsBlank X room S → HasMemory X S → IsPlantable R X room S ended matching
+plantable R laws X rankable presence room records some are S ended matching is blank memory =
     let spare = is.solved.spare in
     let side = is.of_instance.labels.side in
-    let here = subst (λ n. IsBlank X n S) room_is blank in
-    let same = subst (λ n. records ≡ square_side X + (n - 1) * placed X) room_is are in
     record {
       some = some;
       rankable = rankable;
-      blank = here;
+      blank = blank;
       memory = memory;
-      root = root_of R laws X is.square is.of_instance presence records S here.work here.bits matching ended is.solved;
-      phases_fit = omega (arith, spare, side, same);
+      root = root_of R laws X is.square is.of_instance presence records S blank.work blank.bits matching ended is.solved;
+      phases_fit = omega (arith, spare, side, are);
     }

@@ -11,7 +11,7 @@ use Rattle.asg_model.specs.Problem.{Problem}
 use Rattle.asg_model.specs.Shapes.{square_side, side_by}
 use Rattle.asg_rank.specs.Rankings.{ranking_work}
 use Rattle.asg_rank.specs.Rooms.{answer_room}
-use Rattle.asg_rank.proofs.GivenSearches.{add_one_times}
+use Rattle.asg_nodes.specs.laws.EntryLists.{add_one_times}
 
 module _ (X : Problem) (instance : IsInstance X) where
   -- no more rows are placed than there are

@@ -14,15 +14,15 @@ use Rattle.asg_proof.specs.Phases.{PhaseOf, worded, AreAdmittedPhases, after_pha
 use Rattle.asg_proof.specs.PromisedProofs.{IsPhaseOver}
 use Rattle.asg_proof.specs.laws.PhaseSteps.{phase_has_values}
 use Rattle.asg_square.specs.Cells.{square_cell}
-use Rattle.asg_rank.specs.declared.entries.State.{State}
-use Rattle.asg_rank.specs.declared.entries.State.TheVariants.{Answered, Open, Empty}
-use Rattle.asg_rank.specs.declared.trees.Tree.{Tree}
-use Rattle.asg_rank.specs.Entries.{entry_at, IsNext}
-use Rattle.asg_rank.specs.HallPools.{HallSets}
-use Rattle.asg_rank.specs.Rules.{Rules}
-use Rattle.asg_rank.specs.Trees.{HasState, IsTree}
+use Rattle.asg_nodes.specs.declared.entries.State.{State}
+use Rattle.asg_nodes.specs.declared.entries.State.TheVariants.{Answered, Open, Empty}
+use Rattle.asg_nodes.specs.declared.trees.Tree.{Tree}
+use Rattle.asg_nodes.specs.Entries.{entry_at, IsNext}
+use Rattle.asg_nodes.specs.HallPools.{HallSets}
+use Rattle.asg_nodes.specs.Rules.{Rules}
+use Rattle.asg_nodes.specs.Trees.{HasState, IsTree}
 use Rattle.asg_rank.specs.Written.{AreOfValues, IsStateOf, IsTold}
-use Rattle.asg_rank.proofs.Parts.{placed_at}
+use Rattle.asg_nodes.specs.laws.Parts.{placed_at}
 use Rattle.asg_rank.proofs.TrailLists.{split, climb_falls}
 
 -- the steps of admitted phases are values

@@ -10,9 +10,9 @@ use Rattle.asg_pool.specs.Forest.{Forest, Branch, trail_at, IsLive, parent_of, p
 use Rattle.asg_pool.specs.laws.Trails.{last_phase-push}
 use Rattle.asg_proof.specs.Phases.{PhaseOf, phase_of, worded}
 use Rattle.asg_proof.specs.PromisedProofs.{IsPhaseOver}
-use Rattle.asg_rank.specs.Entries.{IsNext}
-use Rattle.asg_rank.specs.Rules.{GrewOn}
-use Rattle.asg_rank.specs.Settled.{IsOwn}
+use Rattle.asg_nodes.specs.Entries.{IsNext}
+use Rattle.asg_nodes.specs.Rules.{GrewOn}
+use Rattle.asg_nodes.specs.Settled.{IsOwn}
 use Rattle.asg_rank.specs.Written.{AreOfValues, AreOwn, AreTrailsTo}
 
 -- the last of phases of values has values, and so it is where there is none

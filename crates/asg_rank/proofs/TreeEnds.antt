@@ -17,19 +17,19 @@ use Rattle.asg_proof.specs.Nodes.{node_at, IsNumber, answer_at}
 use Rattle.asg_proof.specs.Ranked.{AreListed, IsBetterChoice}
 use Rattle.asg_proof.specs.SearchTrees.{last_answer, MayStayOpen, IsSearchTree}
 use Rattle.asg_square.specs.Cells.{IsSquareChoice}
-use Rattle.asg_rank.specs.declared.trees.Tree.{Tree}
-use Rattle.asg_rank.specs.Entries.{entry_at}
+use Rattle.asg_nodes.specs.declared.trees.Tree.{Tree}
+use Rattle.asg_nodes.specs.Entries.{entry_at}
 use Rattle.asg_rank.specs.Rankings.{IsExhausted}
 use Rattle.asg_rank.specs.Rooms.{answer_room}
-use Rattle.asg_rank.specs.Rules.{Rules}
-use Rattle.asg_rank.specs.Searches.{winner_in, IsSearch}
-use Rattle.asg_rank.specs.Slots.{SlotList, slot_at}
-use Rattle.asg_rank.specs.Trees.{given_at}
+use Rattle.asg_nodes.specs.Rules.{Rules}
+use Rattle.asg_branching.specs.Searches.{winner_in, IsSearch}
+use Rattle.asg_nodes.specs.Slots.{SlotList, slot_at}
+use Rattle.asg_nodes.specs.Trees.{given_at}
 use Rattle.asg_rank.specs.Written.{AreWrittenNodes}
 use Rattle.asg_rank.proofs.EndSteps.{none_kept, open_behind, last_le}
 use Rattle.asg_rank.proofs.RankingSteps.{IsBridged, at_number, not_better, all_asked}
 use Rattle.asg_rank.proofs.WrittenTrees.{sound_node, given_node, has_trail, state_of_open}
-use Rattle.asg_rank.proofs.Parts.{part_valid}
+use Rattle.asg_nodes.specs.laws.Parts.{part_valid}
 
 module _ {V : Type 0} (R : Rules V) (laws : IsOrderedMonoid R.monoid) (word_of : V → Word) (X : Problem) (instance : IsInstance X) (count : ℕ) (given : List (List (Option ℕ))) (slots : SlotList V) (T : Tree V)
     (search : IsSearch R X (length T.entries.items) given slots T) (some : 1 ≤ length given) (few : length given ≤ count) (room_is : slots.room ≡ answer_room X count) (fits : length slots.used ≤ slots.room) (done : IsExhausted X count given)

@@ -20,17 +20,17 @@ use Rattle.asg_proof.specs.Phases.{PhaseOf, worded, AreAdmittedPhases}
 use Rattle.asg_proof.specs.SearchTrees.{is_answered, IsBelowParent, child_count, HasAnswer, HasTrail, IsMarked, IsSoundNode, IsGiven}
 use Rattle.asg_proof.specs.laws.NodeInstances.{instances_are, node_trail-child}
 use Rattle.asg_square.specs.Cells.{square_cell}
-use Rattle.asg_rank.specs.declared.entries.Entry.{Entry}
-use Rattle.asg_rank.specs.declared.entries.State.{State}
-use Rattle.asg_rank.specs.declared.entries.State.TheVariants.{Answered, Open, Empty}
-use Rattle.asg_rank.specs.declared.trees.Tree.{Tree}
-use Rattle.asg_rank.specs.Entries.{entry_at, child_number}
-use Rattle.asg_rank.specs.HallPools.{hall_at}
-use Rattle.asg_rank.specs.Rules.{Rules}
-use Rattle.asg_rank.specs.Trees.{given_at, HasState, HasNoPhases, IsTree}
+use Rattle.asg_nodes.specs.declared.entries.Entry.{Entry}
+use Rattle.asg_nodes.specs.declared.entries.State.{State}
+use Rattle.asg_nodes.specs.declared.entries.State.TheVariants.{Answered, Open, Empty}
+use Rattle.asg_nodes.specs.declared.trees.Tree.{Tree}
+use Rattle.asg_nodes.specs.Entries.{entry_at, child_number}
+use Rattle.asg_nodes.specs.HallPools.{hall_at}
+use Rattle.asg_nodes.specs.Rules.{Rules}
+use Rattle.asg_nodes.specs.Trees.{given_at, HasState, HasNoPhases, IsTree}
 use Rattle.asg_rank.specs.Written.{AreOwn, IsWrittenMark, IsWrittenNode, AreWrittenNodes}
 use Rattle.asg_rank.proofs.CountOne.{count_one}
-use Rattle.asg_rank.proofs.Parts.{placed_at}
+use Rattle.asg_nodes.specs.laws.Parts.{placed_at}
 
 module _ {V : Type 0} (R : Rules V) (word_of : V → Word) (X : Problem) (given : List (List (Option ℕ))) (winner : ℕ → ℕ) (T : Tree V) (part : ℕ → Problem)
     (tree : IsTree R X given winner (length T.entries.items) T part) (valid : (a : ℕ) → a < length given → IsValid (part (winner a)) (given_at given a))

@@ -2,7 +2,7 @@
 use Rattle.std.specs.Prelude.{◌≡◌, ◌<◌, ◌≤◌, true, length, vec_len}
 use Rattle.asg_square.specs.Grid.{Grid}
 use Rattle.asg_rank.specs.declared.desks.DeskMemory.{DeskMemory}
-use Rattle.asg_rank.specs.Cuts.{AreBitsFor}
+use Rattle.asg_nodes.specs.Cuts.{AreBitsFor}
 
 -- a copy of a square with all bits set, and the memory of a solver over its side
 pub record IsDeskMemory {V : Type 0} (Q : Grid V) (memory : DeskMemory V) : Type 0 where

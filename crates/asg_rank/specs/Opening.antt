@@ -11,13 +11,12 @@ use Rattle.asg_model.specs.Shapes.{square_side}
 use Rattle.asg_square.specs.Cells.{IsPresent}
 use Rattle.asg_square.specs.Grid.{Grid, cell_at, HasLabelsOf}
 use Rattle.asg_square.specs.Masked.{masked_grid}
-use Rattle.asg_rank.specs.declared.searches.Search.{Search}
+use Rattle.asg_branching.specs.declared.searches.Search.{Search}
 use Rattle.asg_rank.specs.declared.opening.Memory.{Memory}
-use Rattle.asg_rank.specs.Cuts.{AreBitsFor}
-use Rattle.asg_rank.specs.Rooms.{answer_room}
-use Rattle.asg_rank.specs.Rules.{Rules, Leads, IsSolved, IsReducedTo}
+use Rattle.asg_nodes.specs.Cuts.{AreBitsFor}
+use Rattle.asg_nodes.specs.Rules.{Rules, Leads, IsSolved, IsReducedTo}
 use Rattle.asg_rank.specs.Desks.{IsDeskMemory}
-use Rattle.asg_rank.specs.Searches.{IsRankable, HasMemory}
+use Rattle.asg_branching.specs.Searches.{IsRankable, HasMemory}
 use Rattle.asg_roots.specs.declared.roots.Root.{Root}
 
 -- nothing was given and there is no node, with the memory for so many answers
@@ -68,12 +67,12 @@ IsRootOf R X S matching (Short last) =
     HasLabelsOf X S.desk.work.now × IsDeficient cells S.desk.work.now.side S.desk.bench.rows
     × AllowsCells cells X Whole
 
--- a search whose root can be made
-pub record IsPlantable {V : Type 0} (R : Rules V) (X : Problem) (count : ℕ) (S : Search V) (ended : Solved)
+-- a search whose root can be made, with room for so many answers
+pub record IsPlantable {V : Type 0} (R : Rules V) (X : Problem) (room : ℕ) (S : Search V) (ended : Solved)
     (matching : List (Option ℕ)) : Type 0 where
-  pub some : 1 ≤ count
+  pub some : 1 ≤ room
   pub rankable : IsRankable R X
-  pub blank : IsBlank X (answer_room X count) S
+  pub blank : IsBlank X room S
   pub memory : HasMemory X S
   pub root : IsRootOf R X S matching ended
-  pub phases_fit : (answer_room X count - 1) * placed X ≤ S.tree.region.spare
+  pub phases_fit : (room - 1) * placed X ≤ S.tree.region.spare

@@ -9,12 +9,12 @@ use Rattle.asg_proof.specs.declared.nodes.Mark.TheVariants.{Answered as MarkAnsw
 use Rattle.asg_proof.specs.declared.nodes.Node.{Node}
 use Rattle.asg_proof.specs.NodeLists.{IsNodePart}
 use Rattle.asg_proof.specs.Nodes.{node_at}
-use Rattle.asg_rank.specs.declared.entries.Entry.{Entry}
-use Rattle.asg_rank.specs.declared.entries.State.{State}
-use Rattle.asg_rank.specs.declared.entries.State.TheVariants.{Answered, Open, Empty}
-use Rattle.asg_rank.specs.declared.trees.Tree.{Tree}
-use Rattle.asg_rank.specs.Entries.{entry_at, IsNext}
-use Rattle.asg_rank.specs.HallPools.{HallSets, hall_at}
+use Rattle.asg_nodes.specs.declared.entries.Entry.{Entry}
+use Rattle.asg_nodes.specs.declared.entries.State.{State}
+use Rattle.asg_nodes.specs.declared.entries.State.TheVariants.{Answered, Open, Empty}
+use Rattle.asg_nodes.specs.declared.trees.Tree.{Tree}
+use Rattle.asg_nodes.specs.Entries.{entry_at, IsNext}
+use Rattle.asg_nodes.specs.HallPools.{HallSets, hall_at}
 
 -- each step of the phases is a value
 abbrev pub AreOfValues : {V : Type 0} → Monoid V → List (PhaseOf V) → Type 0

@@ -1,37 +1,23 @@
-//! What children are grown on.
+//! The memory of what children are grown on.
 
 ghost use Rattle.std.specs.Prelude.{◌≡◌, ◌<◌, ◌≤◌, true, IfOk, length, vec_len};
 ghost use Rattle.asg_model.specs.Limits.{most_side};
-ghost use Rattle.asg_rank.specs.Cuts.{AreBitsFor};
+ghost use Rattle.asg_nodes.specs.Cuts.{AreBitsFor};
 ghost use Rattle.asg_rank.specs.Desks.{IsDeskMemory};
-ghost use Rattle.asg_rank.specs.Searches.{IsDesk};
+ghost use Rattle.asg_branching.specs.Searches.{IsDesk};
 ghost use Rattle.asg_square.specs.Grid.{Grid};
 
 use crate::NoMemory;
 use crate::pairs::both;
 use asg_admit::Reduced;
 use asg_algebra::Bench;
+use asg_branching::Desk;
 use asg_match::Matching;
 use asg_square::{BitRows, Square};
 use std::alloc::Global;
 
 // Places for the ids of a Hall set, one more than an instance may have rows.
 const IDS: usize = 1001;
-
-/// The square of a node's part after the phases of its trail, the number of the node, which is 0
-/// before there is one, the cells of it that a branch keeps, and the memory of a solver: a
-/// matching, a bench, places for the steps of a phase, columns of rows, and ids.
-#[derive(Drop)]
-pub(crate) struct Desk<V: Copy> {
-    pub(crate) work: Reduced<V>,
-    pub(crate) node: u32,
-    pub(crate) bits: BitRows,
-    pub(crate) bench: Bench<V>,
-    pub(crate) trial: Matching,
-    pub(crate) room: Vec<V>,
-    pub(crate) columns: Vec<u32>,
-    pub(crate) ids: Vec<u32>,
-}
 
 /// The memory of a desk: a copy of a square, with bits that keep all cells of it; a matching, and
 /// places for the steps of a phase; columns of rows, and ids.

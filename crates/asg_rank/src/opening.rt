@@ -10,28 +10,23 @@ ghost use Rattle.asg_model.specs.Shapes.{square_side};
 ghost use Rattle.asg_model.specs.declared.parts.Cost.{Cost};
 ghost use Rattle.asg_rank.specs.Opening.{IsBlank, IsMemory, IsPlantable, root_in};
 ghost use Rattle.asg_rank.specs.Rankings.{ranking_work};
-ghost use Rattle.asg_rank.specs.Rooms.{most_work};
-ghost use Rattle.asg_rank.specs.Rules.{rules_of};
-ghost use Rattle.asg_rank.specs.Searches.{HasMemory, IsReady, given_of};
+ghost use Rattle.asg_rank.specs.Rooms.{answer_room, most_work};
+ghost use Rattle.asg_nodes.specs.Rules.{rules_of};
+ghost use Rattle.asg_branching.specs.Searches.{HasMemory, IsReady, given_of};
 ghost use Rattle.asg_roots.specs.Roots.{IsInstanceRoot};
 
 use crate::NoMemory;
-use crate::child_nodes::{close_child, push_child};
 use crate::desks::{DeskMemory, desk_memory, desk_with};
-use crate::entries::{Entry, State};
-use crate::hall_pools::HallPool;
 use crate::pairs::both;
 use crate::rooms::answer_room;
-use crate::searches::Search;
-use crate::slots::{Slots, offer};
-use crate::trees::{Tree, tree_memory};
-use asg_admit::Reduced;
-use asg_algebra::{Bench, Solved};
+use crate::trees::tree_memory;
+use asg_algebra::Solved;
+use asg_branching::{Search, close_child};
 use asg_match::Matching;
 use asg_model::laws::infeasible_law;
 use asg_model::{Choice, Instance};
+use asg_nodes::{Entry, HallPool, Slots, State, Tree, offer, push_child};
 use asg_order::{DMonoid, Kind, Ordered};
-use asg_pool::Region;
 use asg_roots::{Root, RootGuess, instance_root};
 use asg_square::Square;
 use asg_square::laws::square_law;
@@ -149,13 +144,13 @@ fn plant<M: DMonoid>(
     ended: Solved,
     matching: &Matching,
 )
-    requires planted { (enter : Cost → M.Value) × (count : ℕ)
-        × IsPlantable (rules_of (M.monoid_of m.now) (M.difference m.now) enter) inst.now count
+    requires planted { (enter : Cost → M.Value) × (room : ℕ)
+        × IsPlantable (rules_of (M.monoid_of m.now) (M.difference m.now) enter) inst.now room
         search.old ended matching.now }
-    ensures ready { (enter : Cost → M.Value) (count : ℕ)
+    ensures ready { (enter : Cost → M.Value) (room : ℕ)
         → let R = rules_of (M.monoid_of m.now) (M.difference m.now) enter in
-        IsPlantable R inst.now count search.old ended matching.now
-        → IsReady R inst.now count search.new }
+        IsPlantable R inst.now room search.old ended matching.now
+        → IsReady R inst.now room search.new }
     ensures given { search.new.given ≡ search.old.given }
 {
     infeasible_law();
@@ -259,7 +254,7 @@ where
     requires work { ranking_work inst.now count ≤ most_work }
     ensures ready { let m = K.monoid kind.now in
         let R = rules_of (K.M.monoid_of m) (K.M.difference m) (K.entered kind.now) in
-        IfOk result (IsReady R inst.now count) }
+        IfOk result (IsReady R inst.now (answer_room inst.now count)) }
     ensures none { IfOk result (λ s. given_of s ≡ []) }
 {
     square_law::<<K::M as Ordered>::Value>();

@@ -1,7 +1,8 @@
 //! The ranker.
 
-ghost use Rattle.std.specs.Prelude.{◌≡◌, ◌<◌, ◌≤◌, [], length, IfOk, IfErr};
+ghost use Rattle.std.specs.Prelude.{◌≡◌, ℕ, ◌<◌, ◌≤◌, [], length, IfOk, IfErr};
 ghost use Rattle.asg_model.specs.declared.bands.Band.TheVariants.{Whole};
+ghost use Rattle.asg_model.specs.declared.parts.Cost.{Cost};
 ghost use Rattle.asg_model.specs.declared.parts.Place.TheVariants.{All as PlaceAll};
 ghost use Rattle.asg_model.specs.HallSet.{IsHall};
 ghost use Rattle.asg_model.specs.Limits.{most_cost, most_side};
@@ -10,21 +11,23 @@ ghost use Rattle.asg_model.specs.Shapes.{square_side};
 ghost use Rattle.asg_proof.specs.Nodes.{answer_at};
 ghost use Rattle.asg_proof.specs.Ranked.{AreListed};
 ghost use Rattle.asg_proof.specs.SearchTrees.{IsSearchTree};
+ghost use Rattle.asg_nodes.specs.Rules.{rules_of};
+ghost use Rattle.asg_branching.specs.Searches.{IsReady, given_of};
+ghost use Rattle.asg_rank.specs.Rankers.{GivesLeast};
 ghost use Rattle.asg_rank.specs.Rankings.{ranking_work, IsExhausted, IsRefusal, Gives};
 ghost use Rattle.asg_rank.specs.Rankings.{AreCountable, HaveFewPhases, LeaveLastOpen};
-ghost use Rattle.asg_rank.specs.Rooms.{most_work};
-ghost use Rattle.asg_rank.specs.Rules.{rules_of};
-ghost use Rattle.asg_rank.specs.Searches.{IsReady, given_of};
+ghost use Rattle.asg_rank.specs.Rooms.{answer_room, most_work};
 
 use crate::NoMemory;
+use crate::choice_lists::Choices;
 use crate::opening::open_search;
 use crate::pairs::both;
 use crate::rooms::counting_law;
-use crate::searches::{Search, advance};
-use crate::trees::root_hall;
 use crate::written_nodes::written_nodes;
+use asg_branching::{Search, follow, give};
 use asg_model::{Choice, Instance};
-use asg_order::{Kind, Ordered};
+use asg_nodes::root_hall;
+use asg_order::{DMonoid, Kind, Ordered};
 use asg_proof::Nodes;
 use asg_roots::RootGuess;
 use asg_square::laws::square_law;
@@ -99,17 +102,38 @@ where
     ensures copy { IfOk result (λ made. made.0 ≡ inst.now) }
     ensures ready { let m = K.monoid kind.now in
         let R = rules_of (K.M.monoid_of m) (K.M.difference m) (K.entered kind.now) in
-        IfOk result (λ made. IsReady R inst.now count made.1) }
+        IfOk result (λ made. IsReady R inst.now (answer_room inst.now count) made.1) }
     ensures none { IfOk result (λ made. given_of made.1 ≡ []) }
 {
     let copy = inst.copy(alloc)?;
     both(copy, open_search(alloc, kind, inst, count))
 }
 
+// Gives the next answer, if there is room for one and a valid choice wasn't given yet.
+fn advance<M: DMonoid>(m: &M, inst: &Instance, search: &mut Search<M::Value>) -> Next
+    requires ready { (enter : Cost → M.Value) × (room : ℕ) × IsReady (rules_of (M.monoid_of m.now)
+        (M.difference m.now) enter) inst.now room search.old }
+    ensures ready { (enter : Cost → M.Value) (room : ℕ)
+        → let R = rules_of (M.monoid_of m.now) (M.difference m.now) enter in
+        IsReady R inst.now room search.old → IsReady R inst.now room search.new }
+    ensures gives { (enter : Cost → M.Value) (room : ℕ)
+        → let R = rules_of (M.monoid_of m.now) (M.difference m.now) enter in
+        IsReady R inst.now room search.old
+        → GivesLeast R inst.now room (given_of search.old) (given_of search.new) result }
+{
+    if search.given as usize == search.slots.len() {
+        return Next::Done;
+    }
+    give(m, inst, search);
+    follow(m, inst, search);
+    Next::Answer(search.given)
+}
+
 impl<K: Kind + Drop> Model for Ranker<K> {
     ghost use Rattle.asg_rank.specs.Rankings.{Ranking};
-    ghost use Rattle.asg_rank.specs.Rules.{rules_of};
-    ghost use Rattle.asg_rank.specs.Searches.{IsRanker, given_of};
+    ghost use Rattle.asg_nodes.specs.Rules.{rules_of};
+    ghost use Rattle.asg_branching.specs.Searches.{given_of};
+    ghost use Rattle.asg_rank.specs.Rankers.{IsRanker};
 
     ghost Value = { Ranking K };
 
@@ -189,6 +213,20 @@ where
         ensures { result.now ≡ answer_at self.now.given i }
     {
         &self.search.choices[i as usize - 1]
+    }
+
+    /// The answers that were given, in order. It takes no memory.
+    pub(crate) fn into_choices(self) -> Choices
+        ensures { result ≡ self.given }
+    {
+        let Ranker { search, .. } = self;
+        let Search {
+            given,
+            mut choices,
+            ..
+        } = search;
+        choices.truncate(given as usize);
+        Choices::from_vec(choices)
     }
 
     /// A Hall set of the instance, after `Done` without an answer.

@@ -14,7 +14,7 @@ ghost use Rattle.asg_rank.specs.Rooms.{most_work};
 use crate::NoMemory;
 use crate::choice_lists::Choices;
 use crate::ranker::{Next, RankRefusal, Ranker};
-use asg_model::{Choice, Instance, Objective};
+use asg_model::{Instance, Objective};
 use asg_monoids::{PeakKind, SumKind, TimeKind};
 use asg_narrow_kinds::NarrowKind;
 use asg_order::Kind;
@@ -51,56 +51,23 @@ where
     given
 }
 
-// An equal choice. The error is want of memory.
-fn copied(alloc: Global, choice: &Choice) -> Result<Choice, NoMemory>
-    ensures { IfOk result (λ copy. copy ≡ choice.now) }
-{
-    let mut copy = Choice::make(alloc, choice.len())?;
-    'rows: for row in 0..choice.len() {
-        copy.set(row, choice.get(row));
-    }
-    Ok(copy)
-}
-
-// The answers that a ranker gave, so many. The error is want of memory.
-fn listed<K: Kind + Drop>(
-    alloc: Global,
-    ranker: &Ranker<K>,
-    given: u32,
-) -> Result<Choices, NoMemory>
+// The outcome of a ranker that gave answers, and has nothing left to give. The error is want of
+// memory.
+fn ranked_outcome<K: Kind + Drop>(alloc: Global, ranker: Ranker<K>) -> Result<RankOutcome, NoMemory>
 where
     K::M: RootGuess,
-    requires { given ≡ length ranker.now.given }
-    ensures { IfOk result (λ choices. choices ≡ ranker.now.given) }
-{
-    let mut choices = Vec::with_capacity(alloc, given as usize)?;
-    'answers: for place in 0..given {
-        choices.push(copied(alloc, ranker.choice(place + 1))?)?;
-    }
-    Ok(Choices::from_vec(choices))
-}
-
-// The outcome where a ranker gave so many answers, and nothing is left to give. The error is want
-// of memory.
-fn ranked_outcome<K: Kind + Drop>(
-    alloc: Global,
-    ranker: &Ranker<K>,
-    given: u32,
-) -> Result<RankOutcome, NoMemory>
-where
-    K::M: RootGuess,
-    requires many { given ≡ length ranker.now.given }
-    requires some { 1 ≤ given }
-    requires done { IsExhausted ranker.now.problem ranker.now.count ranker.now.given }
-    requires valid { All (IsValid ranker.now.problem) ranker.now.given }
-    ensures { let m = K.monoid ranker.now.kind in
+    requires some { 1 ≤ length ranker.given }
+    requires done { IsExhausted ranker.problem ranker.count ranker.given }
+    requires valid { All (IsValid ranker.problem) ranker.given }
+    ensures { let m = K.monoid ranker.kind in
         IfOk result (IsOutcomeIn (K.M.monoid_of m) (K.M.difference m) (K.M.word_of m)
-        (K.entered ranker.now.kind) (K.objective ranker.now.kind) ranker.now.problem
-        ranker.now.count) }
+        (K.entered ranker.kind) (K.objective ranker.kind) ranker.problem ranker.count) }
 {
-    let answers = listed(alloc, ranker, given)?;
     let nodes = ranker.nodes(alloc)?;
-    Ok(RankOutcome::Listed { answers, nodes })
+    Ok(RankOutcome::Listed {
+        answers: ranker.into_choices(),
+        nodes,
+    })
 }
 
 // The outcome where a ranker had no answer to give. The error is want of memory.
@@ -121,29 +88,7 @@ where
 }
 
 // The outcome of a ranker that is open and gave nothing yet. The error is want of memory.
-fn outcome_of<K: Kind + Drop>(
-    alloc: Global,
-    ranker: &mut Ranker<K>,
-) -> Result<RankOutcome, NoMemory>
-where
-    K::M: RootGuess,
-    requires { ranker.old.given ≡ [] }
-    ensures { let m = K.monoid ranker.old.kind in
-        IfOk result (IsOutcomeIn (K.M.monoid_of m) (K.M.difference m) (K.M.word_of m)
-        (K.entered ranker.old.kind) (K.objective ranker.old.kind) ranker.old.problem
-        ranker.old.count) }
-{
-    let given = give_all(ranker);
-    if given == 0 {
-        none_outcome(alloc, ranker)
-    } else {
-        ranked_outcome(alloc, ranker, given)
-    }
-}
-
-// The outcome of a ranker that is open and gave nothing yet, and is used up. The error is want of
-// memory.
-fn final_outcome<K: Kind + Drop>(alloc: Global, ranker: Ranker<K>) -> Result<RankOutcome, NoMemory>
+fn outcome_of<K: Kind + Drop>(alloc: Global, ranker: Ranker<K>) -> Result<RankOutcome, NoMemory>
 where
     K::M: RootGuess,
     requires { ranker.given ≡ [] }
@@ -152,9 +97,11 @@ where
         (K.entered ranker.kind) (K.objective ranker.kind) ranker.problem ranker.count) }
 {
     let mut spent = ranker;
-    let outcome = outcome_of(alloc, &mut spent);
-    drop(spent);
-    outcome
+    if give_all(&mut spent) == 0 {
+        none_outcome(alloc, &spent)
+    } else {
+        ranked_outcome(alloc, spent)
+    }
 }
 
 // The ranking by a kind.
@@ -178,7 +125,7 @@ where
     ensures refusal { IfErr result (IsRefusal inst.now count) }
 {
     let ranker = Ranker::open(alloc, kind, inst, count)?;
-    Ok(final_outcome(alloc, ranker)?)
+    Ok(outcome_of(alloc, ranker)?)
 }
 
 /// The first `count` choices of an instance for an algebraic objective, from the best on, or all

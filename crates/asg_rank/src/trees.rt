@@ -1,28 +1,15 @@
-//! Search trees as they grow.
+//! The memory of a search tree.
 
 ghost use Rattle.std.specs.Prelude.{◌≡◌, ◌+◌, ◌*◌, ◌^◌, ◌<◌, ◌≤◌, [], IfOk, length, vec_capacity};
 ghost use Rattle.asg_model.specs.Counts.{placed};
 ghost use Rattle.asg_model.specs.Instances.{IsInstance};
 ghost use Rattle.asg_rank.specs.Rankings.{ranking_work};
 ghost use Rattle.asg_rank.specs.Rooms.{most_work};
-ghost use Rattle.asg_rank.specs.Entries.{entry_at, with_state};
-ghost use Rattle.asg_rank.specs.Trees.{NamesHall, hall_in};
 
 use crate::NoMemory;
-use crate::entries::{Entry, State};
-use crate::hall_pools::HallPool;
 use asg_model::Instance;
-use asg_pool::Region;
+use asg_nodes::{Entry, HallPool};
 use std::alloc::Global;
-
-/// The nodes of a search tree in order, the phases of their trails, and the Hall sets of those that
-/// are empty.
-#[derive(Drop)]
-pub(crate) struct Tree<V: Copy> {
-    pub(crate) entries: Vec<Entry<V>>,
-    pub(crate) region: Region<V>,
-    pub(crate) halls: HallPool,
-}
 
 // The memory for so many nodes and for as many Hall sets of so many ids at most.
 fn node_memory<V: Copy>(
@@ -76,36 +63,4 @@ pub(crate) fn tree_memory<V: Copy>(
     let nodes = most_nodes(inst, room);
     let rows = row_count(inst);
     node_memory(alloc, nodes, rows)
-}
-
-/// Node number n, which count from 1.
-pub(crate) fn entry<V: Copy>(entries: &[Entry<V>], n: u32) -> Entry<V>
-    requires from { 1 ≤ n }
-    requires upto { n ≤ length entries.now }
-    ensures { (unit : V) → result ≡ entry_at unit entries.now n }
-{
-    entries[n as usize - 1]
-}
-
-/// Gives node number n another state.
-pub(crate) fn set_state<V: Copy>(entries: &mut [Entry<V>], n: u32, state: State)
-    requires from { 1 ≤ n }
-    requires upto { n ≤ length entries.old }
-    ensures { (unit : V) → entries.new ≡ with_state unit entries.old n state }
-{
-    entries[n as usize - 1].state = state;
-}
-
-/// The Hall set of the root, which is empty.
-pub(crate) fn root_hall<V: Copy>(tree: &Tree<V>) -> &[u32]
-    requires some { 1 ≤ length tree.now.entries.items }
-    requires empty { (unit : V)
-        → NamesHall tree.now.halls (entry_at unit tree.now.entries.items 1).state }
-    ensures { (unit : V) → result.now
-        ≡ hall_in tree.now.halls (entry_at unit tree.now.entries.items 1).state }
-{
-    match entry(&tree.entries, 1).state {
-        State::Empty(place) => tree.halls.get(place),
-        State::Answered(_) | State::Open => unreachable!(),
-    }
 }

@@ -5,16 +5,13 @@ ghost use Rattle.asg_order.specs.Monoid.{IsValue};
 ghost use Rattle.asg_pool.specs.Forest.{IsLive, phases_to, phases_of, last_phase};
 ghost use Rattle.asg_proof.specs.NodeLists.{AreNodeParts, IsMarkPart, IsNodePart};
 ghost use Rattle.asg_proof.specs.Phases.{worded, ArePhases, IsPhase};
-ghost use Rattle.asg_rank.specs.Entries.{entry_at, IsNext};
+ghost use Rattle.asg_nodes.specs.Entries.{entry_at, IsNext};
 ghost use Rattle.asg_rank.specs.Written.{AreOfValues, AreOwn, AreTrailsTo, IsStateOf, IsWrittenMark};
 ghost use Rattle.asg_rank.specs.Written.{IsTold, IsWrittenOwn, IsWrittenNode, AreWrittenNodes};
 ghost use Rattle.asg_rank.specs.Written.{PushesNode};
 
 use crate::NoMemory;
-use crate::entries::{Entry, State};
-use crate::hall_pools::HallPool;
-use crate::rebuilding::own_trail;
-use crate::trees::{Tree, entry};
+use asg_nodes::{Entry, HallPool, State, Tree, entry, own_trail};
 use asg_order::Written;
 use asg_pool::{Region, Trail};
 use asg_proof::{Ids, Mark, Node, Nodes, Phases, StepWords, WrittenPhase};

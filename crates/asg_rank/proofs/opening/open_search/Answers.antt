@@ -1,8 +1,8 @@
-use Rattle.std.proofs.Common.{take, sym, ◌∙◌, ap, subst}
+use Rattle.std.proofs.Common.{take, sym, ◌∙◌, ap, subst, arith}
 use Rattle.asg_rank.specs.Opening.{IsPlantable}
 use Rattle.asg_rank.specs.Rooms.{most_work}
-use Rattle.asg_rank.specs.Rules.{rules_of}
-use Rattle.asg_rank.specs.Searches.{IsReady}
+use Rattle.asg_nodes.specs.Rules.{rules_of}
+use Rattle.asg_branching.specs.Searches.{IsReady}
 use Rattle.asg_rank.proofs.RootSteps.{rankable_by, plantable}
 use Rattle.asg_rank.proofs.Sizes.{room_work}
 use Rattle.asg_rank.proofs.opening.open_search.Goals as goal
@@ -25,12 +25,15 @@ plant-requires g c =
     let begun = c.in_ok-begun.begun in
     let is = c.in_ok-begun.ensures in
     let rankable = rankable_by R (g.K.Kind.objective kind) (g.K.Kind.reach kind) X c.requires.place c.requires.side c.requires.reach c.rows-rows.ensures.instance c.requires.passes (g.met.K.Kind.enters_value kind) in
+    let room = c.answer_room-room.result in
+    let room_is = c.answer_room-room.ensures in
+    let asked = c.requires.some in
     record {
       planted = (
         enter,
-        c.args.count,
-        subst (λ z. IsPlantable (rules_of (g.K.M.Ordered.monoid_of z) (g.K.M.DMonoid.difference z) enter) X c.args.count begun.0 begun.1 begun.2) (sym c.monoid-m.ensures)
-            (plantable R (g.met.K.M.Ordered.laws k) X c.args.count c.requires.some rankable (c.square_law.ensures.presence X) c.answer_room-room.result c.record_count-records.result c.answer_room-room.ensures c.record_count-records.ensures begun.0 begun.1 begun.2 is.root is.blank is.memory),
+        room,
+        subst (λ z. IsPlantable (rules_of (g.K.M.Ordered.monoid_of z) (g.K.M.DMonoid.difference z) enter) X room begun.0 begun.1 begun.2) (sym c.monoid-m.ensures)
+            (plantable R (g.met.K.M.Ordered.laws k) X rankable (c.square_law.ensures.presence X) room c.record_count-records.result (omega (arith, room_is, asked)) c.record_count-records.ensures begun.0 begun.1 begun.2 is.root is.blank is.memory),
       );
     }
 
@@ -44,10 +47,14 @@ returns-clause-ready g c =
     let begun = c.in_ok-begun.begun in
     let is = c.in_ok-begun.ensures in
     let rankable = rankable_by R (g.K.Kind.objective kind) (g.K.Kind.reach kind) X c.requires.place c.requires.side c.requires.reach c.rows-rows.ensures.instance c.requires.passes (g.met.K.Kind.enters_value kind) in
-    subst (λ z. IsReady (rules_of (g.K.M.Ordered.monoid_of z) (g.K.M.DMonoid.difference z) enter) X c.args.count c.plant.new.search) c.monoid-m.ensures
-    (c.plant.ensures.ready enter c.args.count
-    (subst (λ z. IsPlantable (rules_of (g.K.M.Ordered.monoid_of z) (g.K.M.DMonoid.difference z) enter) X c.args.count begun.0 begun.1 begun.2) (sym c.monoid-m.ensures)
-    (plantable R (g.met.K.M.Ordered.laws k) X c.args.count c.requires.some rankable (c.square_law.ensures.presence X) c.answer_room-room.result c.record_count-records.result c.answer_room-room.ensures c.record_count-records.ensures begun.0 begun.1 begun.2 is.root is.blank is.memory)))
+    let room = c.answer_room-room.result in
+    let room_is = c.answer_room-room.ensures in
+    let asked = c.requires.some in
+    subst (λ n. IsReady R X n c.plant.new.search) room_is
+    (subst (λ z. IsReady (rules_of (g.K.M.Ordered.monoid_of z) (g.K.M.DMonoid.difference z) enter) X room c.plant.new.search) c.monoid-m.ensures
+    (c.plant.ensures.ready enter room
+    (subst (λ z. IsPlantable (rules_of (g.K.M.Ordered.monoid_of z) (g.K.M.DMonoid.difference z) enter) X room begun.0 begun.1 begun.2) (sym c.monoid-m.ensures)
+    (plantable R (g.met.K.M.Ordered.laws k) X rankable (c.square_law.ensures.presence X) room c.record_count-records.result (omega (arith, room_is, asked)) c.record_count-records.ensures begun.0 begun.1 begun.2 is.root is.blank is.memory))))
 
 pub returns-clause-none : goal.returns-clause-none
 returns-clause-none g c = ap (λ n. take n c.plant.new.search.choices.items) (c.plant.ensures.given ∙ c.in_ok-begun.ensures.blank.none_given)

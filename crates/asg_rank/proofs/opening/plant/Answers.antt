@@ -1,23 +1,19 @@
 use Rattle.std.proofs.Common.{length, [], ◌∷◌, ◌++◌, None, refl, sym, ◌∙◌, ap, subst, arith}
 use Rattle.asg_model.specs.declared.bands.Band.TheVariants.{Whole}
-use Rattle.asg_rank.specs.declared.entries.State.TheVariants.{Empty}
-use Rattle.asg_rank.specs.Entries.{entry_of}
+use Rattle.asg_nodes.specs.declared.entries.State.TheVariants.{Empty}
+use Rattle.asg_nodes.specs.Entries.{entry_of}
 use Rattle.asg_rank.specs.Opening.{IsRootOf}
-use Rattle.asg_rank.specs.Rules.{rules_of}
+use Rattle.asg_nodes.specs.Rules.{rules_of}
 use Rattle.asg_rank.proofs.PlantSteps.{room_some, no_used, entry_fits, hall_fits, best_ready, closed_ready}
 use Rattle.asg_rank.proofs.opening.plant.Goals as goal
 
 pub push_child-requires : goal.push_child-requires
 push_child-requires g c =
-    let m = c.args.m.now in
-    let R = rules_of (g.M.Ordered.monoid_of m) (g.M.DMonoid.difference m) c.requires.planted.0 in
-    entry_fits R (g.met.M.Ordered.laws m) c.args.inst.now c.requires.planted.1 c.args.search.now c.args.ended c.args.matching.now c.requires.planted.2
+    entry_fits _ (g.met.M.Ordered.laws c.args.m.now) _ _ _ _ _ c.requires.planted.2
 
 pub offer-requires-clause-room : goal.offer-requires-clause-room
 offer-requires-clause-room g c =
-    let m = c.args.m.now in
-    let R = rules_of (g.M.Ordered.monoid_of m) (g.M.DMonoid.difference m) c.requires.planted.0 in
-    room_some R (g.met.M.Ordered.laws m) c.args.inst.now c.requires.planted.1 c.args.search.now c.args.ended c.args.matching.now c.requires.planted.2
+    room_some _ (g.met.M.Ordered.laws c.args.m.now) _ _ _ _ _ c.requires.planted.2
 
 pub offer-requires-clause-side : goal.offer-requires-clause-side
 offer-requires-clause-side g c =
@@ -35,16 +31,12 @@ offer-requires-clause-index g c =
 
 pub offer-requires-clause-values : goal.offer-requires-clause-values
 offer-requires-clause-values g c =
-    let m = c.args.m.now in
-    let R = rules_of (g.M.Ordered.monoid_of m) (g.M.DMonoid.difference m) c.requires.planted.0 in
-    let none = no_used R (g.met.M.Ordered.laws m) c.args.inst.now c.requires.planted.1 c.args.search.now c.args.ended c.args.matching.now c.requires.planted.2 in
+    let none = no_used _ (g.met.M.Ordered.laws c.args.m.now) _ _ _ _ _ c.requires.planted.2 in
     λ k d within. absurd (omega (arith, within, none))
 
 pub offer-requires-clause-ascends : goal.offer-requires-clause-ascends
 offer-requires-clause-ascends g c =
-    let m = c.args.m.now in
-    let R = rules_of (g.M.Ordered.monoid_of m) (g.M.DMonoid.difference m) c.requires.planted.0 in
-    let none = no_used R (g.met.M.Ordered.laws m) c.args.inst.now c.requires.planted.1 c.args.search.now c.args.ended c.args.matching.now c.requires.planted.2 in
+    let none = no_used _ (g.met.M.Ordered.laws c.args.m.now) _ _ _ _ _ c.requires.planted.2 in
     λ i j less within. absurd (omega (arith, within, none))
 
 pub returns-in-Perfect-clause-ready : goal.returns-in-Perfect-clause-ready
@@ -63,9 +55,7 @@ returns-in-Perfect-clause-ready g c enter count is =
 
 pub close_child-requires-clause-room : goal.close_child-requires-clause-room
 close_child-requires-clause-room g c =
-    let m = c.args.m.now in
-    let R = rules_of (g.M.Ordered.monoid_of m) (g.M.DMonoid.difference m) c.requires.planted.0 in
-    entry_fits R (g.met.M.Ordered.laws m) c.args.inst.now c.requires.planted.1 c.args.search.now c.args.ended c.args.matching.now c.requires.planted.2
+    entry_fits _ (g.met.M.Ordered.laws c.args.m.now) _ _ _ _ _ c.requires.planted.2
 
 pub close_child-requires-clause-labels : goal.close_child-requires-clause-labels
 close_child-requires-clause-labels g c =
@@ -96,9 +86,7 @@ close_child-requires-clause-ids g c = c.requires.planted.2.memory.desk.ids
 
 pub close_child-requires-clause-halls : goal.close_child-requires-clause-halls
 close_child-requires-clause-halls g c =
-    let m = c.args.m.now in
-    let R = rules_of (g.M.Ordered.monoid_of m) (g.M.DMonoid.difference m) c.requires.planted.0 in
-    hall_fits R (g.met.M.Ordered.laws m) c.args.inst.now c.requires.planted.1 c.args.search.now c.args.ended c.args.matching.now c.requires.planted.2
+    hall_fits _ (g.met.M.Ordered.laws c.args.m.now) _ _ _ _ _ c.requires.planted.2
 
 pub close_child-requires-clause-width : goal.close_child-requires-clause-width
 close_child-requires-clause-width g c = c.requires.planted.2.memory.halls_width

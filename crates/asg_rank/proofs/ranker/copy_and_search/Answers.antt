@@ -1,6 +1,7 @@
 use Rattle.std.proofs.Common.{◌≡◌, []}
-use Rattle.asg_rank.specs.Rules.{rules_of}
-use Rattle.asg_rank.specs.Searches.{IsReady, given_of}
+use Rattle.asg_nodes.specs.Rules.{rules_of}
+use Rattle.asg_branching.specs.Searches.{IsReady, given_of}
+use Rattle.asg_rank.specs.Rooms.{answer_room}
 use Rattle.asg_rank.proofs.BothMade.{first_made, second_made}
 use Rattle.asg_rank.proofs.ranker.copy_and_search.Goals as goal
 
@@ -13,7 +14,7 @@ returns-clause-ready g c =
     let kind = c.args.kind.now in
     let m = g.K.Kind.monoid kind in
     let R = rules_of (g.K.M.Ordered.monoid_of m) (g.K.M.DMonoid.difference m) (g.K.Kind.entered kind) in
-    second_made (IsReady R c.args.inst.now c.args.count) c.in_ok-copy.copy c.open_search.result c.both.result c.both.ensures c.open_search.ensures.ready
+    second_made (IsReady R c.args.inst.now (answer_room c.args.inst.now c.args.count)) c.in_ok-copy.copy c.open_search.result c.both.result c.both.ensures c.open_search.ensures.ready
 
 pub returns-clause-none : goal.returns-clause-none
 returns-clause-none g c =

@@ -1,7 +1,8 @@
 use Rattle.std.proofs.Common.{sym, subst}
 use Rattle.asg_model.specs.Refused.{PassesNegative}
-use Rattle.asg_rank.specs.Rules.{rules_of}
-use Rattle.asg_rank.specs.Searches.{IsReady}
+use Rattle.asg_nodes.specs.Rules.{rules_of}
+use Rattle.asg_branching.specs.Searches.{IsReady}
+use Rattle.asg_rank.specs.Rooms.{answer_room}
 use Rattle.asg_rank.proofs.ranker.Ranker.open.Goals as goal
 
 pub invariant_of-result : goal.invariant_of-result
@@ -11,7 +12,7 @@ invariant_of-result g c =
     let R = rules_of (g.K.M.Ordered.monoid_of m) (g.K.M.DMonoid.difference m) (g.K.Kind.entered kind) in
     let is = c.in_ok-made.ensures in
     record {
-      ready = subst (λ X. IsReady R X c.args.count c.in_ok-made.made.1) (sym is.copy) is.ready;
+      ready = subst (λ X. IsReady R X (answer_room X c.args.count) c.in_ok-made.made.1) (sym is.copy) is.ready;
       passes = subst (PassesNegative (g.K.Kind.objective kind)) (sym is.copy) c.requires.passes;
       reaches = c.requires.reach;
       some = c.requires.some;

@@ -1,0 +1,4 @@
+pub mod Chosen
+pub mod Searches
+pub mod Expansions
+pub mod laws

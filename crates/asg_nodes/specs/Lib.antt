@@ -1,0 +1,9 @@
+pub mod Rules
+pub mod Entries
+pub mod HallPools
+pub mod Slots
+pub mod Cuts
+pub mod Copies
+pub mod Trees
+pub mod Settled
+pub mod laws

@@ -1,0 +1,9 @@
+pub mod Parts
+pub mod Trails
+pub mod EntryLists
+pub mod ChildSteps
+pub mod SlotLists
+pub mod OpenNodes
+pub mod BitSteps
+pub mod Shapes
+pub mod ChoiceSteps

@@ -1,9 +1,0 @@
-use Rattle.std.proofs.Common.{length, ◌∙◌, ap}
-use Rattle.asg_square.specs.Labels.{first_copy}
-use Rattle.asg_rank.proofs.CopyLemmas.{end_is}
-use Rattle.asg_rank.proofs.copies.end_of_copies.Goals as goal
-
-pub returns : goal.returns
-returns g c =
-    let X = c.args.inst.now in
-    record { end = c.first_copy.ensures.first X c.requires.labels ∙ ap (λ xs. first_copy X (length xs)) c.columns.ensures.columns ∙ end_is X }

@@ -1,9 +1,0 @@
-use Rattle.std.proofs.Common.{◌≡◌, length, take}
-use Rattle.asg_rank.proofs.rankings.copied.Given as goal
-
--- the rows so far choose alike
-abbrev pub invariant-rows : goal.invariant-rows
-invariant-rows l = record {
-  size : length l.copy ≡ length l.choice;
-  same : take l.row l.copy ≡ take l.row l.choice;
-}

@@ -9,7 +9,7 @@ use Rattle.asg_trees.specs.Groups.{IsNextWith, parent_keys}
 use Rattle.asg_trees.specs.Tallies.{Falls, HavePlaces, IsFair, IsSettled, IsTallied, IsTalliedBy, IsWholeTally, judged_before}
 use Rattle.asg_trees.specs.Trees.{TreeOf}
 use Rattle.asg_trees.specs.declared.verdicts.Tally.{Tally}
-use Rattle.asg_trees.proofs.SiblingLemmas.{before_none, before_some, between, gone_through}
+use Rattle.asg_trees.proofs.SiblingLemmas.{before_some, before_upto, below_root, between, gone_through, next_within}
 
 -- a node below another is its child, or below a child of it
 pub below_split : (nodes : List Node) (p steps n : ℕ) → IsBelowWithin nodes p steps n → ((node_at nodes n).parent ≡ p) ⊎ ((c : ℕ) × ((node_at nodes c).parent ≡ p) × IsBelow nodes c n)
@@ -66,13 +66,20 @@ module _ {V : Type 0} (T : TreeOf V) (bound : ℕ) (places : HavePlaces T bound)
       (λ (later : 2 ≤ (node_at T.nodes n).parent). (low, inr (below_first steps (node_at T.nodes n).parent (omega (arith, place.before, few)) (omega (arith, later)) (omega (arith, place.before, high)))))
       (cases_lt (node_at T.nodes n).parent 2)
 
-module _ {V : Type 0} (T : TreeOf V) (count : ℕ) where
+-- a child that takes over a square stands behind its parent
+pub lead_later : {V : Type 0} (T : TreeOf V) (at heir : ℕ) (tally : Tally) → IsFair T tally → LeadsOn T.nodes at heir tally.fault → 1 ≤ at → (1 < heir) × (at < heir) × (heir ≤ length T.nodes)
+lead_later T at heir tally fair lead from =
+    let place = fair.places heir lead.from lead.before in
+    let more = below_root T.nodes heir (λ zero. absurd (omega (arith, zero, lead.from))) place lead.parent from in
+    (more, omega (arith, (place.below more).before, lead.parent), omega (arith, lead.before, fair.upto))
+
+module _ {V : Type 0} (T : TreeOf V) where
   -- ---- what is known stays known where no number rises
 
-  settled_fallen : (before after : Tally) → Falls before after → (n : ℕ) → IsSettled T count before n → IsSettled T count after n
+  settled_fallen : (before after : Tally) → Falls before after → (n : ℕ) → IsSettled T before n → IsSettled T after n
   settled_fallen before after f n s = record { sound = s.sound; stay = λ left. s.stay (omega (arith, left, f.left)) }
 
-  pub tallied_fallen : (Judged : ℕ → Type 0) (before after : Tally) → IsTalliedBy T count Judged before → IsFair T count after → Falls before after → IsTalliedBy T count Judged after
+  pub tallied_fallen : (Judged : ℕ → Type 0) (before after : Tally) → IsTalliedBy T Judged before → IsFair T after → Falls before after → IsTalliedBy T Judged after
   tallied_fallen Judged before after t fair f = record {
     from = fair.from;
     upto = fair.upto;
@@ -84,36 +91,36 @@ module _ {V : Type 0} (T : TreeOf V) (count : ℕ) where
     stay = λ n low high left j. t.stay n low (omega (arith, high, f.fault)) (omega (arith, left, f.left)) j;
   }
 
-  pub below_fallen : (before after : Tally) → Falls before after → (p : ℕ) → AreSettledBelow T count p before → AreSettledBelow T count p after
+  pub below_fallen : (before after : Tally) → Falls before after → (p : ℕ) → AreSettledBelow T p before → AreSettledBelow T p after
   below_fallen before after f p s n low high b = settled_fallen before after f n (s n low (omega (arith, high, f.fault)) b)
 
-  pub but_fallen : (before after : Tally) → Falls before after → (p at : ℕ) → AreSettledBut T count p at before → AreSettledBut T count p at after
+  pub but_fallen : (before after : Tally) → Falls before after → (p at : ℕ) → AreSettledBut T p at before → AreSettledBut T p at after
   but_fallen before after f p at s n low high b =
       ⊎_elim
       (λ (left : IsBelow T.nodes at n). inl left)
-      (λ (settled : IsSettled T count before n). inr (settled_fallen before after f n settled))
+      (λ (settled : IsSettled T before n). inr (settled_fallen before after f n settled))
       (s n low (omega (arith, high, f.fault)) b)
 
   -- ---- one level down
 
-  pub but_none : (p : ℕ) (tally : Tally) → AreSettledBut T count p p tally
+  pub but_none : (p : ℕ) (tally : Tally) → AreSettledBut T p p tally
   but_none p tally n low high b = inl b
 
-  module _ (p at heir : ℕ) (tally : Tally) (t : IsTallied T count at (length T.nodes + 1) tally) (each : AreSettledBelowEach T count at heir (length T.nodes + 1) tally) (but : AreSettledBut T count p at tally) where
-    level : (n : ℕ) → 1 ≤ n → n < tally.fault → IsBelow T.nodes p n → (((node_at T.nodes heir).parent ≡ at) × IsBelow T.nodes heir n) ⊎ IsSettled T count tally n
+  module _ (p at heir : ℕ) (tally : Tally) (t : IsTallied T at (length T.nodes + 1) tally) (each : AreSettledBelowEach T at heir (length T.nodes + 1) tally) (but : AreSettledBut T p at tally) where
+    level : (n : ℕ) → 1 ≤ n → n < tally.fault → IsBelow T.nodes p n → (((node_at T.nodes heir).parent ≡ at) × IsBelow T.nodes heir n) ⊎ IsSettled T tally n
     level n low high b =
         ⊎_elim
         (λ (left : IsBelow T.nodes at n). by (below_split T.nodes at left.0 n left.1))
-        (λ (settled : IsSettled T count tally n). inr settled)
+        (λ (settled : IsSettled T tally n). inr settled)
         (but n low high b)
       where
-        child : (node_at T.nodes n).parent ≡ at → IsSettled T count tally n
+        child : (node_at T.nodes n).parent ≡ at → IsSettled T tally n
         child is = record {
           sound = t.sound n low high (is, omega (arith, high, t.upto));
           stay = λ left. t.stay n low high left (is, omega (arith, high, t.upto));
         }
 
-        by : ((node_at T.nodes n).parent ≡ at) ⊎ ((c : ℕ) × ((node_at T.nodes c).parent ≡ at) × IsBelow T.nodes c n) → (((node_at T.nodes heir).parent ≡ at) × IsBelow T.nodes heir n) ⊎ IsSettled T count tally n
+        by : ((node_at T.nodes n).parent ≡ at) ⊎ ((c : ℕ) × ((node_at T.nodes c).parent ≡ at) × IsBelow T.nodes c n) → (((node_at T.nodes heir).parent ≡ at) × IsBelow T.nodes heir n) ⊎ IsSettled T tally n
         by (inl is) = inr (child is)
         by (inr deep) =
             let c = deep.0 in
@@ -125,15 +132,15 @@ module _ {V : Type 0} (T : TreeOf V) (count : ℕ) where
             (cases_eq c heir)
 
     -- all is settled but what is below the child that takes over
-    pub but_more : AreSettledBut T count p heir tally
+    pub but_more : AreSettledBut T p heir tally
     but_more n low high b =
         ⊎_elim
         (λ (left : ((node_at T.nodes heir).parent ≡ at) × IsBelow T.nodes heir n). inl left.1)
-        (λ (settled : IsSettled T count tally n). inr settled)
+        (λ (settled : IsSettled T tally n). inr settled)
         (level n low high b)
 
     -- where none takes over all is settled
-    pub but_last : (LeadsOn T.nodes at heir tally.fault → ⊥) → AreSettledBelow T count p tally
+    pub but_last : (LeadsOn T.nodes at heir tally.fault → ⊥) → AreSettledBelow T p tally
     but_last none n low high b =
         ⊎_elim
         (λ (left : ((node_at T.nodes heir).parent ≡ at) × IsBelow T.nodes heir n).
@@ -143,70 +150,64 @@ module _ {V : Type 0} (T : TreeOf V) (count : ℕ) where
           parent = left.0;
           answered = below_answered T tally.fault t.places heir n high left.1;
         })))
-        (λ (settled : IsSettled T count tally n). settled)
+        (λ (settled : IsSettled T tally n). settled)
         (level n low high b)
 
   -- below a node without an answer there is none
-  pub below_none : (p : ℕ) (tally : Tally) → HavePlaces T tally.fault → is_answered (node_at T.nodes p).mark ≡ false → AreSettledBelow T count p tally
+  pub below_none : (p : ℕ) (tally : Tally) → HavePlaces T tally.fault → is_answered (node_at T.nodes p).mark ≡ false → AreSettledBelow T p tally
   below_none p tally places off n low high b = absurd (false≢true (sym off ∙ below_answered T tally.fault places p n high b))
 
   -- ---- the nodes that name a parent, one after the other
 
-  module _ (parent heir : ℕ) (keys : length (parent_keys T.nodes) ≡ length T.nodes) where
-    before_upto : (next : ℕ) → next ≤ length T.nodes → judged_before (length T.nodes) next ≤ length T.nodes + 1
-    before_upto next within =
-        ⊎_elim
-        (λ (zero : next ≡ 0). omega (arith, before_none (length T.nodes) next zero))
-        (λ (some : next ≢ 0). omega (arith, before_some (length T.nodes) next some, within))
-        (cases_eq next 0)
-
-    pub each_first : (tally : Tally) (next : ℕ) → IsNextWith (parent_keys T.nodes) parent 0 next → AreSettledBelowEach T count parent heir (judged_before (length T.nodes) next) tally
+  module _ (parent heir : ℕ) where
+    pub each_first : (tally : Tally) (next : ℕ) → IsNextWith (parent_keys T.nodes) parent 0 next → AreSettledBelowEach T parent heir (judged_before (length T.nodes) next) tally
     each_first tally next is m from on other before =
-        absurd (between T.nodes parent 0 next m is keys (omega (arith, from)) before (omega (arith, before, before_upto next (omega (arith, is.upto, keys)))) on)
+        absurd (between T.nodes parent 0 next m is (omega (arith, from)) before (omega (arith, before, before_upto (length T.nodes) next (next_within T.nodes parent 0 next is))) on)
 
-    pub each_more : (tally after : Tally) (member next : ℕ) → member ≢ 0 → IsNextWith (parent_keys T.nodes) parent member next → Falls tally after → AreSettledBelowEach T count parent heir (judged_before (length T.nodes) member) tally
-        → (member ≢ heir → AreSettledBelow T count member after) → AreSettledBelowEach T count parent heir (judged_before (length T.nodes) next) after
+    pub each_more : (tally after : Tally) (member next : ℕ) → member ≢ 0 → IsNextWith (parent_keys T.nodes) parent member next → Falls tally after → AreSettledBelowEach T parent heir (judged_before (length T.nodes) member) tally
+        → (member ≢ heir → AreSettledBelow T member after) → AreSettledBelowEach T parent heir (judged_before (length T.nodes) next) after
     each_more tally after member next some is f each here m from on other before =
         ⊎_elim
         (λ (old : m < member). below_fallen tally after f m (each m from on other (omega (arith, old, before_some (length T.nodes) member some))))
         (λ (new : member ≤ m).
         ⊎_elim
-        (λ (same : m ≡ member). subst (λ c. AreSettledBelow T count c after) (sym same) (here (λ e. other (same ∙ e))))
-        (λ (past : m ≢ member). absurd (between T.nodes parent member next m is keys (omega (arith, new, past)) before (omega (arith, before, before_upto next (omega (arith, is.upto, keys)))) on))
+        (λ (same : m ≡ member). subst (λ c. AreSettledBelow T c after) (sym same) (here (λ e. other (same ∙ e))))
+        (λ (past : m ≢ member). absurd (between T.nodes parent member next m is (omega (arith, new, past)) before (omega (arith, before, before_upto (length T.nodes) next (next_within T.nodes parent member next is))) on))
         (cases_eq m member))
         (cases_lt m member)
 
-    pub each_last : (tally : Tally) (member : ℕ) → IsFair T count tally → (member ≡ 0) ⊎ (tally.fault ≤ member) → AreSettledBelowEach T count parent heir (judged_before (length T.nodes) member) tally
-        → AreSettledBelowEach T count parent heir (length T.nodes + 1) tally
+    pub each_last : (tally : Tally) (member : ℕ) → IsFair T tally → (member ≡ 0) ⊎ (tally.fault ≤ member) → AreSettledBelowEach T parent heir (judged_before (length T.nodes) member) tally
+        → AreSettledBelowEach T parent heir (length T.nodes + 1) tally
     each_last tally member fair past each m from on other before n low high b =
         let less = below_later T tally.fault fair.places m n high b in
-        each m from on other (gone_through T count parent keys tally.fault member m fair.upto past (omega (arith, less, high))) n low high b
+        each m from on other (gone_through T parent tally.fault member m fair.upto past (omega (arith, less, high))) n low high b
 
   -- ---- all nodes
 
   -- where all below the root is settled, and the root was judged, all is tallied
-  pub whole_below : (tally : Tally) → IsTalliedBy T count (λ n. n ≡ 1) tally → AreSettledBelow T count 1 tally → IsWholeTally T count tally
+  pub whole_below : (tally : Tally) → IsTalliedBy T (λ n. n ≡ 1) tally → AreSettledBelow T 1 tally → IsWholeTally T tally
   whole_below tally t rest = record {
     from = t.from;
     upto = t.upto;
+    places = t.places;
     at_fault = t.at_fault;
-    sound = λ n low high.
+    sound = λ n low high j.
         ⊎_elim
         (λ (first : n < 2). t.sound n low high (omega (arith, first, low)))
         (λ (later : 2 ≤ n). (settled n low high later).sound)
         (cases_lt n 2);
     left_from = t.left_from;
     left_open = t.left_open;
-    stay = λ n low high left.
+    stay = λ n low high left j.
         ⊎_elim
         (λ (first : n < 2). t.stay n low high left (omega (arith, first, low)))
         (λ (later : 2 ≤ n). (settled n low high later).stay left)
         (cases_lt n 2);
   }
     where
-      settled : (n : ℕ) → 1 ≤ n → n < tally.fault → 2 ≤ n → IsSettled T count tally n
+      settled : (n : ℕ) → 1 ≤ n → n < tally.fault → 2 ≤ n → IsSettled T tally n
       settled n low high later = rest n low high (n, below_first T tally.fault t.places n n (omega arith) (omega (arith, later)) high)
 
   -- where the first at fault is the root or there is none, too
-  pub whole_first : (tally : Tally) → tally.fault ≤ 1 → IsTalliedBy T count (λ n. n ≡ 1) tally → IsWholeTally T count tally
+  pub whole_first : (tally : Tally) → tally.fault ≤ 1 → IsTalliedBy T (λ n. n ≡ 1) tally → IsWholeTally T tally
   whole_first tally few t = whole_below tally t (λ n low high b. absurd (omega (arith, low, high, few)))

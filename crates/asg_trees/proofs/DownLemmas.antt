@@ -1,11 +1,13 @@
 -- From the square of a node's parent to that of the node.
-use Rattle.std.proofs.Common.{◌≡◌, ℕ, ◌+◌, ◌<◌, ◌≤◌, true, List, [], ◌++◌, Option, refl, sym, ap, subst, ◌∙◌, arith, ⊎_elim}
+use Rattle.std.proofs.Common.{◌≡◌, ℕ, ◌+◌, ◌<◌, ◌≤◌, true, List, [], ◌++◌, Option, None, Some, refl, sym, ap, subst, ◌∙◌, arith, ⊎_elim}
+use Rattle.std.specs.Option.{option_map}
+use Rattle.std.specs.Prelude.{IfSome}
 use Rattle.std.proofs.lemmas.Bool.{cases_lt}
 use Rattle.asg_model.specs.Counts.{placed}
 use Rattle.asg_model.specs.Problem.{Problem}
 use Rattle.asg_model.specs.Shapes.{square_side}
 use Rattle.asg_order.specs.declared.words.Word.{Word}
-use Rattle.asg_order.specs.Monoid.{IsOrderedMonoid, IsValue}
+use Rattle.asg_order.specs.Monoid.{Monoid, IsOrderedMonoid, IsValue}
 use Rattle.asg_square.specs.BitTable.{BitTable, has_bit}
 use Rattle.asg_square.specs.Cells.{square_cell}
 use Rattle.asg_square.specs.Grid.{Grid, cell_at}
@@ -22,13 +24,14 @@ use Rattle.asg_admit.specs.declared.reduced.Reduced.{Reduced}
 use Rattle.asg_admit.specs.Reduced.{KeepsLabels}
 use Rattle.asg_replays.specs.Replays.{AreAdmittedFrom, AreReplayed, IsStart}
 use Rattle.asg_order.specs.Words.{HasWords}
-use Rattle.asg_trees.specs.Kept.{HasSize, IsMaskOf, KeepsAll}
+use Rattle.asg_kept_cells.specs.Kept.{HasSize, IsMaskOf, KeepsAll}
 use Rattle.asg_replays.specs.WholeLists.{HaveIndex}
-use Rattle.asg_trees.specs.Marks.{HaveIndexAfter}
+use Rattle.asg_kept_cells.specs.MaskedPhases.{HaveIndexAfter}
 use Rattle.asg_trees.specs.Tallies.{HavePlaces}
 use Rattle.asg_trees.specs.Trails.{IsTrailSquare, StandsAbove, StandsAt}
 use Rattle.asg_trees.specs.Trees.{IsSound, TreeOf, instance_at}
-use Rattle.asg_trees.proofs.MaskedTrails.{child_square, masked_by, trail_side}
+use Rattle.asg_trees.proofs.MaskedTrails.{child_square, trail_side}
+use Rattle.asg_kept_cells.specs.laws.KeptSquares.{masked_by}
 use Rattle.asg_trees.proofs.NodeBounds.{instance_child, trail_child}
 use Rattle.asg_trees.proofs.NodeFacts.{keeps_cell-node, side-of_node}
 use Rattle.asg_trees.proofs.OwnTrails.{own_of, whole_index, whole_of}
@@ -150,6 +153,17 @@ module _ {V : Type 0} (T : TreeOf V) (laws : IsOrderedMonoid T.monoid) (value_of
   gone_down before after s led = stands_at T n below places_of laws before after s led
 
 -- ---- the root
+
+-- where the index before phases is the unit, that after them is theirs
+pub led_known : {V : Type 0} (M : Monoid V) (laws : IsOrderedMonoid M) (difference : V → V → V) (word_of : V → Word) (words : List (PhaseOf Word)) (start : Reduced V) → start.index ≡ M.unit → (led : Option (Reduced V)) → IfSome led (AreReplayed M difference word_of words start)
+    → IfSome (option_map (λ l. l.index) led) (λ index. HaveIndex M difference word_of start.now.side (cell_at start.now) index words)
+led_known M laws difference word_of words start begun None known = tt
+led_known M laws difference word_of words start begun (Some after) a =
+    let value = index_is_value M laws difference start.now.side a.phases (cell_at start.now) a.admitted in
+    record {
+      admitted = record { phases = a.phases; written = a.written; admitted = a.admitted };
+      same = sym (a.index ∙ ap (λ z. M.product z (index_of M a.phases)) begun ∙ laws.unit_neutral (index_of M a.phases) value);
+    }
 
 module _ {V : Type 0} (T : TreeOf V) (laws : IsOrderedMonoid T.monoid) (value_of : Word → Option V) (spelled : HasWords T.monoid T.word_of value_of) (start : Reduced V) (at : IsStart T.monoid T.enter T.problem start) where
   begun : IsTrailSquare T T.problem [] start.now start.index

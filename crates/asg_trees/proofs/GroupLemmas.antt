@@ -109,6 +109,9 @@ no_node = record { parent = 0; branch = 0; mark = Open; own = [] }
 pub parent_key : (nodes : List Node) (n : ℕ) → 1 ≤ n → n ≤ length nodes → key_at (parent_keys nodes) n ≡ (node_at nodes n).parent
 parent_key nodes n from upto = get_or-map (λ (node : Node). node.parent) nodes (n - 1) no_node 0 (omega (arith, from, upto))
 
+pub parent_count : (nodes : List Node) → length (parent_keys nodes) ≡ length nodes
+parent_count nodes = length-map nodes (λ (node : Node). node.parent)
+
 pub answer_key : (nodes : List Node) (n : ℕ) → 1 ≤ n → n ≤ length nodes → key_at (answer_keys nodes) n ≡ answer_number (node_at nodes n).mark
 answer_key nodes n from upto = get_or-map (λ (node : Node). answer_number node.mark) nodes (n - 1) no_node 0 (omega (arith, from, upto))
 

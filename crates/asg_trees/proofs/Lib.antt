@@ -3,14 +3,6 @@ pub mod MaskedTrails
 pub mod OwnTrails
 pub mod NodeFacts
 pub mod ChoiceLemmas
-pub mod CellLemmas
-pub mod CopyLemmas
-pub mod KeptRows
-pub mod LeadLemmas
-pub mod MaskLemmas
-pub mod HallLemmas
-pub mod MetColumns
-pub mod OwnPhases
 pub mod MarkLemmas
 pub mod OpenLemmas
 pub mod DownLemmas
@@ -20,4 +12,3 @@ pub mod SiblingLemmas
 pub mod DescentLemmas
 pub mod BranchLemmas
 pub mod NarrowTrees
-pub mod SingleSteps

@@ -27,17 +27,19 @@ use Rattle.asg_proof.specs.Phases.{PhaseOf, index_of}
 use Rattle.asg_proof.specs.SearchTrees.{AreAdmittedWords, HasPlace, HasTrail, IsMarked, MayStayOpen, last_answer}
 use Rattle.asg_proof.specs.laws.NodeInstances.{IsInstance-node, place-of_node}
 use Rattle.asg_proof.specs.laws.PhaseLists.{index_is_value, is_some-phases}
+use Rattle.asg_trees.specs.declared.judged_trees.Tree.{Tree}
 use Rattle.asg_trees.specs.declared.verdicts.Judgement.{Judgement}
 use Rattle.asg_trees.specs.declared.verdicts.Judgement.TheVariants.{AtFault, LeftOpen, Fine}
-use Rattle.asg_trees.specs.Kept.{ChoosesKept}
-use Rattle.asg_trees.specs.Marks.{AreAdmittedWithin, IsBounded, IsLastProduct, JudgesMark, MarkHolds, kept_cells}
+use Rattle.asg_kept_cells.specs.Kept.{ChoosesKept, kept_cells}
+use Rattle.asg_kept_cells.specs.MaskedPhases.{AreAdmittedWithin}
+use Rattle.asg_trees.specs.Marks.{IsBounded, JudgesMark, MarkHolds}
 use Rattle.asg_trees.specs.Tallies.{Judges}
 use Rattle.asg_trees.specs.Trails.{IsTrailSquare}
-use Rattle.asg_trees.specs.Trees.{IsSound, IsTree, TreeOf, instance_at}
+use Rattle.asg_trees.specs.Trees.{IsLastProduct, IsReady, IsSound, TreeOf, instance_at}
 use Rattle.asg_trees.proofs.NodeFacts.{active-of_node, chooses-from_live, columns-from_node, columns-to_node, live-from_kept, valid-to_node}
 use Rattle.asg_trees.proofs.OwnTrails.{own_index, own_of, whole_index, whole_of}
 
-module _ {V : Type 0} (T : TreeOf V) (tree : IsTree T) (laws : IsOrderedMonoid T.monoid) (value_of : Word → Option V) (spelled : HasWords T.monoid T.word_of value_of)
+module _ {V : Type 0} (T : TreeOf V) (tree : Tree V) (ready : IsReady T tree) (laws : IsOrderedMonoid T.monoid) (value_of : Word → Option V) (spelled : HasWords T.monoid T.word_of value_of)
     (presence : (X : Problem) (r k : ℕ) → is_some (square_cell X T.monoid.unit T.enter r k) ≡ has_cell X Whole r k)
     (n : ℕ) (trail : List (PhaseOf Word)) (is_trail : node_trail T.nodes n ≡ trail ++ (node_at T.nodes n).own)
     (Q : Grid V) (kept : BitTable) (before : V) (s : IsTrailSquare T (instance_at T n) trail (masked_grid Q kept.words) before) where
@@ -57,7 +59,7 @@ module _ {V : Type 0} (T : TreeOf V) (tree : IsTree T) (laws : IsOrderedMonoid T
   Own = AreAdmittedWithin T.monoid T.difference T.word_of Q kept own
 
   all_placed : Z.place ≡ PlaceAll
-  all_placed = place-of_node T.problem T.answers T.nodes n ∙ tree.all_placed
+  all_placed = place-of_node T.problem T.answers T.nodes n ∙ ready.all_placed
 
   present : (r k : ℕ) → is_some (cell_at G r k) ≡ has_cell Z Whole r k
   present r k =
@@ -86,7 +88,7 @@ module _ {V : Type 0} (T : TreeOf V) (tree : IsTree T) (laws : IsOrderedMonoid T
   -- ---- answers
 
   valid_answer : (a : ℕ) → 1 ≤ a → a ≤ length T.answers → IsValid T.problem (answer_at T.answers a)
-  valid_answer a from upto = All-get_or (IsValid T.problem) T.answers (a - 1) [] (omega (arith, from, upto)) tree.valid
+  valid_answer a from upto = All-get_or (IsValid T.problem) T.answers (a - 1) [] (omega (arith, from, upto)) ready.valid
 
   labels : HasLabelsOf Z Q
   labels = record { side = s.labels.side; rows = s.labels.rows; row_labels = s.labels.row_labels; column_labels = s.labels.column_labels }
@@ -96,11 +98,11 @@ module _ {V : Type 0} (T : TreeOf V) (tree : IsTree T) (laws : IsOrderedMonoid T
       valid-to_node T.problem T.answers T.nodes n g valid
       (λ r d c.
       let active = active-of_node T.problem T.answers T.nodes n r ∙ is_active-from_live T.problem r d (valid.alive r d c) in
-      live-from_kept Z all_placed (IsInstance-node T.problem T.answers T.nodes tree.instance n) Q kept.words labels present r d active (chooses r d c))
+      live-from_kept Z all_placed (IsInstance-node T.problem T.answers T.nodes ready.instance n) Q kept.words labels present r d active (chooses r d c))
 
   valid_chosen : (g : List (Option ℕ)) → IsValid Z g → ChoosesKept Q kept.words g
   valid_chosen g valid =
-      chooses-from_live Z all_placed (IsInstance-node T.problem T.answers T.nodes tree.instance n) Q kept.words labels present g valid.alive
+      chooses-from_live Z all_placed (IsInstance-node T.problem T.answers T.nodes ready.instance n) Q kept.words labels present g valid.alive
 
   -- ---- Hall sets
 
@@ -148,12 +150,12 @@ module _ {V : Type 0} (T : TreeOf V) (tree : IsTree T) (laws : IsOrderedMonoid T
 
   -- ---- open nodes
 
-  module _ (count : ℕ) (last : Option V) (is_last : IsLastProduct T count last) where
+  module _ (last : Option V) (is_last : IsLastProduct T.monoid T.enter T.problem T.count T.answers last) where
     abbrev Bounded : Type 0
     Bounded = IsBounded T.monoid T.difference T.word_of last Q kept before own
 
     abbrev May : Type 0
-    May = MayStayOpen T.monoid T.difference T.word_of T.enter T.problem count T.answers T.nodes n
+    May = MayStayOpen T.monoid T.difference T.word_of T.enter T.problem T.count T.answers T.nodes n
 
     abbrev fold : V
     fold = choice_fold T.monoid T.enter T.problem (last_answer T.answers)
@@ -197,7 +199,7 @@ module _ {V : Type 0} (T : TreeOf V) (tree : IsTree T) (laws : IsOrderedMonoid T
       faulty_of mark e none = λ sound. none (holds_from mark (subst Marked e sound.marked))
 
       -- a judgement of a node's mark is one of the node
-      pub judged : (mark : Mark) → (node_at T.nodes n).mark ≡ mark → (judgement : Judgement) → JudgesMark T.monoid T.difference T.word_of T.problem T.answers T.nodes last Q kept before n mark judgement → Judges T count n judgement
+      pub judged : (mark : Mark) → (node_at T.nodes n).mark ≡ mark → (judgement : Judgement) → JudgesMark T.monoid T.difference T.word_of T.problem T.answers T.nodes last Q kept before n mark judgement → Judges T n judgement
       judged (Answered a) e AtFault h = faulty_of (Answered a) e h
       judged (Answered a) e LeftOpen h = absurd h
       judged (Answered a) e Fine h = (sound_of (Answered a) e h, λ opened. absurd (cc (e, opened)))

@@ -33,7 +33,7 @@ use Rattle.asg_proof.specs.Nodes.{node_instance}
 use Rattle.asg_proof.specs.declared.nodes.Node.{Node}
 use Rattle.asg_proof.specs.laws.ChildCells.{live-from_child}
 use Rattle.asg_proof.specs.laws.NodeInstances.{kept-within}
-use Rattle.asg_trees.specs.Kept.{ChoosesKept, HasKept}
+use Rattle.asg_kept_cells.specs.Kept.{ChoosesKept, HasKept}
 
 some_is : {A : Type 0} (o : Option A) → IsSome o → (x : A) × (o ≡ Some x)
 some_is None h = absurd (cc h)

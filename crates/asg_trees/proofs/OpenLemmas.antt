@@ -10,7 +10,8 @@ use Rattle.asg_square.specs.Masked.{masked_grid}
 use Rattle.asg_proof.specs.Phases.{PhaseOf, index_of}
 use Rattle.asg_replays.specs.laws.PhaseWords.{phases-once}
 use Rattle.asg_trees.specs.declared.verdicts.Judgement.TheVariants.{LeftOpen, Fine}
-use Rattle.asg_trees.specs.Marks.{HaveIndexAfter, JudgesOpen}
+use Rattle.asg_kept_cells.specs.MaskedPhases.{HaveIndexAfter}
+use Rattle.asg_trees.specs.Marks.{JudgesOpen}
 
 module _ {V : Type 0} (M : Monoid V) (difference : V → V → V) (word_of : V → Word) (value_of : Word → Option V) (spelled : HasWords M word_of value_of) (Q : Grid V) (kept : BitTable) (before : V) (words : List (PhaseOf Word)) where
   -- words have one index

@@ -13,7 +13,7 @@ use Rattle.asg_trees.specs.declared.verdicts.Tally.{Tally}
 use Rattle.asg_trees.specs.Groups.{AreGroups, IsNextWith, key_at, parent_keys}
 use Rattle.asg_trees.specs.Tallies.{IsFair, IsJudged, IsTallied, Judges, judged_before, with_judgement}
 use Rattle.asg_trees.specs.Trees.{TreeOf}
-use Rattle.asg_trees.proofs.GroupLemmas.{count_skip, no_node, parent_key}
+use Rattle.asg_trees.proofs.GroupLemmas.{count_skip, no_node, parent_count, parent_key}
 use Rattle.asg_trees.proofs.TallyLemmas.{tally_fewer, tally_more}
 
 pub before_none : (nodes member : ℕ) → member ≡ 0 → judged_before nodes member ≡ nodes + 1
@@ -21,6 +21,13 @@ before_none nodes member e = cond-true (eqb member 0) (nodes + 1) member (eq-eqb
 
 pub before_some : (nodes member : ℕ) → member ≢ 0 → judged_before nodes member ≡ member
 before_some nodes member e = cond-false (eqb member 0) (nodes + 1) member (ne_eqb member 0 e)
+
+pub before_upto : (nodes member : ℕ) → member ≤ nodes → judged_before nodes member ≤ nodes + 1
+before_upto nodes member within =
+    ⊎_elim
+    (λ (zero : member ≡ 0). omega (arith, before_none nodes member zero))
+    (λ (some : member ≢ 0). omega (arith, before_some nodes member some, within))
+    (cases_eq member 0)
 
 -- a node in its place that names one is below the root
 pub below_root : {k parent : ℕ} (nodes : List Node) (n : ℕ) → n ≢ 0 → HasPlace k nodes n → (node_at nodes n).parent ≡ parent → 1 ≤ parent → 1 < n
@@ -31,12 +38,15 @@ below_root nodes n some place on from =
     (cases_lt n 2)
 
 module _ (nodes : List Node) (parent : ℕ) where
+  pub next_within : (c next : ℕ) → IsNextWith (parent_keys nodes) parent c next → next ≤ length nodes
+  next_within c next is = omega (arith, is.upto, parent_count nodes)
+
   -- no node between two that name the parent, one the next after the other, names it
-  pub between : (c next j : ℕ) → IsNextWith (parent_keys nodes) parent c next → length (parent_keys nodes) ≡ length nodes → c < j → j < judged_before (length nodes) next → j ≤ length nodes → (node_at nodes j).parent ≢ parent
-  between c next j is same after before within e =
+  pub between : (c next j : ℕ) → IsNextWith (parent_keys nodes) parent c next → c < j → j < judged_before (length nodes) next → j ≤ length nodes → (node_at nodes j).parent ≢ parent
+  between c next j is after before within e =
       let key = parent_key nodes j (omega (arith, after)) within in
       ⊎_elim
-      (λ (zero : next ≡ 0). is.none zero j after (omega (arith, within, same)) (key ∙ e))
+      (λ (zero : next ≡ 0). is.none zero j after (omega (arith, within, parent_count nodes)) (key ∙ e))
       (λ (some : next ≢ 0). is.between some j after (omega (arith, before, before_some (length nodes) next some)) (key ∙ e))
       (cases_eq next 0)
 
@@ -60,27 +70,27 @@ module _ (nodes : List Node) (parent : ℕ) where
         by false is = count_by_more_no counts nodes (c - 1) no_node (omega (arith, from, upto)) is ∙ (let z : count_by counts (take (c - 1) nodes) ≡ count_by counts (take (c - 1) nodes) + 0 = omega arith in z)
 
     -- before the first node that names the parent none is counted
-    pub count_first : (next : ℕ) → IsNextWith (parent_keys nodes) parent 0 next → length (parent_keys nodes) ≡ length nodes → next ≤ length nodes → 0 ≡ count_by counts (take (judged_before (length nodes) next - 1) nodes)
-    count_first next is same within =
-        let upto : judged_before (length nodes) next - 1 ≤ length nodes = ⊎_elim (λ (zero : next ≡ 0). omega (arith, before_none (length nodes) next zero)) (λ (some : next ≢ 0). omega (arith, before_some (length nodes) next some, within)) (cases_eq next 0) in
+    pub count_first : (next : ℕ) → IsNextWith (parent_keys nodes) parent 0 next → 0 ≡ count_by counts (take (judged_before (length nodes) next - 1) nodes)
+    count_first next is =
+        let upto = before_upto (length nodes) next (next_within 0 next is) in
         let d = judged_before (length nodes) next - 1 in
         sym
         (ap (λ n. count_by counts (take n nodes)) (let e : d ≡ 0 + d = omega arith in e)
-        ∙ count_skip nodes counts 0 d (omega (arith, upto)) (λ j after before. counts_off j (between 0 next j is same after (omega (arith, before, after)) (omega (arith, before, upto)))))
+        ∙ count_skip nodes counts 0 d (omega (arith, upto)) (λ j after before. counts_off j (between 0 next j is after (omega (arith, before, after)) (omega (arith, before, upto)))))
 
     -- one node more that names it
-    pub count_next : (c next count : ℕ) → 1 ≤ c → c ≤ length nodes → (node_at nodes c).parent ≡ parent → IsNextWith (parent_keys nodes) parent c next → length (parent_keys nodes) ≡ length nodes → next ≤ length nodes
+    pub count_next : (c next count : ℕ) → 1 ≤ c → c ≤ length nodes → (node_at nodes c).parent ≡ parent → IsNextWith (parent_keys nodes) parent c next
         → count ≡ count_by counts (take (c - 1) nodes) → count + cond (eqb (node_at nodes c).branch branch) 1 0 ≡ count_by counts (take (judged_before (length nodes) next - 1) nodes)
-    count_next c next count from upto on is same within so_far =
+    count_next c next count from upto on is so_far =
         let last = judged_before (length nodes) next - 1 in
-        let high : last ≤ length nodes = ⊎_elim (λ (zero : next ≡ 0). omega (arith, before_none (length nodes) next zero)) (λ (some : next ≢ 0). omega (arith, before_some (length nodes) next some, within)) (cases_eq next 0) in
+        let high : last ≤ length nodes = omega (arith, before_upto (length nodes) next (next_within c next is)) in
         let low : c ≤ last = ⊎_elim (λ (zero : next ≡ 0). omega (arith, before_none (length nodes) next zero, upto)) (λ (some : next ≢ 0). omega (arith, before_some (length nodes) next some, is.later some)) (cases_eq next 0) in
         let here = count_here c (eqb (node_at nodes c).branch branch) from upto (counts_on c on) in
         ap (λ n. n + cond (eqb (node_at nodes c).branch branch) 1 0) so_far
         ∙ sym here
         ∙ sym
         (ap (λ n. count_by counts (take n nodes)) (let e : last ≡ c + (last - c) = omega (arith, low) in e)
-        ∙ count_skip nodes counts c (last - c) (omega (arith, low, high)) (λ j after before. counts_off j (between c next j is same after (omega (arith, before, low, after)) (omega (arith, before, low, high)))))
+        ∙ count_skip nodes counts c (last - c) (omega (arith, low, high)) (λ j after before. counts_off j (between c next j is after (omega (arith, before, low, after)) (omega (arith, before, low, high)))))
 
     -- at the end all are counted
     pub count_last : (count : ℕ) → count ≡ count_by counts (take (judged_before (length nodes) 0 - 1) nodes) → count ≡ child_count nodes parent branch
@@ -88,18 +98,18 @@ module _ (nodes : List Node) (parent : ℕ) where
         is ∙ ap (λ n. count_by counts (take n nodes)) (let e : judged_before (length nodes) 0 - 1 ≡ length nodes = omega (arith, before_none (length nodes) 0 refl) in e)
         ∙ ap (count_by counts) (take_all (length nodes) nodes (omega arith))
 
-module _ {V : Type 0} (T : TreeOf V) (count parent : ℕ) (keys : length (parent_keys T.nodes) ≡ length T.nodes) where
+module _ {V : Type 0} (T : TreeOf V) (parent : ℕ) where
   -- before the first node that names the parent none that names it was judged
-  pub members_first : (tally : Tally) (next : ℕ) → IsNextWith (parent_keys T.nodes) parent 0 next → IsFair T count tally → IsTallied T count parent (judged_before (length T.nodes) next) tally
+  pub members_first : (tally : Tally) (next : ℕ) → IsNextWith (parent_keys T.nodes) parent 0 next → IsFair T tally → IsTallied T parent (judged_before (length T.nodes) next) tally
   members_first tally next is t =
-      tally_fewer T count (λ n. ⊥) (IsJudged T.nodes parent (judged_before (length T.nodes) next)) tally t
-      (λ n low high j. between T.nodes parent 0 next n is keys (omega (arith, low)) j.1 (omega (arith, high, t.upto)) j.0)
+      tally_fewer T (λ n. ⊥) (IsJudged T.nodes parent (judged_before (length T.nodes) next)) tally t
+      (λ n low high j. between T.nodes parent 0 next n is (omega (arith, low)) j.1 (omega (arith, high, t.upto)) j.0)
 
   -- a node that names it was judged
-  pub member_judged : (tally : Tally) (c next : ℕ) (judgement : Judgement) → IsTallied T count parent c tally → 1 ≤ c → c < tally.fault → (node_at T.nodes c).parent ≡ parent → IsNextWith (parent_keys T.nodes) parent c next → Judges T count c judgement
-      → IsTallied T count parent (judged_before (length T.nodes) next) (with_judgement tally c judgement)
+  pub member_judged : (tally : Tally) (c next : ℕ) (judgement : Judgement) → IsTallied T parent c tally → 1 ≤ c → c < tally.fault → (node_at T.nodes c).parent ≡ parent → IsNextWith (parent_keys T.nodes) parent c next → Judges T c judgement
+      → IsTallied T parent (judged_before (length T.nodes) next) (with_judgement tally c judgement)
   member_judged tally c next judgement t from below on is judges =
-      tally_more T count (IsJudged T.nodes parent c) (IsJudged T.nodes parent (judged_before (length T.nodes) next)) tally t c from below
+      tally_more T (IsJudged T.nodes parent c) (IsJudged T.nodes parent (judged_before (length T.nodes) next)) tally t c from below
       (λ n low high j. more n low high j)
       judgement judges
     where
@@ -110,7 +120,7 @@ module _ {V : Type 0} (T : TreeOf V) (count parent : ℕ) (keys : length (parent
           (λ (from : c ≤ n).
           ⊎_elim
           (λ (same : n ≡ c). inl same)
-          (λ (other : n ≢ c). absurd (between T.nodes parent c next n is keys (omega (arith, from, other)) named.1 (omega (arith, high, t.upto)) named.0))
+          (λ (other : n ≢ c). absurd (between T.nodes parent c next n is (omega (arith, from, other)) named.1 (omega (arith, high, t.upto)) named.0))
           (cases_eq n c))
           (cases_lt n c)
 
@@ -125,22 +135,22 @@ module _ {V : Type 0} (T : TreeOf V) (count parent : ℕ) (keys : length (parent
       (cases_eq member 0)
 
   -- then all that name it were judged, before the first at fault
-  pub members_done : (tally : Tally) (member : ℕ) → (member ≡ 0) ⊎ (tally.fault ≤ member) → IsTallied T count parent (judged_before (length T.nodes) member) tally → IsTallied T count parent (length T.nodes + 1) tally
+  pub members_done : (tally : Tally) (member : ℕ) → (member ≡ 0) ⊎ (tally.fault ≤ member) → IsTallied T parent (judged_before (length T.nodes) member) tally → IsTallied T parent (length T.nodes + 1) tally
   members_done tally member past t =
-      tally_fewer T count (IsJudged T.nodes parent (judged_before (length T.nodes) member)) (IsJudged T.nodes parent (length T.nodes + 1)) tally t
+      tally_fewer T (IsJudged T.nodes parent (judged_before (length T.nodes) member)) (IsJudged T.nodes parent (length T.nodes + 1)) tally t
       (λ n low high j. (j.0, gone_through tally.fault member n t.upto past high))
 
-module _ (nodes : List Node) (parent : ℕ) (groups : Groups) (are : AreGroups (parent_keys nodes) (length nodes) groups) (keys : length (parent_keys nodes) ≡ length nodes) where
+module _ (nodes : List Node) (parent : ℕ) (groups : Groups) (are : AreGroups (parent_keys nodes) (length nodes) groups) where
   -- the next node after one that names a parent
   pub next_of_member : (c next : ℕ) → 1 ≤ c → c ≤ length nodes → parent ≤ length nodes → (node_at nodes c).parent ≡ parent → next ≡ get_or groups.next.items c 0 → IsNextWith (parent_keys nodes) parent c next
   next_of_member c next from upto within on is =
       let key : key_at (parent_keys nodes) c ≡ parent = parent_key nodes c from upto ∙ on in
       subst (λ k. IsNextWith (parent_keys nodes) k c next) key
-      (subst (IsNextWith (parent_keys nodes) (key_at (parent_keys nodes) c) c) (sym is) (are.nexts c from (omega (arith, upto, keys)) (omega (arith, key, within))))
+      (subst (IsNextWith (parent_keys nodes) (key_at (parent_keys nodes) c) c) (sym is) (are.nexts c from (omega (arith, upto, parent_count nodes)) (omega (arith, key, within))))
 
   -- it names the parent too
   pub next_named : (c next : ℕ) → IsNextWith (parent_keys nodes) parent c next → next ≢ 0 → (node_at nodes next).parent ≡ parent
-  next_named c next is some = sym (parent_key nodes next (omega (arith, is.later some)) (omega (arith, is.upto, keys))) ∙ is.same some
+  next_named c next is some = sym (parent_key nodes next (omega (arith, is.later some)) (next_within nodes parent c next is)) ∙ is.same some
 
   -- what is left falls
   pub member_falls : (c next : ℕ) → c ≢ 0 → c ≤ length nodes → IsNextWith (parent_keys nodes) parent c next → cond (eqb next 0) 0 (length nodes + 1 - next) < cond (eqb c 0) 0 (length nodes + 1 - c)

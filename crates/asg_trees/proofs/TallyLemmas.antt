@@ -1,6 +1,6 @@
 -- The tally of a tree, node by node, and the verdict at its end.
 use Rattle.std.proofs.Common.{◌≡◌, ◌⊎◌, ℕ, ◌+◌, ◌<◌, ◌≤◌, ◌-◌, min, cond, true, [], length, Option, Some, None, refl, sym, subst, arith, ⊎_elim}
-use Rattle.std.specs.Prelude.{IfSome}
+use Rattle.std.specs.Prelude.{All, IfSome}
 use Rattle.std.proofs.lemmas.Bool.{cases_lt, le-leb, lt-leb}
 use Rattle.std.proofs.lemmas.List.Elements.{All-get_or}
 use Rattle.asg_model.specs.ValidChoice.{IsValid}
@@ -15,11 +15,23 @@ use Rattle.asg_trees.specs.declared.verdicts.TreeVerdict.{TreeVerdict}
 use Rattle.asg_trees.specs.declared.verdicts.TreeVerdict.TheVariants.{Tree, FaultAt, OpenAt}
 use Rattle.asg_trees.specs.Judged.{AreGiven, IsLacking, TellsTree, conclusion, conclusion_sound}
 use Rattle.asg_trees.specs.Tallies.{Falls, HavePlaces, IsFair, IsTalliedBy, IsWholeTally, Judges, with_judgement}
-use Rattle.asg_trees.specs.Trees.{IsOpenWrongly, IsSound, IsTree, MayBeOpen, TreeOf}
+use Rattle.asg_trees.specs.Trees.{IsOpenWrongly, IsSound, MayBeOpen, TreeOf}
 
-module _ {V : Type 0} (T : TreeOf V) (count : ℕ) where
+-- a judgement lets no number rise
+pub falls_with : (tally : Tally) (c : ℕ) (judgement : Judgement) → c < tally.fault → Falls tally (with_judgement tally c judgement)
+falls_with tally c AtFault below = record { fault = omega (arith, below); left = omega arith }
+falls_with tally c LeftOpen below = record { fault = omega arith; left = omega arith }
+falls_with tally c Fine below = record { fault = omega arith; left = omega arith }
+
+pub falls_none : (tally : Tally) → Falls tally tally
+falls_none tally = record { fault = omega arith; left = omega arith }
+
+pub falls_both : (a b c : Tally) → Falls a b → Falls b c → Falls a c
+falls_both a b c first second = record { fault = omega (arith, first.fault, second.fault); left = omega (arith, first.left, second.left) }
+
+module _ {V : Type 0} (T : TreeOf V) where
   -- what is tallied of nodes is tallied of some of them
-  pub tally_fewer : (Judged Fewer : ℕ → Type 0) (tally : Tally) → IsTalliedBy T count Judged tally → ((n : ℕ) → 1 ≤ n → n < tally.fault → Fewer n → Judged n) → IsTalliedBy T count Fewer tally
+  pub tally_fewer : (Judged Fewer : ℕ → Type 0) (tally : Tally) → IsTalliedBy T Judged tally → ((n : ℕ) → 1 ≤ n → n < tally.fault → Fewer n → Judged n) → IsTalliedBy T Fewer tally
   tally_fewer Judged Fewer tally t fewer = record {
     from = t.from;
     upto = t.upto;
@@ -31,9 +43,9 @@ module _ {V : Type 0} (T : TreeOf V) (count : ℕ) where
     stay = λ n from below before j. t.stay n from below before (fewer n from below j);
   }
 
-  module _ (Judged More : ℕ → Type 0) (tally : Tally) (t : IsTalliedBy T count Judged tally) (c : ℕ) (from : 1 ≤ c) (below : c < tally.fault) (more : (n : ℕ) → 1 ≤ n → n < tally.fault → More n → (n ≡ c) ⊎ Judged n) where
+  module _ (Judged More : ℕ → Type 0) (tally : Tally) (t : IsTalliedBy T Judged tally) (c : ℕ) (from : 1 ≤ c) (below : c < tally.fault) (more : (n : ℕ) → 1 ≤ n → n < tally.fault → More n → (n ≡ c) ⊎ Judged n) where
     -- one node more
-    pub tally_more : (judgement : Judgement) → Judges T count c judgement → IsTalliedBy T count More (with_judgement tally c judgement)
+    pub tally_more : (judgement : Judgement) → Judges T c judgement → IsTalliedBy T More (with_judgement tally c judgement)
     tally_more AtFault h = record {
       from = from;
       upto = omega (arith, below, t.upto);
@@ -59,10 +71,10 @@ module _ {V : Type 0} (T : TreeOf V) (count : ℕ) where
           ⊎_elim
           (λ (less : tally.left < c).
           let is : tally.left ≡ min tally.left c = omega (arith, less) in
-          subst (IsOpenWrongly T count) is (t.left_open (omega (arith, within, is))))
+          subst (IsOpenWrongly T) is (t.left_open (omega (arith, within, is))))
           (λ (least : c ≤ tally.left).
           let is : c ≡ min tally.left c = omega (arith, least) in
-          subst (IsOpenWrongly T count) is h.1)
+          subst (IsOpenWrongly T) is h.1)
           (cases_lt tally.left c);
       stay = λ n low high left j.
           ⊎_elim
@@ -78,27 +90,15 @@ module _ {V : Type 0} (T : TreeOf V) (count : ℕ) where
       sound = λ n low high j. ⊎_elim (λ (same : n ≡ c). subst (IsSound T) (sym same) h.0) (λ (k : Judged n). t.sound n low high k) (more n low high j);
       left_from = t.left_from;
       left_open = t.left_open;
-      stay = λ n low high left j. ⊎_elim (λ (same : n ≡ c). subst (MayBeOpen T count) (sym same) h.1) (λ (k : Judged n). t.stay n low high left k) (more n low high j);
+      stay = λ n low high left j. ⊎_elim (λ (same : n ≡ c). subst (MayBeOpen T) (sym same) h.1) (λ (k : Judged n). t.stay n low high left k) (more n low high j);
     }
 
-  -- a judgement lets no number rise
-  pub falls_with : (tally : Tally) (c : ℕ) (judgement : Judgement) → c < tally.fault → Falls tally (with_judgement tally c judgement)
-  falls_with tally c AtFault below = record { fault = omega (arith, below); left = omega arith }
-  falls_with tally c LeftOpen below = record { fault = omega arith; left = omega arith }
-  falls_with tally c Fine below = record { fault = omega arith; left = omega arith }
-
-  pub falls_none : (tally : Tally) → Falls tally tally
-  falls_none tally = record { fault = omega arith; left = omega arith }
-
-  pub falls_both : (a b c : Tally) → Falls a b → Falls b c → Falls a c
-  falls_both a b c first second = record { fault = omega (arith, first.fault, second.fault); left = omega (arith, first.left, second.left) }
-
   -- what is tallied of nodes is fair
-  pub fair_of : (Judged : ℕ → Type 0) (tally : Tally) → IsTalliedBy T count Judged tally → IsFair T count tally
+  pub fair_of : (Judged : ℕ → Type 0) (tally : Tally) → IsTalliedBy T Judged tally → IsFair T tally
   fair_of Judged tally t = tally_fewer Judged (λ n. ⊥) tally t (λ n low high j. absurd j)
 
   -- nothing was judged
-  pub tally_none : (tally : Tally) → 1 ≤ tally.fault → tally.fault ≤ length T.nodes + 1 → HavePlaces T tally.fault → (tally.fault ≤ length T.nodes → ¬ IsSound T tally.fault) → tally.left ≡ length T.nodes + 1 → IsTalliedBy T count (λ n. ⊥) tally
+  pub tally_none : (tally : Tally) → 1 ≤ tally.fault → tally.fault ≤ length T.nodes + 1 → HavePlaces T tally.fault → (tally.fault ≤ length T.nodes → ¬ IsSound T tally.fault) → tally.left ≡ length T.nodes + 1 → IsTalliedBy T (λ n. ⊥) tally
   tally_none tally from upto places fault left = record {
     from = from;
     upto = upto;
@@ -111,13 +111,13 @@ module _ {V : Type 0} (T : TreeOf V) (count : ℕ) where
   }
 
   abbrev Tells : TreeVerdict → Type 0
-  Tells = TellsTree T.monoid T.difference T.word_of T.enter T.problem count T.answers T.nodes
+  Tells = TellsTree T.monoid T.difference T.word_of T.enter T.problem T.count T.answers T.nodes
 
   -- the verdict at the end
-  module _ (tally : Tally) (w : IsWholeTally T count tally) (some : 1 ≤ length T.answers) where
+  module _ (tally : Tally) (w : IsWholeTally T tally) (some : 1 ≤ length T.answers) where
     module _ (none : length T.nodes < tally.fault) where
       all_sound : (n : ℕ) → IsNumber T.nodes n → IsSound T n
-      all_sound n number = w.sound n number.0 (omega (arith, number.1, none))
+      all_sound n number = w.sound n number.0 (omega (arith, number.1, none)) tt
 
       told_sound : (lacking : Option ℕ) → IfSome lacking (IsLacking T.answers T.nodes) → (lacking ≡ None → AreGiven T.answers T.nodes) → Tells (conclusion_sound tally.left (length T.nodes) lacking)
       told_sound (Some a) lacks given = (all_sound, record { number = a; from = lacks.from; upto = lacks.upto; none = lacks.none })
@@ -132,7 +132,7 @@ module _ {V : Type 0} (T : TreeOf V) (count : ℕ) where
               marked = (w.left_open (omega (arith, within))).0;
               may_not = (w.left_open (omega (arith, within))).1;
             },
-            λ m less o. o.may_not (w.stay m o.there.0 (omega (arith, o.there.1, none)) less o.marked),
+            λ m less o. o.may_not (w.stay m o.there.0 (omega (arith, o.there.1, none)) less tt o.marked),
           ))
           (λ (past : length T.nodes + 1 ≤ tally.left).
           let first = given refl 1 (omega arith) some in
@@ -141,7 +141,7 @@ module _ {V : Type 0} (T : TreeOf V) (count : ℕ) where
             root = omega (arith, first.there.0, first.there.1);
             sound = all_sound;
             given = given refl;
-            open_nodes = λ n number opened. w.stay n number.0 (omega (arith, number.1, none)) (omega (arith, number.1, past)) opened;
+            open_nodes = λ n number opened. w.stay n number.0 (omega (arith, number.1, none)) (omega (arith, number.1, past)) tt opened;
           }))
           (cases_lt tally.left (length T.nodes + 1))
 
@@ -151,7 +151,7 @@ module _ {V : Type 0} (T : TreeOf V) (count : ℕ) where
         (λ (within : tally.fault < length T.nodes + 1).
         subst (λ b. Tells (cond b (FaultAt tally.fault) (conclusion_sound tally.left (length T.nodes) lacking))) (sym (le-leb tally.fault (length T.nodes) (omega (arith, within)))) (
           record { there = (w.from, omega (arith, within)); fault = w.at_fault (omega (arith, within)) },
-          λ m less a. a.fault (w.sound m a.there.0 less),
+          λ m less a. a.fault (w.sound m a.there.0 less tt),
         ))
         (λ (past : length T.nodes + 1 ≤ tally.fault).
         subst (λ b. Tells (cond b (FaultAt tally.fault) (conclusion_sound tally.left (length T.nodes) lacking))) (sym (lt-leb tally.fault (length T.nodes) (omega (arith, past))))
@@ -168,7 +168,7 @@ answer_within T n sound answered = by (node_at T.nodes n).mark sound.marked answ
     by (Empty rows) marked is = absurd (cc is)
 
 -- the answer of a sound answered node is over the rows
-pub answer_over : {V : Type 0} (T : TreeOf V) → IsTree T → (n : ℕ) → IsSound T n → is_answered (node_at T.nodes n).mark ≡ true → length (node_answer T.answers T.nodes n) ≡ length T.problem.rows
-answer_over T tree n sound answered =
+pub answer_over : {V : Type 0} (T : TreeOf V) → All (IsValid T.problem) T.answers → (n : ℕ) → IsSound T n → is_answered (node_at T.nodes n).mark ≡ true → length (node_answer T.answers T.nodes n) ≡ length T.problem.rows
+answer_over T valid n sound answered =
     let within = answer_within T n sound answered in
-    (All-get_or (IsValid T.problem) T.answers (answer_number (node_at T.nodes n).mark - 1) [] (omega (arith, within.0, within.1)) tree.valid).over
+    (All-get_or (IsValid T.problem) T.answers (answer_number (node_at T.nodes n).mark - 1) [] (omega (arith, within.0, within.1)) valid).over

@@ -18,20 +18,20 @@ abbrev pub IsBelow : List Node → ℕ → ℕ → Type 0
 IsBelow nodes p n = (steps : ℕ) × IsBelowWithin nodes p steps n
 
 -- all nodes below one are settled, before the first at fault
-abbrev pub AreSettledBelow : {V : Type 0} → TreeOf V → ℕ → ℕ → Tally → Type 0
-AreSettledBelow T count p tally =
-    (n : ℕ) → 1 ≤ n → n < tally.fault → IsBelow T.nodes p n → IsSettled T count tally n
+abbrev pub AreSettledBelow : {V : Type 0} → TreeOf V → ℕ → Tally → Type 0
+AreSettledBelow T p tally =
+    (n : ℕ) → 1 ≤ n → n < tally.fault → IsBelow T.nodes p n → IsSettled T tally n
 
 -- all nodes below one are settled but those below another
-abbrev pub AreSettledBut : {V : Type 0} → TreeOf V → ℕ → ℕ → ℕ → Tally → Type 0
-AreSettledBut T count p at tally =
-    (n : ℕ) → 1 ≤ n → n < tally.fault → IsBelow T.nodes p n → IsBelow T.nodes at n ⊎ IsSettled T count tally n
+abbrev pub AreSettledBut : {V : Type 0} → TreeOf V → ℕ → ℕ → Tally → Type 0
+AreSettledBut T p at tally =
+    (n : ℕ) → 1 ≤ n → n < tally.fault → IsBelow T.nodes p n → IsBelow T.nodes at n ⊎ IsSettled T tally n
 
 -- of the nodes that name a parent, all nodes below each that stands before a number are settled, but
 -- for one
-abbrev pub AreSettledBelowEach : {V : Type 0} → TreeOf V → ℕ → ℕ → ℕ → ℕ → Tally → Type 0
-AreSettledBelowEach T count parent but before tally =
-    (m : ℕ) → 1 ≤ m → (node_at T.nodes m).parent ≡ parent → m ≢ but → m < before → AreSettledBelow T count m tally
+abbrev pub AreSettledBelowEach : {V : Type 0} → TreeOf V → ℕ → ℕ → ℕ → Tally → Type 0
+AreSettledBelowEach T parent but before tally =
+    (m : ℕ) → 1 ≤ m → (node_at T.nodes m).parent ≡ parent → m ≢ but → m < before → AreSettledBelow T m tally
 
 -- an answered node before the first at fault names another as its parent
 pub record LeadsOn (nodes : List Node) (at next fault : ℕ) : Type 0 where

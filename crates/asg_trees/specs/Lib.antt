@@ -1,12 +1,8 @@
+pub mod Groups
 pub mod Trees
 pub mod ChoiceLists
-pub mod Groups
-pub mod Kept
-pub mod Copies
-pub mod Halls
 pub mod Trails
 pub mod Marks
 pub mod Tallies
 pub mod Descents
 pub mod Judged
-pub mod SingleSteps

@@ -1,26 +1,23 @@
 -- What is judged of a node by its mark, on the square of its parent and the cells that its branch
 -- keeps.
-use Rattle.std.specs.Prelude.{◌≡◌, ◌≢◌, ℕ, ◌<◌, ◌≤◌, Bool, Option, Some, None, List, [], length, is_some}
+use Rattle.std.specs.Prelude.{◌≡◌, ◌≢◌, ℕ, ◌<◌, ◌≤◌, Option, Some, List, [], length}
 use Rattle.asg_model.specs.Counts.{placed}
 use Rattle.asg_model.specs.Problem.{Problem}
 use Rattle.asg_order.specs.declared.words.Word.{Word}
-use Rattle.asg_order.specs.Bridge.{choice_fold}
-use Rattle.asg_order.specs.Monoid.{Monoid, IsLe, IsValue}
+use Rattle.asg_order.specs.Monoid.{Monoid, IsLe}
 use Rattle.asg_square.specs.BitTable.{BitTable}
-use Rattle.asg_square.specs.Grid.{Grid, cell_at}
+use Rattle.asg_square.specs.Grid.{Grid}
 use Rattle.asg_square.specs.HallColumns.{OutnumberColumns}
-use Rattle.asg_square.specs.Masked.{masked_grid}
 use Rattle.asg_proof.specs.declared.nodes.Mark.{Mark}
 use Rattle.asg_proof.specs.declared.nodes.Mark.TheVariants.{Answered, Open, Empty}
 use Rattle.asg_proof.specs.declared.nodes.Node.{Node}
 use Rattle.asg_proof.specs.Nodes.{answer_at, answer_number, node_at}
-use Rattle.asg_proof.specs.Phases.{PhaseOf, index_of}
-use Rattle.asg_proof.specs.SearchTrees.{child_count, last_answer}
-use Rattle.asg_replays.specs.Replays.{AreAdmittedFrom}
+use Rattle.asg_proof.specs.Phases.{PhaseOf}
+use Rattle.asg_proof.specs.SearchTrees.{child_count}
 use Rattle.asg_trees.specs.declared.verdicts.Judgement.{Judgement}
 use Rattle.asg_trees.specs.declared.verdicts.Judgement.TheVariants.{AtFault, LeftOpen, Fine}
-use Rattle.asg_trees.specs.Kept.{ChoosesKept}
-use Rattle.asg_trees.specs.Trees.{TreeOf}
+use Rattle.asg_kept_cells.specs.Kept.{ChoosesKept, kept_cells}
+use Rattle.asg_kept_cells.specs.MaskedPhases.{AreAdmittedWithin, HaveIndexAfter}
 
 -- node number n has an answer of its own, one of so many, that no node before it has, and each of
 -- so many branches has one node
@@ -29,30 +26,6 @@ pub record HasOwnAnswer (answers k : ℕ) (nodes : List Node) (n a : ℕ) : Type
   pub upto : a ≤ answers
   pub first : (m : ℕ) → 1 ≤ m → m < n → answer_number (node_at nodes m).mark ≢ a
   pub branches : (i : ℕ) → 1 ≤ i → i ≤ k → child_count nodes n i ≡ 1
-
--- the product of the last answer, where as many answers are listed as were asked for
-pub record IsLastProduct {V : Type 0} (T : TreeOf V) (count : ℕ) (last : Option V) : Type 0 where
-  pub fewer : last ≡ None → length T.answers < count
-  pub full : (z : V) → last ≡ Some z → count ≤ length T.answers
-  pub product : (z : V) → last ≡ Some z → z ≡ choice_fold T.monoid T.enter T.problem (last_answer T.answers)
-  pub is_value : (z : V) → last ≡ Some z → IsValue T.monoid z
-
--- the words are those of phases that are admitted in turn from the kept cells of a square
-abbrev pub AreAdmittedWithin : {V : Type 0} → Monoid V → (V → V → V) → (V → Word) → Grid V → BitTable
-    → List (PhaseOf Word) → Type 0
-AreAdmittedWithin M difference word_of Q kept words =
-    AreAdmittedFrom M difference word_of Q.side (cell_at (masked_grid Q kept.words)) words
-
--- and their index after another is this
-pub record HaveIndexAfter {V : Type 0} (M : Monoid V) (difference : V → V → V) (word_of : V → Word)
-    (Q : Grid V) (kept : BitTable) (before : V) (words : List (PhaseOf Word)) (index : V) : Type 0 where
-  pub admitted : AreAdmittedWithin M difference word_of Q kept words
-  pub product : index ≡ M.product before (index_of M admitted.phases)
-  pub is_value : IsValue M index
-
--- which cells are there and kept
-abbrev pub kept_cells : {V : Type 0} → Grid V → BitTable → ℕ → ℕ → Bool
-kept_cells Q kept r k = is_some (cell_at (masked_grid Q kept.words) r k)
 
 -- what its mark asks of node number n holds on the kept cells of a square
 abbrev pub MarkHolds : {V : Type 0} → Monoid V → (V → V → V) → (V → Word) → Problem → List (List (Option ℕ))

@@ -1,6 +1,6 @@
 //! Lists of valid choices.
 
-ghost use Rattle.std.specs.Prelude.{◌≡◌, ◌≤◌, ◌<◌, ◌^◌, ◌*◌, ◌-◌, ◌++◌, ◌∷◌, [], Some, IfOk, IfSome, All, length, map, slice_get};
+ghost use Rattle.std.specs.Prelude.{◌≡◌, ◌<◌, ◌^◌, ◌*◌, ◌-◌, ◌++◌, ◌∷◌, [], Some, IfOk, IfSome, All, length, map, slice_get};
 ghost use Rattle.asg_model.specs.Instances.{IsInstance};
 ghost use Rattle.asg_model.specs.ValidChoice.{IsValid};
 ghost use Rattle.asg_trees.specs.ChoiceLists.{choices_in, chosen_by, number_of};

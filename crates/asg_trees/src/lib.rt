@@ -19,27 +19,19 @@
 #![tactic(auto)]
 
 mod choice_lists;
-mod chosen_cells;
 mod conclusions;
-mod copies;
 mod descents;
 mod groups;
-mod hall_tests;
 mod heavy_children;
-mod leading;
+mod judged_trees;
 mod marks;
-mod masks;
 mod node_parts;
 mod objectives;
 mod own_answers;
-mod own_phases;
 mod paths;
 mod places;
 mod roots;
 mod siblings;
-mod single_leads;
-mod single_steps;
-mod taking_out;
 mod tallies;
 mod trees;
 mod verdicts;

@@ -11,21 +11,18 @@ ghost use Rattle.asg_proof.specs.declared.nodes.Mark.TheVariants.{Answered, Open
 ghost use Rattle.asg_square.specs.Grid.{cell_at};
 ghost use Rattle.asg_square.specs.HallColumns.{OutnumberColumns};
 ghost use Rattle.asg_trees.specs.Groups.{AreGroups, answer_keys, parent_keys};
-ghost use Rattle.asg_trees.specs.Kept.{HasSize};
-ghost use Rattle.asg_trees.specs.Marks.{HaveIndexAfter, JudgesMark, JudgesOpen, MarkHolds, kept_cells};
+ghost use Rattle.asg_kept_cells.specs.Kept.{HasSize, kept_cells};
+ghost use Rattle.asg_kept_cells.specs.MaskedPhases.{HaveIndexAfter};
+ghost use Rattle.asg_trees.specs.Marks.{JudgesMark, JudgesOpen, MarkHolds};
 
 use crate::NoMemory;
-use crate::choice_lists::Choices;
-use crate::chosen_cells::chooses_kept;
-use crate::groups::Groups;
-use crate::hall_tests::outnumber;
+use crate::judged_trees::Tree;
 use crate::node_parts::{mark_of, own_of};
 use crate::own_answers::has_own_answer;
-use crate::own_phases::told_index;
 use crate::verdicts::Judgement;
-use asg_model::Instance;
+use asg_kept_cells::{chooses_kept, outnumber, told_index};
 use asg_order::{Ordered, Written};
-use asg_proof::{Mark, Node, WrittenPhase};
+use asg_proof::{Mark, WrittenPhase};
 use asg_square::{BitRows, Square};
 use std::alloc::Global;
 
@@ -46,11 +43,7 @@ fn is_at_most<M: Ordered>(m: &M, last: Option<M::Value>, index: M::Value) -> boo
 fn answered_holds<M: Written>(
     alloc: Global,
     m: &M,
-    inst: &Instance,
-    answers: &Choices,
-    nodes: &[Node],
-    members: &Groups,
-    given: &Groups,
+    tree: &Tree<'_, M::Value>,
     square: &Square<M::Value>,
     kept: &BitRows,
     before: M::Value,
@@ -58,28 +51,32 @@ fn answered_holds<M: Written>(
     n: usize,
     answer: u32,
 ) -> Result<bool, NoMemory>
-    requires side { square.now.side ≡ square_side inst.now }
-    requires few { square_side inst.now ≤ most_side }
-    requires rows { All (λ f. length f ≤ square_side inst.now) answers.now }
-    requires members { AreGroups (parent_keys nodes.now) (length nodes.now) members.now }
-    requires given { AreGroups (answer_keys nodes.now) (length answers.now) given.now }
+    requires side { square.now.side ≡ square_side tree.now.inst.now }
+    requires few { square_side tree.now.inst.now ≤ most_side }
+    requires rows { All (λ f. length f ≤ square_side tree.now.inst.now) tree.now.answers.now }
+    requires members { AreGroups (parent_keys tree.now.nodes.now) (length tree.now.nodes.now)
+        tree.now.members.now }
+    requires given { AreGroups (answer_keys tree.now.nodes.now) (length tree.now.answers.now)
+        tree.now.given.now }
     requires values { HasValues (M.monoid_of m.now) square.now.side (cell_at square.now) }
     requires size { HasSize square.now.side kept.now }
     requires before { IsValue (M.monoid_of m.now) before }
     requires known { IfSome known (HaveIndexAfter (M.monoid_of m.now) (M.difference m.now)
-        (M.word_of m.now) square.now kept.now before (node_at nodes.now n).own) }
+        (M.word_of m.now) square.now kept.now before (node_at tree.now.nodes.now n).own) }
     requires from { 1 ≤ n }
-    requires upto { n ≤ length nodes.now }
-    requires mark { (node_at nodes.now n).mark ≡ Answered answer }
+    requires upto { n ≤ length tree.now.nodes.now }
+    requires mark { (node_at tree.now.nodes.now n).mark ≡ Answered answer }
     ensures { IfOk result (λ is. IsTrue is ↔ MarkHolds (M.monoid_of m.now) (M.difference m.now)
-        (M.word_of m.now) inst.now answers.now nodes.now square.now kept.now n
-        (Answered answer)) }
+        (M.word_of m.now) tree.now.inst.now tree.now.answers.now tree.now.nodes.now square.now
+        kept.now n (Answered answer)) }
 {
-    let branches = inst.placed();
-    if !has_own_answer(nodes, members, given, answers.len(), branches, n, answer) {
+    let (nodes, members, given) = (tree.nodes, tree.members, tree.given);
+    let answers = tree.answers.len();
+    let branches = tree.inst.placed();
+    if !has_own_answer(nodes, members, given, answers, branches, n, answer) {
         return Ok(false);
     }
-    let choice = answers.choice(alloc, answer as usize - 1)?;
+    let choice = tree.answers.choice(alloc, answer as usize - 1)?;
     if !chooses_kept(square, kept, &choice) {
         return Ok(false);
     }
@@ -140,26 +137,25 @@ fn other_judgement(holds: bool) -> Judgement
 // has no phases of its own.
 fn empty_holds<V: Copy>(
     alloc: Global,
-    inst: &Instance,
-    nodes: &[Node],
+    tree: &Tree<'_, V>,
     square: &Square<V>,
     kept: &BitRows,
     n: usize,
     rows: &[u32],
 ) -> Result<bool, NoMemory>
-    requires place { inst.now.place ≡ PlaceAll }
-    requires side { square.now.side ≡ square_side inst.now }
+    requires place { tree.now.inst.now.place ≡ PlaceAll }
+    requires side { square.now.side ≡ square_side tree.now.inst.now }
     requires size { HasSize square.now.side kept.now }
     requires from { 1 ≤ n }
-    requires upto { n ≤ length nodes.now }
+    requires upto { n ≤ length tree.now.nodes.now }
     ensures { IfOk result (λ is. IsTrue is
-        ↔ (OutnumberColumns inst.now (kept_cells square.now kept.now) rows.now
-        × ((node_at nodes.now n).own ≡ []))) }
+        ↔ (OutnumberColumns tree.now.inst.now (kept_cells square.now kept.now) rows.now
+        × ((node_at tree.now.nodes.now n).own ≡ []))) }
 {
-    if !own_of(nodes, n).is_empty() {
+    if !own_of(tree.nodes, n).is_empty() {
         return Ok(false);
     }
-    outnumber(alloc, inst, square, kept, rows)
+    outnumber(alloc, tree.inst, square, kept, rows)
 }
 
 /// Judges a node by its mark, on the cells of a square that are kept, which has the index so far.
@@ -167,55 +163,50 @@ fn empty_holds<V: Copy>(
 pub(crate) fn judge_mark<M: Written>(
     alloc: Global,
     m: &M,
-    inst: &Instance,
-    answers: &Choices,
-    nodes: &[Node],
-    members: &Groups,
-    given: &Groups,
-    last: Option<M::Value>,
+    tree: &Tree<'_, M::Value>,
     square: &Square<M::Value>,
     kept: &BitRows,
     before: M::Value,
     known: Option<M::Value>,
     n: usize,
 ) -> Result<Judgement, NoMemory>
-    requires place { inst.now.place ≡ PlaceAll }
-    requires side { square.now.side ≡ square_side inst.now }
-    requires few { square_side inst.now ≤ most_side }
-    requires rows { All (λ f. length f ≤ square_side inst.now) answers.now }
-    requires members { AreGroups (parent_keys nodes.now) (length nodes.now) members.now }
-    requires given { AreGroups (answer_keys nodes.now) (length answers.now) given.now }
-    requires last { IfSome last (IsValue (M.monoid_of m.now)) }
+    requires place { tree.now.inst.now.place ≡ PlaceAll }
+    requires side { square.now.side ≡ square_side tree.now.inst.now }
+    requires few { square_side tree.now.inst.now ≤ most_side }
+    requires rows { All (λ f. length f ≤ square_side tree.now.inst.now) tree.now.answers.now }
+    requires members { AreGroups (parent_keys tree.now.nodes.now) (length tree.now.nodes.now)
+        tree.now.members.now }
+    requires given { AreGroups (answer_keys tree.now.nodes.now) (length tree.now.answers.now)
+        tree.now.given.now }
+    requires last { IfSome tree.now.last (IsValue (M.monoid_of m.now)) }
     requires values { HasValues (M.monoid_of m.now) square.now.side (cell_at square.now) }
     requires size { HasSize square.now.side kept.now }
     requires before { IsValue (M.monoid_of m.now) before }
     requires known { IfSome known (HaveIndexAfter (M.monoid_of m.now) (M.difference m.now)
-        (M.word_of m.now) square.now kept.now before (node_at nodes.now n).own) }
+        (M.word_of m.now) square.now kept.now before (node_at tree.now.nodes.now n).own) }
     requires from { 1 ≤ n }
-    requires upto { n ≤ length nodes.now }
+    requires upto { n ≤ length tree.now.nodes.now }
     ensures { IfOk result (JudgesMark (M.monoid_of m.now) (M.difference m.now) (M.word_of m.now)
-        inst.now answers.now nodes.now last square.now kept.now before n (node_at nodes.now n).mark) }
+        tree.now.inst.now tree.now.answers.now tree.now.nodes.now tree.now.last square.now kept.now
+        before n (node_at tree.now.nodes.now n).mark) }
 {
-    match mark_of(nodes, n) {
+    match mark_of(tree.nodes, n) {
         Mark::Answered(answer) => {
-            let holds = answered_holds(
-                alloc, m, inst, answers, nodes, members, given, square, kept, before, known, n,
-                *answer,
-            )?;
+            let holds = answered_holds(alloc, m, tree, square, kept, before, known, n, *answer)?;
             Ok(other_judgement(holds))
         }
         Mark::Open => judge_open(
             alloc,
             m,
-            last,
+            tree.last,
             square,
             kept,
             before,
-            own_of(nodes, n),
+            own_of(tree.nodes, n),
             known,
         ),
         Mark::Empty(rows) => {
-            let holds = empty_holds(alloc, inst, nodes, square, kept, n, rows.as_slice())?;
+            let holds = empty_holds(alloc, tree, square, kept, n, rows.as_slice())?;
             Ok(other_judgement(holds))
         }
     }

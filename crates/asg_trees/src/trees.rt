@@ -1,6 +1,6 @@
 //! Search trees, judged over the monoid of a kind.
 
-ghost use Rattle.std.specs.Prelude.{◌≡◌, ◌≤◌, List, IfOk, IfSome, All, length};
+ghost use Rattle.std.specs.Prelude.{◌≡◌, ◌≤◌, IfOk, IfSome, All, length};
 ghost use Rattle.asg_model.specs.declared.parts.Place.TheVariants.{All as PlaceAll};
 ghost use Rattle.asg_model.specs.Limits.{most_cost, most_side};
 ghost use Rattle.asg_model.specs.Refused.{PassesNegative};
@@ -8,30 +8,25 @@ ghost use Rattle.asg_model.specs.Shapes.{square_side};
 ghost use Rattle.asg_model.specs.ValidChoice.{IsValid};
 ghost use Rattle.asg_order.specs.Entering.{LiesWithin};
 ghost use Rattle.asg_proof.specs.Nodes.{node_at};
-ghost use Rattle.asg_proof.specs.declared.nodes.Node.{Node as N};
 ghost use Rattle.asg_replays.specs.Replays.{AreReplayed, IsStart};
-ghost use Rattle.asg_trees.specs.Groups.{AreGroups, answer_keys, parent_keys};
 ghost use Rattle.asg_trees.specs.Judged.{TellsTree};
-ghost use Rattle.asg_trees.specs.Kept.{KeepsAll};
-ghost use Rattle.asg_trees.specs.Marks.{IsLastProduct};
-ghost use Rattle.asg_trees.specs.Tallies.{IsWholeTally};
-ghost use Rattle.asg_trees.specs.Trees.{IsTree, tree_of};
+ghost use Rattle.asg_trees.specs.Trees.{IsLastProduct, IsReady, tree_by};
 
 use crate::NoMemory;
 use crate::choice_lists::Choices;
 use crate::conclusions::{concluded, first_lacking};
 use crate::descents::judge_rest;
-use crate::groups::{Groups, by_answer, by_parent};
-use crate::masks::whole_mask;
+use crate::groups::{by_answer, by_parent};
+use crate::judged_trees::Tree;
 use crate::places::first_misplaced;
 use crate::roots::judge_root;
 use crate::verdicts::{Tally, TreeVerdict};
 use asg_admit::Reduced;
+use asg_kept_cells::whole_mask;
 use asg_model::Instance;
 use asg_order::{Kind, Ordered};
 use asg_proof::Node;
 use asg_replays::{chosen_fold, start};
-use asg_square::BitRows;
 use std::alloc::Global;
 
 // The product of the last answer, where as many are listed as were asked for. The error is want of
@@ -46,10 +41,8 @@ fn last_product<K: Kind>(
     requires near { LiesWithin (K.reach kind.now) inst.now }
     requires passes { PassesNegative (K.objective kind.now) inst.now }
     requires some { 1 ≤ length answers.now }
-    ensures { IfOk result (λ last. (nodes : List N) → let T = tree_of
-        (K.M.monoid_of (K.monoid kind.now)) (K.M.difference (K.monoid kind.now))
-        (K.M.word_of (K.monoid kind.now)) (K.entered kind.now) inst.now answers.now nodes in
-        IsLastProduct T count last) }
+    ensures { IfOk result (IsLastProduct (K.M.monoid_of (K.monoid kind.now)) (K.entered kind.now)
+        inst.now count answers.now) }
 {
     if answers.len() < count {
         return Ok(None);
@@ -58,93 +51,38 @@ fn last_product<K: Kind>(
     Ok(Some(chosen_fold(kind, inst, &choice)))
 }
 
-// Judges the root and then the nodes below it, and tallies them. What the own phases of the root
-// make of the square before any step may be known. The error is want of memory.
-fn tally_nodes<K: Kind>(
+// Judges a tree from the square before any step: the root, the nodes below it, and then whether an
+// answer has no node. What the own phases of the root make of the square may be known. The error is
+// want of memory.
+fn judge_ready<K: Kind>(
     alloc: Global,
     kind: &K,
-    inst: &Instance,
-    answers: &Choices,
-    nodes: &[Node],
-    members: &Groups,
-    given: &Groups,
-    count: usize,
-    last: Option<<<K as Kind>::M as Ordered>::Value>,
-    root: &mut Reduced<<<K as Kind>::M as Ordered>::Value>,
-    kept: &mut BitRows,
-    led: &mut Option<Reduced<<<K as Kind>::M as Ordered>::Value>>,
-) -> Result<Tally, NoMemory>
-    requires tree { let T = tree_of (K.M.monoid_of (K.monoid kind.now))
-        (K.M.difference (K.monoid kind.now)) (K.M.word_of (K.monoid kind.now))
-        (K.entered kind.now) inst.now answers.now nodes.now in IsTree T }
-    requires members { AreGroups (parent_keys nodes.now) (length nodes.now) members.now }
-    requires given { AreGroups (answer_keys nodes.now) (length answers.now) given.now }
-    requires last { let T = tree_of (K.M.monoid_of (K.monoid kind.now))
-        (K.M.difference (K.monoid kind.now)) (K.M.word_of (K.monoid kind.now))
-        (K.entered kind.now) inst.now answers.now nodes.now in IsLastProduct T count last }
-    requires start { IsStart (K.M.monoid_of (K.monoid kind.now)) (K.entered kind.now) inst.now
-        root.old }
-    requires kept { KeepsAll inst.now kept.old }
-    requires led { IfSome led.old (AreReplayed (K.M.monoid_of (K.monoid kind.now))
-        (K.M.difference (K.monoid kind.now)) (K.M.word_of (K.monoid kind.now))
-        (node_at nodes.now 1).own root.old) }
-    ensures { let T = tree_of (K.M.monoid_of (K.monoid kind.now))
-        (K.M.difference (K.monoid kind.now)) (K.M.word_of (K.monoid kind.now))
-        (K.entered kind.now) inst.now answers.now nodes.now in
-        IfOk result (IsWholeTally T count) }
-{
-    let first = Tally {
-        fault: first_misplaced(nodes, inst.placed()),
-        left: nodes.len() + 1,
-    };
-    let at_root = judge_root(
-        alloc, kind, inst, answers, nodes, members, given, count, last, root, kept, led, first,
-    )?;
-    judge_rest(
-        alloc, kind, inst, answers, nodes, members, given, count, last, root, kept, at_root,
-    )
-}
-
-// Judges nodes, grouped by the parents that they name and by their answers, from the square before
-// any step. What the own phases of the root make of it may be known. The error is want of memory.
-fn judge_grouped<K: Kind>(
-    alloc: Global,
-    kind: &K,
-    inst: &Instance,
-    count: usize,
-    answers: &Choices,
-    nodes: &[Node],
-    members: &Groups,
-    given: &Groups,
+    tree: &Tree<'_, <<K as Kind>::M as Ordered>::Value>,
     root: &mut Reduced<<<K as Kind>::M as Ordered>::Value>,
     led: &mut Option<Reduced<<<K as Kind>::M as Ordered>::Value>>,
 ) -> Result<TreeVerdict, NoMemory>
-    requires place { inst.now.place ≡ PlaceAll }
-    requires side { square_side inst.now ≤ most_side }
-    requires passes { PassesNegative (K.objective kind.now) inst.now }
-    requires reach { most_cost ≤ K.reach kind.now }
-    requires some { 1 ≤ length answers.now }
-    requires valid { All (IsValid inst.now) answers.now }
-    requires members { AreGroups (parent_keys nodes.now) (length nodes.now) members.now }
-    requires given { AreGroups (answer_keys nodes.now) (length answers.now) given.now }
-    requires start { IsStart (K.M.monoid_of (K.monoid kind.now)) (K.entered kind.now) inst.now
-        root.old }
+    requires ready { let T = tree_by K.M.monoid_of K.M.difference K.M.word_of K.monoid K.entered
+        kind.now tree.now in IsReady T tree.now }
+    requires some { 1 ≤ length tree.now.answers.now }
+    requires start { IsStart (K.M.monoid_of (K.monoid kind.now)) (K.entered kind.now)
+        tree.now.inst.now root.old }
     requires led { IfSome led.old (AreReplayed (K.M.monoid_of (K.monoid kind.now))
         (K.M.difference (K.monoid kind.now)) (K.M.word_of (K.monoid kind.now))
-        (node_at nodes.now 1).own root.old) }
-    ensures { IfOk result (TellsTree (K.M.monoid_of (K.monoid kind.now))
-        (K.M.difference (K.monoid kind.now)) (K.M.word_of (K.monoid kind.now))
-        (K.entered kind.now) inst.now count answers.now nodes.now) }
+        (node_at tree.now.nodes.now 1).own root.old) }
+    ensures { let T = tree_by K.M.monoid_of K.M.difference K.M.word_of K.monoid K.entered
+        kind.now tree.now in
+        IfOk result (TellsTree T.monoid T.difference T.word_of T.enter T.problem T.count T.answers
+        T.nodes) }
 {
-    // What each instance keeps is told by a reader.
-    let _ = inst.rows();
-    let last = last_product(alloc, kind, inst, count, answers)?;
-    let mut kept = whole_mask(alloc, inst)?;
-    let tally = tally_nodes(
-        alloc, kind, inst, answers, nodes, members, given, count, last, root, &mut kept, led,
-    )?;
-    let lacking = first_lacking(given, nodes, answers);
-    Ok(concluded(tally, nodes.len(), lacking))
+    let mut kept = whole_mask(alloc, tree.inst)?;
+    let first = Tally {
+        fault: first_misplaced(tree.nodes, tree.inst.placed()),
+        left: tree.nodes.len() + 1,
+    };
+    let at_root = judge_root(alloc, kind, tree, root, &kept, led, first)?;
+    let tally = judge_rest(alloc, kind, tree, root, &mut kept, at_root)?;
+    let lacking = first_lacking(tree.given, tree.nodes, tree.answers);
+    Ok(concluded(tally, tree.nodes.len(), lacking))
 }
 
 /// Judges nodes as [`judge_tree`] does, from the square before any step. What the own phases of the
@@ -174,11 +112,21 @@ pub(crate) fn judge_from<K: Kind>(
         (K.M.difference (K.monoid kind.now)) (K.M.word_of (K.monoid kind.now))
         (K.entered kind.now) inst.now count answers.now nodes.now) }
 {
+    // What each instance keeps is told by a reader.
+    let _ = inst.rows();
+    let last = last_product(alloc, kind, inst, count, answers)?;
     let members = by_parent(alloc, nodes)?;
     let given = by_answer(alloc, nodes, answers.len())?;
-    judge_grouped(
-        alloc, kind, inst, count, answers, nodes, &members, &given, root, led,
-    )
+    let tree = Tree {
+        inst,
+        count,
+        answers,
+        nodes,
+        members: &members,
+        given: &given,
+        last,
+    };
+    judge_ready(alloc, kind, &tree, root, led)
 }
 
 /// Judges whether nodes are a search tree of answers that are valid, of which so many were asked

@@ -1,5 +1,4 @@
-use Rattle.std.proofs.Common.{◌≡◌, ◌++◌, ◌∷◌, [], map, take, subst, sym, ap, ◌∙◌}
-use Rattle.asg_trees.specs.ChoiceLists.{number_of}
+use Rattle.std.proofs.Common.{◌++◌, ◌∷◌, [], ap, ◌∙◌}
 use Rattle.asg_trees.proofs.ChoiceLemmas.{column_fits, numbers_more}
 use Rattle.asg_trees.proofs.choice_lists.with_numbers.Goals as goal
 

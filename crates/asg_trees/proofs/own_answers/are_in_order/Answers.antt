@@ -1,41 +1,35 @@
 use Rattle.std.proofs.Common.{◌≡◌, ◌≢◌, ◌+◌, ◌-◌, ◌≤◌, ◌&&◌, eqb, take, length, sym, ap, subst, ◌∙◌, arith}
 use Rattle.std.specs.Prelude.{count_by}
 use Rattle.std.proofs.lemmas.Bool.{leb-true}
-use Rattle.std.proofs.lemmas.List.{length-map}
-use Rattle.asg_proof.specs.declared.nodes.Node.{Node}
 use Rattle.asg_proof.specs.Nodes.{node_at}
 use Rattle.asg_trees.specs.Groups.{IsNextWith, parent_keys}
 use Rattle.asg_trees.specs.Tallies.{judged_before}
 use Rattle.asg_trees.proofs.BranchLemmas.{one_upto, one_upto-in, one_upto-next, one_upto-past}
-use Rattle.asg_trees.proofs.SiblingLemmas.{before_some, count_first, count_last, count_next, member_falls, next_named, next_of_member}
+use Rattle.asg_trees.proofs.SiblingLemmas.{before_some, count_first, count_last, count_next, member_falls, next_named, next_of_member, next_within}
 use Rattle.asg_trees.proofs.own_answers.are_in_order.Goals as goal
 
 pub members-init : goal.members-init
 members-init c =
     let nodes = c.args.nodes.now in
-    let keys = length-map nodes (λ (node : Node). node.parent) in
     let next = c.first_of-member.result in
     let is = subst (IsNextWith (parent_keys nodes) c.args.n 0) (sym c.first_of-member.ensures) (c.requires.members.firsts c.args.n c.requires.upto) in
-    let within : next ≤ length nodes = omega (arith, is.upto, keys) in
     record {
-      upto = within;
-      named = λ some. next_named nodes c.args.n c.args.members.now c.requires.members keys 0 next is some;
+      upto = next_within nodes c.args.n 0 next is;
+      named = λ some. next_named nodes c.args.n c.args.members.now c.requires.members 0 next is some;
       few = omega arith;
-      counted = λ i from. one_upto-past 0 i (omega (arith, from)) ∙ count_first nodes c.args.n i next is keys within;
+      counted = λ i from. one_upto-past 0 i (omega (arith, from)) ∙ count_first nodes c.args.n i next is;
     }
 
 pub members-smaller : goal.members-smaller
 members-smaller c =
     let nodes = c.args.nodes.now in
-    let keys = length-map nodes (λ (node : Node). node.parent) in
     let some : c.members.member ≢ 0 = c.members-test.true in
-    let is = next_of_member nodes c.args.n c.args.members.now c.requires.members keys c.members.member c.next_of-member.result (omega (arith, some)) c.members.invariant.upto c.requires.upto (c.members.invariant.named some) c.next_of-member.ensures in
-    member_falls nodes c.args.n c.args.members.now c.requires.members keys c.members.member c.next_of-member.result some c.members.invariant.upto is
+    let is = next_of_member nodes c.args.n c.args.members.now c.requires.members c.members.member c.next_of-member.result (omega (arith, some)) c.members.invariant.upto c.requires.upto (c.members.invariant.named some) c.next_of-member.ensures in
+    member_falls nodes c.args.n c.args.members.now c.requires.members c.members.member c.next_of-member.result some c.members.invariant.upto is
 
 pub members-preserved : goal.members-preserved
 members-preserved c =
     let nodes = c.args.nodes.now in
-    let keys = length-map nodes (λ (node : Node). node.parent) in
     let inv = c.members.invariant in
     let member = c.members.member in
     let count = c.members.count in
@@ -43,17 +37,16 @@ members-preserved c =
     let some : member ≢ 0 = c.members-test.true in
     let from : 1 ≤ member = omega (arith, some) in
     let on = inv.named some in
-    let is = next_of_member nodes c.args.n c.args.members.now c.requires.members keys member next from inv.upto c.requires.upto on c.next_of-member.ensures in
-    let within : next ≤ length nodes = omega (arith, is.upto, keys) in
+    let is = next_of_member nodes c.args.n c.args.members.now c.requires.members member next from inv.upto c.requires.upto on c.next_of-member.ensures in
     let branch : (node_at nodes member).branch ≡ count + 1 = sym c.branch_of.ensures ∙ c.if-branch_of-count.false in
     let high = before_some (length nodes) member some in
     record {
-      upto = within;
-      named = λ more. next_named nodes c.args.n c.args.members.now c.requires.members keys member next is more;
+      upto = next_within nodes c.args.n member next is;
+      named = λ more. next_named nodes c.args.n c.args.members.now c.requires.members member next is more;
       few = omega (arith, c.if-count-branches.false);
       counted = λ i one.
           sym (one_upto-next count (node_at nodes member).branch i branch)
-          ∙ count_next nodes c.args.n i member next (one_upto count i) from inv.upto on is keys within
+          ∙ count_next nodes c.args.n i member next (one_upto count i) from inv.upto on is
           (inv.counted i one ∙ ap (λ k. count_by (λ node. eqb node.parent c.args.n && eqb node.branch i) (take (k - 1) nodes)) high);
     }
 

@@ -5,9 +5,8 @@ use Rattle.asg_proof.specs.Nodes.{node_at}
 use Rattle.asg_replays.specs.Replays.{AreAdmittedFrom, AreReplayed}
 use Rattle.asg_replays.specs.WholeLists.{HaveIndex}
 use Rattle.asg_square.specs.Grid.{cell_at}
-use Rattle.asg_trees.specs.Trees.{tree_of}
-use Rattle.asg_trees.proofs.DownLemmas.{root_admitted, root_down}
-use Rattle.asg_trees.proofs.LeadLemmas.{led_known}
+use Rattle.asg_trees.specs.Trees.{tree_by}
+use Rattle.asg_trees.proofs.DownLemmas.{led_known, root_admitted, root_down}
 use Rattle.asg_trees.proofs.roots.judge_root.Goals as goal
 
 pub own_of-requires-clause-upto : goal.own_of-requires-clause-upto
@@ -20,7 +19,7 @@ pub stand_after-requires-clause-admitted : goal.stand_after-requires-clause-admi
 stand_after-requires-clause-admitted g c =
     let kind = c.args.kind.now in
     let m = g.K.Kind.monoid kind in
-    let T = tree_of (g.K.M.Ordered.monoid_of (g.K.Kind.monoid kind)) (g.K.M.DMonoid.difference (g.K.Kind.monoid kind)) (g.K.M.Written.word_of (g.K.Kind.monoid kind)) (g.K.Kind.entered kind) c.args.inst.now c.args.answers.now c.args.nodes.now in
+    let T = tree_by g.K.M.Ordered.monoid_of g.K.M.DMonoid.difference g.K.M.Written.word_of g.K.Kind.monoid g.K.Kind.entered c.args.kind.now c.args.tree.now in
     let start = c.args.root.now in
     let sound = c.in_ok-tally.ensures.sound 1 (omega arith) c.if-tally-le1.false refl in
     let all = root_admitted T (g.met.K.M.Ordered.laws m) (g.K.M.Written.value_of m) (g.met.K.M.Written.word_laws m) start c.requires.start sound in
@@ -31,9 +30,9 @@ pub tally_root-requires-clause-known : goal.tally_root-requires-clause-known
 tally_root-requires-clause-known g c =
     let kind = c.args.kind.now in
     let m = g.K.Kind.monoid kind in
-    let T = tree_of (g.K.M.Ordered.monoid_of m) (g.K.M.DMonoid.difference m) (g.K.M.Written.word_of m) (g.K.Kind.entered kind) c.args.inst.now c.args.answers.now c.args.nodes.now in
+    let T = tree_by g.K.M.Ordered.monoid_of g.K.M.DMonoid.difference g.K.M.Written.word_of g.K.Kind.monoid g.K.Kind.entered c.args.kind.now c.args.tree.now in
     let start = c.args.root.now in
-    let own = (node_at c.args.nodes.now 1).own in
+    let own = (node_at c.args.tree.now.nodes.now 1).own in
     subst (λ o. IfSome o (λ index. HaveIndex T.monoid T.difference T.word_of start.now.side (cell_at start.now) index own)) (sym c.led_index-known.ensures)
     (led_known T.monoid (g.met.K.M.Ordered.laws m) T.difference T.word_of own start c.requires.start.index c.args.led.now c.requires.led)
 
@@ -49,7 +48,7 @@ pub returns-clause-stands : goal.returns-clause-stands
 returns-clause-stands g c = λ more.
     let kind = c.args.kind.now in
     let m = g.K.Kind.monoid kind in
-    let T = tree_of (g.K.M.Ordered.monoid_of (g.K.Kind.monoid kind)) (g.K.M.DMonoid.difference (g.K.Kind.monoid kind)) (g.K.M.Written.word_of (g.K.Kind.monoid kind)) (g.K.Kind.entered kind) c.args.inst.now c.args.answers.now c.args.nodes.now in
+    let T = tree_by g.K.M.Ordered.monoid_of g.K.M.DMonoid.difference g.K.M.Written.word_of g.K.Kind.monoid g.K.Kind.entered c.args.kind.now c.args.tree.now in
     let start = c.args.root.now in
     let after = c.stand_after.new.reduced in
     let led = subst (λ own. AreReplayed T.monoid T.difference T.word_of own start after) c.own_of.ensures

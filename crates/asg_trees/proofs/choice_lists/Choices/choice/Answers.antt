@@ -1,5 +1,4 @@
 use Rattle.std.proofs.Common.{length, ap, sym, subst, ◌∙◌, ◌<◌}
-use Rattle.std.specs.Prelude.{Some, slice_get}
 use Rattle.asg_trees.proofs.ChoiceLemmas.{length-choices_in}
 use Rattle.asg_trees.proofs.choice_lists.Choices.choice.Goals as goal
 

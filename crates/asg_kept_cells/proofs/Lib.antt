@@ -1,0 +1,9 @@
+pub mod CellLemmas
+pub mod CopyLemmas
+pub mod KeptRows
+pub mod LeadLemmas
+pub mod MaskLemmas
+pub mod HallLemmas
+pub mod MetColumns
+pub mod OwnPhases
+pub mod SingleSteps

@@ -1,0 +1,7 @@
+use Rattle.std.proofs.Common.{take}
+use Rattle.asg_replays.specs.Replays.{AreReplayed}
+use Rattle.asg_kept_cells.proofs.leading.settle_phases.Given as goal
+
+-- the phases so far lead to the square as it is
+abbrev pub invariant-loop-place : goal.invariant-loop-place
+invariant-loop-place g l = AreReplayed (g.M.Ordered.monoid_of l.m) (g.M.DMonoid.difference l.m) (g.M.Written.word_of l.m) (take l.place l.phases) l.fn.reduced l.reduced

@@ -1,0 +1,33 @@
+use Rattle.std.proofs.Common.{◌≡◌, ℕ, subst}
+use Rattle.asg_square.specs.Grid.{cell_at}
+use Rattle.asg_square.specs.Masked.{masked_grid}
+use Rattle.asg_admit.specs.Reduced.{KeepsLabels}
+use Rattle.asg_kept_cells.proofs.OwnPhases.{index_bad, index_led, taken_reduced}
+use Rattle.asg_kept_cells.proofs.own_phases.index_of_all.Goals as goal
+
+pub first_bad-requires-clause-reduced : goal.first_bad-requires-clause-reduced
+first_bad-requires-clause-reduced g c =
+    let m = c.args.m.now in
+    let R = c.take_out.new.square in
+    let labels = subst (λ Q. KeepsLabels Q R) c.in_ok-now.ensures c.take_out.ensures.labels in
+    let cells = subst (λ Q. (r k : ℕ) → cell_at R r k ≡ cell_at (masked_grid Q c.args.kept.now.words) r k) c.in_ok-now.ensures c.take_out.ensures.cells in
+    taken_reduced (g.M.Ordered.monoid_of m) (g.met.M.Ordered.laws m) (g.M.DMonoid.difference m) (g.M.Written.word_of m) c.args.square.now c.args.kept.now c.args.before c.requires.before R labels cells c.requires.values
+
+pub returns-in-Some-clause-none : goal.returns-in-Some-clause-none
+returns-in-Some-clause-none g c = λ none all.
+    let m = c.args.m.now in
+    let R = c.take_out.new.square in
+    let labels = subst (λ Q. KeepsLabels Q R) c.in_ok-now.ensures c.take_out.ensures.labels in
+    let cells = subst (λ Q. (r k : ℕ) → cell_at R r k ≡ cell_at (masked_grid Q c.args.kept.now.words) r k) c.in_ok-now.ensures c.take_out.ensures.cells in
+    let reduced = taken_reduced (g.M.Ordered.monoid_of m) (g.met.M.Ordered.laws m) (g.M.DMonoid.difference m) (g.M.Written.word_of m) c.args.square.now c.args.kept.now c.args.before c.requires.before R labels cells c.requires.values in
+    let bad = rw c.in-Some.is at c.in_ok-_place.ensures.bad in
+    index_bad (g.M.Ordered.monoid_of m) (g.met.M.Ordered.laws m) (g.M.DMonoid.difference m) (g.M.Written.word_of m) c.args.square.now c.args.kept.now c.args.before c.requires.before R labels cells reduced c.args.own.now c.in-Some._place bad all
+
+pub returns-clause-some : goal.returns-clause-some
+returns-clause-some g c =
+    let m = c.args.m.now in
+    let R = c.take_out.new.square in
+    let labels = subst (λ Q. KeepsLabels Q R) c.in_ok-now.ensures c.take_out.ensures.labels in
+    let cells = subst (λ Q. (r k : ℕ) → cell_at R r k ≡ cell_at (masked_grid Q c.args.kept.now.words) r k) c.in_ok-now.ensures c.take_out.ensures.cells in
+    let reduced = taken_reduced (g.M.Ordered.monoid_of m) (g.met.M.Ordered.laws m) (g.M.DMonoid.difference m) (g.M.Written.word_of m) c.args.square.now c.args.kept.now c.args.before c.requires.before R labels cells c.requires.values in
+    index_led (g.M.Ordered.monoid_of m) (g.met.M.Ordered.laws m) (g.M.DMonoid.difference m) (g.M.Written.word_of m) c.args.square.now c.args.kept.now c.args.before c.requires.before R labels cells reduced c.args.own.now c.first_bad.new.reduced (c.in_ok-_place.ensures.none c.in-None.is)

@@ -1,7 +1,0 @@
-use Rattle.std.proofs.Common.{◌*◌}
-use Rattle.asg_trees.specs.Kept.{TakesOutRow}
-use Rattle.asg_trees.proofs.taking_out.take_out_row.Given as goal
-
--- the cells of the words so far
-abbrev pub invariant-words : goal.invariant-words
-invariant-words g l = TakesOutRow l.kept l.row (64 * l.number) l.fn.square l.square

@@ -49,8 +49,8 @@ use Rattle.asg_doc.specs.HasText.{AreCells, AreRows, HasProofText, HasValueText,
 use Rattle.asg_doc.specs.Words.{HasWord, IsAsked, has_grades}
 use Rattle.asg_check.specs.Certifies.{Certifies}
 use Rattle.asg_check.specs.TrueClaim.{ClaimsTruly}
-use Rattle.asg_check.specs.declared.verdicts.Form.{Form}
-use Rattle.asg_check.specs.declared.verdicts.Form.TheVariants.{Solve, Rank, Edit}
+use Rattle.asg_check.specs.declared.document_forms.Form.{Form}
+use Rattle.asg_check.specs.declared.document_forms.Form.TheVariants.{Solve, Rank, Edit}
 use Rattle.asg_check.specs.DocumentForm.{MayBeAsked, has_form, is_answer_count, is_command_of}
 use Rattle.asg_proof.specs.declared.nodes.Node.{Node}
 use Rattle.asg_proof.specs.NodeLists.{AreNodeParts}

@@ -25,7 +25,7 @@ use Rattle.asg_answers.specs.declared.edited.Halt.{Halt}
 use Rattle.asg_answers.specs.declared.edited.Halt.TheVariants.{WriteFault, NoMemory}
 use Rattle.asg_answers.specs.EditDocuments.{AreEditDocuments, ClaimGoesOn, at_first, claimed_phases, edited_standing, standing_of}
 use Rattle.asg_answers.specs.WrittenLines.{HaltsIn, WritesAll, WritesFront, WritesLine}
-use Rattle.asg_check.specs.declared.verdicts.Form.TheVariants as forms
+use Rattle.asg_check.specs.declared.document_forms.Form.TheVariants as forms
 use Rattle.asg_answers.specs.WrittenDocument.{IsWritten}
 use Rattle.asg_answers.specs.Standings.{AreSure, ClaimsBy, GoesOnTo, IsEditDocument, IsFollowed, IsTold, KeepsStanding, Stands}
 use Rattle.asg_answers.specs.Tellings.{TellsEdits, TellsScript}

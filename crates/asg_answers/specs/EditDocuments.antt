@@ -10,7 +10,7 @@ use Rattle.asg_proof.specs.declared.outcomes.Proof.TheVariants.{Phases}
 use Rattle.asg_doc.specs.declared.documents.Claim.{Claim}
 use Rattle.asg_doc.specs.declared.documents.Claim.TheVariants.{Best, Nothing}
 use Rattle.asg_doc.specs.declared.documents.Document.{Document}
-use Rattle.asg_check.specs.declared.verdicts.Form.TheVariants as forms
+use Rattle.asg_check.specs.declared.document_forms.Form.TheVariants as forms
 use Rattle.asg_text.specs.declared.script_lines.Line.{Line}
 use Rattle.asg_text.specs.declared.script_lines.Line.TheVariants.{Edit, Solve}
 use Rattle.asg_answers.specs.WrittenDocument.{IsWritten}

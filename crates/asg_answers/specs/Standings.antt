@@ -10,7 +10,7 @@ use Rattle.asg_doc.specs.declared.documents.Claim.TheVariants.{Best, Nothing}
 use Rattle.asg_doc.specs.declared.documents.Document.{Document}
 use Rattle.asg_doc.specs.Text.{text_of}
 use Rattle.asg_brief.specs.BriefLines.{IsBriefLine}
-use Rattle.asg_check.specs.declared.verdicts.Form.TheVariants as forms
+use Rattle.asg_check.specs.declared.document_forms.Form.TheVariants as forms
 use Rattle.asg_edits.specs.Editors.{EditorOf}
 use Rattle.asg_edits.specs.EditOutcomes.{IsPhases}
 use Rattle.asg_text.specs.declared.script_lines.Line.{Line}

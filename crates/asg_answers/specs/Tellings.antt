@@ -3,8 +3,8 @@ use Rattle.std.specs.Prelude.{◌≡◌, ℕ, Bool, true, false, List}
 use Rattle.asg_model.specs.declared.objectives.Objective.{Objective}
 use Rattle.asg_model.specs.Problem.{Problem}
 use Rattle.asg_brief.specs.BriefLines.{AreBriefLines, IsBestLine, IsNoneLine, IsRankedLine}
-use Rattle.asg_check.specs.declared.verdicts.Form.{Form}
-use Rattle.asg_check.specs.declared.verdicts.Form.TheVariants.{Solve}
+use Rattle.asg_check.specs.declared.document_forms.Form.{Form}
+use Rattle.asg_check.specs.declared.document_forms.Form.TheVariants.{Solve}
 use Rattle.asg_doc.specs.declared.documents.Document.{Document}
 use Rattle.asg_doc.specs.Text.{text_of, texts_of}
 use Rattle.asg_proof.specs.KeptWords.{Standing}

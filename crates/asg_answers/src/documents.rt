@@ -1,7 +1,7 @@
 //! The documents of a job's outcome.
 
 ghost use Rattle.std.specs.Prelude.{◌≡◌, ◌<◌, ◌≤◌, All, IfOk, IsTrue, length};
-ghost use Rattle.asg_check.specs.declared.verdicts.Form.TheVariants.{Solve, Rank};
+ghost use Rattle.asg_check.specs.declared.document_forms.Form.TheVariants.{Solve, Rank};
 ghost use Rattle.asg_check.specs.DocumentForm.{MayBeAsked, is_command_of};
 ghost use Rattle.asg_doc.specs.ChosenCells.{cells_by_id, column_id};
 ghost use Rattle.asg_doc.specs.HasText.{AreCells, HasValueText};

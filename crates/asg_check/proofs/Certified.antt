@@ -33,31 +33,32 @@ use Rattle.asg_doc.specs.declared.documents.Answer.{Answer}
 use Rattle.asg_doc.specs.declared.documents.Claim.{Claim}
 use Rattle.asg_doc.specs.declared.documents.Claim.TheVariants.{Best, Nothing, Ranked}
 use Rattle.asg_doc.specs.declared.documents.Document.{Document}
-use Rattle.asg_check.specs.declared.verdicts.Form.{Form}
-use Rattle.asg_check.specs.declared.verdicts.Form.TheVariants as forms
-use Rattle.asg_check.specs.declared.verdicts.Reason.{Reason}
-use Rattle.asg_check.specs.declared.verdicts.Reason.TheVariants.{OtherObjective, WrongForm, NotValid, WrongValue, Repeated, OutOfOrder, NotHall, WindowGap, BadPhase, IndexDiffers, BadLevel, BadNode, BetterLeft}
-use Rattle.asg_check.specs.declared.verdicts.Verdict.{Verdict}
-use Rattle.asg_check.specs.declared.verdicts.Verdict.TheVariants.{No, Yes}
+use Rattle.asg_check.specs.declared.document_forms.Form.{Form}
+use Rattle.asg_check.specs.declared.document_forms.Form.TheVariants as forms
+use Rattle.asg_reasons.specs.declared.verdicts.Reason.{Reason}
+use Rattle.asg_reasons.specs.declared.verdicts.Reason.TheVariants.{OtherObjective, WrongForm, NotValid, WrongValue, Repeated, OutOfOrder, NotHall, WindowGap, BadPhase, IndexDiffers, BadLevel, BadNode, BetterLeft}
+use Rattle.asg_reasons.specs.declared.verdicts.Verdict.{Verdict}
+use Rattle.asg_reasons.specs.declared.verdicts.Verdict.TheVariants.{No, Yes}
 use Rattle.asg_check.specs.Certifies.{Certifies, CertifiesClaim}
 use Rattle.asg_check.specs.DocumentForm.{answers_form, has_form, is_answer_count, is_command_of, takes_claim}
-use Rattle.asg_check.specs.PhaseReasons.{AreAdmittedFor, AreBadAt, HaveOtherIndexFor}
+use Rattle.asg_phase_verdicts.specs.PhaseReasons.{AreAdmittedFor, HaveOtherIndexFor, IsBadAt}
 use Rattle.asg_check.specs.RankingReasons.{AreBadNodesAt, IsNoChoiceAt, IsOutOfOrderAt, IsRepeatedAt, IsWrongValueAt, LeaveBetterAt, NodesStand}
-use Rattle.asg_check.specs.Reasons.{HasBadLevel, HasBadNode, HasBadPhase, HasHallSet, HasOtherIndex, HasOtherValue, IsFirstReason, IsToldOf, LacksChoice, LacksHallSet, LeavesBetter, LeavesGap, LeavesOrder, Repeats, Stands, StandsAgainst, Tells, claim_reasons, level_reasons, node_reasons, phase_reasons, proof_reasons, reasons_in_order, window_reasons}
+use Rattle.asg_reasons.specs.Verdicts.{IsToldOf, Tells, claim_reasons, level_reasons, node_reasons, phase_reasons, proof_reasons, reasons_in_order, window_reasons}
+use Rattle.asg_check.specs.Reasons.{HasBadLevel, HasBadNode, HasBadPhase, HasHallSet, HasOtherIndex, HasOtherValue, IsFirstReason, LacksChoice, LacksHallSet, LeavesBetter, LeavesGap, LeavesOrder, Repeats, Stands, StandsAgainst}
 use Rattle.asg_check.specs.WindowReasons.{LeaveGapAt, StandsOn}
-use Rattle.asg_check.specs.LevelReasons.{AreBadLevelsAt, LevelsStand}
-use Rattle.asg_check.specs.Replays.{StandsFor}
-use Rattle.asg_check.specs.Spots.{At, AtParts, ForWhole, Overall, Spot}
+use Rattle.asg_level_verdicts.specs.LevelReasons.{AreBadLevelsAt, LevelsStand}
+use Rattle.asg_phase_verdicts.specs.Replays.{StandsFor}
+use Rattle.asg_reasons.specs.Spots.{At, AtParts, ForWhole, Overall, Spot}
 use Rattle.asg_check.specs.Written.{AreWrittenAs, HasWrongValue, IsWrittenAs}
 use Rattle.asg_check.proofs.AnswersTold.{dec_no_choice_at, dec_none, dec_out_of_order_at, dec_repeated_at, dec_value, dec_written, dec_wrong, dec_wrong_at, is_read, read_choice, unwritten}
-use Rattle.asg_check.proofs.ByObjective.{admitted_for, dec_admitted_for, dec_other_for, none_admitted, one_index_for, proves_for, take_for}
+use Rattle.asg_phase_verdicts.specs.laws.ByObjective.{admitted_for, dec_admitted_for, dec_other_for, none_admitted, one_index_for, proves_for, take_for}
 use Rattle.asg_check.proofs.Decisions.{same_objective}
-use Rattle.asg_check.proofs.Parts.{no_part, none_at_part, nowhere_for, tested_for, tested_part, told_for}
+use Rattle.asg_reasons.specs.laws.Parts.{dec_le, no_part, none_at_part, tested_for, tested_part, told_for}
 use Rattle.asg_check.proofs.RankingTold.{all_valued, all_written, choices_once, none_out_of_order, none_repeated, read_choices, read_listed, read_values, read_written}
 use Rattle.asg_check.proofs.TreesByObjective.{proof_bad_nowhere, proof_left_nowhere, proved_by_nodes, tested_left, tested_nodes}
 use Rattle.asg_check.proofs.Reading.{written-once}
-use Rattle.asg_check.proofs.LevelTold.{levels_nowhere, levels_prove, ranks_prove, tested_levels}
-use Rattle.asg_check.proofs.ToldReasons.{NoneOf, Nowhere, Tested, least_below, none_bad, none_stands, nowhere, one_verdict, overall, some_verdict, tested, tested_bad, told_same, yes_told}
+use Rattle.asg_level_verdicts.specs.laws.LevelTold.{levels_nowhere, levels_prove, ranks_prove, tested_levels}
+use Rattle.asg_reasons.specs.laws.ToldReasons.{NoneOf, Nowhere, Tested, least_below, none_stands, nowhere, one_verdict, overall, some_verdict, tested, told_same, yes_told}
 use Rattle.asg_check.proofs.WindowTold.{halls_from_nowhere, halls_nowhere, proved_halls, proved_nowhere, tested_gap, tested_halls, windows_prove}
 
 module _ (objective : Objective) (X : Problem) (form : Form) (document : Document) (verdict : Verdict) where
@@ -134,63 +135,33 @@ module _ (objective : Objective) (X : Problem) (i : IsInstance X) where
 
   -- nothing stands against a claim that certifies
   stands_nowhere : (claim : Claim) → CertifiesClaim objective X claim → (reason : Reason) → Nowhere (StandsAgainst objective X claim reason)
+  stands_nowhere (Best answer proof) w NotValid = nowhere (λ none. none w.choice w.written)
+  stands_nowhere (Best answer proof) w WrongValue = nowhere (one_value answer w.choice w.written w.value)
+  stands_nowhere (Best answer (Below rows)) w NotHall = nowhere (λ fails. fails (subst (λ value. ProvesBelow objective X value rows) (sym w.value) w.proved))
+  stands_nowhere (Best answer (Windows windows)) w NotHall = halls_nowhere X windows (proved_halls objective X (choice_value objective X w.choice) windows w.proved)
+  stands_nowhere (Best answer (Windows windows)) w WindowGap = proved_nowhere objective X answer.value windows (subst (λ value. ProvesWindows objective X value windows) (sym w.value) w.proved)
+  stands_nowhere (Best answer (Phases words)) w BadPhase =
+      no_part (IsBadAt (AreAdmittedFor objective X) words) (λ n bad. bad.1 (take_for objective X words (suc n) (admitted_for objective X words w.choice w.proved)))
+  stands_nowhere (Best answer (Phases words)) w IndexDiffers =
+      nowhere (λ other.
+      one_index_for objective X words w.choice w.proved (subst (λ f. HaveOtherIndexFor objective X f words) (written-once X answer.cells other.0 w.choice i other.1 w.written) other.2))
+  stands_nowhere (Best answer (Levels perm levels)) w BadLevel = λ spot bad.
+      levels_nowhere X w.choice perm levels (ranks_prove objective X w.choice perm levels w.proved) spot
+      (subst (λ f. AreBadLevelsAt X f perm levels spot) (written-once X answer.cells bad.0 w.choice i bad.1 w.written) bad.2)
+  stands_nowhere (Nothing rows) hall NotHall = nowhere (λ fails. fails hall)
   stands_nowhere (Ranked count answers nodes) w NotValid = no_part (IsNoChoiceAt X answers) (all_written objective X i answers w.choices w.written)
   stands_nowhere (Ranked count answers nodes) w WrongValue = no_part (IsWrongValueAt objective X answers) (all_valued objective X i answers w.choices w.written w.values)
   stands_nowhere (Ranked count answers nodes) w Repeated = no_part (IsRepeatedAt answers) (none_repeated objective X i answers w.choices w.written w.values count w.listed)
   stands_nowhere (Ranked count answers nodes) w OutOfOrder = no_part (IsOutOfOrderAt objective answers) (none_out_of_order objective X i answers w.choices w.written w.values count w.listed)
-  stands_nowhere (Ranked count answers nodes) w NotHall = nowhere (λ fails. fails tt)
-  stands_nowhere (Ranked count answers nodes) w WindowGap = λ spot none. none
-  stands_nowhere (Ranked count answers nodes) w BadPhase = λ spot none. none
-  stands_nowhere (Ranked count answers nodes) w IndexDiffers = nowhere (λ none. none)
-  stands_nowhere (Ranked count answers nodes) w BadLevel = λ spot none. none
   stands_nowhere (Ranked count answers nodes) w BadNode = λ spot bad.
       proof_bad_nowhere X count w.choices nodes objective w.proved spot (subst (λ fs. AreBadNodesAt objective X fs nodes spot) (choices_once X i answers bad.0 w.choices bad.1 w.written) bad.2)
   stands_nowhere (Ranked count answers nodes) w BetterLeft = λ spot left.
       proof_left_nowhere X count w.choices nodes objective w.proved spot (subst (λ fs. LeaveBetterAt objective X count fs nodes spot) (choices_once X i answers left.0 w.choices left.1 w.written) left.2)
-  stands_nowhere (Best answer proof) w NotValid = nowhere (λ none. none w.choice w.written)
-  stands_nowhere (Best answer proof) w WrongValue = nowhere (one_value answer w.choice w.written w.value)
-  stands_nowhere (Best answer (Phases words)) w NotHall = nowhere (λ fails. fails tt)
-  stands_nowhere (Best answer (Phases words)) w BadPhase =
-      none_bad (AreAdmittedFor objective X) words (λ n less fails. fails (take_for objective X words (suc n) (admitted_for objective X words w.choice w.proved)))
-  stands_nowhere (Best answer (Phases words)) w IndexDiffers =
-      nowhere (λ other.
-      one_index_for objective X words w.choice w.proved (subst (λ f. HaveOtherIndexFor objective X f words) (written-once X answer.cells other.0 w.choice i other.1 w.written) other.2))
-  stands_nowhere (Best answer (Windows windows)) w NotHall = halls_nowhere X windows (proved_halls objective X (choice_value objective X w.choice) windows w.proved)
-  stands_nowhere (Best answer (Windows windows)) w WindowGap = proved_nowhere objective X answer.value windows (subst (λ value. ProvesWindows objective X value windows) (sym w.value) w.proved)
-  stands_nowhere (Best answer (Levels perm levels)) w NotHall = nowhere (λ fails. fails tt)
-  stands_nowhere (Best answer (Levels perm levels)) w WindowGap = λ spot none. none
-  stands_nowhere (Best answer (Levels perm levels)) w BadPhase = λ spot none. none
-  stands_nowhere (Best answer (Levels perm levels)) w IndexDiffers = nowhere (λ none. none)
-  stands_nowhere (Best answer (Levels perm levels)) w BadLevel = λ spot bad.
-      levels_nowhere X w.choice perm levels (ranks_prove objective X w.choice perm levels w.proved) spot
-      (subst (λ f. AreBadLevelsAt X f perm levels spot) (written-once X answer.cells bad.0 w.choice i bad.1 w.written) bad.2)
-  stands_nowhere (Best answer (Phases words)) w BadLevel = λ spot none. none
-  stands_nowhere (Best answer (Below rows)) w BadLevel = λ spot none. none
-  stands_nowhere (Best answer (Windows windows)) w BadLevel = λ spot none. none
-  stands_nowhere (Nothing rows) w BadLevel = λ spot none. none
-  stands_nowhere (Best answer (Phases words)) w WindowGap = λ spot none. none
-  stands_nowhere (Best answer (Below rows)) w WindowGap = λ spot none. none
-  stands_nowhere (Nothing rows) w WindowGap = λ spot none. none
-  stands_nowhere (Best answer (Windows windows)) w BadPhase = λ spot none. none
-  stands_nowhere (Best answer (Windows windows)) w IndexDiffers = nowhere (λ none. none)
-  stands_nowhere (Best answer (Below rows)) w BadPhase = λ spot none. none
-  stands_nowhere (Nothing rows) w BadPhase = λ spot none. none
-  stands_nowhere (Best answer (Below rows)) w IndexDiffers = nowhere (λ none. none)
-  stands_nowhere (Nothing rows) w IndexDiffers = nowhere (λ none. none)
-  stands_nowhere (Best answer (Below rows)) w NotHall = nowhere (λ fails. fails (subst (λ value. ProvesBelow objective X value rows) (sym w.value) w.proved))
-  stands_nowhere (Nothing rows) hall NotHall = nowhere (λ fails. fails hall)
-  stands_nowhere (Nothing rows) hall NotValid = λ spot none. none
-  stands_nowhere (Nothing rows) hall WrongValue = λ spot none. none
-  stands_nowhere (Best answer proof) w Repeated = λ spot none. none
-  stands_nowhere (Best answer proof) w OutOfOrder = λ spot none. none
-  stands_nowhere (Best answer proof) w BadNode = λ spot none. none
-  stands_nowhere (Best answer proof) w BetterLeft = λ spot none. none
-  stands_nowhere (Nothing rows) w Repeated = λ spot none. none
-  stands_nowhere (Nothing rows) w OutOfOrder = λ spot none. none
-  stands_nowhere (Nothing rows) w BadNode = λ spot none. none
-  stands_nowhere (Nothing rows) w BetterLeft = λ spot none. none
+  stands_nowhere claim w NotHall = nowhere (λ fails. fails tt)
+  stands_nowhere claim w IndexDiffers = nowhere (λ none. none)
   stands_nowhere claim w OtherObjective = nowhere (λ none. none)
   stands_nowhere claim w WrongForm = nowhere (λ none. none)
+  stands_nowhere claim w reason = λ spot none. none
 
   pub certified_nowhere : (form : Form) (document : Document) → Certifies objective X form document → (reason : Reason) → Nowhere (Stands objective X form document reason)
   certified_nowhere form document w OtherObjective = nowhere (λ other. other w.of_objective)
@@ -238,29 +209,21 @@ module _ (decided : record { valid : (X : Problem) (f : List (Option ℕ)) → D
 
     -- rows that aren't the Hall set that they must be
     no_hall_set : (claim : Claim) → Tested (LacksHallSet objective X claim) NotHall
-    no_hall_set (Best answer (Phases words)) = inr (nowhere (λ fails. fails tt))
     no_hall_set (Best answer (Below rows)) = tested NotHall (not (proves_below objective X answer.value rows))
     no_hall_set (Best answer (Windows windows)) = tested_halls X windows hall_window
-    no_hall_set (Best answer (Levels perm levels)) = inr (nowhere (λ fails. fails tt))
     no_hall_set (Nothing rows) = tested NotHall (not (decided.hall X Whole rows))
-    no_hall_set (Ranked count answers nodes) = inr (nowhere (λ fails. fails tt))
+    no_hall_set claim = inr (nowhere (λ fails. fails tt))
 
     hall_set : (claim : Claim) → Nowhere (LacksHallSet objective X claim) → HasHallSet objective X claim
-    hall_set (Best answer (Phases words)) none = tt
     hall_set (Best answer (Below rows)) none = dec→stable (proves_below objective X answer.value rows) (none Overall)
     hall_set (Best answer (Windows windows)) none = halls_from_nowhere X windows hall_window none
-    hall_set (Best answer (Levels perm levels)) none = tt
     hall_set (Nothing rows) none = dec→stable (decided.hall X Whole rows) (none Overall)
-    hall_set (Ranked count answers nodes) none = tt
+    hall_set claim none = tt
 
     -- windows that leave a gap
     gap : (claim : Claim) → Tested (LeavesGap X claim) WindowGap
     gap (Best answer (Windows windows)) = tested_gap X answer.value windows
-    gap (Best answer (Phases words)) = inr (λ spot none. none)
-    gap (Best answer (Below rows)) = inr (λ spot none. none)
-    gap (Best answer (Levels perm levels)) = inr (λ spot none. none)
-    gap (Nothing rows) = inr (λ spot none. none)
-    gap (Ranked count answers nodes) = inr (λ spot none. none)
+    gap claim = inr (λ spot none. none)
 
     -- of one answer, by the choice that is read
     written : (answer : Answer) → Dec (IsWrittenAs X answer.cells (read_choice X answer))
@@ -281,14 +244,12 @@ module _ (decided : record { valid : (X : Problem) (f : List (Option ℕ)) → D
 
     -- answers that are repeated or out of order
     repeats : (claim : Claim) → Tested (Repeats claim) Repeated
-    repeats (Best answer proof) = inr (λ spot none. none)
-    repeats (Nothing rows) = inr (λ spot none. none)
     repeats (Ranked count answers nodes) = tested_part (IsRepeatedAt answers) Repeated (length answers) (λ n is. slice_get_within answers n is.answer is.there) (dec_repeated_at decided.valid objective X i answers)
+    repeats claim = inr (λ spot none. none)
 
     unordered : (claim : Claim) → Tested (LeavesOrder objective claim) OutOfOrder
-    unordered (Best answer proof) = inr (λ spot none. none)
-    unordered (Nothing rows) = inr (λ spot none. none)
     unordered (Ranked count answers nodes) = tested_part (IsOutOfOrderAt objective answers) OutOfOrder (length answers) (λ n is. slice_get_within answers n is.answer is.there) (dec_out_of_order_at decided.valid objective X i answers)
+    unordered claim = inr (λ spot none. none)
 
     -- nodes that are bad, or left open, for the choices that are read
     module _ (count : ℕ) (answers : List Answer) (nodes : List Node) where
@@ -320,23 +281,19 @@ module _ (decided : record { valid : (X : Problem) (f : List (Option ℕ)) → D
               BetterLeft (tested_left decided X count (read_choices X answers) nodes objective)
 
     bad_node : (claim : Claim) → Tested (HasBadNode objective X claim) BadNode
-    bad_node (Best answer proof) = inr (λ spot none. none)
-    bad_node (Nothing rows) = inr (λ spot none. none)
     bad_node (Ranked count answers nodes) = bad_node_of count answers nodes
+    bad_node claim = inr (λ spot none. none)
 
     better_left : (claim : Claim) → Tested (LeavesBetter objective X claim) BetterLeft
-    better_left (Best answer proof) = inr (λ spot none. none)
-    better_left (Nothing rows) = inr (λ spot none. none)
     better_left (Ranked count answers nodes) = better_left_of count answers nodes
+    better_left claim = inr (λ spot none. none)
 
     -- phases that aren't admitted, and an index that differs
     bad_phase : (claim : Claim) → Tested (HasBadPhase objective X claim) BadPhase
-    bad_phase (Best answer (Phases words)) = tested_bad (AreAdmittedFor objective X) words (dec_admitted_for objective X)
-    bad_phase (Best answer (Below rows)) = inr (λ spot none. none)
-    bad_phase (Best answer (Windows windows)) = inr (λ spot none. none)
-    bad_phase (Best answer (Levels perm levels)) = inr (λ spot none. none)
-    bad_phase (Nothing rows) = inr (λ spot none. none)
-    bad_phase (Ranked count answers nodes) = inr (λ spot none. none)
+    bad_phase (Best answer (Phases words)) =
+        tested_part (IsBadAt (AreAdmittedFor objective X) words) BadPhase (length words) (λ n bad. bad.0)
+        (λ n. and (dec_le (suc n) (length words)) (not (dec_admitted_for objective X (take (suc n) words))))
+    bad_phase claim = inr (λ spot none. none)
 
     other_index : (claim : Claim) → Dec (HasOtherIndex objective X claim)
     other_index (Best answer (Phases words)) =
@@ -348,35 +305,19 @@ module _ (decided : record { valid : (X : Problem) (f : List (Option ℕ)) → D
           ),
         )
         (and (written answer) (dec_other_for objective X words (read_choice X answer)))
-    other_index (Best answer (Below rows)) = no (λ none. none)
-    other_index (Best answer (Windows windows)) = no (λ none. none)
-    other_index (Best answer (Levels perm levels)) = no (λ none. none)
-    other_index (Nothing rows) = no (λ none. none)
-    other_index (Ranked count answers nodes) = no (λ none. none)
+    other_index claim = no (λ none. none)
 
     -- levels that are bad for the choice that is written
     bad_level : (claim : Claim) → Tested (HasBadLevel X claim) BadLevel
-    bad_level (Best answer (Phases words)) = inr (λ spot none. none)
-    bad_level (Best answer (Below rows)) = inr (λ spot none. none)
-    bad_level (Best answer (Windows windows)) = inr (λ spot none. none)
-    bad_level (Nothing rows) = inr (λ spot none. none)
-    bad_level (Ranked count answers nodes) = inr (λ spot none. none)
     bad_level (Best answer (Levels perm levels)) = by (written answer)
       where
-        f : List (Option ℕ)
-        f = read_choice X answer
-
-        for_it : (spot : Spot) → HasBadLevel X (Best answer (Levels perm levels)) spot → AreBadLevelsAt X f perm levels spot
-        for_it spot bad = subst (λ g. AreBadLevelsAt X g perm levels spot) (read_is answer bad.0 bad.1) bad.2
-
-        told : IsWrittenAs X answer.cells f → Tested (AreBadLevelsAt X f perm levels) BadLevel → Tested (HasBadLevel X (Best answer (Levels perm levels))) BadLevel
-        told w (inl one) =
-            inl (one.0, record { spot = one.1.spot; stands = (f, w, one.1.stands); least = λ other stands. one.1.least other (for_it other stands); told = one.1.told })
-        told w (inr none) = inr (λ spot bad. none spot (for_it spot bad))
-
-        by : Dec (IsWrittenAs X answer.cells f) → Tested (HasBadLevel X (Best answer (Levels perm levels))) BadLevel
-        by (yes w) = told w (tested_levels X f perm levels)
+        by : Dec (IsWrittenAs X answer.cells (read_choice X answer)) → Tested (HasBadLevel X (Best answer (Levels perm levels))) BadLevel
+        by (yes w) =
+            tested_for (AreBadLevelsAt X (read_choice X answer) perm levels) (HasBadLevel X (Best answer (Levels perm levels))) (λ spot there. (read_choice X answer, w, there))
+            (λ spot bad. subst (λ g. AreBadLevelsAt X g perm levels spot) (read_is answer bad.0 bad.1) bad.2)
+            BadLevel (tested_levels X (read_choice X answer) perm levels)
         by (no none) = inr (λ spot bad. none (subst (IsWrittenAs X answer.cells) (read_is answer bad.0 bad.1) bad.1))
+    bad_level claim = inr (λ spot none. none)
 
     -- each reason is tested
     each : (form : Form) (document : Document) (reason : Reason) → Tested (Stands objective X form document reason) reason
@@ -395,10 +336,10 @@ module _ (decided : record { valid : (X : Problem) (f : List (Option ℕ)) → D
     each form document BetterLeft = better_left document.claim
 
     -- phases against which nothing stands are all admitted
-    all_admitted : (words : List (PhaseOf Word)) → Nowhere (AreBadAt (AreAdmittedFor objective X) words) → IsTrue (is_algebraic objective) → AreAdmittedFor objective X words
+    all_admitted : (words : List (PhaseOf Word)) → Nowhere (AtParts (IsBadAt (AreAdmittedFor objective X) words)) → IsTrue (is_algebraic objective) → AreAdmittedFor objective X words
     all_admitted [] none algebraic = none_admitted objective X algebraic
     all_admitted (w ∷ words) none algebraic =
-        let last = dec→stable (dec_admitted_for objective X (take (suc (length words)) (w ∷ words))) (λ bad. none (At (pos (suc (length words)))) (length words, omega arith, refl, bad)) in
+        let last = dec→stable (dec_admitted_for objective X (take (suc (length words)) (w ∷ words))) (λ bad. none (At (pos (suc (length words)))) (length words, refl, (omega arith, bad))) in
         subst (AreAdmittedFor objective X) (take_all (suc (length words)) (w ∷ words) (omega arith)) last
 
     -- an answer with a proof of a kind that the objective takes, against which nothing stands,

@@ -1,18 +1,17 @@
--- Steps over ranked answers: the first at a place of which something holds, and the cells that were
--- seen.
-use Rattle.std.proofs.Common.{◌≡◌, ◌↔◌, ℕ, zero, suc, ◌+◌, ◌-◌, ◌<◌, ◌≤◌, Bool, true, false, not, cond, List, [], ◌∷◌, ◌++◌, length, take, map, get_or, Option, Some, None, inl, inr, ◌⊎◌, ⊎_elim, Ordering, Less, Equal, Greater, refl, sym, ap, ◌∙◌, subst, arith}
+-- Steps over ranked answers: what holds at a place, and the cells that were seen.
+use Rattle.std.proofs.Common.{◌≡◌, ◌↔◌, ℕ, zero, suc, ◌+◌, ◌-◌, ◌<◌, ◌≤◌, Bool, true, false, not, cond, List, [], ◌∷◌, ◌++◌, length, take, map, get_or, Option, Some, inl, inr, ◌⊎◌, ⊎_elim, Ordering, Less, Equal, Greater, refl, sym, ap, ◌∙◌, subst, arith}
 use Rattle.std.specs.Borrow.{Bor}
 use Rattle.std.specs.BTreeMap.{is_at}
 use Rattle.std.specs.BTreeSet.{BTreeSet, IsEmpty, Updates, contains}
 use Rattle.std.specs.List.{list_any}
 use Rattle.std.specs.Cmp.Lexicographic.{slice_cmp}
 use Rattle.std.specs.Ordering.{is_eq, nat_cmp, ordering_then}
-use Rattle.std.specs.Prelude.{All, IsTrue, slice_get}
+use Rattle.std.specs.Prelude.{All, slice_get}
 use Rattle.std.proofs.lemmas.Bool.{false≢true, cases_lt}
 use Rattle.std.specs.Cmp.{nat_cmp_is}
-use Rattle.std.proofs.lemmas.List.{append-nil, get_or_default, length-append, length-map, length-take-le, map-append, take_more}
+use Rattle.std.proofs.lemmas.List.{get_or_default, length-append, length-map, map-append, take_more}
 use Rattle.std.proofs.lemmas.List.Elements.{All-append}
-use Rattle.std.proofs.lemmas.Map.Lookups.{exact_unsigned}
+use Rattle.std.proofs.lemmas.Map.Lookups.{exact_pairs, exact_unsigned}
 use Rattle.std.proofs.lemmas.Option.{get_or_from_slice_get, same_Some, slice_get-get_or, slice_get_within}
 use Rattle.asg_model.specs.declared.objectives.Objective.{Objective}
 use Rattle.asg_model.specs.Better.{IsBetter}
@@ -22,20 +21,9 @@ use Rattle.asg_model.specs.ValidChoice.{IsValid}
 use Rattle.asg_model.specs.Values.{choice_value}
 use Rattle.asg_doc.specs.ChosenCells.{cells_by_id}
 use Rattle.asg_doc.specs.declared.documents.Answer.{Answer}
-use Rattle.asg_check.specs.RankingReasons.{IsAmissAt, IsNoChoiceAt, IsOutOfOrderAt, IsRepeatedAt, IsWrongValueAt}
+use Rattle.asg_check.specs.RankingReasons.{IsAmissAt, IsNoChoiceAt, IsOutOfOrderAt, IsRepeatedAt}
 use Rattle.asg_check.specs.Written.{AreWrittenAs, HasItsValue, HasWrongValue, IsWrittenAs, SpellChoice, SpellNone}
 use Rattle.asg_check.proofs.Reading.{written-once}
-use Rattle.asg_check.proofs.RankingTold.{as_many, written_at}
-
--- ---- the first place
-
-module _ (Fails : ℕ → Type 0) where
-  pub none_more : (n : ℕ) → ((m : ℕ) → m < n → ¬ Fails m) → ¬ Fails n → (m : ℕ) → m < n + 1 → ¬ Fails m
-  none_more n before here m less =
-      ⊎_elim (λ (early : m < n). before m early) (λ (late : n ≤ m). let same : n ≡ m = omega (arith, less, late) in subst (λ k. ¬ Fails k) same here) (cases_lt m n)
-
-  pub none_at_all : (count : ℕ) → ((n : ℕ) → Fails n → n < count) → ((m : ℕ) → m < count → ¬ Fails m) → (n : ℕ) → ¬ Fails n
-  none_at_all count within before n fails = before n (within n fails) fails
 
 -- ---- choices and values
 
@@ -142,25 +130,13 @@ same_then Equal b is = (refl, is)
 same_then Less b is = absurd (false≢true is)
 same_then Greater b is = absurd (false≢true is)
 
-is_equal : (a : Ordering) → is_eq a ≡ true → a ≡ Equal
-is_equal Equal is = refl
-is_equal Less is = absurd (false≢true is)
-is_equal Greater is = absurd (false≢true is)
-
-same_places : (x y : ℕ × ℕ) → by_places x y ≡ Equal → x ≡ y
-same_places x y is =
-    let two = same_then (nat_cmp x.0 y.0) (nat_cmp x.1 y.1) (ap is_eq is) in
-    let first = exact_unsigned x.0 y.0 two.0 in
-    let second = exact_unsigned x.1 y.1 (is_equal (nat_cmp x.1 y.1) two.1) in
-    ap (λ r. (r, x.1)) first ∙ ap (λ c. (y.0, c)) second
-
 same_lists : (xs ys : List (ℕ × ℕ)) → is_eq (slice_cmp by_places xs ys) ≡ true → xs ≡ ys
 same_lists [] [] is = refl
 same_lists [] (y ∷ ys) is = absurd (false≢true is)
 same_lists (x ∷ xs) [] is = absurd (false≢true is)
 same_lists (x ∷ xs) (y ∷ ys) is =
     let two = same_then (by_places x y) (slice_cmp by_places xs ys) is in
-    let first = same_places x y two.0 in
+    let first = exact_pairs nat_cmp nat_cmp exact_unsigned exact_unsigned x y two.0 in
     let rest = same_lists xs ys two.1 in
     ap (λ z. z ∷ xs) first ∙ ap (λ zs. y ∷ zs) rest
 

@@ -1,7 +1,7 @@
--- The stages of the verdict on a ranking: what is told of its answers at one stage, and then of what
--- comes after.
-use Rattle.std.proofs.Common.{◌≡◌, ℕ, suc, ◌+◌, ◌<◌, ◌≤◌, List, [], ◌∷◌, length, take, get_or, Option, Some, None, inl, inr, refl, sym, ap, ◌∙◌, subst, arith}
-use Rattle.std.specs.Prelude.{ℤ, pos, ◌==◌, IsTrue, slice_get}
+-- The stages of the verdict on a ranking: what is asked, answers that are amiss, and what is told of
+-- nodes.
+use Rattle.std.proofs.Common.{◌≡◌, ℕ, suc, ◌<◌, ◌≤◌, List, length, Option, Some, inl, inr, refl}
+use Rattle.std.specs.Prelude.{pos, ◌==◌, IsTrue}
 use Rattle.asg_model.specs.declared.objectives.Objective.{Objective}
 use Rattle.asg_model.specs.declared.parts.Place.TheVariants.{All as PlaceAll}
 use Rattle.asg_model.specs.Problem.{Problem}
@@ -13,37 +13,18 @@ use Rattle.asg_trees.specs.Judged.{TellsRanking, TellsTree}
 use Rattle.asg_trees.specs.declared.verdicts.TreeVerdict.{TreeVerdict}
 use Rattle.asg_trees.specs.declared.verdicts.TreeVerdict.TheVariants.{Tree, FaultAt, NodeLacks, OpenAt}
 use Rattle.asg_doc.specs.declared.documents.Claim.TheVariants.{Ranked}
-use Rattle.asg_check.specs.declared.verdicts.Form.{Form}
-use Rattle.asg_check.specs.declared.verdicts.Form.TheVariants as forms
-use Rattle.asg_check.specs.declared.verdicts.Reason.{Reason}
-use Rattle.asg_check.specs.declared.verdicts.Reason.TheVariants.{BadNode, BetterLeft}
-use Rattle.asg_check.specs.declared.verdicts.Verdict.{Verdict}
-use Rattle.asg_check.specs.declared.verdicts.Verdict.TheVariants.{No, Yes}
+use Rattle.asg_check.specs.declared.document_forms.Form.{Form}
+use Rattle.asg_check.specs.declared.document_forms.Form.TheVariants as forms
+use Rattle.asg_reasons.specs.declared.verdicts.Reason.TheVariants.{BadNode, BetterLeft}
+use Rattle.asg_reasons.specs.declared.verdicts.Verdict.TheVariants.{No, Yes}
 use Rattle.asg_check.specs.DocumentForm.{MayBeAsked, answers_form, is_answer_count}
 use Rattle.asg_check.specs.RankingReasons.{AreBadNodesAt, IsAmissAt, IsNoChoiceAt, IsWrongValueAt, LeaveBetterAt, NodesStand}
-use Rattle.asg_check.specs.Reasons.{IsToldOf, Tells, node_reasons, reason_number}
-use Rattle.asg_check.specs.Spots.{AtParts, IsFirstPart, Spot}
-use Rattle.asg_check.proofs.Parts.{first_part, first_told, no_part, whole_told}
-use Rattle.asg_check.proofs.ByObjective.{both, mapped, nothing}
+use Rattle.asg_reasons.specs.Verdicts.{Tells, node_reasons}
+use Rattle.asg_reasons.specs.Spots.{IsFirstPart}
+use Rattle.asg_reasons.specs.laws.Parts.{first_told, whole_told}
+use Rattle.asg_phase_verdicts.specs.laws.ByObjective.{both, mapped, nothing}
 use Rattle.asg_check.proofs.Certified.{counted, right_of}
 use Rattle.asg_check.proofs.TreesByObjective.{FaultFact, LeftFact, constant, fault_within, left_within, none_bad_nodes, proof_bad_nowhere, proof_left_nowhere, proof_of_tree}
-
--- ---- a stage over the answers
-
-module _ (Against : Reason → Spot → Type 0) (Fails : ℕ → Type 0) (reason : Reason) (of : Against reason ≡ AtParts Fails) (rest : List Reason) (verdict : Verdict) where
-  -- it stops at the first of which the reason holds
-  pub stops : (n : ℕ) → Fails n → ((m : ℕ) → m < n → ¬ Fails m) → verdict ≡ No (reason_number reason) (pos (n + 1)) → Tells Against (reason ∷ rest) verdict
-  stops n fails first is =
-      let place : n + 1 ≡ suc n = omega arith in
-      inl (subst (λ R. IsToldOf R reason verdict) (sym of)
-      (subst (IsToldOf (AtParts Fails) reason) (sym (is ∙ ap (λ k. No (reason_number reason) (pos k)) place)) (first_part Fails reason n fails first)))
-
-  pub stops_at : (count n : ℕ) → IsFirstPart Fails count (Some n) → verdict ≡ No (reason_number reason) (pos (n + 1)) → Tells Against (reason ∷ rest) verdict
-  stops_at count n first is = stops n first.1 first.2 is
-
-  -- or goes on to what is told after it
-  pub goes_on : ((n : ℕ) → ¬ Fails n) → Tells Against rest verdict → Tells Against (reason ∷ rest) verdict
-  goes_on none told = inr (λ spot stands. no_part Fails none spot (subst (λ R. R spot) of stands), told)
 
 -- ---- what is asked
 

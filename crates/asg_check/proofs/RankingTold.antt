@@ -7,7 +7,6 @@ use Rattle.std.proofs.lemmas.List.{length-map, get_or-map}
 use Rattle.std.proofs.lemmas.List.Elements.{All-get_or}
 use Rattle.std.proofs.lemmas.Option.{slice_get-get_or, slice_get_within, get_or_from_slice_get}
 use Rattle.asg_model.specs.declared.objectives.Objective.{Objective}
-use Rattle.asg_model.specs.declared.objectives.Value.{Value}
 use Rattle.asg_model.specs.Better.{IsBetter}
 use Rattle.asg_model.specs.Instances.{IsInstance}
 use Rattle.asg_model.specs.Problem.{Problem}
@@ -18,7 +17,7 @@ use Rattle.asg_proof.specs.Ranked.{AreListed, IsBetterChoice}
 use Rattle.asg_doc.specs.ChosenCells.{cells_by_id}
 use Rattle.asg_doc.specs.declared.documents.Answer.{Answer}
 use Rattle.asg_check.specs.RankingReasons.{IsNoChoiceAt, IsOutOfOrderAt, IsRepeatedAt, IsWrongValueAt}
-use Rattle.asg_check.specs.Written.{AreWrittenAs, HasWrongValue, IsWrittenAs, SpellNone}
+use Rattle.asg_check.specs.Written.{AreWrittenAs, IsWrittenAs}
 use Rattle.asg_check.proofs.AnswersTold.{dec_value, dec_written, read_choice, unwritten}
 use Rattle.asg_check.proofs.Reading.{written-once}
 
@@ -129,16 +128,6 @@ module _ (decided : (X : Problem) (f : List (Option ℕ)) → Dec (IsValid X f))
   }
 
   module _ (valued : (n : ℕ) → ¬ IsWrongValueAt objective X answers n) where
-    pub read_values : map (λ answer. answer.value) answers ≡ map (choice_value objective X) (read_choices X answers)
-    read_values =
-        same_maps (λ answer. answer.value) (read_choice X) (choice_value objective X) answers
-        (
-        λ n d within.
-        let answer = get_or answers n d in
-        dec→stable (dec_value decided objective X i answer)
-        (λ differ. valued n (record { answer = answer; there = slice_get-get_or answers n d within; wrong = (read_choice X answer, each_written n d within, differ) }))
-        )
-
     -- what stands at a place of the list of choices
     read_at : (n : ℕ) (d : List (Option ℕ)) (e : Answer) → n < length answers → get_or (read_choices X answers) n d ≡ read_choice X (get_or answers n e)
     read_at n d e within = get_or-map (read_choice X) answers n e d within
@@ -148,6 +137,9 @@ module _ (decided : (X : Problem) (f : List (Option ℕ)) → Dec (IsValid X f))
         let answer = get_or answers n e in
         dec→stable (dec_value decided objective X i answer)
         (λ differ. valued n (record { answer = answer; there = slice_get-get_or answers n e within; wrong = (read_choice X answer, each_written n e within, differ) }))
+
+    pub read_values : map (λ answer. answer.value) answers ≡ map (choice_value objective X) (read_choices X answers)
+    read_values = same_maps (λ answer. answer.value) (read_choice X) (choice_value objective X) answers valued_at
 
     module _ (apart : (n : ℕ) → ¬ IsRepeatedAt answers n) (ordered : (n : ℕ) → ¬ IsOutOfOrderAt objective answers n) (count : ℕ) (some : 1 ≤ length answers) (few : length answers ≤ count) where
       lengths : length (read_choices X answers) ≡ length answers

@@ -1,7 +1,7 @@
 -- Whether nodes are a search tree of answers is decided, node by node.
 use mathlib.Core.HLevel.{dec→stable}
 use mathlib.Core.Logic.Dec.{and, not, of_iff}
-use Rattle.std.proofs.Common.{◌≡◌, ◌≢◌, ℕ, zero, suc, ◌<◌, ◌≤◌, Bool, true, false, List, [], ◌∷◌, length, Option, refl, sym, ap, subst, ◌∙◌, arith}
+use Rattle.std.proofs.Common.{◌≡◌, ◌≢◌, ℕ, zero, suc, ◌<◌, ◌≤◌, true, List, [], ◌∷◌, length, Option, refl, sym, ap, subst, ◌∙◌, arith}
 use Rattle.std.proofs.Math.Bool.{Bool-discrete}
 use Rattle.std.proofs.Math.Decide.{ℕ_discrete}
 use Rattle.asg_model.specs.declared.bands.Band.{Band}
@@ -25,8 +25,8 @@ use Rattle.asg_proof.specs.Phases.{PhaseOf, index_of}
 use Rattle.asg_proof.specs.SearchTrees.{AreAdmittedWords, HasAnswer, HasPlace, HasTrail, IsBelowParent, IsGiven, IsMarked, IsSearchTree, IsSoundNode, MayStayOpen, child_count, is_answered, last_answer}
 use Rattle.asg_proof.specs.TreeFaults.{IsAtFault, IsLeftOpen, LacksNode}
 use Rattle.asg_replays.specs.laws.PhaseWords.{phases-once}
-use Rattle.asg_check.proofs.ByObjective.{AreSpelled, dec_admitted_over}
-use Rattle.asg_check.proofs.Parts.{dec_implies, dec_le, dec_some_below}
+use Rattle.asg_phase_verdicts.specs.laws.ByObjective.{AreSpelled, dec_admitted_over}
+use Rattle.asg_reasons.specs.laws.Parts.{dec_implies, dec_le, dec_some_below}
 
 -- from 1 on up to a number
 upto : (P : ℕ → Type 0) (n : ℕ) → ((k : ℕ) → k < n → P (suc k)) → (i : ℕ) → 1 ≤ i → i ≤ n → P i

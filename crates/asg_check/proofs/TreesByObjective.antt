@@ -1,9 +1,9 @@
 -- What stands against the nodes of a ranking, by the monoid of the objective.
-use Rattle.std.proofs.Common.{◌≡◌, ℕ, suc, ◌<◌, ◌≤◌, List, length, Option, refl, arith}
-use Rattle.std.specs.Prelude.{ℤ, pos, IsTrue}
+use Rattle.std.proofs.Common.{ℕ, suc, ◌<◌, ◌≤◌, List, length, Option, refl, arith}
+use Rattle.std.specs.Prelude.{pos, IsTrue}
 use Rattle.asg_model.specs.declared.bands.Band.{Band}
 use Rattle.asg_model.specs.declared.objectives.Objective.{Objective}
-use Rattle.asg_model.specs.declared.objectives.Objective.TheVariants.{Sum, SumMax, SumPair, Capped, Bottleneck, BottleneckMax, TimeCost, Balanced, Lex}
+use Rattle.asg_model.specs.declared.objectives.Objective.TheVariants.{Sum, Bottleneck, BottleneckMax, TimeCost, Balanced, Lex}
 use Rattle.asg_model.specs.declared.parts.Cost.{Cost}
 use Rattle.asg_model.specs.HallSet.{IsHall}
 use Rattle.asg_model.specs.Objectives.{is_algebraic}
@@ -17,25 +17,19 @@ use Rattle.asg_proof.specs.declared.nodes.Node.{Node}
 use Rattle.asg_proof.specs.SearchTrees.{IsSearchTree}
 use Rattle.asg_proof.specs.TreeFaults.{IsAtFault, IsLeftOpen, LacksNode}
 use Rattle.asg_proof.specs.TreeProofs.{ProvesRanking}
-use Rattle.asg_check.specs.declared.verdicts.Reason.TheVariants.{BadNode, BetterLeft}
+use Rattle.asg_reasons.specs.declared.verdicts.Reason.TheVariants.{BadNode, BetterLeft}
 use Rattle.asg_check.specs.RankingReasons.{AreBadNodesAt, LeaveBetterAt}
-use Rattle.asg_check.specs.Spots.{At, Overall, Spot}
-use Rattle.asg_check.proofs.ByObjective.{AreSpelled, both, dec_by, nothing, peaks_spelled, sums_spelled, times_spelled}
-use Rattle.asg_check.proofs.Parts.{none_there, tested_parts}
-use Rattle.asg_check.proofs.ToldReasons.{Nowhere, Tested}
+use Rattle.asg_reasons.specs.Spots.{At, Overall}
+use Rattle.asg_phase_verdicts.specs.laws.ByObjective.{both, dec_by, nothing, peaks_spelled, sums_spelled, times_spelled}
+use Rattle.asg_reasons.specs.laws.Parts.{none_there, tested_parts}
+use Rattle.asg_reasons.specs.laws.ToldReasons.{Nowhere, Tested}
 use Rattle.asg_check.proofs.TreeDecided.{dec_at_fault, dec_lacks, dec_left, tree_from_none}
 
 -- what follows from a fact of any monoid follows from that of the objective's
 pub constant : (P : Fact) (Q : Type 0) → ((V : Type 0) (M : Monoid V) (difference : V → V → V) (word_of : V → Word) (enter : Cost → V) → P V M difference word_of enter → Q) → (objective : Objective) → InMonoidOf objective P → Q
-constant P Q each Sum p = each _ _ _ _ _ p
-constant P Q each SumMax p = each _ _ _ _ _ p
-constant P Q each SumPair p = each _ _ _ _ _ p
-constant P Q each (Capped cap) p = each _ _ _ _ _ p
-constant P Q each Bottleneck p = each _ _ _ _ _ p
-constant P Q each BottleneckMax p = each _ _ _ _ _ p
-constant P Q each TimeCost p = each _ _ _ _ _ p
 constant P Q each Balanced p = absurd p
 constant P Q each Lex p = absurd p
+constant P Q each objective p = each _ _ _ _ _ p
 
 module _ (X : Problem) (count : ℕ) (choices : List (List (Option ℕ))) (nodes : List Node) where
   abbrev pub FaultFact : ℕ → Fact
@@ -50,26 +44,12 @@ module _ (X : Problem) (count : ℕ) (choices : List (List (Option ℕ))) (nodes
   -- nodes that prove a ranking are a search tree in the objective's monoid
   pub tree_of_proof : (objective : Objective) → ProvesRanking objective X count choices nodes → InMonoidOf objective TreeFact
   tree_of_proof Sum p = p
-  tree_of_proof SumMax p = p
-  tree_of_proof SumPair p = p
-  tree_of_proof (Capped cap) p = p
-  tree_of_proof Bottleneck p = p
-  tree_of_proof BottleneckMax p = p
-  tree_of_proof TimeCost p = p
-  tree_of_proof Balanced p = p
-  tree_of_proof Lex p = p
+  tree_of_proof objective p = p
 
   -- the other way round
   pub proof_of_tree : (objective : Objective) → InMonoidOf objective TreeFact → ProvesRanking objective X count choices nodes
   proof_of_tree Sum p = p
-  proof_of_tree SumMax p = p
-  proof_of_tree SumPair p = p
-  proof_of_tree (Capped cap) p = p
-  proof_of_tree Bottleneck p = p
-  proof_of_tree BottleneckMax p = p
-  proof_of_tree TimeCost p = p
-  proof_of_tree Balanced p = p
-  proof_of_tree Lex p = p
+  proof_of_tree objective p = p
 
   -- nodes at fault, and nodes that are left open, are there
   pub fault_within : (objective : Objective) (n : ℕ) → InMonoidOf objective (FaultFact n) → n < suc (length nodes)
@@ -127,15 +107,12 @@ module _ (decided : record { valid : (X : Problem) (f : List (Option ℕ)) → D
         ((n : ℕ) → ¬ InMonoidOf objective (FaultFact X count choices nodes n)) × ((n : ℕ) → ¬ InMonoidOf objective (LeftFact X count choices nodes n))
 
     whole : ¬ LacksNode choices nodes → (objective : Objective) → IsTrue (is_algebraic objective) → Fine objective → InMonoidOf objective (TreeFact X count choices nodes)
-    whole given Sum is fine = tree_from_none decided _ _ _ _ (sums_spelled (top_of Sum)) X choices nodes count some fine.0 given fine.1
-    whole given SumMax is fine = tree_from_none decided _ _ _ _ (sums_spelled (top_of SumMax)) X choices nodes count some fine.0 given fine.1
-    whole given SumPair is fine = tree_from_none decided _ _ _ _ (sums_spelled (top_of SumPair)) X choices nodes count some fine.0 given fine.1
-    whole given (Capped cap) is fine = tree_from_none decided _ _ _ _ (sums_spelled cap) X choices nodes count some fine.0 given fine.1
     whole given Bottleneck is fine = tree_from_none decided _ _ _ _ peaks_spelled X choices nodes count some fine.0 given fine.1
     whole given BottleneckMax is fine = tree_from_none decided _ _ _ _ peaks_spelled X choices nodes count some fine.0 given fine.1
     whole given TimeCost is fine = tree_from_none decided _ _ _ _ times_spelled X choices nodes count some fine.0 given fine.1
     whole given Balanced is fine = absurd (cc)
     whole given Lex is fine = absurd (cc)
+    whole given objective is fine = tree_from_none decided _ _ _ _ (sums_spelled (top_of objective)) X choices nodes count some fine.0 given fine.1
 
     pub proved_by_nodes : (objective : Objective) → IsTrue (is_algebraic objective) → Nowhere (AreBadNodesAt objective X choices nodes) → Nowhere (LeaveBetterAt objective X count choices nodes) → ProvesRanking objective X count choices nodes
     proved_by_nodes objective is sound closed =

@@ -207,7 +207,7 @@ begins_above lo last v below = grind (arith, ints)
 ends_below : (lo last v : ℤ) → last <ℤ v → (int_le lo v && int_le v last) ≡ false
 ends_below lo last v below = grind (arith, ints)
 
-int_le_trans : (x y z : ℤ) → x ≤ℤ y → y ≤ℤ z → x ≤ℤ z
+pub int_le_trans : (x y z : ℤ) → x ≤ℤ y → y ≤ℤ z → x ≤ℤ z
 int_le_trans x y z a b = omega (arith, ints, a, b)
 
 lt-le : (x y z : ℤ) → x <ℤ y → y ≤ℤ z → x <ℤ z
@@ -216,7 +216,7 @@ lt-le x y z a b = omega (arith, ints, a, b)
 le-refl : (x : ℤ) → x ≤ℤ x
 le-refl x = omega (arith, ints)
 
-le-not : (x y : ℤ) → (x <ℤ y → ⊥) → y ≤ℤ x
+pub le-not : (x y : ℤ) → (x <ℤ y → ⊥) → y ≤ℤ x
 le-not x y not = by_lt_z x y (λ below. absurd (not below)) (λ above. above)
 
 module _ (costs : List ℤ) (spans : List Span) (up : AreCostsUp costs) (spans_up : AreSpansUp spans) where

@@ -1,19 +1,13 @@
 -- Windows that begin in order, and their spans.
 use Rattle.std.proofs.Common.{◌≡◌, ℕ, ◌+◌, ◌-◌, ◌<◌, ◌≤◌, List, [], length, map, get_or, Option, Some, None, sym, ◌∙◌, subst, arith, ⊎_elim}
-use Rattle.std.specs.Prelude.{ℤ, pos, ◌≤ℤ◌, ◌<ℤ◌, IsPermutation}
+use Rattle.std.specs.Prelude.{ℤ, pos, ◌≤ℤ◌, IsPermutation}
 use Rattle.std.proofs.lemmas.Bool.{cases_lt}
-use Rattle.std.proofs.lemmas.Int.{ints, by_lt_z}
 use Rattle.std.proofs.lemmas.List.{get_or-map, length-map}
 use Rattle.std.proofs.lemmas.List.Sorted.{list_any-IsPermutation}
 use Rattle.asg_proof.specs.declared.windows.Window.{Window}
 use Rattle.asg_check.specs.declared.window_gaps.Span.{Span}
 use Rattle.asg_check.specs.Spans.{AreSpansUp, AreWindowsUp, IsFirstOutside, in_span, in_spans, span_of}
-
-int_le_trans : (x y z : ℤ) → x ≤ℤ y → y ≤ℤ z → x ≤ℤ z
-int_le_trans x y z a b = omega (arith, ints, a, b)
-
-pub not_below : (x y : ℤ) → (x <ℤ y → ⊥) → y ≤ℤ x
-not_below x y not = by_lt_z x y (λ below. absurd (not below)) (λ above. above)
+use Rattle.asg_check.proofs.WindowGaps.{int_le_trans}
 
 -- a window of the list, and its span among theirs
 pub span_at : (d : ℤ) (windows : List Window) (k : ℕ) (window : Window) (span : Span) → k < length windows → get_or (map (span_of d) windows) k span ≡ span_of d (get_or windows k window)

@@ -1,19 +1,18 @@
 -- What verdicts tell of windows: the first that is no Hall set, and their least gap.
 use mathlib.Core.HLevel.{dec→stable}
 use mathlib.Core.Logic.Dec.{not, of_iff}
-use Rattle.std.proofs.Common.{◌≡◌, ℕ, suc, ◌+◌, ◌<◌, ◌≤◌, Bool, true, false, List, [], ◌∷◌, length, get_or, Option, Some, None, inl, inr, refl, sym, ap, ◌∙◌, subst, arith, ⊎_elim, ◌⊎◌}
+use Rattle.std.proofs.Common.{◌≡◌, ℕ, suc, ◌<◌, ◌≤◌, Bool, true, false, List, [], ◌∷◌, length, get_or, Option, Some, None, inl, inr, refl, sym, ap, ◌∙◌, subst, arith, ◌⊎◌}
 use Rattle.std.proofs.Math.Bool.{Bool-discrete}
 use Rattle.std.specs.Int.{w64}
-use Rattle.std.specs.Prelude.{ℤ, pos, negsuc, ◌≤ℤ◌, ◌<ℤ◌, All, FitsSigned, IfSome, MatchOption, slice_get, unsigned_abs}
-use Rattle.std.proofs.lemmas.Bool.{false≢true, cases_lt}
+use Rattle.std.specs.Prelude.{ℤ, pos, negsuc, ◌≤ℤ◌, ◌<ℤ◌, All, FitsSigned, IfSome, MatchOption, unsigned_abs}
+use Rattle.std.proofs.lemmas.Bool.{false≢true}
 use Rattle.std.proofs.lemmas.Int.{ints, by_lt_z}
-use Rattle.std.proofs.lemmas.Option.{none-some, same_Some, slice_get-get_or, slice_get_within}
-use Rattle.std.proofs.lemmas.List.{get_or_default}
+use Rattle.std.proofs.lemmas.Option.{same_Some, slice_get-get_or, slice_get_within}
 use Rattle.std.proofs.lemmas.List.Elements.{All-nil, All-cons, All-head, All-tail}
 use Rattle.asg_model.specs.declared.objectives.Objective.{Objective}
 use Rattle.asg_model.specs.declared.objectives.Objective.TheVariants.{Balanced}
 use Rattle.asg_model.specs.declared.objectives.Value.{Value}
-use Rattle.asg_model.specs.declared.objectives.Value.TheVariants.{One, Two, Many}
+use Rattle.asg_model.specs.declared.objectives.Value.TheVariants.{One}
 use Rattle.asg_model.specs.Instances.{IsInstance}
 use Rattle.asg_model.specs.Problem.{Problem}
 use Rattle.asg_model.specs.ValueRange.{IsValueInRange}
@@ -24,35 +23,24 @@ use Rattle.asg_proof.specs.declared.windows.Window.{Window}
 use Rattle.asg_proof.specs.Proves.{is_spread_objective}
 use Rattle.asg_proof.specs.Windows.{IsHallWindow, ProvesWindows, is_held}
 use Rattle.asg_proof.specs.laws.LiveCosts.{lies_within}
-use Rattle.asg_check.specs.declared.verdicts.Reason.TheVariants.{NotHall, WindowGap}
-use Rattle.asg_check.specs.declared.verdicts.Verdict.{Verdict}
-use Rattle.asg_check.specs.declared.verdicts.Verdict.TheVariants.{No, Yes}
-use Rattle.asg_check.specs.Reasons.{IsToldOf, Tells, window_reasons}
+use Rattle.asg_reasons.specs.declared.verdicts.Reason.TheVariants.{NotHall, WindowGap}
+use Rattle.asg_reasons.specs.declared.verdicts.Verdict.{Verdict}
+use Rattle.asg_reasons.specs.declared.verdicts.Verdict.TheVariants.{No, Yes}
+use Rattle.asg_reasons.specs.Verdicts.{IsToldOf, Tells}
 use Rattle.asg_check.specs.Spans.{live_parts}
-use Rattle.asg_check.specs.Spots.{At, IsNoLater, Overall, Spot}
-use Rattle.asg_check.specs.WindowReasons.{AreNoHallSetsAt, IsLeastGap, IsNoHallAt, LeaveGapAt, StandsOn}
+use Rattle.asg_reasons.specs.Spots.{At, AtParts, IsNoLater, Overall, Spot}
+use Rattle.asg_check.specs.WindowReasons.{IsLeastGap, IsNoHallAt, LeaveGapAt, StandsOn}
 use Rattle.asg_model.specs.DifferentCosts.{IsLiveCost}
-use Rattle.asg_check.proofs.ToldReasons.{Nowhere, Tested, least_below}
+use Rattle.asg_reasons.specs.laws.Parts.{dec_there, no_part, tested_part}
+use Rattle.asg_reasons.specs.laws.ToldReasons.{Nowhere, Tested}
 use Rattle.asg_check.proofs.WindowGaps.{part_holds, parts_live}
 
 -- ---- windows that are no Hall sets
 
 module _ (X : Problem) (windows : List Window) where
-  pub no_hall_told : (n : ℕ) → IsNoHallAt X windows n → ((m : ℕ) → m < n → ¬ IsNoHallAt X windows m) → IsToldOf (AreNoHallSetsAt X windows) NotHall (No 5 (pos (suc n)))
-  no_hall_told n fails first = record { spot = At (pos (suc n)); stands = (n, refl, fails); least = least; told = refl }
-    where
-      no_later : (m : ℕ) → n ≤ m → pos (suc n) ≤ℤ pos (suc m)
-      no_later m le = omega (arith, ints, le)
-
-      least : (other : Spot) → AreNoHallSetsAt X windows other → IsNoLater (At (pos (suc n))) other
-      least Overall stands = tt
-      least (At place) (m, is, other) =
-          subst (λ p. pos (suc n) ≤ℤ p) (sym is) (⊎_elim (λ (before : m < n). absurd (first m before other)) (λ (past : n ≤ m). no_later m past) (cases_lt m n))
-
   -- Hall sets of their bands stand nowhere
-  pub halls_nowhere : All (IsHallWindow X) windows → Nowhere (AreNoHallSetsAt X windows)
-  halls_nowhere halls Overall = λ none. none
-  halls_nowhere halls (At place) = λ bad. met bad.0 bad.2
+  pub halls_nowhere : All (IsHallWindow X) windows → Nowhere (AtParts (IsNoHallAt X windows))
+  halls_nowhere halls = no_part (IsNoHallAt X windows) met
     where
       met : (n : ℕ) → IsNoHallAt X windows n → ⊥
       met n one =
@@ -60,45 +48,30 @@ module _ (X : Problem) (windows : List Window) where
           let same : get_or windows n one.window ≡ one.window = same_Some (get_or windows n one.window) one.window (sym (slice_get-get_or windows n one.window within) ∙ one.there) in
           one.fails (subst (IsHallWindow X) same (halls n one.window within))
 
-  -- one window more is a Hall set
-  pub halls_more : (n : ℕ) (window : Window) → window ≡ get_or windows n window → IsHallWindow X window → n < length windows → ((m : ℕ) (d : Window) → m < n → IsHallWindow X (get_or windows m d))
-      → (m : ℕ) (d : Window) → m < n + 1 → IsHallWindow X (get_or windows m d)
-  halls_more n window at hall within before m d less =
-      ⊎_elim (λ (early : m < n). before m d early)
-      (λ (late : n ≤ m).
-      let same : n ≡ m = omega (arith, less, late) in
-      subst (λ k. IsHallWindow X (get_or windows k d)) same (subst (IsHallWindow X) (at ∙ get_or_default windows n window d within) hall))
-      (cases_lt m n)
+  -- nor does one that is a Hall set
+  pub hall_at : (n : ℕ) (window : Window) → window ≡ get_or windows n window → IsHallWindow X window → n < length windows → ¬ IsNoHallAt X windows n
+  hall_at n window at hall within one =
+      let there = slice_get-get_or windows n window within ∙ ap Some (sym at) in
+      one.fails (subst (IsHallWindow X) (same_Some window one.window (sym there ∙ one.there)) hall)
 
-  pub none_before : (n : ℕ) → ((m : ℕ) (d : Window) → m < n → IsHallWindow X (get_or windows m d)) → (m : ℕ) → m < n → ¬ IsNoHallAt X windows m
-  none_before n halls m less one =
-      let within = slice_get_within windows m one.window one.there in
-      let same : get_or windows m one.window ≡ one.window = same_Some (get_or windows m one.window) one.window (sym (slice_get-get_or windows m one.window within) ∙ one.there) in
-      one.fails (subst (IsHallWindow X) same (halls m one.window less))
+  pub no_hall_within : (n : ℕ) → IsNoHallAt X windows n → n < length windows
+  no_hall_within n one = slice_get_within windows n one.window one.there
 
   module _ (decided : (window : Window) → Dec (IsHallWindow X window)) where
-    dec_no_hall : (n : ℕ) (o : Option Window) → slice_get windows n ≡ o → Dec (IsNoHallAt X windows n)
-    dec_no_hall n None at = no (λ one. absurd (none-some one.window (sym at ∙ one.there)))
-    dec_no_hall n (Some window) at =
-        of_iff (
-          λ fails. record { window = window; there = at; fails = fails },
-          λ one. subst (λ w. ¬ IsHallWindow X w) (same_Some one.window window (sym one.there ∙ at)) one.fails,
-        )
-        (not (decided window))
+    dec_no_hall : (n : ℕ) → Dec (IsNoHallAt X windows n)
+    dec_no_hall n =
+        of_iff (λ one. record { window = one.0; there = one.1; fails = one.2 }, λ is. (is.window, is.there, is.fails))
+        (dec_there windows n (λ window. ¬ IsHallWindow X window) (λ window. not (decided window)))
 
     pub halls_from_none : ((n : ℕ) → n < length windows → ¬ IsNoHallAt X windows n) → All (IsHallWindow X) windows
     halls_from_none none n d within =
         dec→stable (decided (get_or windows n d)) (λ fails. none n within (record { window = get_or windows n d; there = slice_get-get_or windows n d within; fails = fails }))
 
-    pub halls_from_nowhere : Nowhere (AreNoHallSetsAt X windows) → All (IsHallWindow X) windows
+    pub halls_from_nowhere : Nowhere (AtParts (IsNoHallAt X windows)) → All (IsHallWindow X) windows
     halls_from_nowhere none = halls_from_none (λ n within one. none (At (pos (suc n))) (n, refl, one))
 
-    pub tested_halls : Tested (AreNoHallSetsAt X windows) NotHall
-    tested_halls = by (least_below (IsNoHallAt X windows) (λ n. dec_no_hall n (slice_get windows n) refl) (length windows))
-      where
-        by : ((k : ℕ) × (k < length windows) × IsNoHallAt X windows k × ((m : ℕ) → m < k → ¬ IsNoHallAt X windows m)) ⊎ ((k : ℕ) → k < length windows → ¬ IsNoHallAt X windows k) → Tested (AreNoHallSetsAt X windows) NotHall
-        by (inl found) = inl (No 5 (pos (suc found.0)), no_hall_told found.0 found.2 found.3)
-        by (inr none) = inr (halls_nowhere (halls_from_none none))
+    pub tested_halls : Tested (AtParts (IsNoHallAt X windows)) NotHall
+    tested_halls = tested_part (IsNoHallAt X windows) NotHall (length windows) no_hall_within dec_no_hall
 
 -- ---- gaps
 
@@ -165,23 +138,13 @@ module _ (X : Problem) (d : ℤ) (windows : List Window) where
 
 pub tested_gap : (X : Problem) (value : Value) (windows : List Window) → Tested (LeaveGapAt X value windows) WindowGap
 tested_gap X (One d) windows = tested_spread X d windows (dec_above X d windows)
-tested_gap X (Two x y) windows = inr (λ spot none. none)
-tested_gap X (Many xs) windows = inr (λ spot none. none)
+tested_gap X value windows = inr (λ spot none. none)
 
 -- the verdict on gaps
 pub gap_tells : (X : Problem) (d : ℤ) (windows : List Window) (found : Option ℤ) (verdict : Verdict) → pos 0 <ℤ d → IsLeastGap X d windows found → MatchOption found (verdict ≡ Yes) (λ v. verdict ≡ No 8 v) → Tells (StandsOn X (One d) windows) (WindowGap ∷ []) verdict
 gap_tells X d windows None verdict above held is = inr (held_nowhere X d windows (λ _ v live. held v live), is)
 gap_tells X d windows (Some v) verdict above (live, unheld, least) is =
     inl (subst (IsToldOf (LeaveGapAt X (One d) windows) WindowGap) (sym is) (gap_told X d windows above v live unheld least))
-
--- the verdict on windows: the first that is no Hall set, or what is told of gaps
-pub bad_tells : (X : Problem) (value : Value) (windows : List Window) (n : ℕ) (verdict : Verdict) → IsNoHallAt X windows n → ((m : ℕ) → m < n → ¬ IsNoHallAt X windows m) → verdict ≡ No 5 (pos (n + 1)) → Tells (StandsOn X value windows) window_reasons verdict
-bad_tells X value windows n verdict one first is =
-    let more : n + 1 ≡ suc n = omega arith in
-    inl (subst (IsToldOf (AreNoHallSetsAt X windows) NotHall) (sym (is ∙ ap (No 5) (ap pos more))) (no_hall_told X windows n one first))
-
-pub halls_tell : (X : Problem) (value : Value) (windows : List Window) (verdict : Verdict) → All (IsHallWindow X) windows → Tells (StandsOn X value windows) (WindowGap ∷ []) verdict → Tells (StandsOn X value windows) window_reasons verdict
-halls_tell X value windows verdict halls told = inr (halls_nowhere X windows halls, told)
 
 -- ---- proofs
 

@@ -14,7 +14,7 @@ use Rattle.asg_doc.specs.declared.documents.Answer.{Answer}
 use Rattle.asg_doc.specs.declared.documents.Claim.{Claim}
 use Rattle.asg_doc.specs.declared.documents.Claim.TheVariants.{Best, Nothing, Ranked}
 use Rattle.asg_doc.specs.declared.documents.Document.{Document}
-use Rattle.asg_check.specs.declared.verdicts.Form.{Form}
+use Rattle.asg_check.specs.declared.document_forms.Form.{Form}
 use Rattle.asg_check.specs.DocumentForm.{has_form}
 use Rattle.asg_check.specs.Written.{AreWrittenAs, IsWrittenAs}
 

@@ -1,5 +1,5 @@
 -- The form that a document must have.
-use Rattle.std.specs.Prelude.{◌≡◌, ℕ, ◌==◌, nat_le, Bool, true, false, ◌&&◌, IsTrue, List, length}
+use Rattle.std.specs.Prelude.{◌≡◌, ℕ, ◌==◌, nat_le, Bool, true, false, ◌&&◌, IsTrue, length}
 use Rattle.asg_model.specs.declared.objectives.Objective.{Objective}
 use Rattle.asg_model.specs.declared.parts.Place.TheVariants.{All}
 use Rattle.asg_model.specs.Objectives.{is_algebraic}
@@ -10,8 +10,8 @@ use Rattle.asg_doc.specs.declared.documents.Claim.TheVariants.{Best, Nothing, Ra
 use Rattle.asg_doc.specs.declared.documents.Command.{Command}
 use Rattle.asg_doc.specs.declared.documents.Command.TheVariants as commands
 use Rattle.asg_doc.specs.declared.documents.Document.{Document}
-use Rattle.asg_check.specs.declared.verdicts.Form.{Form}
-use Rattle.asg_check.specs.declared.verdicts.Form.TheVariants as forms
+use Rattle.asg_check.specs.declared.document_forms.Form.{Form}
+use Rattle.asg_check.specs.declared.document_forms.Form.TheVariants as forms
 
 -- what may be asked: a ranking only for an algebraic objective, of an instance that places all rows
 abbrev pub MayBeAsked : Form → Objective → Problem → Type 0

@@ -1,5 +1,5 @@
 -- Why a document doesn't certify: what stands against it, and the first reason that does.
-use Rattle.std.specs.Prelude.{◌≡◌, ◌≢◌, ◌⊎◌, ℕ, ℤ, false, List, [], ◌∷◌, Option, All}
+use Rattle.std.specs.Prelude.{◌≡◌, ◌≢◌, ℕ, ℤ, false, List, Option, All}
 use Rattle.asg_model.specs.declared.bands.Band.TheVariants.{Whole}
 use Rattle.asg_model.specs.declared.objectives.Objective.{Objective}
 use Rattle.asg_model.specs.HallSet.{IsHall}
@@ -10,61 +10,18 @@ use Rattle.asg_proof.specs.Windows.{IsHallWindow}
 use Rattle.asg_doc.specs.declared.documents.Claim.{Claim}
 use Rattle.asg_doc.specs.declared.documents.Claim.TheVariants.{Best, Nothing, Ranked}
 use Rattle.asg_doc.specs.declared.documents.Document.{Document}
-use Rattle.asg_check.specs.declared.verdicts.Form.{Form}
-use Rattle.asg_check.specs.declared.verdicts.Reason.{Reason}
-use Rattle.asg_check.specs.declared.verdicts.Reason.TheVariants.{OtherObjective, WrongForm, NotValid, WrongValue, Repeated, OutOfOrder, NotHall, WindowGap, BadPhase, IndexDiffers, BadLevel, BadNode, BetterLeft}
-use Rattle.asg_check.specs.declared.verdicts.Verdict.{Verdict}
-use Rattle.asg_check.specs.declared.verdicts.Verdict.TheVariants.{No, Yes}
+use Rattle.asg_check.specs.declared.document_forms.Form.{Form}
+use Rattle.asg_reasons.specs.declared.verdicts.Reason.{Reason}
+use Rattle.asg_reasons.specs.declared.verdicts.Reason.TheVariants.{OtherObjective, WrongForm, NotValid, WrongValue, Repeated, OutOfOrder, NotHall, WindowGap, BadPhase, IndexDiffers, BadLevel, BadNode, BetterLeft}
+use Rattle.asg_reasons.specs.declared.verdicts.Verdict.TheVariants.{No}
+use Rattle.asg_reasons.specs.Verdicts.{Tells, reasons_in_order}
 use Rattle.asg_check.specs.DocumentForm.{has_form}
-use Rattle.asg_check.specs.PhaseReasons.{AreAdmittedFor, AreBadAt, HaveOtherIndexFor}
+use Rattle.asg_phase_verdicts.specs.PhaseReasons.{AreAdmittedFor, HaveOtherIndexFor, IsBadAt}
 use Rattle.asg_check.specs.RankingReasons.{AreBadNodesAt, IsNoChoiceAt, IsOutOfOrderAt, IsRepeatedAt, IsWrongValueAt, LeaveBetterAt}
-use Rattle.asg_check.specs.WindowReasons.{AreNoHallSetsAt, LeaveGapAt}
-use Rattle.asg_check.specs.LevelReasons.{AreBadLevelsAt}
-use Rattle.asg_check.specs.Spots.{AtParts, ForWhole, IsNoLater, Spot, place_of}
+use Rattle.asg_check.specs.WindowReasons.{IsNoHallAt, LeaveGapAt}
+use Rattle.asg_level_verdicts.specs.LevelReasons.{AreBadLevelsAt}
+use Rattle.asg_reasons.specs.Spots.{AtParts, ForWhole, Spot}
 use Rattle.asg_check.specs.Written.{AreWrittenAs, HasWrongValue, IsWrittenAs, SpellNone}
-
--- the number of a reason
-abbrev pub reason_number : Reason → ℕ
-reason_number OtherObjective = 1
-reason_number WrongForm = 2
-reason_number NotValid = 3
-reason_number WrongValue = 4
-reason_number Repeated = 12
-reason_number OutOfOrder = 13
-reason_number NotHall = 5
-reason_number WindowGap = 8
-reason_number BadPhase = 6
-reason_number IndexDiffers = 7
-reason_number BadLevel = 9
-reason_number BadNode = 10
-reason_number BetterLeft = 11
-
--- the reasons in the order in which they are tested: against phases, windows, levels and nodes,
--- against a proof of any kind, against the order of answers, and against a claim
-abbrev pub phase_reasons : List Reason
-phase_reasons = BadPhase ∷ (IndexDiffers ∷ [])
-
-abbrev pub window_reasons : List Reason
-window_reasons = NotHall ∷ (WindowGap ∷ [])
-
-abbrev pub level_reasons : List Reason
-level_reasons = BadLevel ∷ []
-
-abbrev pub node_reasons : List Reason
-node_reasons = BadNode ∷ (BetterLeft ∷ [])
-
-abbrev pub proof_reasons : List Reason
-proof_reasons =
-    NotHall ∷ (WindowGap ∷ (BadPhase ∷ (IndexDiffers ∷ (BadLevel ∷ node_reasons))))
-
-abbrev pub order_reasons : List Reason
-order_reasons = Repeated ∷ (OutOfOrder ∷ proof_reasons)
-
-abbrev pub claim_reasons : List Reason
-claim_reasons = NotValid ∷ (WrongValue ∷ order_reasons)
-
-abbrev pub reasons_in_order : List Reason
-reasons_in_order = OtherObjective ∷ (WrongForm ∷ claim_reasons)
 
 -- where no valid choice has an answer's cells, in the order of the rows
 abbrev pub LacksChoice : Problem → Claim → Spot → Type 0
@@ -100,7 +57,7 @@ HasHallSet objective X (Ranked count answers nodes) = Unit {0}
 
 -- where they aren't: at a window, or for the whole
 abbrev pub LacksHallSet : Objective → Problem → Claim → Spot → Type 0
-LacksHallSet objective X (Best answer (Windows windows)) = AreNoHallSetsAt X windows
+LacksHallSet objective X (Best answer (Windows windows)) = AtParts (IsNoHallAt X windows)
 LacksHallSet objective X claim = ForWhole (¬ HasHallSet objective X claim)
 
 -- where the answer's windows leave a gap
@@ -110,7 +67,8 @@ LeavesGap X claim = λ spot. ⊥
 
 -- where the answer's phases are bad
 abbrev pub HasBadPhase : Objective → Problem → Claim → Spot → Type 0
-HasBadPhase objective X (Best answer (Phases words)) = AreBadAt (AreAdmittedFor objective X) words
+HasBadPhase objective X (Best answer (Phases words)) =
+    AtParts (IsBadAt (AreAdmittedFor objective X) words)
 HasBadPhase objective X claim = λ spot. ⊥
 
 -- the answer's cells are those of a valid choice, its phases are admitted, and their index is
@@ -162,21 +120,6 @@ abbrev pub Stands : Objective → Problem → Form → Document → Reason → S
 Stands objective X form document OtherObjective = ForWhole (document.objective ≢ objective)
 Stands objective X form document WrongForm = ForWhole (has_form objective form document ≡ false)
 Stands objective X form document reason = StandsAgainst objective X document.claim reason
-
--- a verdict tells of a reason: it stands, and the verdict names its number and its least spot
-pub record IsToldOf (Against : Spot → Type 0) (reason : Reason) (verdict : Verdict) : Type 0 where
-  pub spot : Spot
-  pub stands : Against spot
-  pub least : (other : Spot) → Against other → IsNoLater spot other
-  pub told : verdict ≡ No (reason_number reason) (place_of spot)
-
--- a verdict on reasons, one after the other: it tells of the first that stands, or is `Yes` where
--- none does
-abbrev pub Tells : (Reason → Spot → Type 0) → List Reason → Verdict → Type 0
-Tells Against [] verdict = verdict ≡ Yes
-Tells Against (reason ∷ rest) verdict =
-    IsToldOf (Against reason) reason verdict
-    ⊎ (((spot : Spot) → ¬ Against reason spot) × Tells Against rest verdict)
 
 -- a number and a place tell the first reason against a document, and where it stands
 pub record IsFirstReason (objective : Objective) (X : Problem) (form : Form)

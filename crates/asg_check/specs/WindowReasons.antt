@@ -1,25 +1,20 @@
 -- What stands against windows: the rows of one aren't a Hall set, or they leave a gap.
-use Rattle.std.specs.Prelude.{◌≡◌, ℕ, ℤ, suc, pos, ◌≤ℤ◌, ◌<ℤ◌, false, true, List, Option, Some, None, slice_get}
+use Rattle.std.specs.Prelude.{◌≡◌, ℕ, ℤ, pos, ◌≤ℤ◌, ◌<ℤ◌, false, true, List, Option, Some, None, slice_get}
 use Rattle.asg_model.specs.declared.objectives.Value.{Value}
 use Rattle.asg_model.specs.declared.objectives.Value.TheVariants.{One}
 use Rattle.asg_model.specs.DifferentCosts.{IsLiveCost}
 use Rattle.asg_model.specs.Problem.{Problem}
 use Rattle.asg_proof.specs.declared.windows.Window.{Window}
 use Rattle.asg_proof.specs.Windows.{IsHallWindow, is_held}
-use Rattle.asg_check.specs.declared.verdicts.Reason.{Reason}
-use Rattle.asg_check.specs.declared.verdicts.Reason.TheVariants.{NotHall, WindowGap}
-use Rattle.asg_check.specs.Spots.{Spot, At, Overall}
+use Rattle.asg_reasons.specs.declared.verdicts.Reason.{Reason}
+use Rattle.asg_reasons.specs.declared.verdicts.Reason.TheVariants.{NotHall, WindowGap}
+use Rattle.asg_reasons.specs.Spots.{Spot, At, AtParts}
 
 -- the window at this place of the list is there, and its rows aren't a Hall set of its band
 pub record IsNoHallAt (X : Problem) (windows : List Window) (n : ℕ) : Type 0 where
   pub window : Window
   pub there : slice_get windows n ≡ Some window
   pub fails : IsHallWindow X window → ⊥
-
--- where windows, which are numbered from 1, are no Hall sets of their bands
-abbrev pub AreNoHallSetsAt : Problem → List Window → Spot → Type 0
-AreNoHallSetsAt X windows (At place) = (n : ℕ) × (place ≡ pos (suc n)) × IsNoHallAt X windows n
-AreNoHallSetsAt X windows Overall = ⊥
 
 -- the spread is above 0, and v is the cost of a live cell such that no window holds the costs from
 -- v on
@@ -35,7 +30,7 @@ LeaveGapAt X _ windows _ = ⊥
 
 -- what stands against windows for a value
 abbrev pub StandsOn : Problem → Value → List Window → Reason → Spot → Type 0
-StandsOn X value windows NotHall = AreNoHallSetsAt X windows
+StandsOn X value windows NotHall = AtParts (IsNoHallAt X windows)
 StandsOn X value windows WindowGap = LeaveGapAt X value windows
 StandsOn X value windows reason = λ spot. ⊥
 

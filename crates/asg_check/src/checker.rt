@@ -6,17 +6,18 @@ ghost use Rattle.asg_model.specs.Refused.{PassesNegative};
 ghost use Rattle.asg_model.specs.Shapes.{square_side};
 ghost use Rattle.asg_check.specs.Certifies.{Certifies};
 ghost use Rattle.asg_check.specs.DocumentForm.{MayBeAsked};
-ghost use Rattle.asg_check.specs.Reasons.{IsFirstReason, Stands, Tells, reasons_in_order};
+ghost use Rattle.asg_reasons.specs.Verdicts.{Tells, reasons_in_order};
+ghost use Rattle.asg_check.specs.Reasons.{IsFirstReason, Stands};
 ghost use Rattle.asg_check.specs.TrueClaim.{ClaimsTruly};
 
 use crate::NoMemory;
 use crate::claims::claim_verdict;
-use crate::document_forms::has_form;
+use crate::document_forms::{Form, has_form};
 use crate::laws::soundness_law;
-use crate::verdicts::{Form, Reason, Verdict};
 use asg_doc::Document;
 use asg_model::laws::decision_law;
 use asg_model::{Instance, Objective};
+use asg_reasons::{Reason, Verdict};
 use std::alloc::Global;
 
 /// Whether the document certifies for the objective, the instance and the form: `Yes` exactly where

@@ -9,20 +9,22 @@ ghost use Rattle.asg_model.specs.ValueRange.{IsValueInRange};
 ghost use Rattle.asg_proof.specs.Proves.{takes};
 ghost use Rattle.asg_proof.specs.Threshold.{ProvesBelow};
 ghost use Rattle.asg_check.specs.DocumentForm.{MayBeAsked, answers_form, takes_claim};
-ghost use Rattle.asg_check.specs.Reasons.{StandsAgainst, Tells, claim_reasons, proof_reasons};
+ghost use Rattle.asg_reasons.specs.Verdicts.{Tells, claim_reasons, proof_reasons};
+ghost use Rattle.asg_check.specs.Reasons.{StandsAgainst};
 ghost use Rattle.asg_check.specs.Written.{IsWrittenAs};
 
 use crate::NoMemory;
-use crate::level_verdicts::levels_verdict;
-use crate::phase_verdicts::phases_verdict;
+use crate::document_forms::Form;
 use crate::ranking_verdicts::ranking_verdict;
-use crate::verdicts::{Form, Reason, Verdict};
 use crate::window_verdicts::windows_verdict;
 use crate::written_choices::written_choice;
 use crate::written_values::is_same_value;
 use asg_doc::{Answer, Claim};
+use asg_level_verdicts::levels_verdict;
 use asg_model::{Band, Choice, Instance, Objective, Value, is_hall, value};
+use asg_phase_verdicts::phases_verdict;
 use asg_proof::Proof;
+use asg_reasons::{Reason, Verdict};
 use std::alloc::Global;
 
 // The verdict on a claim that answers what was asked, by its reasons in order. The error is want of

@@ -6,10 +6,20 @@ ghost use Rattle.asg_proof.specs.Proves.{takes};
 ghost use Rattle.asg_check.specs.DocumentForm.{answers_form, has_form, is_answer_count};
 ghost use Rattle.asg_check.specs.DocumentForm.{is_command_of, takes_claim};
 
-use crate::verdicts::Form;
 use asg_doc::{Answers, Claim, Command, Document};
 use asg_model::Objective;
 use asg_proof::Proof;
+
+/// The form that a document must have: what it must answer.
+#[derive(Clone, Copy, Debug, PartialEq, Eq)]
+pub enum Form {
+    /// One best choice, or that no choice is valid.
+    Solve,
+    /// So many best choices in order, or all where fewer are valid, or that no choice is valid.
+    Rank(u32),
+    /// One best choice of an instance as edits have left it, or that no choice is valid.
+    Edit,
+}
 
 // Whether the document has the asked form: its command, a claim that answers what was asked, and a
 // proof of a kind that the objective takes.

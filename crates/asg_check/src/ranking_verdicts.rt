@@ -9,20 +9,21 @@ ghost use Rattle.asg_model.specs.Refused.{PassesNegative};
 ghost use Rattle.asg_model.specs.Shapes.{square_side};
 ghost use Rattle.asg_model.specs.ValidChoice.{IsValid};
 ghost use Rattle.asg_doc.specs.declared.documents.Claim.TheVariants.{Ranked};
-ghost use Rattle.asg_check.specs.declared.verdicts.Reason.TheVariants.{OutOfOrder};
+ghost use Rattle.asg_reasons.specs.declared.verdicts.Reason.TheVariants.{OutOfOrder};
 ghost use Rattle.asg_check.specs.RankingReasons.{NodesStand};
-ghost use Rattle.asg_check.specs.Reasons.{StandsAgainst, Tells, claim_reasons, node_reasons};
-ghost use Rattle.asg_check.specs.Reasons.{order_reasons, proof_reasons, reason_number};
+ghost use Rattle.asg_reasons.specs.Verdicts.{Tells, claim_reasons, node_reasons};
+ghost use Rattle.asg_check.specs.Reasons.{StandsAgainst};
+ghost use Rattle.asg_reasons.specs.Verdicts.{order_reasons, proof_reasons, reason_number};
 ghost use Rattle.asg_check.specs.Written.{EachSpells};
 
 use crate::NoMemory;
 use crate::ranked_answers::{
     first_amiss, first_out_of_order, first_repeated, first_unspelled, read_choices,
 };
-use crate::verdicts::{Reason, Verdict};
 use asg_doc::Answer;
 use asg_model::{Instance, Objective};
 use asg_proof::Node;
+use asg_reasons::{Reason, Verdict};
 use asg_trees::{Choices, TreeVerdict, judge};
 use std::alloc::Global;
 

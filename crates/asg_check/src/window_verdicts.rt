@@ -1,20 +1,20 @@
 //! What stands against windows for a value.
 
-ghost use Rattle.std.specs.Prelude.{◌≡◌, ◌↔◌, ℕ, None, [], ◌∷◌, ◌<◌, length};
-ghost use Rattle.std.specs.Prelude.{All, IsTrue, IfOk, IfSome};
+ghost use Rattle.std.specs.Prelude.{◌↔◌, [], ◌∷◌, IsTrue, IfOk, length};
 ghost use Rattle.asg_model.specs.declared.objectives.Objective.TheVariants.{Balanced};
 ghost use Rattle.asg_model.specs.Instances.{IsInstance};
 ghost use Rattle.asg_model.specs.ValueRange.{IsValueInRange};
 ghost use Rattle.asg_proof.specs.Windows.{IsHallWindow};
-ghost use Rattle.asg_check.specs.declared.verdicts.Reason.TheVariants.{WindowGap};
-ghost use Rattle.asg_check.specs.Reasons.{Tells, window_reasons};
+ghost use Rattle.asg_reasons.specs.declared.verdicts.Reason.TheVariants.{WindowGap};
+ghost use Rattle.asg_reasons.specs.Spots.{IsFirstPart};
+ghost use Rattle.asg_reasons.specs.Verdicts.{Tells, window_reasons};
 ghost use Rattle.asg_check.specs.WindowReasons.{IsNoHallAt, StandsOn};
 
 use crate::NoMemory;
-use crate::verdicts::{Reason, Verdict};
 use crate::window_gaps::first_gap;
 use asg_model::{Band, Instance, Value, is_hall};
 use asg_proof::Window;
+use asg_reasons::{Reason, Verdict};
 use std::alloc::Global;
 
 // The verdict on windows for a value of `balanced`, by the reasons against windows in order. The
@@ -37,11 +37,7 @@ pub(crate) fn windows_verdict(
 
 // The place of the first window whose rows aren't a Hall set of its band.
 fn first_no_hall(inst: &Instance, windows: &[Window]) -> Option<usize>
-    ensures within { IfSome result (λ place. place < length windows.now) }
-    ensures there { IfSome result (λ place. IsNoHallAt inst.now windows.now place) }
-    ensures first { IfSome result (λ place. (n : ℕ) → n < place →
-        ¬ IsNoHallAt inst.now windows.now n) }
-    ensures none { result ≡ None → All (IsHallWindow inst.now) windows.now }
+    ensures { IsFirstPart (IsNoHallAt inst.now windows.now) (length windows.now) result }
 {
     for place in 0..windows.len() {
         if !is_hall_window(inst, &windows[place]) {

@@ -1,5 +1,7 @@
 //! Tests of `asg_doc`.
 
+mod cell_tests;
+mod grade_tests;
 mod level_tests;
 mod phase_tests;
 mod ranking_tests;

@@ -72,15 +72,22 @@ fn is_judged(alloc: Global, inst: &Instance, case: &Edited) -> Result<bool, NoMe
     Ok(found == Some(verdict(case.4, case.5)))
 }
 
-// The place of the first document that isn't judged so.
-fn first_judged_otherwise(alloc: Global) -> Result<Option<usize>, Fault> {
-    let inst = PAIR.instance(alloc)?;
+// The place of the first document that isn't judged so over an instance.
+fn first_otherwise(alloc: Global, inst: &Instance) -> Result<Option<usize>, NoMemory> {
     for (place, case) in documents().iter().enumerate() {
-        if !is_judged(alloc, &inst, case)? {
+        if !is_judged(alloc, inst, case)? {
             return Ok(Some(place));
         }
     }
     Ok(None)
+}
+
+// The place of the first over those costs.
+fn first_judged_otherwise(alloc: Global) -> Result<Option<usize>, Fault> {
+    let inst = PAIR.instance(alloc)?;
+    let place = first_otherwise(alloc, &inst);
+    drop(inst);
+    Ok(place?)
 }
 
 #[test]

@@ -77,15 +77,23 @@ fn is_judged(alloc: Global, inst: &Instance, case: &Judged, zeros: u32) -> Resul
     Ok(found == Some(verdict(case.3, case.4)))
 }
 
-// The place of the first case that isn't judged so, with so many steps of 0 more in each phase.
-fn first_judged_otherwise(alloc: Global, zeros: u32) -> Result<Option<usize>, Fault> {
-    let inst = SQUARE.instance(alloc)?;
+// The place of the first case that isn't judged so over an instance, with so many steps of 0 more
+// in each phase.
+fn first_otherwise(alloc: Global, inst: &Instance, zeros: u32) -> Result<Option<usize>, NoMemory> {
     for (place, case) in times().iter().enumerate() {
-        if !is_judged(alloc, &inst, case, zeros)? {
+        if !is_judged(alloc, inst, case, zeros)? {
             return Ok(Some(place));
         }
     }
     Ok(None)
+}
+
+// The place of the first that isn't over those costs.
+fn first_judged_otherwise(alloc: Global, zeros: u32) -> Result<Option<usize>, Fault> {
+    let inst = SQUARE.instance(alloc)?;
+    let place = first_otherwise(alloc, &inst, zeros);
+    drop(inst);
+    Ok(place?)
 }
 
 #[test]

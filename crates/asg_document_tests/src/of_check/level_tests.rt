@@ -2,8 +2,9 @@
 
 use crate::of_check::phase_tests::{SQUARE, verdict};
 use crate::of_check::window_tests::{CELLS, is_judged};
-use asg_model::Objective;
+use asg_check::NoMemory;
 use asg_model::Objective::{Lex, Sum};
+use asg_model::{Instance, Objective};
 use asg_samples::Fault;
 use std::alloc::Global;
 use std::test::Fail;
@@ -124,16 +125,23 @@ fn documents() -> &'static [Judged] {
     &DOCUMENTS
 }
 
-// The proof of the first document that isn't judged so.
-fn first_judged_otherwise(alloc: Global) -> Result<Option<&'static [u8]>, Fault> {
-    let inst = SQUARE.instance(alloc)?;
+// The proof of the first document that isn't judged so over an instance.
+fn first_otherwise(alloc: Global, inst: &Instance) -> Result<Option<&'static [u8]>, NoMemory> {
     for (asked, head, proof, reason, place) in documents() {
         let want = verdict(*reason, *place);
-        if !is_judged(alloc, &inst, *asked, [head, CELLS, proof], want)? {
+        if !is_judged(alloc, inst, *asked, [head, CELLS, proof], want)? {
             return Ok(Some(proof));
         }
     }
     Ok(None)
+}
+
+// That of the first that isn't over those costs.
+fn first_judged_otherwise(alloc: Global) -> Result<Option<&'static [u8]>, Fault> {
+    let inst = SQUARE.instance(alloc)?;
+    let proof = first_otherwise(alloc, &inst);
+    drop(inst);
+    Ok(proof?)
 }
 
 #[test]

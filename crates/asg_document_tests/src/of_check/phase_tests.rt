@@ -5,12 +5,13 @@ ghost use Rattle.asg_proof.specs.Phases.{IsPhase};
 
 use crate::of_check::phase_cases::{Judged, Listed, peaks, sums};
 use crate::of_check::tests::judged;
-use asg_check::{NoMemory, Verdict};
+use asg_check::NoMemory;
 use asg_doc::{Answer, Cells, Claim};
 use asg_model::Objective::SumPair;
 use asg_model::{Instance, Objective, Place, Value};
 use asg_order::Word;
 use asg_proof::{Phases, Proof, StepWords, WrittenPhase};
+use asg_reasons::Verdict;
 use asg_samples::{Fault, Sample};
 use std::alloc::Global;
 use std::test::Fail;
@@ -38,16 +39,22 @@ fn push_zeros(steps: &mut StepWords, zeros: u32) -> Result<(), NoMemory> {
     Ok(())
 }
 
-// The steps, with so many of 0 behind the first one.
-fn steps(alloc: Global, listed: &[(u64, u128)], zeros: u32) -> Result<StepWords, NoMemory> {
-    let mut steps = StepWords::none(alloc);
+// Appends the steps, with so many of 0 behind the first one.
+fn push_listed(steps: &mut StepWords, listed: &[(u64, u128)], zeros: u32) -> Result<(), NoMemory> {
     for place in 0..listed.len() {
         let (grade, amount) = listed[place];
         steps.push(Word { grade, amount })?;
         if place == 0 {
-            push_zeros(&mut steps, zeros)?;
+            push_zeros(steps, zeros)?;
         }
     }
+    Ok(())
+}
+
+// The same steps alone.
+fn steps(alloc: Global, listed: &[(u64, u128)], zeros: u32) -> Result<StepWords, NoMemory> {
+    let mut steps = StepWords::none(alloc);
+    push_listed(&mut steps, listed, zeros)?;
     Ok(steps)
 }
 
@@ -68,9 +75,9 @@ fn marks(alloc: Global, listed: &[u32], zeros: u32) -> Result<Vec<u32>, NoMemory
 fn phase(alloc: Global, listed: Listed, zeros: u32) -> Result<WrittenPhase, NoMemory>
     ensures { IfOk result (λ phase. IsPhase phase) }
 {
-    let steps = steps(alloc, listed.0, zeros)?;
     let enters = marks(alloc, listed.1, zeros)?;
     let leaves = marks(alloc, listed.2, zeros)?;
+    let steps = steps(alloc, listed.0, zeros)?;
     WrittenPhase::of(steps, enters, leaves)
 }
 
@@ -115,9 +122,10 @@ fn cells(alloc: Global, columns: (u32, u32, u32)) -> Result<Cells, NoMemory> {
 
 // The answer of a case.
 fn answer(alloc: Global, case: &Judged) -> Result<Answer, NoMemory> {
+    let cells = cells(alloc, case.2)?;
     Ok(Answer {
         value: value(case.0, case.1),
-        cells: cells(alloc, case.2)?,
+        cells,
     })
 }
 
@@ -128,19 +136,32 @@ fn is_judged(alloc: Global, inst: &Instance, case: &Judged, zeros: u32) -> Resul
     Ok(found == Some(verdict(case.4, case.5)))
 }
 
-// The place of the first case that isn't judged so, with so many steps of 0 more in each phase.
+// The place of the first case that isn't judged so over an instance, with so many steps of 0 more
+// in each phase.
+fn first_otherwise(
+    alloc: Global,
+    inst: &Instance,
+    cases: &[Judged],
+    zeros: u32,
+) -> Result<Option<usize>, NoMemory> {
+    for (place, case) in cases.iter().enumerate() {
+        if !is_judged(alloc, inst, case, zeros)? {
+            return Ok(Some(place));
+        }
+    }
+    Ok(None)
+}
+
+// The place of the first that isn't over the square.
 fn first_judged_otherwise(
     alloc: Global,
     cases: &[Judged],
     zeros: u32,
 ) -> Result<Option<usize>, Fault> {
     let inst = SQUARE.instance(alloc)?;
-    for (place, case) in cases.iter().enumerate() {
-        if !is_judged(alloc, &inst, case, zeros)? {
-            return Ok(Some(place));
-        }
-    }
-    Ok(None)
+    let place = first_otherwise(alloc, &inst, cases, zeros);
+    drop(inst);
+    Ok(place?)
 }
 
 #[test]

@@ -8,11 +8,12 @@ ghost use Rattle.asg_model.specs.Refused.{PassesNegative};
 ghost use Rattle.asg_model.specs.Shapes.{square_side};
 
 use crate::of_check::phase_tests::verdict;
-use asg_check::{Form, NoMemory, Verdict, check};
+use asg_check::{Form, NoMemory, check};
 use asg_doc::{DocRefusal, Document, read};
 use asg_model::Objective::Sum;
 use asg_model::limits::MOST_SIDE;
 use asg_model::{Instance, Place, negative};
+use asg_reasons::Verdict;
 use asg_samples::{Fault, Sample};
 use std::alloc::Global;
 use std::test::Fail;
@@ -144,14 +145,33 @@ fn judged_document(
 // A length that no text here reaches.
 const LONGEST_TEXT: usize = 1_000;
 
-// The text of a document of these parts.
-pub(crate) fn text(alloc: Global, parts: [&[u8]; 3]) -> Result<Vec<u8>, NoMemory> {
-    let mut bytes = Vec::from_slice(alloc, b"assignment 1\ncommand ")?;
+// Appends a document of these parts.
+fn add_document(bytes: &mut Vec<u8>, parts: [&[u8]; 3]) -> Result<(), NoMemory> {
+    bytes.extend_from_slice(b"assignment 1\ncommand ")?;
     bytes.extend_from_slice(parts[0])?;
     bytes.extend_from_slice(parts[1])?;
     bytes.extend_from_slice(parts[2])?;
-    bytes.extend_from_slice(b"end\n")?;
+    bytes.extend_from_slice(b"end\n")
+}
+
+// The text of a document of these parts.
+pub(crate) fn text(alloc: Global, parts: [&[u8]; 3]) -> Result<Vec<u8>, NoMemory> {
+    let mut bytes = Vec::new(alloc);
+    add_document(&mut bytes, parts)?;
     Ok(bytes)
+}
+
+// The verdict on the one document of a list.
+fn judged_one(
+    alloc: Global,
+    inst: &Instance,
+    form: Form,
+    documents: &[Document],
+) -> Result<Option<Verdict>, NoMemory> {
+    match documents {
+        [document] => judged_document(alloc, inst, form, document),
+        _ => Ok(None),
+    }
 }
 
 // The verdict on the one document of a text.
@@ -165,10 +185,11 @@ pub(crate) fn judged(
         return Ok(None);
     }
     match read(alloc, text) {
-        Ok(documents) => match documents.as_slice() {
-            [document] => judged_document(alloc, inst, form, document),
-            _ => Ok(None),
-        },
+        Ok(documents) => {
+            let found = judged_one(alloc, inst, form, &documents);
+            drop(documents);
+            found
+        }
         Err(DocRefusal::Line(_)) => Ok(None),
         Err(DocRefusal::NoMemory) => Err(std::alloc::AllocError),
     }
@@ -181,15 +202,22 @@ fn is_judged(alloc: Global, inst: &Instance, case: &Ranked) -> Result<bool, NoMe
     Ok(found == Some(verdict(case.4, case.5)))
 }
 
-// The place of the first document that isn't judged so.
-fn first_judged_otherwise(alloc: Global) -> Result<Option<usize>, Fault> {
-    let inst = PAIR.instance(alloc)?;
+// The place of the first document that isn't judged so over an instance.
+fn first_otherwise(alloc: Global, inst: &Instance) -> Result<Option<usize>, NoMemory> {
     for (place, case) in documents().iter().enumerate() {
-        if !is_judged(alloc, &inst, case)? {
+        if !is_judged(alloc, inst, case)? {
             return Ok(Some(place));
         }
     }
     Ok(None)
+}
+
+// The place of the first over those costs.
+fn first_judged_otherwise(alloc: Global) -> Result<Option<usize>, Fault> {
+    let inst = PAIR.instance(alloc)?;
+    let place = first_otherwise(alloc, &inst);
+    drop(inst);
+    Ok(place?)
 }
 
 #[test]

@@ -1,11 +1,12 @@
 //! Documents over a small instance, judged.
 
-use asg_check::{Form, NoMemory, Verdict, check};
+use asg_check::{Form, NoMemory, check};
 use asg_doc::{Answer, Cells, Claim, Command, Document};
 use asg_model::Objective::{Balanced, Bottleneck, BottleneckMax, Capped, Lex, Sum};
 use asg_model::limits::MOST_SIDE;
 use asg_model::{Instance, Objective, Place, Value, negative};
 use asg_proof::{Ids, Proof};
+use asg_reasons::Verdict;
 use asg_samples::{Fault, Sample};
 use std::alloc::Global;
 use std::test::Fail;
@@ -53,7 +54,9 @@ pub(crate) fn judged(
         objective,
         claim,
     };
-    judged_document(alloc, inst, asked, &doc)
+    let verdict = judged_document(alloc, inst, asked, &doc);
+    drop(doc);
+    verdict
 }
 
 // The verdict for a reason against the whole document, or that it certifies.
@@ -108,15 +111,22 @@ fn is_judged(alloc: Global, inst: &Instance, case: &Answered) -> Result<bool, No
     Ok(found == Some(verdict(case.5)))
 }
 
-// The place of the first case that isn't judged so.
-fn first_judged_otherwise(alloc: Global) -> Result<Option<usize>, Fault> {
-    let inst = instance(alloc, true)?;
+// The place of the first case that isn't judged so over an instance.
+fn first_otherwise(alloc: Global, inst: &Instance) -> Result<Option<usize>, NoMemory> {
     for (place, case) in answers().iter().enumerate() {
-        if !is_judged(alloc, &inst, case)? {
+        if !is_judged(alloc, inst, case)? {
             return Ok(Some(place));
         }
     }
     Ok(None)
+}
+
+// The place of the first over the row with open columns.
+fn first_judged_otherwise(alloc: Global) -> Result<Option<usize>, Fault> {
+    let inst = instance(alloc, true)?;
+    let place = first_otherwise(alloc, &inst);
+    drop(inst);
+    Ok(place?)
 }
 
 #[test]
@@ -141,9 +151,11 @@ fn none_judged(
     usable: bool,
     objective: Objective,
 ) -> Result<Option<Verdict>, Fault> {
-    let inst = instance(alloc, usable)?;
     let rows = Ids::from_vec(vec![in alloc; 1]?);
-    Ok(judged(alloc, &inst, objective, objective, Claim::Nothing { rows })?)
+    let inst = instance(alloc, usable)?;
+    let found = judged(alloc, &inst, objective, objective, Claim::Nothing { rows });
+    drop(inst);
+    Ok(found?)
 }
 
 // The first of the objectives whose document isn't judged so.

@@ -2,10 +2,11 @@
 
 use crate::of_check::phase_tests::{SQUARE, verdict};
 use crate::of_check::tests::{instance, judged_document};
-use asg_check::{NoMemory, Verdict};
-use asg_doc::{DocRefusal, read};
+use asg_check::NoMemory;
+use asg_doc::{DocRefusal, Document, read};
 use asg_model::Objective::{Balanced, Bottleneck, Sum};
 use asg_model::{Instance, Objective};
+use asg_reasons::Verdict;
 use asg_samples::Fault;
 use std::alloc::Global;
 use std::test::Fail;
@@ -129,16 +130,34 @@ fn rows() -> &'static [(&'static [u8], &'static [u8], u8, i64)] {
 // A length that no text here reaches.
 const LONGEST_TEXT: usize = 1_000;
 
-// The text of a document: its lines of objective, status and value, those of its cells, and the
-// proof.
-fn text(alloc: Global, parts: [&[u8]; 3]) -> Result<Vec<u8>, NoMemory> {
-    let mut bytes = Vec::from_slice(alloc, b"assignment 1\ncommand solve\nobjective ")?;
+// Appends a document: its lines of objective, status and value, those of its cells, and the proof.
+fn add_document(bytes: &mut Vec<u8>, parts: [&[u8]; 3]) -> Result<(), NoMemory> {
+    bytes.extend_from_slice(b"assignment 1\ncommand solve\nobjective ")?;
     bytes.extend_from_slice(parts[0])?;
     bytes.extend_from_slice(parts[1])?;
     bytes.extend_from_slice(b"proof ")?;
     bytes.extend_from_slice(parts[2])?;
-    bytes.extend_from_slice(b"end\n")?;
+    bytes.extend_from_slice(b"end\n")
+}
+
+// The text of a document of these parts.
+fn text(alloc: Global, parts: [&[u8]; 3]) -> Result<Vec<u8>, NoMemory> {
+    let mut bytes = Vec::new(alloc);
+    add_document(&mut bytes, parts)?;
     Ok(bytes)
+}
+
+// The verdict on the one document of a list.
+fn judged_one(
+    alloc: Global,
+    inst: &Instance,
+    asked: Objective,
+    documents: &[Document],
+) -> Result<Option<Verdict>, NoMemory> {
+    match documents {
+        [document] => judged_document(alloc, inst, asked, document),
+        _ => Ok(None),
+    }
 }
 
 // The verdict on the one document of a text.
@@ -152,10 +171,11 @@ fn judged(
         return Ok(None);
     }
     match read(alloc, text) {
-        Ok(documents) => match documents.as_slice() {
-            [document] => judged_document(alloc, inst, asked, document),
-            _ => Ok(None),
-        },
+        Ok(documents) => {
+            let found = judged_one(alloc, inst, asked, &documents);
+            drop(documents);
+            found
+        }
         Err(DocRefusal::Line(_)) => Ok(None),
         Err(DocRefusal::NoMemory) => Err(std::alloc::AllocError),
     }
@@ -174,16 +194,23 @@ pub(crate) fn is_judged(
     Ok(found == Some(want))
 }
 
-// The proof of the first document that isn't judged so.
-fn first_judged_otherwise(alloc: Global) -> Result<Option<&'static [u8]>, Fault> {
-    let inst = SQUARE.instance(alloc)?;
+// The proof of the first document that isn't judged so over an instance.
+fn first_otherwise(alloc: Global, inst: &Instance) -> Result<Option<&'static [u8]>, NoMemory> {
     for (asked, head, proof, reason, place) in documents() {
         let want = verdict(*reason, *place);
-        if !is_judged(alloc, &inst, *asked, [head, CELLS, proof], want)? {
+        if !is_judged(alloc, inst, *asked, [head, CELLS, proof], want)? {
             return Ok(Some(proof));
         }
     }
     Ok(None)
+}
+
+// That of the first that isn't over those costs.
+fn first_judged_otherwise(alloc: Global) -> Result<Option<&'static [u8]>, Fault> {
+    let inst = SQUARE.instance(alloc)?;
+    let proof = first_otherwise(alloc, &inst);
+    drop(inst);
+    Ok(proof?)
 }
 
 #[test]
@@ -192,16 +219,23 @@ fn judges_windows(rt: HostRuntime) -> Result<(), Fail> {
     Ok(())
 }
 
-// The proof of the first document over one row that isn't judged so.
-fn first_row_judged_otherwise(alloc: Global) -> Result<Option<&'static [u8]>, Fault> {
-    let inst = instance(alloc, true)?;
+// The proof of the first document for no spread that isn't judged so over an instance.
+fn first_row_otherwise(alloc: Global, inst: &Instance) -> Result<Option<&'static [u8]>, NoMemory> {
     for (cells, proof, reason, place) in rows() {
         let want = verdict(*reason, *place);
-        if !is_judged(alloc, &inst, Balanced, [NO_SPREAD, cells, proof], want)? {
+        if !is_judged(alloc, inst, Balanced, [NO_SPREAD, cells, proof], want)? {
             return Ok(Some(proof));
         }
     }
     Ok(None)
+}
+
+// That of the first that isn't over one row.
+fn first_row_judged_otherwise(alloc: Global) -> Result<Option<&'static [u8]>, Fault> {
+    let inst = instance(alloc, true)?;
+    let proof = first_row_otherwise(alloc, &inst);
+    drop(inst);
+    Ok(proof?)
 }
 
 #[test]

@@ -4,10 +4,7 @@ ghost use Rattle.asg_doc.specs.RefusedLine.{AllHaveText};
 
 use asg_doc::*;
 use asg_io::MemorySink;
-use asg_model::{Objective, Value};
-use asg_order::Word;
 use asg_page::{Page, finish};
-use asg_proof::{Proof, Steps, WrittenPhase};
 use std::alloc::{AllocError, Global};
 use std::test::Fail;
 
@@ -20,7 +17,7 @@ const SUM: &[u8] =
       steps 1000000002\nenters 1 1 0\nleaves 1 1 1\nend\n";
 
 // A phase with a grade in each step.
-const TIME: &[u8] =
+pub(crate) const TIME: &[u8] =
     b"assignment 1\ncommand solve\nobjective time-cost\nstatus best\nvalue -7:12\ncells 1\n4 5\n\
       proof phases 1\n\
       steps 999999993:12 0:340282366920938463463374607431768211455 1:7\n\
@@ -145,13 +142,29 @@ fn is_written(documents: &[Document], page: &mut Page, sink: &mut MemorySink) ->
     finish(page, sink).is_ok()
 }
 
-// Whether exactly this text is written of the documents.
-fn is_text_of(alloc: Global, documents: &[Document], text: &[u8]) -> Result<bool, AllocError>
+// Whether exactly this text is written of the documents in a sink.
+fn is_text_in(
+    alloc: Global,
+    documents: &[Document],
+    text: &[u8],
+    sink: &mut MemorySink,
+) -> Result<bool, AllocError>
     requires { AllHaveText documents.now }
 {
     let mut page = Page::make(alloc)?;
+    let is_so = is_written(documents, &mut page, sink) && sink.bytes() == text;
+    drop(page);
+    Ok(is_so)
+}
+
+// Whether exactly this text is written of them in memory.
+fn is_text_of(alloc: Global, documents: &[Document], text: &[u8]) -> Result<bool, AllocError>
+    requires { AllHaveText documents.now }
+{
     let mut sink = MemorySink::with(alloc, 1_000, Vec::new(alloc))?;
-    Ok(is_written(documents, &mut page, &mut sink) && sink.bytes() == text)
+    let is_text = is_text_in(alloc, documents, text, &mut sink);
+    drop(sink);
+    is_text
 }
 
 // Whether the text is read, and exactly it is written of what it is read as.
@@ -160,7 +173,11 @@ pub(crate) fn is_rewritten(alloc: Global, text: &[u8]) -> Result<bool, AllocErro
         return Ok(false);
     }
     match read(alloc, text) {
-        Ok(documents) => is_text_of(alloc, &documents, text),
+        Ok(documents) => {
+            let is_text = is_text_of(alloc, &documents, text);
+            drop(documents);
+            is_text
+        }
         Err(_) => Ok(false),
     }
 }
@@ -177,12 +194,18 @@ pub(crate) fn refused_line(alloc: Global, text: &[u8]) -> u32 {
     }
 }
 
-// The text of a document with this text behind the word of its objective.
-fn text_behind(alloc: Global, objective: &[u8], text: &[u8]) -> Result<Vec<u8>, AllocError> {
-    let mut file = Vec::from_slice(alloc, b"assignment 1\ncommand solve\nobjective ")?;
+// Appends a document with this text behind the word of its objective.
+fn add_behind(file: &mut Vec<u8>, objective: &[u8], text: &[u8]) -> Result<(), AllocError> {
+    file.extend_from_slice(b"assignment 1\ncommand solve\nobjective ")?;
     file.extend_from_slice(objective)?;
     file.extend_from_slice(b"\n")?;
-    file.extend_from_slice(text)?;
+    file.extend_from_slice(text)
+}
+
+// The text of such a document.
+fn text_behind(alloc: Global, objective: &[u8], text: &[u8]) -> Result<Vec<u8>, AllocError> {
+    let mut file = Vec::new(alloc);
+    add_behind(&mut file, objective, text)?;
     Ok(file)
 }
 
@@ -210,68 +233,6 @@ pub(crate) fn first_not_rewritten<'a>(
 fn documents_are_written_as_they_were_read(rt: HostRuntime) -> Result<(), Fail> {
     assert_eq!(rt; first_not_rewritten(rt.alloc(), &WRITTEN)?, None);
     Ok(())
-}
-
-const FIRST: Word = Word {
-    grade: 999999993,
-    amount: 12,
-};
-
-const GREATEST: Word = Word {
-    grade: 0,
-    amount: u128::MAX,
-};
-
-const LAST: Word = Word {
-    grade: 1,
-    amount: 7,
-};
-
-// Whether these are the steps of `TIME`.
-fn are_times(steps: &Steps<'_>) -> bool {
-    steps.len() == 3 && steps.get(0) == FIRST && steps.get(1) == GREATEST && steps.get(2) == LAST
-}
-
-// Whether this is the phase of `TIME`.
-fn is_time(phase: &WrittenPhase) -> bool {
-    are_times(&phase.steps())
-        && phase.enters() == [0].as_slice()
-        && phase.leaves() == [4294967295].as_slice()
-}
-
-// Whether this is the claim of `TIME`.
-fn claims_time(claim: &Claim) -> bool {
-    let Claim::Best { answer, proof } = claim else {
-        return false;
-    };
-    let Proof::Phases(phases) = proof else {
-        return false;
-    };
-    match phases.as_slice() {
-        [phase] => matches!(answer.value, Value::Two(-7, 12)) && is_time(phase),
-        _ => false,
-    }
-}
-
-// Whether this is the one document of `TIME`.
-fn are_of_time(documents: &[Document]) -> bool {
-    match documents {
-        [document] => document.objective == Objective::TimeCost && claims_time(&document.claim),
-        _ => false,
-    }
-}
-
-// Whether it is read.
-fn reads_time(alloc: Global) -> bool {
-    match read(alloc, TIME) {
-        Ok(documents) => are_of_time(&documents),
-        Err(_) => false,
-    }
-}
-
-#[test]
-fn steps_with_grades_are_read(rt: HostRuntime) {
-    assert!(rt; reads_time(rt.alloc()));
 }
 
 // The lines, for a caller that needn't know them.

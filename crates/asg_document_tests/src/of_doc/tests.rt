@@ -1,6 +1,6 @@
-//! Lists of cells, documents written over a page, and a page's own calls.
+//! Documents written over a page, and a page's own calls.
 
-ghost use Rattle.std.specs.Prelude.{◌≡◌, ◌<◌, ◌≤◌, length, IfOk};
+ghost use Rattle.std.specs.Prelude.{◌≡◌, ◌<◌, length, IfOk};
 ghost use Rattle.asg_doc.specs.HasText.{HasText, AreCells};
 ghost use Rattle.asg_page.specs.PageState.{blank};
 ghost use Rattle.asg_doc.specs.declared.documents.ValueForm.TheVariants.{One};
@@ -130,7 +130,9 @@ fn is_least_held(
     sink: &mut MemorySink,
 ) -> Result<bool, AllocError> {
     let document = least(alloc)?;
-    Ok(is_held(&document, page, sink))
+    let is_held = is_held(&document, page, sink);
+    drop(document);
+    Ok(is_held)
 }
 
 // Whether the greatest one is.
@@ -140,7 +142,9 @@ fn is_greatest_held(
     sink: &mut MemorySink,
 ) -> Result<bool, AllocError> {
     let document = greatest(alloc)?;
-    Ok(is_held(&document, page, sink))
+    let is_held = is_held(&document, page, sink);
+    drop(document);
+    Ok(is_held)
 }
 
 // Whether the one without a valid choice is.
@@ -150,7 +154,9 @@ fn is_nothing_held(
     sink: &mut MemorySink,
 ) -> Result<bool, AllocError> {
     let document = nothing(alloc)?;
-    Ok(is_held(&document, page, sink))
+    let is_held = is_held(&document, page, sink);
+    drop(document);
+    Ok(is_held)
 }
 
 // Whether the one after edits is.
@@ -160,7 +166,9 @@ fn is_edited_held(
     sink: &mut MemorySink,
 ) -> Result<bool, AllocError> {
     let document = edited(alloc)?;
-    Ok(is_held(&document, page, sink))
+    let is_held = is_held(&document, page, sink);
+    drop(document);
+    Ok(is_held)
 }
 
 // Whether each of them is.
@@ -173,11 +181,21 @@ fn are_held(alloc: Global, page: &mut Page, sink: &mut MemorySink) -> Result<boo
     )
 }
 
-// Whether the documents have these texts.
-fn have_texts(alloc: Global) -> Result<bool, AllocError> {
+// Whether the documents have these texts in a sink.
+fn have_texts_in(alloc: Global, sink: &mut MemorySink) -> Result<bool, AllocError> {
     let mut page = Page::make(alloc)?;
+    let are_held = are_held(alloc, &mut page, sink);
+    let is_finished = is_finished(&mut page, sink, TEXTS);
+    drop(page);
+    Ok(are_held? && is_finished)
+}
+
+// Whether they have them in memory.
+fn have_texts(alloc: Global) -> Result<bool, AllocError> {
     let mut sink = MemorySink::with(alloc, 1000, Vec::new(alloc))?;
-    Ok(are_held(alloc, &mut page, &mut sink)? && is_finished(&mut page, &mut sink, TEXTS))
+    let have_texts = have_texts_in(alloc, &mut sink);
+    drop(sink);
+    have_texts
 }
 
 #[test]
@@ -204,12 +222,21 @@ fn failing_sink(alloc: Global, room: u32, fails: (u32, u32)) -> Result<MemorySin
     MemorySink::with(alloc, room, vec![in alloc; fails]?)
 }
 
-// Whether such lines are put so.
-fn puts_pages(alloc: Global) -> Result<bool, AllocError> {
+// Whether such lines are put so in a sink.
+fn puts_pages_in(alloc: Global, sink: &mut MemorySink) -> Result<bool, AllocError> {
     let text = vec![in alloc; 7u8; 70000]?;
     let mut page = Page::make(alloc)?;
+    let are_pages_put = are_pages_put(&text, &mut page, sink);
+    drop(page);
+    Ok(are_pages_put)
+}
+
+// Whether they are in one that fails.
+fn puts_pages(alloc: Global) -> Result<bool, AllocError> {
     let mut sink = failing_sink(alloc, 200000, (3, 5))?;
-    Ok(are_pages_put(&text, &mut page, &mut sink))
+    let puts_pages = puts_pages_in(alloc, &mut sink);
+    drop(sink);
+    puts_pages
 }
 
 #[test]
@@ -229,47 +256,36 @@ fn breaks(document: &Document, page: &mut Page, sink: &mut MemorySink) -> bool
         && finish(page, sink) == Err(PutFault)
 }
 
-// Whether it breaks at the first put, and writes nothing more.
-fn breaks_for_good(alloc: Global, document: &Document) -> Result<bool, AllocError>
+// Whether it breaks at a sink's first put, and writes nothing more.
+fn breaks_in(alloc: Global, document: &Document, sink: &mut MemorySink) -> Result<bool, AllocError>
     requires { HasText document.now }
 {
     let mut page = Page::make(alloc)?;
+    let is_so = breaks(document, &mut page, sink) && sink.bytes() == b"assignment".as_slice();
+    drop(page);
+    Ok(is_so)
+}
+
+// Whether it does at that of a sink that fails.
+fn breaks_for_good(alloc: Global, document: &Document) -> Result<bool, AllocError>
+    requires { HasText document.now }
+{
     let mut sink = failing_sink(alloc, 1000, (1, 10))?;
-    Ok(breaks(document, &mut page, &mut sink) && sink.bytes() == b"assignment".as_slice())
+    let breaks = breaks_in(alloc, document, &mut sink);
+    drop(sink);
+    breaks
 }
 
 // Whether the document without a valid choice breaks it so.
 fn nothing_breaks(alloc: Global) -> Result<bool, AllocError> {
     let document = nothing(alloc)?;
-    breaks_for_good(alloc, &document)
+    let breaks = breaks_for_good(alloc, &document);
+    drop(document);
+    breaks
 }
 
 #[test]
 fn a_broken_page_writes_nothing(rt: HostRuntime) -> Result<(), Fail> {
     assert!(rt; nothing_breaks(rt.alloc())?);
-    Ok(())
-}
-
-// Whether the list has these cells, and is empty only where there are none.
-fn are_cells(cells: Cells, want: &[(u32, u32)]) -> bool {
-    cells.as_slice() == want && cells.len() == want.len() && cells.is_empty() == want.is_empty()
-}
-
-// Cells, of which the first ones make short and long lists.
-const CELLS: [(u32, u32); 5] = [(4294967295, 1), (2, 4294967295), (3, 3), (4, 0), (5, 2)];
-
-// Whether the first so many of these cells are themselves as a list.
-fn are_first(alloc: Global, count: usize) -> Result<bool, AllocError>
-    requires { count ≤ 5 }
-{
-    let first = &CELLS[..count];
-    Ok(are_cells(Cells::from_vec(first.to_vec(alloc)?), first))
-}
-
-#[test]
-fn lists_of_cells(rt: HostRuntime) -> Result<(), Fail> {
-    for count in 0..6 {
-        assert!(rt; are_first(rt.alloc(), count)?);
-    }
     Ok(())
 }

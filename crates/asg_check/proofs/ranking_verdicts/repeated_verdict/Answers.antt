@@ -1,10 +1,11 @@
 use Rattle.std.proofs.Common.{◌∷◌, length, refl}
 use Rattle.std.proofs.lemmas.Result.{IfOk-weaker}
 use Rattle.asg_doc.specs.declared.documents.Claim.TheVariants.{Ranked}
-use Rattle.asg_check.specs.declared.verdicts.Reason.TheVariants.{Repeated, OutOfOrder, WrongValue}
+use Rattle.asg_reasons.specs.declared.verdicts.Reason.TheVariants.{Repeated, OutOfOrder}
 use Rattle.asg_check.specs.RankingReasons.{IsRepeatedAt}
-use Rattle.asg_check.specs.Reasons.{StandsAgainst, Tells, order_reasons, proof_reasons}
-use Rattle.asg_check.proofs.RankingStages.{goes_on, stops_at}
+use Rattle.asg_reasons.specs.Verdicts.{Tells, proof_reasons}
+use Rattle.asg_check.specs.Reasons.{StandsAgainst}
+use Rattle.asg_reasons.specs.laws.Parts.{goes_on, stops_at}
 use Rattle.asg_check.proofs.ranking_verdicts.repeated_verdict.Goals as goal
 
 pub returns-in-Some : goal.returns-in-Some

@@ -2,7 +2,8 @@ use Rattle.std.proofs.Common.{◌-◌, get_or, sym, subst, ◌∙◌, arith}
 use Rattle.std.specs.Prelude.{◌≤ℤ◌}
 use Rattle.std.proofs.lemmas.Bool.{false≢true}
 use Rattle.std.proofs.lemmas.List.{get_or_read}
-use Rattle.asg_check.proofs.WindowOrder.{not_below, windows_up_more}
+use Rattle.asg_check.proofs.WindowGaps.{le-not}
+use Rattle.asg_check.proofs.WindowOrder.{windows_up_more}
 use Rattle.asg_check.proofs.window_gaps.are_up.Goals as goal
 
 pub loop-place-preserved : goal.loop-place-preserved
@@ -12,7 +13,7 @@ loop-place-preserved c =
     let some = c.loop-place.invariant.some in
     let this = c.index-windows-place.result in
     let last = c.index-windows-place-in-loop-place.result in
-    let ordered = not_below this.lo last.lo (λ low. false≢true (sym c.if-begins_below.false ∙ c.begins_below.ensures.1 low)) in
+    let ordered = le-not this.lo last.lo (λ low. false≢true (sym c.if-begins_below.false ∙ c.begins_below.ensures.1 low)) in
     record {
       some = omega arith;
       up = windows_up_more windows place c.loop-place-test.true some

@@ -1,13 +1,18 @@
-use Rattle.std.proofs.Common.{arith}
-use Rattle.asg_check.proofs.WindowTold.{halls_more, none_before}
+use Rattle.std.proofs.Common.{length, arith}
+use Rattle.asg_reasons.specs.laws.Parts.{none_at_all, none_more}
+use Rattle.asg_check.specs.WindowReasons.{IsNoHallAt}
+use Rattle.asg_check.proofs.WindowTold.{hall_at, no_hall_within}
 use Rattle.asg_check.proofs.window_verdicts.first_no_hall.Goals as goal
 
 pub loop-place-preserved : goal.loop-place-preserved
 loop-place-preserved c =
-    halls_more c.args.inst.now c.args.windows.now c.loop-place.place c.index-windows-place.result c.index-windows-place.is (c.is_hall_window.ensures.0 c.if-not-is_hall_window.false) c.loop-place-test.true c.loop-place.invariant
+    let X = c.args.inst.now in
+    let windows = c.args.windows.now in
+    none_more (IsNoHallAt X windows) c.loop-place.place c.loop-place.invariant
+    (hall_at X windows c.loop-place.place c.index-windows-place.result c.index-windows-place.is (c.is_hall_window.ensures.0 c.if-not-is_hall_window.false) c.loop-place-test.true)
 
-pub returns-then-not-is_hall_window-clause-first : goal.returns-then-not-is_hall_window-clause-first
-returns-then-not-is_hall_window-clause-first c = none_before c.args.inst.now c.args.windows.now c.loop-place.place c.loop-place.invariant
-
-pub returns-clause-none : goal.returns-clause-none
-returns-clause-none c = λ _ k d within. c.loop-place.invariant k d (omega (arith, within, c.loop-place-test.false))
+pub returns : goal.returns
+returns c =
+    let X = c.args.inst.now in
+    let windows = c.args.windows.now in
+    none_at_all (IsNoHallAt X windows) (length windows) (no_hall_within X windows) (λ m less. c.loop-place.invariant m (omega (arith, less, c.loop-place-test.false)))

@@ -1,7 +1,6 @@
-use Rattle.std.proofs.Common.{ℕ, ◌<◌, get_or}
-use Rattle.asg_proof.specs.declared.windows.Window.{Window}
-use Rattle.asg_proof.specs.Windows.{IsHallWindow}
+use Rattle.std.proofs.Common.{ℕ, ◌<◌}
+use Rattle.asg_check.specs.WindowReasons.{IsNoHallAt}
 use Rattle.asg_check.proofs.window_verdicts.first_no_hall.Given as goal
 
 abbrev pub invariant-loop-place : goal.invariant-loop-place
-invariant-loop-place l = (n : ℕ) (d : Window) → n < l.place → IsHallWindow l.inst (get_or l.windows n d)
+invariant-loop-place l = (m : ℕ) → m < l.place → ¬ IsNoHallAt l.inst l.windows m

@@ -1,8 +1,0 @@
-use Rattle.std.proofs.Common.{take}
-use Rattle.asg_monoids.specs.BoundedSums.{bounded_sums, bounded_difference, plain_word}
-use Rattle.asg_replays.specs.Replays.{AreReplayed}
-use Rattle.asg_check.proofs.sum_replays.first_stop.Given as goal
-
--- the phases so far lead to the square as it is
-abbrev pub invariant-loop-place : goal.invariant-loop-place
-invariant-loop-place g l = AreReplayed (bounded_sums l.m.top) bounded_difference plain_word (take l.place l.phases) (g.S.SumSquare.as_reduced l.initial.square) (g.S.SumSquare.as_reduced l.square)

@@ -1,0 +1,15 @@
+use Rattle.std.proofs.Common.{◌≡◌, ◌<◌, ◌*◌, ◌&&◌, ℕ, is_some}
+use Rattle.asg_square.specs.BitTable.{has_bit, word_count}
+use Rattle.asg_square.specs.Grid.{cell_at}
+use Rattle.asg_level_verdicts.proofs.level_bits.copy_row.Given as goal
+
+-- the words so far
+abbrev pub invariant-loop-number : goal.invariant-loop-number
+invariant-loop-number l =
+    record {
+      end : l.number-end ≡ word_count l.square.side;
+      rows : l.zeros.rows ≡ l.square.side;
+      columns : l.zeros.columns ≡ l.square.side;
+      done : (c : ℕ) → c < 64 * l.number → has_bit l.zeros l.row c ≡ (has_bit l.left l.row c && is_some (cell_at l.square l.row c));
+      others : (r c : ℕ) → (r ≡ l.row → ⊥) → has_bit l.zeros r c ≡ has_bit l.fn.zeros r c;
+    }

@@ -1,0 +1,12 @@
+use Rattle.std.proofs.Common.{◌≡◌, ◌<◌, ℕ, length, get_or, None}
+use Rattle.asg_square.specs.Cells.{chosen_by}
+use Rattle.asg_level_verdicts.proofs.level_choices.chosen_by.Given as goal
+
+-- the rows so far choose by the list
+abbrev pub invariant-loop-row : goal.invariant-loop-row
+invariant-loop-row l =
+    record {
+      end : l.row-end ≡ length l.inst.rows;
+      count : length l.chosen ≡ length l.inst.rows;
+      done : (r : ℕ) → r < l.row → get_or l.chosen r None ≡ chosen_by l.inst l.perm r;
+    }

@@ -1,0 +1,13 @@
+use Rattle.std.proofs.Common.{◌≡◌, ◌≤◌, length}
+use Rattle.std.specs.Prelude.{filter_map}
+use Rattle.std.specs.List.{range_with_len}
+use Rattle.asg_model.specs.Values.{chosen_cost, costs_at}
+use Rattle.asg_level_verdicts.proofs.level_choices.count_of.Given as goal
+
+-- those of the rows so far
+abbrev pub invariant-loop-row : goal.invariant-loop-row
+invariant-loop-row l =
+    record {
+      some : l.count ≡ length (costs_at l.cost (filter_map (chosen_cost l.inst l.chosen) (range_with_len 0 l.row)));
+      few : l.count ≤ l.row;
+    }

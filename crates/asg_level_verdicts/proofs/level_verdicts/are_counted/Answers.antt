@@ -1,0 +1,43 @@
+use Rattle.std.proofs.Common.{◌∙◌, ◌^◌, inl, inr, sym, subst}
+use Rattle.std.proofs.lemmas.Bool.{eq-eqb, eqb-true, false≢true}
+use Rattle.asg_monoids.specs.BoundedSums.{bounded_difference, plain_word}
+use Rattle.asg_monoids.specs.laws.Bounded.{bounded_laws}
+use Rattle.asg_proof.specs.Levels.{level_sums}
+use Rattle.asg_square.specs.Grid.{cell_at}
+use Rattle.asg_replays.specs.Replays.{AreReplayed, IsFirstBad}
+use Rattle.asg_replays.specs.laws.Replaying.{replayed-none}
+use Rattle.asg_level_verdicts.proofs.level_verdicts.are_counted.Goals as goal
+
+-- a phase is bad
+pub returns-in-Some-clause-refused : goal.returns-in-Some-clause-refused
+returns-in-Some-clause-refused c =
+    let start = c.args.reduced.now in
+    let none = replayed-none level_sums (bounded_laws (2 ^ 120)) bounded_difference plain_word start c.requires.reduced in
+    let bad = rw c.in-Some.is at c.in_ok-_place.ensures.bad in
+    λ off. inl (c.in-Some._place, subst (λ words. IsFirstBad level_sums bounded_difference plain_word start.now.side (cell_at start.now) words c.in-Some._place) c.as_slice.ensures.items (bad start c.requires.reduced none))
+
+-- all are admitted
+pub returns-in-None-clause-applied : goal.returns-in-None-clause-applied
+returns-in-None-clause-applied c =
+    let start = c.args.reduced.now in
+    let after = c.first_bad.new.reduced in
+    let none = replayed-none level_sums (bounded_laws (2 ^ 120)) bounded_difference plain_word start c.requires.reduced in
+    let led = c.in_ok-_place.ensures.none c.in-None.is start c.requires.reduced none in
+    λ is. (
+      subst (λ words. AreReplayed level_sums bounded_difference plain_word words start after) c.as_slice.ensures.items led,
+      eqb-true after.index c.from.result is ∙ c.from.ensures,
+    )
+
+pub returns-in-None-clause-refused : goal.returns-in-None-clause-refused
+returns-in-None-clause-refused c =
+    let start = c.args.reduced.now in
+    let after = c.first_bad.new.reduced in
+    let none = replayed-none level_sums (bounded_laws (2 ^ 120)) bounded_difference plain_word start c.requires.reduced in
+    let led = c.in_ok-_place.ensures.none c.in-None.is start c.requires.reduced none in
+    λ off. inr (
+      after,
+      (
+        subst (λ words. AreReplayed level_sums bounded_difference plain_word words start after) c.as_slice.ensures.items led,
+        λ e. false≢true (sym off ∙ eq-eqb after.index c.from.result (e ∙ sym c.from.ensures)),
+      ),
+    )

@@ -1,0 +1,15 @@
+use Rattle.std.proofs.Common.{◌≡◌}
+use Rattle.std.proofs.lemmas.Result.{IfOk-weaker}
+use Rattle.asg_model.specs.declared.parts.Cost.{Cost}
+use Rattle.asg_square.specs.Grid.{IsSquareBy}
+use Rattle.asg_level_verdicts.specs.LevelWalks.{IsCostSquare, free_cost}
+use Rattle.asg_level_verdicts.proofs.level_walks.cost_square.Goals as goal
+
+pub returns-clause-square : goal.returns-clause-square
+returns-clause-square c =
+    let X = c.args.inst.now in
+    IfOk-weaker c.of.result
+    (IsSquareBy X free_cost (λ cost v. Cost × (v ≡ cost.a)))
+    (IsCostSquare X)
+    (λ Q by. by (λ cost. cost.a) (λ r d cost v at entered. entered.1))
+    c.of.ensures.square

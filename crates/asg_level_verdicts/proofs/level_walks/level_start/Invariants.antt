@@ -1,0 +1,14 @@
+use Rattle.std.proofs.Common.{◌≡◌, ◌<◌, ℕ}
+use Rattle.asg_square.specs.BitTable.{has_bit}
+use Rattle.asg_square.specs.Grid.{cell_at}
+use Rattle.asg_level_verdicts.specs.LevelWalks.{level_value}
+use Rattle.asg_level_verdicts.proofs.level_walks.level_start.Given as goal
+
+-- the rows so far
+abbrev pub invariant-loop-row : goal.invariant-loop-row
+invariant-loop-row l =
+    record {
+      end : l.row-end ≡ l.square.side;
+      side : l.now.side ≡ l.square.side;
+      done : (r c : ℕ) → r < l.row → c < l.square.side → cell_at l.now r c ≡ level_value (has_bit l.walk.left r c) l.cost (cell_at l.square r c);
+    }

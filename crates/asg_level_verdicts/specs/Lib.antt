@@ -1,0 +1,4 @@
+pub mod LevelReasons
+pub mod LevelWalks
+pub mod LevelBits
+pub mod laws

@@ -1,0 +1,16 @@
+use Rattle.std.proofs.Common.{arith}
+use Rattle.std.proofs.lemmas.Result.{IfOk-weaker}
+use Rattle.asg_monoids.specs.Entered.{cost_reach}
+use Rattle.asg_proof.specs.laws.LiveCosts.{lies_within}
+use Rattle.asg_phase_verdicts.proofs.PhaseTold.{told_peaks}
+use Rattle.asg_phase_verdicts.proofs.phase_verdicts.phases_verdict.Goals as goal
+
+pub replayed_verdict-requires-clause-near : goal.replayed_verdict-requires-clause-near
+replayed_verdict-requires-clause-near c = lies_within cost_reach c.args.inst.now (omega arith) c.rows.ensures.instance
+
+pub returns-in-Bottleneck : goal.returns-in-Bottleneck
+returns-in-Bottleneck c =
+    IfOk-weaker c.replayed_verdict.result _ _
+    (λ verdict told.
+    told_peaks c.args.inst.now c.args.choice.now c.args.phases.now verdict c.args.objective c.of.result.objective c.of.result.is_peak c.of.ensures told)
+    c.replayed_verdict.ensures

@@ -1,0 +1,4 @@
+pub mod PhaseReasons
+pub mod Replays
+pub mod SumReplays
+pub mod laws

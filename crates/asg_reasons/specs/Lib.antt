@@ -1,0 +1,3 @@
+pub mod Spots
+pub mod Verdicts
+pub mod laws

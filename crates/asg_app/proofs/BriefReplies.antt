@@ -1,7 +1,7 @@
 -- What is due where a line was made of a ranking.
 use Rattle.std.proofs.Common.{◌≡◌, ◌≤◌, ℕ, List, true, refl, sym, subst}
 use Rattle.asg_brief.specs.BriefLines.{IsNoneLine, IsRankedLine}
-use Rattle.asg_check.specs.declared.verdicts.Form.TheVariants.{Rank}
+use Rattle.asg_check.specs.declared.document_forms.Form.TheVariants.{Rank}
 use Rattle.asg_model.specs.Problem.{Problem}
 use Rattle.asg_rank.specs.Rankings.{ranking_work}
 use Rattle.asg_rank.specs.Rooms.{most_work}
@@ -11,7 +11,7 @@ use Rattle.asg_answers.specs.declared.status.Status.{Status}
 use Rattle.asg_answers.specs.declared.status.Status.TheVariants.{Done, Nothing}
 use Rattle.asg_answers.specs.Replies.{Answers, IsReply}
 use Rattle.asg_answers.specs.Tellings.{TellsNone, TellsRanking}
-use Rattle.asg_app.specs.DueToRank.{DueToRank, Ranked, Unrankable}
+use Rattle.asg_promises.specs.DueToRank.{DueToRank, Ranked, Unrankable}
 
 -- a reply with a status and a text that are due
 reply_due : (Owed : Status → List ℕ → Type 0) (reply : Reply) (status : Status) (text : List ℕ) → Owed status text → IsReply reply status text → Answers Owed reply

@@ -1,15 +1,18 @@
 -- How a request to edit ends.
-use Rattle.std.proofs.Common.{◌≡◌, ℕ, Bool, true, false, List, ◌++◌, Option, Some, None, refl, sym, ap, ◌∙◌, subst, inl, inr, Global}
-use Rattle.std.specs.Prelude.{IfOk, IsSome, IsTrue, Result, Ok, Err, Vec}
+use Rattle.std.proofs.Common.{◌≡◌, ℕ, Bool, true, false, List, ◌++◌, Option, Some, None, refl, sym, ap, ◌∙◌, subst, inl, inr, Global, arith}
+use Rattle.std.specs.Prelude.{IfOk, IfSome, IsSome, IsTrue, Result, Ok, Err, Vec}
 use Rattle.asg_io.specs.Shelf.{Rose}
+use Rattle.asg_model.specs.declared.objectives.Objective.{Objective}
+use Rattle.asg_model.specs.declared.objectives.Objective.TheVariants.{Sum, SumMax, SumPair, Capped, Bottleneck, BottleneckMax, TimeCost, Balanced, Lex}
 use Rattle.asg_model.specs.Problem.{Problem}
+use Rattle.asg_doc.specs.Words.{HasWord}
 use Rattle.asg_requests.specs.declared.requests.Request.{Request}
-use Rattle.asg_requests.specs.Bounds.{IsJob, script_edited}
+use Rattle.asg_requests.specs.Bounds.{IsJob, IsWithin, cap_of, script_edited}
 use Rattle.asg_requests.specs.declared.requests.Job.{Job}
 use Rattle.asg_requests.specs.declared.requests.Task.{Task}
 use Rattle.asg_requests.specs.declared.requests.Task.TheVariants.{Solve, Rank, Edit, Check}
 use Rattle.asg_requests.specs.declared.requests.Request.TheVariants as requests
-use Rattle.asg_model.specs.Objectives.{is_algebraic}
+use Rattle.asg_model.specs.Objectives.{is_algebraic, most_cap}
 use Rattle.asg_scripts.specs.Scripts.{HoldsLines, script_in}
 use Rattle.asg_text.specs.declared.script_lines.Line.{Line}
 use Rattle.asg_app.specs.declared.commands.edit.Work.{Work}
@@ -18,21 +21,19 @@ use Rattle.asg_app.specs.declared.stops.Stop.{Stop}
 use Rattle.asg_app.specs.declared.stops.Stop.TheVariants.{Refused as Stopped, NoMemory as Wanting}
 use Rattle.asg_answers.specs.declared.status.Status.{Status}
 use Rattle.asg_answers.specs.declared.status.Status.TheVariants.{Done, WriteFault, NoMemory}
-use Rattle.asg_app.specs.Due.{DueForAsked, DueForFront, DueForJob, DueForPart, DueForTask, Held}
-use Rattle.asg_app.specs.DueToEdit.{DueToEdit, Followed}
+use Rattle.asg_promises.specs.Due.{DueForAsked, DueForFront, DueForJob, DueForPart, DueForTask, Held}
+use Rattle.asg_promises.specs.DueToEdit.{DueToEdit, Followed}
 use Rattle.asg_answers.specs.WrittenLines.{WritesAll, WritesFront}
 use Rattle.asg_app.specs.Edits.{IsStarted, StopsJob}
 use Rattle.asg_answers.specs.Tellings.{TellsScript}
 use Rattle.asg_app.specs.Ends.{Ends, WritesInPart}
-use Rattle.asg_app.specs.InstanceFile.{Holds, instance_in}
+use Rattle.asg_promises.specs.InstanceFile.{Holds, instance_in}
 use Rattle.asg_answers.specs.Replies.{Answers, IsReply, bytes_of}
-use Rattle.asg_app.specs.Requests.{is_edit}
-use Rattle.asg_app.specs.ScriptStage.{DueForScript}
-use Rattle.asg_app.specs.Sources.{AreShort, content_at}
-use Rattle.asg_answers.specs.Statuses.{IsAnswer}
+use Rattle.asg_promises.specs.Requests.{is_edit}
+use Rattle.asg_promises.specs.ScriptStage.{DueForScript}
+use Rattle.asg_promises.specs.Sources.{AreShort, content_at}
 use Rattle.asg_app.specs.Stops.{StopsInstance, StopsScript}
 use Rattle.asg_app.proofs.InstanceLemmas.{stop_due}
-use Rattle.asg_app.proofs.StageLaws.{asked_answer}
 
 -- a task that edits has a script
 pub edit_of : (task : Task) → is_edit task ≡ true → (script : List ℕ) × (task ≡ Edit script)
@@ -46,6 +47,21 @@ pub edits_algebraic : (job : Job) → is_edit job.task ≡ true → IsJob job �
 edits_algebraic job is within =
     let edits = edit_of job.task is in
     within.edits_algebraic (subst (λ task. IsSome (script_edited task)) (sym edits.1) refl)
+
+-- an objective has a word, where its cap is within its bounds
+pub word_of : (job : Job) → IsJob job → HasWord job.objective
+word_of job within = by_objective job.objective within.capped
+  where
+    by_objective : (objective : Objective) → IfSome (cap_of objective) (IsWithin 1 most_cap) → HasWord objective
+    by_objective Sum capped = tt
+    by_objective SumMax capped = tt
+    by_objective SumPair capped = tt
+    by_objective (Capped cap) capped = (omega (arith, capped.0), omega (arith, capped.1))
+    by_objective Bottleneck capped = tt
+    by_objective BottleneckMax capped = tt
+    by_objective TimeCost capped = tt
+    by_objective Balanced capped = tt
+    by_objective Lex capped = tt
 
 -- what is due for the job by its script
 pub script_due : (job : Job) (contents : List (List ℕ)) (X : Problem) (status : Status) (text : List ℕ) → is_edit job.task ≡ true → AreShort contents → instance_in job (content_at contents 0) ≡ Holds X
@@ -158,10 +174,6 @@ IsStarted-opened job contents X lines (Ok work) short holds follows objective in
   lines = subst (λ Z. script_in job.objective Z (content_at contents 1) ≡ HoldsLines work.lines.items) (sym instance) (subst (λ v. script_in job.objective X (content_at contents 1) ≡ HoldsLines v.items) (sym same) follows);
 }
 IsStarted-opened job contents X lines (Err stop) short holds follows objective instance same = tt
-
--- the reply of a stop is an answer
-pub stopped_answer : (job : Job) (contents : List (List ℕ)) (reply : Reply) → StopsJob job contents (Stopped reply) → IsAnswer reply.status
-stopped_answer job contents reply owed = asked_answer (Some (requests.Work job)) contents reply.status (bytes_of reply.text) owed
 
 -- what is due is due in part
 pub part_of : (asked : Option Request) (contents : List (List ℕ)) (status : Status) (text : List ℕ) → DueForAsked asked contents status text → DueForPart asked contents status text

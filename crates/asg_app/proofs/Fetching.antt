@@ -10,8 +10,8 @@ use Rattle.asg_io.specs.Shelf.{Rose, asked_after}
 use Rattle.asg_io.specs.declared.shelf.FetchFault.{FetchFault}
 use Rattle.asg_io.specs.declared.shelf.FetchFault.TheVariants.{Failed, TooLong, NoMemory}
 use Rattle.asg_model.specs.Limits.{longest_file}
-use Rattle.asg_app.specs.Fetches.{AreGiven, AsksOf, Fails, Gives, MayHoldAll, StopsAt}
-use Rattle.asg_app.specs.Sources.{AreShort, content_at}
+use Rattle.asg_app.specs.Fetches.{AreGiven, AsksOf, Fails, Gives, StopsAt}
+use Rattle.asg_promises.specs.Sources.{AreShort, MayHoldAll, content_at}
 
 -- a count that rose in a part of a run rose over the run
 rose_later : (first before last : ℕ) → first ≤ before → Rose before last → Rose first last

@@ -11,19 +11,19 @@ use Rattle.asg_model.specs.Instances.{IsPlaceInRange}
 use Rattle.asg_model.specs.Problem.{Problem}
 use Rattle.asg_model.specs.Limits.{most_side}
 use Rattle.asg_model.specs.Shapes.{IsPlaceOutOfRange, is_range_of, shaped, square_side}
-use Rattle.asg_text.specs.Readings.{Spells, Refuses as RefusesText}
+use Rattle.asg_tokens.specs.Readings.{Spells, Refuses as RefusesText}
 use Rattle.asg_text.specs.Texts.{reading_of}
-use Rattle.asg_text.specs.Faults.{Fault, refusal_numbers}
+use Rattle.asg_tokens.specs.Faults.{Fault, refusal_numbers}
 use Rattle.asg_requests.specs.declared.requests.Job.{Job}
 use Rattle.asg_answers.specs.declared.replies.Reply.{Reply}
 use Rattle.asg_answers.specs.declared.status.Status.TheVariants.{Instance}
-use Rattle.asg_app.specs.Due.{DueForJob, Refused}
-use Rattle.asg_app.specs.InstanceFile.{InstanceFile, Holds, Refuses, fitted, held_by, instance_in, passed, rows_asked, sided}
+use Rattle.asg_promises.specs.Due.{DueForJob, Refused}
+use Rattle.asg_promises.specs.InstanceFile.{InstanceFile, Holds, Refuses, fitted, held_by, instance_in, passed, rows_asked, sided}
 use Rattle.asg_answers.specs.Replies.{Answers, IsReply}
 use Rattle.asg_answers.specs.Texts.{refused_instance_text}
 use Rattle.asg_app.specs.Stops.{StopsInstance, stop_of}
 use Rattle.asg_app.specs.declared.stops.Stop.TheVariants.{Refused as Stopped}
-use Rattle.asg_app.specs.Sources.{AreShort, content_at}
+use Rattle.asg_promises.specs.Sources.{AreShort, content_at}
 
 -- a text that spells an instance holds it with the job's options, and one that is refused its
 -- refusal

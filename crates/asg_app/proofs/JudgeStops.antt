@@ -6,7 +6,7 @@ use Rattle.asg_answers.specs.declared.replies.Reply.{Reply}
 use Rattle.asg_answers.specs.declared.status.Status.{Status}
 use Rattle.asg_app.specs.declared.stops.Stop.TheVariants.{Refused}
 use Rattle.asg_answers.specs.Replies.{Answers, bytes_of}
-use Rattle.asg_app.specs.ScriptStage.{DueForScript}
+use Rattle.asg_promises.specs.ScriptStage.{DueForScript}
 use Rattle.asg_app.specs.Stops.{StopsScript}
 
 pub refused_due : (file : ScriptFile) (Owed : List (ℕ × Line) → Status → List ℕ → Type 0) (reply : Reply) → StopsScript file (Refused reply) → Answers (DueForScript file Owed) reply

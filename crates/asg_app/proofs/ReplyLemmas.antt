@@ -1,13 +1,12 @@
 -- Replies, and how they end a run.
-use Rattle.std.proofs.Common.{◌≡◌, ℕ, List, [], ◌∷◌, ◌++◌, Result, sym, ap, ◌∙◌, subst, arith}
+use Rattle.std.proofs.Common.{◌≡◌, ℕ, List, [], ◌∷◌, ◌++◌, Result, sym, ap, ◌∙◌, subst}
 use Rattle.std.specs.Prelude.{ℤ, codes, IfOk}
 use Rattle.std.specs.Fmt.{decimal, signed_decimal}
-use Rattle.std.proofs.lemmas.Fmt.{decimal_digit}
 use Rattle.std.proofs.lemmas.Result.{IfOk-weaker}
 use Rattle.asg_answers.specs.declared.replies.Reply.{Reply}
 use Rattle.asg_answers.specs.declared.status.Status.{Status}
 use Rattle.asg_answers.specs.Replies.{IsReply, bytes_of}
-use Rattle.asg_answers.specs.Texts.{no_text, yes_text}
+use Rattle.asg_answers.specs.Texts.{no_text}
 
 -- a reply of a status and a text that are owed
 pub replied : {E : Type 0} (Owed : Status → List ℕ → Type 0) (status : Status) (text : List ℕ) (result : Result Reply E)
@@ -23,10 +22,7 @@ pub owed_as : {E : Type 0} (Owed Due : Status → List ℕ → Type 0) (result :
 owed_as Owed Due result due says =
     IfOk-weaker result (λ reply. Owed reply.status (bytes_of reply.text)) (λ reply. Due reply.status (bytes_of reply.text)) (λ reply. due reply.status (bytes_of reply.text)) says
 
--- the text of a denial, and of documents that certify
+-- the text of a denial
 pub no_said : (document : ℕ) (bytes : List ℕ) (reason : ℕ) (place again : ℤ) → bytes ≡ codes "no " ++ (decimal document ++ 32 ∷ (decimal reason ++ 32 ∷ (signed_decimal again ++ 10 ∷ []))) → again ≡ place → no_text document reason place ≡ bytes
 no_said document bytes reason place again told same =
     ap (λ z. codes "no " ++ (decimal document ++ 32 ∷ (decimal reason ++ 32 ∷ (signed_decimal z ++ 10 ∷ [])))) (sym same) ∙ sym told
-
-pub yes_one : codes "yes 1\n" ≡ yes_text 1
-yes_one = ap (λ one. codes "yes " ++ (one ++ 10 ∷ [])) (sym (decimal_digit 1 (omega arith)))

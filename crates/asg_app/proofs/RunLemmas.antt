@@ -9,11 +9,12 @@ use Rattle.asg_requests.specs.declared.requests.Request.TheVariants.{Work, Make}
 use Rattle.asg_answers.specs.declared.status.Status.{Status}
 use Rattle.asg_answers.specs.declared.status.Status.TheVariants.{Done, Usage, Instance, Script, Document, No, ReadFault, WriteFault, NoMemory, TooLong}
 use Rattle.asg_answers.specs.declared.status.Status.TheVariants as statuses
-use Rattle.asg_app.specs.Due.{DueForAsked, DueForPart, Long}
+use Rattle.asg_promises.specs.Due.{DueForAsked, DueForPart, Long}
 use Rattle.asg_app.specs.Ends.{WritesInPart}
 use Rattle.asg_model.specs.Limits.{longest_file}
-use Rattle.asg_app.specs.Fetches.{MayHoldAll, StopsAt, status_of}
-use Rattle.asg_app.specs.Requests.{files_of, is_streamed}
+use Rattle.asg_app.specs.Fetches.{StopsAt, status_of}
+use Rattle.asg_promises.specs.Sources.{MayHoldAll}
+use Rattle.asg_promises.specs.Requests.{files_of, is_streamed}
 use Rattle.asg_answers.specs.Statuses.{IsAnswer}
 use Rattle.asg_app.proofs.Fetching.{AreLong, given_held, given_kept, long_all, stopped_rose}
 

@@ -1,14 +1,14 @@
--- How a request to edit begins. The program's specification doesn't cite this.
+-- How a request to edit begins.
 use Rattle.std.specs.Prelude.{◌≡◌, ℕ, List}
 use Rattle.asg_requests.specs.declared.requests.Job.{Job}
 use Rattle.asg_scripts.specs.Scripts.{HoldsLines, script_in}
 use Rattle.asg_app.specs.declared.commands.edit.Work.{Work}
 use Rattle.asg_app.specs.declared.stops.Stop.{Stop}
 use Rattle.asg_app.specs.declared.stops.Stop.TheVariants as stops
-use Rattle.asg_app.specs.Due.{DueForJob}
-use Rattle.asg_app.specs.InstanceFile.{Holds, instance_in}
+use Rattle.asg_promises.specs.Due.{DueForJob}
+use Rattle.asg_promises.specs.InstanceFile.{Holds, instance_in}
 use Rattle.asg_answers.specs.Replies.{Answers}
-use Rattle.asg_app.specs.Sources.{AreShort, content_at}
+use Rattle.asg_promises.specs.Sources.{AreShort, content_at}
 
 -- an editor is opened on the instance of a job, for the lines of its script
 pub record IsStarted (job : Job) (contents : List (List ℕ)) (work : Work) : Type 0 where

@@ -7,17 +7,7 @@ use Rattle.asg_io.specs.declared.shelf.FetchFault.{FetchFault}
 use Rattle.asg_io.specs.declared.shelf.FetchFault.TheVariants.{Failed, TooLong, NoMemory}
 use Rattle.asg_answers.specs.declared.status.Status.{Status}
 use Rattle.asg_answers.specs.declared.status.Status.TheVariants as statuses
-
--- the contents of a file may be these bytes: where they are told, they are
-abbrev pub MayHold : (List ℕ → Option (List ℕ)) → List ℕ → List ℕ → Type 0
-MayHold told name bytes = IfSome (told name) (λ held. bytes ≡ held)
-
--- so each of the files, in the order of their names
-abbrev pub MayHoldAll : (List ℕ → Option (List ℕ)) → List (List ℕ) → List (List ℕ) → Type 0
-MayHoldAll told [] [] = Unit {0}
-MayHoldAll told (name ∷ names) (bytes ∷ contents) =
-    MayHold told name bytes × MayHoldAll told names contents
-MayHoldAll told _ _ = ⊥
+use Rattle.asg_promises.specs.Sources.{MayHold}
 
 -- the names asked now are those asked before, and then a prefix of these
 pub record AsksOf (before now names : List (List ℕ)) : Type 0 where

@@ -1,11 +1,11 @@
--- What stops a stage of a request. The program's specification doesn't cite this.
+-- What stops a stage of a request.
 use Rattle.std.specs.Prelude.{◌≡◌, ℕ, List, Result, Ok, Err}
 use Rattle.asg_scripts.specs.Scripts.{ScriptFile, RefusesLines}
 use Rattle.asg_answers.specs.declared.replies.Reply.{Reply}
 use Rattle.asg_app.specs.declared.stops.Stop.{Stop}
 use Rattle.asg_app.specs.declared.stops.Stop.TheVariants.{Refused, NoMemory}
 use Rattle.asg_answers.specs.declared.status.Status.TheVariants.{Instance, Script}
-use Rattle.asg_app.specs.InstanceFile.{InstanceFile, Refuses}
+use Rattle.asg_promises.specs.InstanceFile.{InstanceFile, Refuses}
 use Rattle.asg_answers.specs.Replies.{IsReply}
 use Rattle.asg_answers.specs.Texts.{refused_instance_text, refused_script_text}
 

@@ -1,10 +1,10 @@
 //! The answer of a run to what was asked.
 
 ghost use Rattle.std.specs.Prelude.{◌≡◌, false, true, IfSome};
-ghost use Rattle.asg_app.specs.Due.{DueForAsked, DueForPart};
+ghost use Rattle.asg_promises.specs.Due.{DueForAsked, DueForPart};
 ghost use Rattle.asg_app.specs.Ends.{Ends};
-ghost use Rattle.asg_app.specs.Readiness.{IsReadyRequest};
-ghost use Rattle.asg_app.specs.Requests.{is_edit, is_streamed};
+ghost use Rattle.asg_requests.specs.Bounds.{IsRequest};
+ghost use Rattle.asg_promises.specs.Requests.{is_edit, is_streamed};
 
 use crate::commands::edit;
 use crate::files::Asked;
@@ -12,6 +12,7 @@ use crate::replies::put;
 use crate::stages::reply_to;
 use asg_answers::Status;
 use asg_io::Sink;
+use asg_promises::laws::answer_law;
 use asg_requests::{Request, Task};
 use std::alloc::Global;
 
@@ -34,12 +35,13 @@ fn is_streamed(asked: &Asked) -> bool
 
 // Makes the reply to what was asked, and puts it. All memory is taken before the put.
 fn answer_whole<K: Sink>(alloc: Global, asked: &Asked, out: &mut K) -> Status
-    requires ready { IfSome asked.now.request IsReadyRequest }
+    requires within { IfSome asked.now.request IsRequest }
     requires whole { is_streamed asked.now.request ≡ false }
     ensures { Ends K.written K.faults out.old out.new false
         (DueForAsked asked.now.request asked.now.sources)
         (DueForAsked asked.now.request asked.now.sources) result }
 {
+    answer_law();
     match reply_to(alloc, asked) {
         Ok(reply) => put(reply, out),
         Err(_) => Status::NoMemory,
@@ -48,7 +50,7 @@ fn answer_whole<K: Sink>(alloc: Global, asked: &Asked, out: &mut K) -> Status
 
 // Answers a command that writes its documents as it makes them.
 fn answer_streamed<K: Sink>(alloc: Global, asked: &Asked, out: &mut K) -> Status
-    requires ready { IfSome asked.now.request IsReadyRequest }
+    requires within { IfSome asked.now.request IsRequest }
     requires streamed { is_streamed asked.now.request ≡ true }
     ensures { Ends K.written K.faults out.old out.new true
         (DueForAsked asked.now.request asked.now.sources)
@@ -62,7 +64,7 @@ fn answer_streamed<K: Sink>(alloc: Global, asked: &Asked, out: &mut K) -> Status
 
 // Answers what was asked.
 pub(crate) fn answer<K: Sink>(alloc: Global, asked: &Asked, out: &mut K) -> Status
-    requires { IfSome asked.now.request IsReadyRequest }
+    requires { IfSome asked.now.request IsRequest }
     ensures { Ends K.written K.faults out.old out.new (is_streamed asked.now.request)
         (DueForAsked asked.now.request asked.now.sources)
         (DueForPart asked.now.request asked.now.sources) result }

@@ -1,12 +1,12 @@
 //! Fetches the files that a job names.
 
-ghost use Rattle.std.specs.Prelude.{◌≡◌, true, ◌<◌, Some, IfOk, IfSome, length, map, string_bytes};
+ghost use Rattle.std.specs.Prelude.{◌≡◌, ◌<◌, Some, IfOk, IfSome, length, map, string_bytes};
 ghost use Rattle.std.specs.Result.{IfErr};
 ghost use Rattle.asg_requests.specs.declared.requests.Request.TheVariants.{Work};
 ghost use Rattle.asg_app.specs.Fetches.{AreGiven, StopsAt, status_of};
-ghost use Rattle.asg_app.specs.Requests.{asked_of, files_of, is_built};
-ghost use Rattle.asg_app.specs.Readiness.{IsReadyRequest};
-ghost use Rattle.asg_app.specs.Sources.{content_at};
+ghost use Rattle.asg_promises.specs.Requests.{asked_of, files_of};
+ghost use Rattle.asg_requests.specs.Bounds.{IsRequest};
+ghost use Rattle.asg_promises.specs.Sources.{content_at};
 
 use crate::requests::asked;
 use crate::sources::Sources;
@@ -18,7 +18,6 @@ use std::alloc::Global;
 
 // The number of files that a job names.
 fn file_count(job: &Job) -> usize
-    requires { is_built job.now ≡ true }
     ensures { result ≡ length (files_of (Some (Work job.now))) }
 {
     match &job.task {
@@ -34,8 +33,7 @@ fn file_count(job: &Job) -> usize
 
 // The name of a job's file at a place, counted from 0: the instance's is the first.
 fn file_name(job: &Job, place: usize) -> &str
-    requires built { is_built job.now ≡ true }
-    requires within { place < length (files_of (Some (Work job.now))) }
+    requires { place < length (files_of (Some (Work job.now))) }
     ensures { result.now ≡ content_at (files_of (Some (Work job.now))) place }
 {
     match &job.task {
@@ -52,7 +50,6 @@ fn file_name(job: &Job, place: usize) -> &str
 // The contents of the files that a job names, fetched in their order up to the first that isn't
 // given.
 fn fetch_all<F: Shelf>(alloc: Global, job: &Job, shelf: &mut F) -> Result<Sources, FetchFault>
-    requires { is_built job.now ≡ true }
     ensures given { IfOk result (λ sources. AreGiven F.told F.asked F.faults
         (files_of (Some (Work job.now))) sources shelf.old shelf.new) }
     ensures stopped { IfErr result (λ fault. StopsAt F.told F.asked F.faults
@@ -80,7 +77,6 @@ fn fetch_named<F: Shelf>(
     request: &Option<Request>,
     shelf: &mut F,
 ) -> Result<Sources, FetchFault>
-    requires { IfSome request.now IsReadyRequest }
     ensures given { IfOk result (λ sources. AreGiven F.told F.asked F.faults
         (files_of request.now) sources shelf.old shelf.new) }
     ensures stopped { IfErr result (λ fault. StopsAt F.told F.asked F.faults
@@ -100,7 +96,7 @@ pub(crate) fn fetch_asked<F: Shelf>(
     shelf: &mut F,
 ) -> Result<Asked, FetchFault>
     ensures request { IfOk result (λ asked. asked.request ≡ asked_of (map string_bytes words.now)) }
-    ensures ready { IfOk result (λ asked. IfSome asked.request IsReadyRequest) }
+    ensures within { IfOk result (λ asked. IfSome asked.request IsRequest) }
     ensures given { IfOk result (λ asked. AreGiven F.told F.asked F.faults
         (files_of asked.request) asked.sources shelf.old shelf.new) }
     ensures stopped { IfErr result (λ fault. StopsAt F.told F.asked F.faults

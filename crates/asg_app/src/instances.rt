@@ -2,9 +2,9 @@
 
 ghost use Rattle.std.specs.Prelude.{◌≡◌, ◌≤◌, IfErr, IfOk, IsErr, MatchOption, length};
 ghost use Rattle.asg_model.specs.Limits.{longest_file};
-ghost use Rattle.asg_text.specs.Faults.{fault_of, refusal_numbers};
-ghost use Rattle.asg_app.specs.InstanceFile.{Holds, fitted, instance_in, passed, rows_asked, sided};
-ghost use Rattle.asg_app.specs.Readiness.{IsReady};
+ghost use Rattle.asg_tokens.specs.Faults.{fault_of, refusal_numbers};
+ghost use Rattle.asg_promises.specs.InstanceFile.{Holds, fitted, instance_in, passed, rows_asked, sided};
+ghost use Rattle.asg_requests.specs.Bounds.{IsJob};
 ghost use Rattle.asg_answers.specs.Replies.{IsReply};
 ghost use Rattle.asg_app.specs.Stops.{StopsInstance};
 ghost use Rattle.asg_answers.specs.Texts.{refused_instance_text};
@@ -13,8 +13,10 @@ use crate::stops::{Stop, stopped};
 use asg_answers::{Reply, Status, refusal};
 use asg_model::limits::MOST_SIDE;
 use asg_model::{Instance, NoMemory, Place, PlaceRange, negative};
+use asg_promises::laws::refused_cost_law;
 use asg_requests::Job;
-use asg_text::{TextRefusal, read};
+use asg_text::read;
+use asg_tokens::TextRefusal;
 use std::alloc::{AllocError, Global};
 
 // The refusal of an instance by its text. The error is want of memory, also where that is what
@@ -68,6 +70,7 @@ fn passed(alloc: Global, job: &Job, inst: Instance) -> Result<Instance, Stop>
     ensures held { IfOk result (λ held. passed job.now.objective inst ≡ Holds held) }
     ensures stop { IfErr result (StopsInstance (passed job.now.objective inst)) }
 {
+    refused_cost_law();
     match negative(job.objective, &inst) {
         Some((row, column)) => Err(stopped(refusal(
             alloc,
@@ -79,7 +82,7 @@ fn passed(alloc: Global, job: &Job, inst: Instance) -> Result<Instance, Stop>
 
 // The instance that a file spells, with the job's options.
 fn fitted(alloc: Global, job: &Job, spelled: Instance) -> Result<Instance, Stop>
-    requires { IsReady job.now }
+    requires { IsJob job.now }
     ensures held { IfOk result (λ held.
         fitted job.now.objective job.now.place job.now.each spelled ≡ Holds held) }
     ensures stop { IfErr result (StopsInstance
@@ -94,7 +97,7 @@ fn fitted(alloc: Global, job: &Job, spelled: Instance) -> Result<Instance, Stop>
 
 // The instance that a job's file of these bytes holds.
 pub(crate) fn instance(alloc: Global, job: &Job, bytes: &[u8]) -> Result<Instance, Stop>
-    requires ready { IsReady job.now }
+    requires within { IsJob job.now }
     requires short { length bytes.now ≤ longest_file }
     ensures held { IfOk result (λ held. instance_in job.now bytes.now ≡ Holds held) }
     ensures stop { IfErr result (StopsInstance (instance_in job.now bytes.now)) }

@@ -3,17 +3,17 @@
 ghost use Rattle.std.specs.Prelude.{◌≡◌, ◌++◌, ◌⊎◌, ℕ, List, map, string_bytes};
 ghost use Rattle.asg_io.specs.Shelf.{Rose};
 ghost use Rattle.asg_io.specs.Sink.{Puts, PutsPrefix};
-ghost use Rattle.asg_app.specs.Due.{Due, DueInPart, Tells};
+ghost use Rattle.asg_promises.specs.Due.{Due, DueInPart, Tells};
 ghost use Rattle.asg_app.specs.Ends.{WritesInPart};
 ghost use Rattle.asg_app.specs.Fetches.{AsksOf, AsksInTurn};
-ghost use Rattle.asg_app.specs.Requests.{files_of, is_streamed, asked_of};
+ghost use Rattle.asg_promises.specs.Requests.{files_of, is_streamed, asked_of};
 ghost use Rattle.asg_answers.specs.Statuses.{IsAnswer, HasRead};
 
 use crate::answers::answer;
 use crate::files::{fetch_asked, unread_status};
-use crate::laws::due_law;
 use asg_answers::Status;
 use asg_io::{Shelf, Sink};
+use asg_promises::laws::{answer_law, due_law};
 use std::alloc::Global;
 
 /// Runs the program: reads the words after the program's name, fetches the files that they name
@@ -75,6 +75,7 @@ pub fn run<F: Shelf, K: Sink>(alloc: Global, words: &[String], shelf: &mut F, ou
         (result ≡ status) ⊎ (result ≡ Status.NoMemory) }
 {
     due_law();
+    answer_law();
     match fetch_asked(alloc, words, shelf) {
         Ok(asked) => answer(alloc, &asked, out),
         Err(fault) => unread_status(fault),

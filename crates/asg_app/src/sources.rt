@@ -1,8 +1,8 @@
 //! The contents of the files of a job.
 
-ghost use Rattle.std.specs.Prelude.{◌≡◌, ◌<◌, ◌≤◌, ◌++◌, ◌∷◌, [], IfOk, IfSome, length, slice_get};
+ghost use Rattle.std.specs.Prelude.{◌≡◌, ◌≤◌, ◌++◌, ◌∷◌, [], IfOk, length};
 ghost use Rattle.asg_model.specs.Limits.{longest_file};
-ghost use Rattle.asg_app.specs.Sources.{AreShort, content_at};
+ghost use Rattle.asg_promises.specs.Sources.{AreShort, content_at};
 
 use asg_model::NoMemory;
 use std::alloc::Global;

@@ -4,20 +4,20 @@ ghost use Rattle.std.specs.Prelude.{◌≡◌, ◌≤◌, IfOk, IfSome, false};
 ghost use Rattle.asg_model.specs.Limits.{most_side};
 ghost use Rattle.asg_model.specs.Refused.{PassesNegative};
 ghost use Rattle.asg_model.specs.Shapes.{square_side};
-ghost use Rattle.asg_app.specs.Due.{DueForAsked, DueForJob, DueForTask};
-ghost use Rattle.asg_app.specs.Readiness.{IsReady, IsReadyRequest};
+ghost use Rattle.asg_promises.specs.Due.{DueForAsked, DueForJob, DueForTask};
+ghost use Rattle.asg_requests.specs.Bounds.{IsJob, IsRequest};
 ghost use Rattle.asg_answers.specs.Replies.{Answers};
-ghost use Rattle.asg_app.specs.Requests.{is_edit, is_streamed};
+ghost use Rattle.asg_promises.specs.Requests.{is_edit, is_streamed};
 
 use crate::commands::check::form_asked;
-use crate::commands::{check, judge, make, rank, solve};
+use crate::commands::{check, make, rank, solve};
 use crate::files::Asked;
 use crate::instances::instance;
-use crate::laws::instance_law;
 use crate::sources::Sources;
 use crate::stops::stop_reply;
 use asg_answers::{Reply, Status};
 use asg_model::{Instance, NoMemory};
+use asg_promises::laws::instance_law;
 use asg_requests::{Job, Request, Task};
 use std::alloc::Global;
 
@@ -32,7 +32,7 @@ fn task_reply(
     inst: Instance,
     sources: &Sources,
 ) -> Result<Reply, NoMemory>
-    requires ready { IsReady job.now }
+    requires within { IsJob job.now }
     requires whole { is_edit job.now.task ≡ false }
     requires place { inst.place ≡ job.now.place }
     requires side { square_side inst ≤ most_side }
@@ -46,11 +46,11 @@ fn task_reply(
             script: None,
             count,
             ..
-        } => { check::reply(alloc, job, &inst, form_asked(count), sources.at(1)) }
+        } => { check::reply(alloc, job, inst, form_asked(count), sources.at(1)) }
         Task::Check {
             script: Some(_),
             ..
-        } => { judge::reply(alloc, job, inst, sources.at(1), sources.at(2)) }
+        } => { check::script_reply(alloc, job, inst, sources.at(1), sources.at(2)) }
         Task::Edit(_) => unreachable!(),
     }
 }
@@ -58,7 +58,7 @@ fn task_reply(
 // The reply to a job that isn't to edit, whose instance stands in the first file. The error is want
 // of memory.
 fn job_reply(alloc: Global, job: &Job, sources: &Sources) -> Result<Reply, NoMemory>
-    requires ready { IsReady job.now }
+    requires within { IsJob job.now }
     requires whole { is_edit job.now.task ≡ false }
     ensures { IfOk result (Answers (DueForJob job.now sources.now)) }
 {
@@ -71,7 +71,7 @@ fn job_reply(alloc: Global, job: &Job, sources: &Sources) -> Result<Reply, NoMem
 
 // The reply to what was asked, where that isn't to edit. The error is want of memory.
 pub(crate) fn reply_to(alloc: Global, asked: &Asked) -> Result<Reply, NoMemory>
-    requires ready { IfSome asked.now.request IsReadyRequest }
+    requires within { IfSome asked.now.request IsRequest }
     requires whole { is_streamed asked.now.request ≡ false }
     ensures { IfOk result (Answers (DueForAsked asked.now.request asked.now.sources)) }
 {

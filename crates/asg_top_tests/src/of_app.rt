@@ -5,6 +5,7 @@ mod balanced_tests;
 mod bottleneck_runs;
 mod brief_tests;
 mod check_tests;
+mod edit_runs;
 mod edit_tests;
 mod lex_tests;
 mod make_tests;

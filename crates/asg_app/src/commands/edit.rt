@@ -7,16 +7,15 @@ ghost use Rattle.asg_model.specs.Refused.{PassesNegative};
 ghost use Rattle.asg_model.specs.Shapes.{square_side};
 ghost use Rattle.asg_requests.specs.declared.requests.Job.{Job as Editing};
 ghost use Rattle.asg_requests.specs.declared.requests.Request.TheVariants as requests;
-ghost use Rattle.asg_app.specs.Due.{DueForJob, DueForPart};
+ghost use Rattle.asg_promises.specs.Due.{DueForJob, DueForPart};
 ghost use Rattle.asg_app.specs.Edits.{IsStarted, StopsJob};
 ghost use Rattle.asg_app.specs.Ends.{Ends};
-ghost use Rattle.asg_app.specs.Readiness.{IsReady};
-ghost use Rattle.asg_app.specs.InstanceFile.{Holds, instance_in};
-ghost use Rattle.asg_app.specs.Requests.{is_edit};
-ghost use Rattle.asg_app.specs.Sources.{content_at};
+ghost use Rattle.asg_requests.specs.Bounds.{IsJob};
+ghost use Rattle.asg_promises.specs.InstanceFile.{Holds, instance_in};
+ghost use Rattle.asg_promises.specs.Requests.{is_edit};
+ghost use Rattle.asg_promises.specs.Sources.{content_at};
 
 use crate::instances::instance;
-use crate::laws::instance_law;
 use crate::replies::put;
 use crate::scripts::script_lines;
 use crate::sources::Sources;
@@ -25,6 +24,7 @@ use asg_answers::{Halt, Status, put_lines};
 use asg_edits::Editor;
 use asg_io::Sink;
 use asg_model::{Instance, NoMemory};
+use asg_promises::laws::{answer_law, instance_law};
 use asg_requests::Job;
 use asg_text::Line;
 use std::alloc::Global;
@@ -69,7 +69,7 @@ fn opened(alloc: Global, job: &Job, inst: Instance, lines: Vec<(u32, Line)>) -> 
 
 // The script of the job is read for its instance, and an editor is opened.
 fn scripted(alloc: Global, job: &Job, inst: Instance, sources: &Sources) -> Result<Work, Stop>
-    requires ready { IsReady job.now }
+    requires within { IsJob job.now }
     requires edits { IsTrue (is_edit job.now.task) }
     requires held { instance_in job.now (content_at sources.now 0) ≡ Holds inst }
     ensures started { IfOk result (IsStarted job.now sources.now) }
@@ -84,7 +84,7 @@ fn scripted(alloc: Global, job: &Job, inst: Instance, sources: &Sources) -> Resu
 
 // The files of a job to edit are read, and an editor is opened.
 fn started(alloc: Global, job: &Job, sources: &Sources) -> Result<Work, Stop>
-    requires ready { IsReady job.now }
+    requires within { IsJob job.now }
     requires edits { IsTrue (is_edit job.now.task) }
     ensures started { IfOk result (IsStarted job.now sources.now) }
     ensures stop { IfErr result (StopsJob job.now sources.now) }
@@ -97,7 +97,7 @@ fn started(alloc: Global, job: &Job, sources: &Sources) -> Result<Work, Stop>
 
 // Writes the documents of a job to edit, or in brief their lines.
 fn put_edits<K: Sink>(alloc: Global, job: &Job, work: &mut Work, out: &mut K) -> Status
-    requires ready { IsReady job.now }
+    requires within { IsJob job.now }
     requires edits { IsTrue (is_edit job.now.task) }
     requires started { (contents : List (List ℕ)) × IsStarted job.now contents work.old }
     ensures { (contents : List (List ℕ)) → IsStarted job.now contents work.old →
@@ -126,6 +126,7 @@ fn put_stop<K: Sink>(stop: Stop, out: &mut K) -> Status
         Ends K.written K.faults out.old out.new true (DueForJob job contents)
         (DueForPart (Some (requests.Work job)) contents) result }
 {
+    answer_law();
     match stop_reply(stop) {
         Ok(reply) => put(reply, out),
         Err(_) => Status::NoMemory,
@@ -135,7 +136,7 @@ fn put_stop<K: Sink>(stop: Stop, out: &mut K) -> Status
 // Answers a job to edit: its documents are written, or in brief their lines, one after the other,
 // or the refusal of one of its files.
 pub(crate) fn answer<K: Sink>(alloc: Global, job: &Job, sources: &Sources, out: &mut K) -> Status
-    requires ready { IsReady job.now }
+    requires within { IsJob job.now }
     requires edits { IsTrue (is_edit job.now.task) }
     ensures { Ends K.written K.faults out.old out.new true
         (DueForJob job.now sources.now)

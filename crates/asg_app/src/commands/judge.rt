@@ -1,35 +1,30 @@
-//! Requests to check the documents of a script.
+//! Documents that are judged in turn, each for the instance as the lines of a script have left it.
 
 ghost use Rattle.std.specs.Prelude.{◌≡◌, ◌+◌, ◌<◌, ◌≤◌, ◌∷◌, ℕ, List, IfOk, None, OnOk, length};
+ghost use Rattle.asg_check.specs.DocumentForm.{MayBeAsked};
 ghost use Rattle.asg_doc.specs.RefusedLine.{AllHaveText};
-ghost use Rattle.asg_doc.specs.Text.{texts_of};
 ghost use Rattle.asg_model.specs.Edits.{edited, refusal_of};
-ghost use Rattle.asg_model.specs.Limits.{longest_file, most_side};
+ghost use Rattle.asg_model.specs.Limits.{most_side};
 ghost use Rattle.asg_model.specs.Problem.{Problem};
 ghost use Rattle.asg_model.specs.Refused.{PassesNegative};
 ghost use Rattle.asg_model.specs.Shapes.{square_side};
 ghost use Rattle.asg_scripts.specs.Scripts.{after_line, first_refused, line_refusal};
-ghost use Rattle.asg_scripts.specs.Scripts.{script_in, solved_instances};
-ghost use Rattle.asg_text.specs.declared.script_lines.Line.{Line as ScriptLine};
-ghost use Rattle.asg_app.specs.AnswersStage.{UnlessMiscounted};
-ghost use Rattle.asg_app.specs.DueToJudge.{DueToJudge};
-ghost use Rattle.asg_answers.specs.Replies.{Answers, IsReply};
-ghost use Rattle.asg_app.specs.ScriptStage.{DueForScript};
+ghost use Rattle.asg_scripts.specs.Scripts.{solved_instances};
 ghost use Rattle.asg_scripts.specs.SolveLines.{solve_count, solves};
+ghost use Rattle.asg_text.specs.declared.script_lines.Line.{Line as ScriptLine};
+ghost use Rattle.asg_answers.specs.Replies.{Answers, IsReply};
+ghost use Rattle.asg_answers.specs.Texts.{no_text, yes_text};
 ghost use Rattle.asg_app.specs.Solves.{JudgesOn};
-ghost use Rattle.asg_answers.specs.Texts.{yes_text};
+ghost use Rattle.asg_promises.specs.DueToJudge.{DueToJudge};
 
-use crate::commands::check::{denial, refusal};
-use crate::scripts::script_lines;
-use crate::stops::stop_reply;
 use asg_answers::{Reply, Status};
-use asg_check::laws::soundness_law;
-use asg_check::{Form, Verdict, check};
-use asg_doc::{DocRefusal, Document, read};
+use asg_check::{Form, check};
+use asg_doc::Document;
 use asg_model::{Edit, Instance, NoMemory};
+use asg_reasons::Verdict;
 use asg_requests::Job;
 use asg_scripts::laws::edited_law;
-use asg_scripts::{solve_count, solves};
+use asg_scripts::solves;
 use asg_text::Line;
 use std::alloc::{AllocError, Global};
 
@@ -39,6 +34,14 @@ fn acceptance(alloc: Global, count: usize) -> Result<Reply, NoMemory>
 {
     let line = format!(in alloc; "yes {count}\n")?;
     Ok(Reply::made(Status::Done, line))
+}
+
+// Tells the reason against a document, and its place.
+fn denial(alloc: Global, document: usize, reason: u8, place: i64) -> Result<Reply, NoMemory>
+    ensures { IfOk result (λ reply. IsReply reply Status.No (no_text document reason place)) }
+{
+    let line = format!(in alloc; "no {document} {reason} {place}\n")?;
+    Ok(Reply::made(Status::No, line))
 }
 
 // Edits an instance by an edit that isn't refused. The error is want of memory.
@@ -57,19 +60,20 @@ fn judge_document(
     alloc: Global,
     job: &Job,
     inst: &Instance,
+    form: Form,
     documents: &[Document],
     count: usize,
 ) -> Result<Option<Reply>, NoMemory>
     requires side { square_side inst.now ≤ most_side }
     requires passes { PassesNegative job.now.objective inst.now }
+    requires asked { MayBeAsked form job.now.objective inst.now }
     requires text { AllHaveText documents.now }
     requires within { count < length documents.now }
-    ensures { IfOk result (λ denied. (instances : List Problem) → JudgesOn job.now.objective
+    ensures { IfOk result (λ denied. (instances : List Problem) → JudgesOn job.now.objective form
         count (inst.now ∷ instances) documents.now (count + 1) instances denied) }
 {
-    soundness_law();
     let _rows = inst.rows();
-    match check(alloc, job.objective, inst, Form::Edit, &documents[count])? {
+    match check(alloc, job.objective, inst, form, &documents[count])? {
         Verdict::Yes => Ok(None),
         Verdict::No { reason, place } => Ok(Some(denial(alloc, count + 1, reason, place)?)),
     }
@@ -81,6 +85,7 @@ fn judge_line(
     alloc: Global,
     job: &Job,
     inst: &mut Instance,
+    form: Form,
     line: Line,
     documents: &[Document],
     count: usize,
@@ -88,19 +93,20 @@ fn judge_line(
     requires tried { line_refusal job.now.objective inst.old line ≡ None }
     requires side { square_side inst.old ≤ most_side }
     requires passes { PassesNegative job.now.objective inst.old }
+    requires asked { MayBeAsked form job.now.objective inst.old }
     requires text { AllHaveText documents.now }
     requires within { count + solves line ≤ length documents.now }
     ensures after { OnOk result (inst.new ≡ after_line inst.old line) }
     ensures side { OnOk result (square_side inst.new ≤ most_side) }
     ensures passes { OnOk result (PassesNegative job.now.objective inst.new) }
     ensures judged { IfOk result (λ denied. (number : ℕ) (lines : List (ℕ × ScriptLine)) → JudgesOn
-        job.now.objective count (solved_instances inst.old ((number, line) ∷ lines))
+        job.now.objective form count (solved_instances inst.old ((number, line) ∷ lines))
         documents.now (count + solves line) (solved_instances inst.new lines) denied) }
 {
     edited_law();
     let _rows = inst.rows();
     match line {
-        Line::Solve => judge_document(alloc, job, inst, documents, count),
+        Line::Solve => judge_document(alloc, job, inst, form, documents, count),
         Line::Edit(edit) => {
             edit_instance(job, inst, edit)?;
             Ok(None)
@@ -109,101 +115,31 @@ fn judge_line(
 }
 
 // The verdict on documents, as many as lines ask for: the instance is edited from one to the next.
-fn verdict(
+pub(crate) fn verdict(
     alloc: Global,
     job: &Job,
     inst: Instance,
+    form: Form,
     lines: &[(u32, Line)],
     documents: &[Document],
 ) -> Result<Reply, NoMemory>
     requires tried { first_refused job.now.objective inst lines.now ≡ None }
     requires side { square_side inst ≤ most_side }
     requires passes { PassesNegative job.now.objective inst }
+    requires asked { MayBeAsked form job.now.objective inst }
     requires text { AllHaveText documents.now }
     requires counted { length documents.now ≡ solve_count lines.now }
     ensures { IfOk result (Answers
-        (DueToJudge job.now.objective 0 (solved_instances inst lines.now) documents.now)) }
+        (DueToJudge job.now.objective form 0 (solved_instances inst lines.now) documents.now)) }
 {
     let mut now = inst;
     let mut count = 0;
     'lines: for place in 0..lines.len() {
         let (_, line) = lines[place];
-        match judge_line(alloc, job, &mut now, line, documents, count)? {
+        match judge_line(alloc, job, &mut now, form, line, documents, count)? {
             Some(denied) => return Ok(denied),
             None => count += solves(line),
         }
     }
     acceptance(alloc, count)
-}
-
-// The reply for the documents of an answer's file, of which there are to be as many as lines ask
-// for.
-fn documents_reply(
-    alloc: Global,
-    job: &Job,
-    inst: Instance,
-    lines: &[(u32, Line)],
-    documents: &[Document],
-) -> Result<Reply, NoMemory>
-    requires tried { first_refused job.now.objective inst lines.now ≡ None }
-    requires side { square_side inst ≤ most_side }
-    requires passes { PassesNegative job.now.objective inst }
-    requires text { AllHaveText documents.now }
-    ensures { IfOk result (Answers (UnlessMiscounted (texts_of documents.now)
-        (length (solved_instances inst lines.now))
-        (DueToJudge job.now.objective 0 (solved_instances inst lines.now)))) }
-{
-    let due = solve_count(lines);
-    let found = documents.len();
-    if found == due {
-        verdict(alloc, job, inst, lines, documents)
-    } else {
-        refusal(alloc, 0)
-    }
-}
-
-// The reply for an answer's file of these bytes and the lines of a script.
-fn answer_reply(
-    alloc: Global,
-    job: &Job,
-    inst: Instance,
-    lines: &[(u32, Line)],
-    answer: &[u8],
-) -> Result<Reply, NoMemory>
-    requires tried { first_refused job.now.objective inst lines.now ≡ None }
-    requires side { square_side inst ≤ most_side }
-    requires passes { PassesNegative job.now.objective inst }
-    requires short { length answer.now ≤ longest_file }
-    ensures { IfOk result (Answers (UnlessMiscounted answer.now
-        (length (solved_instances inst lines.now))
-        (DueToJudge job.now.objective 0 (solved_instances inst lines.now)))) }
-{
-    match read(alloc, answer) {
-        Ok(documents) => documents_reply(alloc, job, inst, lines, &documents),
-        Err(DocRefusal::Line(line)) => refusal(alloc, line),
-        Err(DocRefusal::NoMemory) => Err(AllocError),
-    }
-}
-
-// The reply to a request to check the documents of the answer's file for the script of these bytes.
-// The error is want of memory.
-pub(crate) fn reply(
-    alloc: Global,
-    job: &Job,
-    inst: Instance,
-    script: &[u8],
-    answer: &[u8],
-) -> Result<Reply, NoMemory>
-    requires side { square_side inst ≤ most_side }
-    requires passes { PassesNegative job.now.objective inst }
-    requires script { length script.now ≤ longest_file }
-    requires short { length answer.now ≤ longest_file }
-    ensures { IfOk result (Answers (DueForScript (script_in job.now.objective inst script.now)
-        (λ lines. UnlessMiscounted answer.now (length (solved_instances inst lines))
-        (DueToJudge job.now.objective 0 (solved_instances inst lines))))) }
-{
-    match script_lines(alloc, job, &inst, script) {
-        Ok(lines) => answer_reply(alloc, job, inst, &lines, answer),
-        Err(stop) => stop_reply(stop),
-    }
 }

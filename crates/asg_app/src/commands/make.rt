@@ -2,7 +2,7 @@
 
 ghost use Rattle.std.specs.Prelude.{◌≤◌, IfOk};
 ghost use Rattle.asg_answers.specs.Replies.{Answers};
-ghost use Rattle.asg_app.specs.DueToMake.{DueToMake};
+ghost use Rattle.asg_promises.specs.DueToMake.{DueToMake};
 ghost use Rattle.asg_model.specs.Limits.{most_rows};
 ghost use Rattle.asg_requests.specs.Bounds.{IsWithin};
 ghost use Rattle.asg_requests.specs.Limits.{most_seed};

@@ -2,7 +2,7 @@
 
 ghost use Rattle.std.specs.Prelude.{◌≡◌, ◌≤◌, IfErr, IfOk, false, true};
 ghost use Rattle.asg_brief.specs.BriefLines.{IsBriefRanking};
-ghost use Rattle.asg_check.specs.declared.verdicts.Form.TheVariants.{Rank};
+ghost use Rattle.asg_check.specs.declared.document_forms.Form.TheVariants.{Rank};
 ghost use Rattle.asg_check.specs.DocumentForm.{MayBeAsked};
 ghost use Rattle.asg_doc.specs.Words.{HasWord, IsAsked};
 ghost use Rattle.asg_model.specs.declared.bands.Band.TheVariants.{Whole};
@@ -13,7 +13,7 @@ ghost use Rattle.asg_model.specs.Shapes.{square_side};
 ghost use Rattle.asg_rank.specs.RankOutcomes.{IsProvedRanking, IsRankOutcome};
 ghost use Rattle.asg_rank.specs.Rankings.{IsRefusal, ranking_work};
 ghost use Rattle.asg_rank.specs.Rooms.{most_work};
-ghost use Rattle.asg_app.specs.DueToRank.{DueToRank};
+ghost use Rattle.asg_promises.specs.DueToRank.{DueToRank};
 ghost use Rattle.asg_answers.specs.Replies.{Answers};
 
 use asg_answers::{Reply, Status, none_text, ranked_document, refusal};

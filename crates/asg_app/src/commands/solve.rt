@@ -6,8 +6,8 @@ ghost use Rattle.asg_model.specs.Refused.{PassesNegative};
 ghost use Rattle.asg_model.specs.Shapes.{square_side};
 ghost use Rattle.asg_proof.specs.Outcomes.{IsOutcome, IsProvedBest};
 ghost use Rattle.asg_answers.specs.SolverLimits.{SolverTakes, limit_number};
-ghost use Rattle.asg_app.specs.DueToSolve.{DueToSolve};
-ghost use Rattle.asg_app.specs.Readiness.{IsReady};
+ghost use Rattle.asg_promises.specs.DueToSolve.{DueToSolve};
+ghost use Rattle.asg_requests.specs.Bounds.{IsJob};
 ghost use Rattle.asg_answers.specs.Replies.{Answers};
 ghost use Rattle.asg_answers.specs.WrittenDocument.{IsPromisedOutcome, IsPromisedProof};
 
@@ -38,7 +38,7 @@ fn best_reply(
     choice: &Choice,
     proof: Proof,
 ) -> Result<Reply, NoMemory>
-    requires ready { IsReady job.now }
+    requires within { IsJob job.now }
     requires side { square_side inst.now ≤ most_side }
     requires passes { PassesNegative job.now.objective inst.now }
     requires proved { IsProvedBest job.now.objective inst.now choice.now proof }
@@ -55,7 +55,7 @@ fn best_reply(
 
 // The reply with a Hall set. The error is want of memory.
 fn none_reply(alloc: Global, job: &Job, inst: &Instance, rows: Ids) -> Result<Reply, NoMemory>
-    requires ready { IsReady job.now }
+    requires within { IsJob job.now }
     requires passes { PassesNegative job.now.objective inst.now }
     requires hall { IsOutcome job.now.objective inst.now (Outcome.Nothing rows) }
     requires takes { SolverTakes job.now.objective inst.now }
@@ -75,7 +75,7 @@ fn outcome_reply(
     inst: &Instance,
     outcome: Outcome,
 ) -> Result<Reply, NoMemory>
-    requires ready { IsReady job.now }
+    requires within { IsJob job.now }
     requires side { square_side inst.now ≤ most_side }
     requires passes { PassesNegative job.now.objective inst.now }
     requires outcome { IsOutcome job.now.objective inst.now outcome }
@@ -91,7 +91,7 @@ fn outcome_reply(
 
 // The reply by the outcome of the objective's solver. The error is want of memory.
 fn solver_reply(alloc: Global, job: &Job, inst: &Instance) -> Result<Reply, NoMemory>
-    requires ready { IsReady job.now }
+    requires within { IsJob job.now }
     requires side { square_side inst.now ≤ most_side }
     requires passes { PassesNegative job.now.objective inst.now }
     ensures { IfOk result (Answers (DueToSolve job.now inst.now)) }
@@ -108,7 +108,7 @@ fn solver_reply(alloc: Global, job: &Job, inst: &Instance) -> Result<Reply, NoMe
 // The reply to a brief request: by the costs as they stand, where that gives a best choice, else by
 // the solver. The error is want of memory.
 fn brief_reply(alloc: Global, job: &Job, inst: &Instance) -> Result<Reply, NoMemory>
-    requires ready { IsReady job.now }
+    requires within { IsJob job.now }
     requires brief { job.now.brief ≡ true }
     requires side { square_side inst.now ≤ most_side }
     requires passes { PassesNegative job.now.objective inst.now }
@@ -125,7 +125,7 @@ fn brief_reply(alloc: Global, job: &Job, inst: &Instance) -> Result<Reply, NoMem
 
 // The reply to a request to solve an instance. The error is want of memory.
 pub(crate) fn reply(alloc: Global, job: &Job, inst: &Instance) -> Result<Reply, NoMemory>
-    requires ready { IsReady job.now }
+    requires within { IsJob job.now }
     requires side { square_side inst.now ≤ most_side }
     requires passes { PassesNegative job.now.objective inst.now }
     ensures { IfOk result (Answers (DueToSolve job.now inst.now)) }

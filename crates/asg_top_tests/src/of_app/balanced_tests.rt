@@ -109,13 +109,19 @@ fn windows_that_are_checked(rt: HostRuntime) -> Result<(), Fail> {
     Ok(())
 }
 
-// The square of side 142 with the costs 0 to 20163, row by row.
-fn many_costs(alloc: Global) -> Result<String, AllocError> {
-    let mut file = String::from_str(alloc, "142\n")?;
+// Adds the costs 0 to 20163.
+fn add_costs(alloc: Global, file: &mut String) -> Result<(), AllocError> {
     for cost in 0..20_164 {
         let part = format!(in alloc; "{cost} ")?;
         file.push_str(part.as_str())?;
     }
+    Ok(())
+}
+
+// The square of side 142 with these costs, row by row.
+fn many_costs(alloc: Global) -> Result<String, AllocError> {
+    let mut file = String::from_str(alloc, "142\n")?;
+    add_costs(alloc, &mut file)?;
     Ok(file)
 }
 
@@ -166,15 +172,20 @@ fn is_too_many(alloc: Global, file: &[u8], case: &Many) -> Result<bool, AllocErr
     ends(alloc, case.0, case.1, held(file, b""), want)
 }
 
-// What the first case says that isn't so.
-fn first_not_refused(alloc: Global) -> Result<Option<&'static str>, AllocError> {
-    let file = many_costs(alloc)?;
+// What the first case says that isn't so of a file.
+fn first_otherwise(alloc: Global, file: &[u8]) -> Result<Option<&'static str>, AllocError> {
     for case in many() {
-        if !is_too_many(alloc, file.as_bytes(), case)? {
+        if !is_too_many(alloc, file, case)? {
             return Ok(Some(case.3));
         }
     }
     Ok(None)
+}
+
+// What the first says that isn't of that of so many costs.
+fn first_not_refused(alloc: Global) -> Result<Option<&'static str>, AllocError> {
+    let file = many_costs(alloc)?;
+    first_otherwise(alloc, file.as_bytes())
 }
 
 #[test]

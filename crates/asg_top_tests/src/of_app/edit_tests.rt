@@ -1,163 +1,9 @@
 //! Requests to edit, and to check what they write, as runs over memory.
 
+use crate::of_app::edit_runs::{Script, scripts};
 use crate::of_app::memory_runs::{Files, Ran, THREE, ends, is_ended, run_over, scripted};
 use std::alloc::{AllocError, Global};
 use std::test::Fail;
-
-// A script: the objective, the options, the instance's file, the lines, how many documents it has,
-// and what the documents say behind `objective OBJECTIVE`, up to their proofs.
-type Script = (
-    &'static str,
-    &'static [&'static str],
-    &'static str,
-    &'static str,
-    &'static str,
-    &'static [&'static str],
-);
-
-// Costs that rise and fall, rows and columns that are dropped, what makes nothing valid and valid
-// again, each objective, a place rule and capacities.
-static SCRIPTS: [Script; 12] = [
-    (
-        "sum",
-        &[],
-        "3\n4 1 3\n2 0 5\n3 2 2\n",
-        "cost 1 2 9\nsolve\ndrop-row 2\nsolve\ndrop-column 2\nsolve\ndrop-column 3\nsolve\n",
-        "yes 4\n",
-        &[
-            "status best\nvalue 6\ncells 3\n",
-            "status best\nvalue 5\ncells 2\n",
-            "status best\nvalue 6\ncells 2\n",
-            "status none\nhall ",
-        ],
-    ),
-    (
-        "sum",
-        &[],
-        "3\n4 1 3\n2 0 5\n3 2 2\n",
-        "cost 1 1 0\nsolve\n",
-        "yes 1\n",
-        &["status best\nvalue 2\ncells 3\n1 1\n2 2\n3 3\n"],
-    ),
-    (
-        "sum",
-        &[],
-        "3\n4 1 3\n2 0 5\n3 2 2\n",
-        "solve\nsolve\n\nsolve",
-        "yes 3\n",
-        &[
-            "status best\nvalue 5\ncells 3\n1 2\n2 1\n3 3\n",
-            "status best\nvalue 5\ncells 3\n1 2\n2 1\n3 3\n",
-            "status best\nvalue 5\ncells 3\n1 2\n2 1\n3 3\n",
-        ],
-    ),
-    (
-        "sum",
-        &[],
-        "2\n1 -\n2 -\n",
-        "solve\ncost 2 2 7\nsolve\nforbid 2 2\nsolve\ncost 1 2 3:4\nsolve\n",
-        "yes 4\n",
-        &[
-            "status none\nhall ",
-            "status best\nvalue 8\ncells 2\n1 1\n2 2\n",
-            "status none\nhall ",
-            "status best\nvalue 5\ncells 2\n1 2\n2 1\n",
-        ],
-    ),
-    (
-        "sum-max",
-        &[],
-        "3\n4 1 3\n2 0 5\n3 2 2\n",
-        "solve\nforbid 2 3\nsolve\n",
-        "yes 2\n",
-        &[
-            "status best\nvalue 11\ncells 3\n1 1\n2 3\n3 2\n",
-            "status best\nvalue 7\ncells 3\n1 3\n2 1\n3 2\n",
-        ],
-    ),
-    (
-        "pair",
-        &[],
-        "2\n1:9 1:2\n1:3 1:1\n",
-        "solve\ncost 1 1 1:1\nsolve\n",
-        "yes 2\n",
-        &[
-            "status best\nvalue 2:5\ncells 2\n1 2\n2 1\n",
-            "status best\nvalue 2:2\ncells 2\n1 1\n2 2\n",
-        ],
-    ),
-    (
-        "capped=6",
-        &[],
-        "3\n4 1 3\n2 0 5\n3 2 2\n",
-        "solve\ncost 1 2 9\nsolve\n",
-        "yes 2\n",
-        &[
-            "status best\nvalue 5\ncells 3\n1 2\n2 1\n3 3\n",
-            "status best\nvalue 6\ncells 3\n",
-        ],
-    ),
-    (
-        "bottleneck",
-        &[],
-        "3\n4 1 3\n2 0 5\n3 2 2\n",
-        "solve\ncost 3 3 9\nsolve\n",
-        "yes 2\n",
-        &[
-            "status best\nvalue 2\ncells 3\n1 2\n2 1\n3 3\n",
-            "status best\nvalue 3\ncells 3\n",
-        ],
-    ),
-    (
-        "bottleneck-max",
-        &[],
-        "3\n4 1 3\n2 0 5\n3 2 2\n",
-        "solve\ndrop-row 3\nsolve\n",
-        "yes 2\n",
-        &[
-            "status best\nvalue 2\ncells 3\n",
-            "status best\nvalue 4\ncells 2\n1 1\n2 3\n",
-        ],
-    ),
-    (
-        "time-cost",
-        &[],
-        "2\n3:5 3:1\n3:1 3:9\n",
-        "solve\ncost 1 2 3:20\nsolve\n",
-        "yes 2\n",
-        &[
-            "status best\nvalue 3:2\ncells 2\n1 2\n2 1\n",
-            "status best\nvalue 3:14\ncells 2\n1 1\n2 2\n",
-        ],
-    ),
-    (
-        "sum",
-        &["--place", "2"],
-        "3\n4 1 3\n2 0 5\n3 2 2\n",
-        "solve\ncost 1 1 -1\nsolve\n",
-        "yes 2\n",
-        &[
-            "status best\nvalue 2\ncells 2\n2 2\n3 3\n",
-            "status best\nvalue -1\ncells 2\n1 1\n2 2\n",
-        ],
-    ),
-    (
-        "sum",
-        &["--each", "2"],
-        "3\n4 1 3\n2 0 5\n3 2 2\n",
-        "solve\ndrop-column 2\nsolve\n",
-        "yes 2\n",
-        &[
-            "status best\nvalue 3\ncells 3\n1 2\n2 2\n3 3\n",
-            "status best\nvalue 7\ncells 3\n1 3\n2 1\n3 3\n",
-        ],
-    ),
-];
-
-// The scripts, for a caller that needn't know them.
-fn scripts() -> &'static [Script] {
-    &SCRIPTS
-}
 
 // The run that edits a case.
 fn edited(alloc: Global, case: &Script) -> Result<Ran, AllocError> {
@@ -195,14 +41,15 @@ fn is_accepted(alloc: Global, case: &Script, ran: &Ran) -> Result<bool, AllocErr
     ends(alloc, &words, case.1, files, (0, case.4.as_bytes()))
 }
 
-// Whether a request to edit has its documents, and they are accepted.
+// Whether a run has the documents of a case, and they are accepted.
+fn is_right(alloc: Global, case: &Script, ran: &Ran) -> Result<bool, AllocError> {
+    Ok(ran.code == 0 && are_begun(alloc, case, &ran.written)? && is_accepted(alloc, case, ran)?)
+}
+
+// Whether the run that edits a case has them.
 fn is_answered(alloc: Global, case: &Script) -> Result<bool, AllocError> {
     let ran = edited(alloc, case)?;
-    if ran.code == 0 && are_begun(alloc, case, &ran.written)? {
-        is_accepted(alloc, case, &ran)
-    } else {
-        Ok(false)
-    }
+    is_right(alloc, case, &ran)
 }
 
 #[test]
@@ -284,44 +131,54 @@ fn judges(alloc: Global, script: &str, answer: &str, want: (u8, &str)) -> Result
     ends(alloc, &words, &[], files, (want.0, want.1.as_bytes()))
 }
 
+// Scripts and documents, the status, and what is told of them.
+static COUNTED: [(&str, &str, u8, &str); 4] = [
+    ("", "", 0, "yes 0\n"),
+    ("solve\n", "", 5, "refused document 0\n"),
+    ("", SOLVED, 5, "refused document 0\n"),
+    ("solve\n", "assignment 2\n", 5, "refused document 1\n"),
+];
+
+// These, for a caller that needn't know them.
+fn counted() -> &'static [(&'static str, &'static str, u8, &'static str)] {
+    &COUNTED
+}
+
 #[test]
 fn documents_are_counted(rt: HostRuntime) -> Result<(), Fail> {
-    let alloc = rt.alloc();
-    assert!(rt; judges(alloc, "", "", (0, "yes 0\n"))?);
-    assert!(rt; judges(alloc, "solve\n", "", (5, "refused document 0\n"))?);
-    assert!(rt; judges(alloc, "", SOLVED, (5, "refused document 0\n"))?);
-    assert!(rt;
-        judges(
-            alloc,
-            "solve\n",
-            "assignment 2\n",
-            (5, "refused document 1\n")
-        )?
-    );
+    for (script, answer, code, text) in counted() {
+        let is_so = judges(rt.alloc(), script, answer, (*code, *text))?;
+        assert!(rt; is_so, "{script} {answer}");
+    }
     Ok(())
+}
+
+// Scripts, and how that document, written twice, is judged for each.
+static TWICE: [(&str, u8, &str); 3] = [
+    ("solve\nsolve\n", 0, "yes 2\n"),
+    ("solve\ncost 1 2 2\nsolve\n", 6, "no 2 4 0\n"),
+    ("cost 1 1 0\nsolve\nsolve\n", 6, "no 1 6 1\n"),
+];
+
+// These, for a caller that needn't know them.
+fn twice() -> &'static [(&'static str, u8, &'static str)] {
+    &TWICE
+}
+
+// Whether both documents are judged so.
+fn judges_twice(alloc: Global, script: &str, want: (u8, &str)) -> Result<bool, AllocError> {
+    let documents = format!(in alloc; "{SOLVED}{SOLVED}")?;
+    judges(alloc, script, &documents, want)
 }
 
 #[test]
 fn documents_are_judged_in_turn(rt: HostRuntime) -> Result<(), Fail> {
-    let alloc = rt.alloc();
-    let twice = format!(in alloc; "{SOLVED}{SOLVED}")?;
-    assert!(rt; judges(alloc, "solve\nsolve\n", &twice, (0, "yes 2\n"))?);
-    assert!(rt;
-        judges(
-            alloc,
-            "solve\ncost 1 2 2\nsolve\n",
-            &twice,
-            (6, "no 2 4 0\n")
-        )?
-    );
-    assert!(rt;
-        judges(
-            alloc,
-            "cost 1 1 0\nsolve\nsolve\n",
-            &twice,
-            (6, "no 1 6 1\n")
-        )?
-    );
+    for (script, code, text) in twice() {
+        assert!(rt;
+            judges_twice(rt.alloc(), script, (*code, *text))?,
+            "{script}"
+        );
+    }
     Ok(())
 }
 
@@ -369,27 +226,55 @@ fn faulty<'a>(
     run_over(alloc, words, &[], files)
 }
 
+// Whether such a run ends so.
+fn fails(
+    alloc: Global,
+    words: &[&str],
+    fetch_fails: &[u32],
+    put_fails: &[(u32, u32)],
+    want: (u8, &[u8]),
+) -> Result<bool, AllocError> {
+    let ran = faulty(alloc, words, fetch_fails, put_fails)?;
+    Ok(is_ended(&ran, want.0, want.1))
+}
+
 #[test]
 fn faults_of_the_shelf(rt: HostRuntime) -> Result<(), Fail> {
     let alloc = rt.alloc();
     let edit = ["edit", "sum", "f", "s"];
     let check = ["check", "sum", "f", "g", "--script", "s"];
-    assert!(rt; is_ended(&faulty(alloc, &edit, &[1], &[])?, 7, b""));
-    assert!(rt; is_ended(&faulty(alloc, &edit, &[2], &[])?, 7, b""));
-    assert!(rt; is_ended(&faulty(alloc, &check, &[1], &[])?, 7, b""));
-    assert!(rt; is_ended(&faulty(alloc, &check, &[2], &[])?, 7, b""));
-    assert!(rt; is_ended(&faulty(alloc, &check, &[3], &[])?, 7, b""));
+    assert!(rt; fails(alloc, &edit, &[1], &[], (7, b""))?);
+    assert!(rt; fails(alloc, &edit, &[2], &[], (7, b""))?);
+    assert!(rt; fails(alloc, &check, &[1], &[], (7, b""))?);
+    assert!(rt; fails(alloc, &check, &[2], &[], (7, b""))?);
+    assert!(rt; fails(alloc, &check, &[3], &[], (7, b""))?);
     Ok(())
+}
+
+// Whether a run wrote a part of what another one did, up to ten bytes of a document.
+fn is_part(part: &Ran, whole: &Ran) -> bool {
+    part.code == 8
+        && part.written.len() < whole.written.len()
+        && whole.written.starts_with(&part.written)
+        && part.written.ends_with(b"assignment")
+}
+
+// Whether one whose second put fails did, of what this one did.
+fn is_cut(alloc: Global, words: &[&str], whole: &Ran) -> Result<bool, AllocError> {
+    let part = faulty(alloc, words, &[], &[(2, 10)])?;
+    Ok(is_part(&part, whole))
+}
+
+// Whether it did, of what one without faults did.
+fn is_cut_short(alloc: Global, words: &[&str]) -> Result<bool, AllocError> {
+    let whole = faulty(alloc, words, &[], &[])?;
+    is_cut(alloc, words, &whole)
 }
 
 #[test]
 fn faults_of_the_sink(rt: HostRuntime) -> Result<(), Fail> {
-    let alloc = rt.alloc();
     let edit = ["edit", "sum", "f", "s"];
-    assert!(rt; is_ended(&faulty(alloc, &edit, &[], &[(1, 10)])?, 8, b"assignment"));
-    let whole = faulty(alloc, &edit, &[], &[])?;
-    let part = faulty(alloc, &edit, &[], &[(2, 10)])?;
-    assert!(rt; part.code == 8 && part.written.len() < whole.written.len());
-    assert!(rt; whole.written.starts_with(&part.written) && part.written.ends_with(b"assignment"));
+    assert!(rt; fails(rt.alloc(), &edit, &[], &[(1, 10)], (8, b"assignment"))?);
+    assert!(rt; is_cut_short(rt.alloc(), &edit)?);
     Ok(())
 }

@@ -166,14 +166,20 @@ fn levels_that_are_checked(rt: HostRuntime) -> Result<(), Fail> {
     Ok(())
 }
 
-// The square of so many rows and columns with the cost 0 everywhere.
-fn zeros(alloc: Global, side: u32) -> Result<String, AllocError> {
-    let mut file = format!(in alloc; "{side}\n")?;
+// Adds so many rows of as many zeros.
+fn add_zeros(file: &mut String, side: u32) -> Result<(), AllocError> {
     for _ in 0..side {
         for _ in 0..side {
             file.push_str("0 ")?;
         }
     }
+    Ok(())
+}
+
+// The square of so many rows and columns with the cost 0 everywhere.
+fn zeros(alloc: Global, side: u32) -> Result<String, AllocError> {
+    let mut file = format!(in alloc; "{side}\n")?;
+    add_zeros(&mut file, side)?;
     Ok(file)
 }
 
@@ -197,15 +203,20 @@ fn is_too_large(alloc: Global, file: &[u8], case: &Large) -> Result<bool, AllocE
     ends(alloc, case.0, &[], held(file, b""), want)
 }
 
-// What the first case says that isn't so.
-fn first_not_refused(alloc: Global) -> Result<Option<&'static str>, AllocError> {
-    let file = zeros(alloc, 201)?;
+// What the first case says that isn't so of a file.
+fn first_otherwise(alloc: Global, file: &[u8]) -> Result<Option<&'static str>, AllocError> {
     for case in large() {
-        if !is_too_large(alloc, file.as_bytes(), case)? {
+        if !is_too_large(alloc, file, case)? {
             return Ok(Some(case.2));
         }
     }
     Ok(None)
+}
+
+// What the first says that isn't of that of so many rows.
+fn first_not_refused(alloc: Global) -> Result<Option<&'static str>, AllocError> {
+    let file = zeros(alloc, 201)?;
+    first_otherwise(alloc, file.as_bytes())
 }
 
 #[test]

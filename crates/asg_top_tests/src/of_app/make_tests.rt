@@ -37,11 +37,16 @@ fn is_cut(whole: &Ran, cut: &Ran, written: usize) -> bool {
         && whole.written.get(..written) == Some(cut.written.as_slice())
 }
 
-// Whether a fault of a put leaves what it is to leave.
+// Whether a fault of a put leaves what it is to leave of the text of a run.
+fn leaves(alloc: Global, whole: &Ran, fault: &Fault) -> Result<bool, AllocError> {
+    let cut = made(alloc, &[(fault.0, fault.1)])?;
+    Ok(is_cut(whole, &cut, fault.2))
+}
+
+// Whether it does of one without faults.
 fn is_faulty(alloc: Global, fault: &Fault) -> Result<bool, AllocError> {
     let whole = made(alloc, &[])?;
-    let cut = made(alloc, &[(fault.0, fault.1)])?;
-    Ok(is_cut(&whole, &cut, fault.2))
+    leaves(alloc, &whole, fault)
 }
 
 #[test]

@@ -48,13 +48,29 @@ fn add_file(
     Ok(())
 }
 
+// Puts the three files under their names.
+fn add_files(
+    alloc: Global,
+    contents: &mut Vec<(String, Vec<u8>)>,
+    files: &Files<'_>,
+) -> Result<(), AllocError> {
+    add_file(alloc, contents, "f", files.f)?;
+    add_file(alloc, contents, "g", files.g)?;
+    add_file(alloc, contents, "s", files.s)
+}
+
+// The three files under their names.
+fn contents_of(alloc: Global, files: &Files<'_>) -> Result<Vec<(String, Vec<u8>)>, AllocError> {
+    let mut contents = Vec::new(alloc);
+    add_files(alloc, &mut contents, files)?;
+    Ok(contents)
+}
+
 // The shelf with the three files.
 fn shelf_of(alloc: Global, files: &Files<'_>) -> Result<MemoryShelf, AllocError> {
-    let mut contents = Vec::new(alloc);
-    add_file(alloc, &mut contents, "f", files.f)?;
-    add_file(alloc, &mut contents, "g", files.g)?;
-    add_file(alloc, &mut contents, "s", files.s)?;
-    Ok(MemoryShelf::with(alloc, contents, files.fetch_fails.to_vec(alloc)?))
+    let fails = files.fetch_fails.to_vec(alloc)?;
+    let contents = contents_of(alloc, files)?;
+    Ok(MemoryShelf::with(alloc, contents, fails))
 }
 
 // The sink with this room.
@@ -70,11 +86,21 @@ fn add_words(alloc: Global, line: &mut Vec<String>, words: &[&str]) -> Result<()
     Ok(())
 }
 
+// Adds words and then options to a line.
+fn add_both(
+    alloc: Global,
+    line: &mut Vec<String>,
+    words: &[&str],
+    options: &[&str],
+) -> Result<(), AllocError> {
+    add_words(alloc, line, words)?;
+    add_words(alloc, line, options)
+}
+
 // The words of a line, and then its options.
 fn line_of(alloc: Global, words: &[&str], options: &[&str]) -> Result<Vec<String>, AllocError> {
     let mut line = Vec::new(alloc);
-    add_words(alloc, &mut line, words)?;
-    add_words(alloc, &mut line, options)?;
+    add_both(alloc, &mut line, words, options)?;
     Ok(line)
 }
 
@@ -90,6 +116,33 @@ fn run_made(
     Ok(Ran { code, written })
 }
 
+// A run over a shelf that is made, and a sink with this room.
+fn run_shelf(
+    alloc: Global,
+    room: u32,
+    line: &[String],
+    shelf: &mut MemoryShelf,
+    files: &Files<'_>,
+) -> Result<Ran, AllocError> {
+    let mut out = sink_of(alloc, room, files)?;
+    let ran = run_made(alloc, line, shelf, &mut out);
+    drop(out);
+    ran
+}
+
+// A run with the words of a line, over a sink with this room.
+fn run_line(
+    alloc: Global,
+    room: u32,
+    line: &[String],
+    files: &Files<'_>,
+) -> Result<Ran, AllocError> {
+    let mut shelf = shelf_of(alloc, files)?;
+    let ran = run_shelf(alloc, room, line, &mut shelf, files);
+    drop(shelf);
+    ran
+}
+
 // A run with these words, and then these options, over a sink with this room.
 pub(crate) fn run_within(
     alloc: Global,
@@ -99,9 +152,7 @@ pub(crate) fn run_within(
     files: Files<'_>,
 ) -> Result<Ran, AllocError> {
     let line = line_of(alloc, words, options)?;
-    let mut shelf = shelf_of(alloc, &files)?;
-    let mut out = sink_of(alloc, room, &files)?;
-    run_made(alloc, &line, &mut shelf, &mut out)
+    run_line(alloc, room, &line, &files)
 }
 
 // A run with these words, and then these options.

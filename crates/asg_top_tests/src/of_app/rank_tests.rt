@@ -104,14 +104,15 @@ fn is_accepted(alloc: Global, case: &Ranking, ran: &Ran) -> Result<bool, AllocEr
     ends(alloc, &words, &[], files, (0, b"yes 1\n"))
 }
 
-// Whether a request to rank has its status and its document, and the document is accepted.
+// Whether a run has the status of a case and its document, and the document is accepted.
+fn is_right(alloc: Global, case: &Ranking, ran: &Ran) -> Result<bool, AllocError> {
+    Ok(is_ranked(alloc, case, ran)? && is_accepted(alloc, case, ran)?)
+}
+
+// Whether the run that ranks a case has them.
 fn is_answered(alloc: Global, case: &Ranking) -> Result<bool, AllocError> {
     let ran = ranked(alloc, case)?;
-    if is_ranked(alloc, case, &ran)? {
-        is_accepted(alloc, case, &ran)
-    } else {
-        Ok(false)
-    }
+    is_right(alloc, case, &ran)
 }
 
 #[test]

@@ -31,14 +31,15 @@ fn solved(alloc: Global, case: &Case) -> Result<Ran, AllocError> {
     run_over(alloc, &words, case.1, held(case.2.as_bytes(), b""))
 }
 
-// Whether a request has its status and its document, and the document is accepted.
+// Whether a run has the status of a case and its document, and the document is accepted.
+fn is_right(alloc: Global, case: &Case, ran: &Ran) -> Result<bool, AllocError> {
+    Ok(is_written(alloc, case, ran)? && is_accepted(alloc, case, ran)?)
+}
+
+// Whether the run that solves a case has them.
 pub(crate) fn is_answered(alloc: Global, case: &Case) -> Result<bool, AllocError> {
     let ran = solved(alloc, case)?;
-    if is_written(alloc, case, &ran)? {
-        is_accepted(alloc, case, &ran)
-    } else {
-        Ok(false)
-    }
+    is_right(alloc, case, &ran)
 }
 
 #[test]
@@ -162,12 +163,18 @@ fn add_products(alloc: Global, number: u32, file: &mut String) -> Result<(), All
     Ok(())
 }
 
-// The square of side 800 whose costs are the products of the numbers of row and column.
+// Adds the products of the numbers of row and column, row by row.
+fn add_rows(alloc: Global, file: &mut String) -> Result<(), AllocError> {
+    for number in 1..801u32 {
+        add_products(alloc, number, file)?;
+    }
+    Ok(())
+}
+
+// The square of side 800 whose costs these are.
 fn products(alloc: Global) -> Result<String, AllocError> {
     let mut file = String::from_str(alloc, "800\n")?;
-    for number in 1..801u32 {
-        add_products(alloc, number, &mut file)?;
-    }
+    add_rows(alloc, &mut file)?;
     Ok(file)
 }
 

@@ -1,17 +1,16 @@
 use Rattle.std.proofs.Common.{◌≡◌, true, Some, sym, ap, ◌∙◌, subst}
 use Rattle.std.specs.Prelude.{IfSome}
-use Rattle.asg_requests.specs.declared.requests.Request.TheVariants.{Work}
-use Rattle.asg_app.specs.Due.{DueForAsked, DueForPart}
+use Rattle.asg_promises.specs.Due.{DueForAsked, DueForPart}
 use Rattle.asg_app.specs.Ends.{Ends}
-use Rattle.asg_app.specs.Readiness.{IsReadyRequest}
-use Rattle.asg_app.specs.Requests.{is_streamed}
+use Rattle.asg_requests.specs.Bounds.{IsRequest}
+use Rattle.asg_promises.specs.Requests.{is_streamed}
 use Rattle.asg_app.proofs.answers.answer_streamed.Goals as goal
 
-pub answer-requires-clause-ready : goal.answer-requires-clause-ready
-answer-requires-clause-ready g c =
+pub answer-requires-clause-within : goal.answer-requires-clause-within
+answer-requires-clause-within g c =
     let here = c.in-Some-Work in
     let work = rw here.is at here.field-0-is in
-    subst (λ asked. IfSome asked IsReadyRequest) (here.is ∙ ap Some work) c.requires.ready
+    subst (λ asked. IfSome asked IsRequest) (here.is ∙ ap Some work) c.requires.within
 
 pub answer-requires-clause-edits : goal.answer-requires-clause-edits
 answer-requires-clause-edits g c =

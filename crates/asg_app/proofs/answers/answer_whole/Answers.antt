@@ -1,12 +1,11 @@
 use Rattle.std.proofs.Common.{false}
-use Rattle.asg_app.specs.Due.{DueForAsked}
+use Rattle.asg_promises.specs.Due.{DueForAsked}
 use Rattle.asg_answers.specs.Replies.{bytes_of}
 use Rattle.asg_app.proofs.EditEnds.{Ends-nothing, Ends-owed}
-use Rattle.asg_app.proofs.StageLaws.{asked_answer}
 use Rattle.asg_app.proofs.answers.answer_whole.Goals as goal
 
 pub put-requires : goal.put-requires
-put-requires g c = asked_answer c.args.asked.now.request c.args.asked.now.sources c.in-Ok.reply.status (bytes_of c.in-Ok.reply.text) c.in-Ok.ensures
+put-requires g c = c.answer_law.ensures.answers c.args.asked.now.request c.args.asked.now.sources c.in-Ok.reply.status (bytes_of c.in-Ok.reply.text) c.in-Ok.ensures
 
 pub returns-in-Ok : goal.returns-in-Ok
 returns-in-Ok g c =

@@ -5,8 +5,9 @@ use Rattle.std.proofs.lemmas.Result.{err_from_is_err_and}
 use Rattle.asg_io.specs.Shelf.{asked_after}
 use Rattle.asg_model.specs.Limits.{longest_file}
 use Rattle.asg_requests.specs.declared.requests.Request.TheVariants.{Work}
-use Rattle.asg_app.specs.Fetches.{AreGiven, Fails, Gives, MayHold, StopsAt}
-use Rattle.asg_app.specs.Requests.{files_of}
+use Rattle.asg_app.specs.Fetches.{AreGiven, Fails, Gives, StopsAt}
+use Rattle.asg_promises.specs.Sources.{MayHold}
+use Rattle.asg_promises.specs.Requests.{files_of}
 use Rattle.asg_app.proofs.Fetching.{asked_same, given_more, if_err, stop_at, stop_short}
 use Rattle.asg_app.proofs.files.fetch_all.Goals as goal
 

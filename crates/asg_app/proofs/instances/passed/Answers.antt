@@ -1,10 +1,9 @@
 use Rattle.std.proofs.Common.{◌≡◌, ◌∙◌, ℕ, List, [], ◌∷◌, Option, ap, refl, sym, subst}
 use Rattle.std.specs.Prelude.{IfOk, IsNone}
 use Rattle.std.specs.Result.{IfErr}
-use Rattle.asg_app.specs.InstanceFile.{Holds, Refuses, passed, passed_by, sided}
+use Rattle.asg_promises.specs.InstanceFile.{Holds, Refuses, passed, passed_by, sided}
 use Rattle.asg_app.specs.Stops.{StopsInstance}
 use Rattle.asg_app.proofs.InstanceLemmas.{stops_file}
-use Rattle.asg_app.proofs.RefusedCosts.{first_found, first_none}
 use Rattle.asg_app.proofs.instances.passed.Goals as goal
 
 pub returns-in-Some-clause-stop : goal.returns-in-Some-clause-stop
@@ -12,7 +11,7 @@ returns-in-Some-clause-stop c =
     let job = c.args.job.now in
     let X = c.args.inst in
     let numbers : List ℕ = 14 ∷ c.from.result ∷ c.from-in-Some.result ∷ [] in
-    let found = first_found job.objective X (c.in-Some.row, c.in-Some.column) c.in-Some.ensures.found in
+    let found = c.refused_cost_law.ensures.first job.objective X (c.in-Some.row, c.in-Some.column) c.in-Some.ensures.found in
     let file : passed job.objective X ≡ Refuses numbers = ap (λ found. passed_by found X) found ∙ (λ i. Refuses (14 ∷ sym c.from.ensures i ∷ sym c.from-in-Some.ensures i ∷ [])) in
     subst (StopsInstance (passed job.objective X)) (sym c.stopped.ensures) (stops_file (passed job.objective X) numbers c.refusal.result file c.refusal.ensures)
 
@@ -20,12 +19,12 @@ pub returns-in-None-clause-held : goal.returns-in-None-clause-held
 returns-in-None-clause-held c =
     let job = c.args.job.now in
     let X = c.args.inst in
-    let file : passed job.objective X ≡ sided X = ap (λ found. passed_by found X) (first_none job.objective X (c.negative.ensures.none.0 (subst (λ (found : Option (ℕ × ℕ)). IsNone found) (sym c.in-None.is) refl))) in
+    let file : passed job.objective X ≡ sided X = ap (λ found. passed_by found X) ((c.refused_cost_law.ensures.none job.objective X).1 (c.negative.ensures.none.0 (subst (λ (found : Option (ℕ × ℕ)). IsNone found) (sym c.in-None.is) refl))) in
     subst (λ found. IfOk c.sided.result (λ held. found ≡ Holds held)) (sym file) c.sided.ensures.held
 
 pub returns-in-None-clause-stop : goal.returns-in-None-clause-stop
 returns-in-None-clause-stop c =
     let job = c.args.job.now in
     let X = c.args.inst in
-    let file : passed job.objective X ≡ sided X = ap (λ found. passed_by found X) (first_none job.objective X (c.negative.ensures.none.0 (subst (λ (found : Option (ℕ × ℕ)). IsNone found) (sym c.in-None.is) refl))) in
+    let file : passed job.objective X ≡ sided X = ap (λ found. passed_by found X) ((c.refused_cost_law.ensures.none job.objective X).1 (c.negative.ensures.none.0 (subst (λ (found : Option (ℕ × ℕ)). IsNone found) (sym c.in-None.is) refl))) in
     subst (λ found. IfErr c.sided.result (StopsInstance found)) (sym file) c.sided.ensures.stop

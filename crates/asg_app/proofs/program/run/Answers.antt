@@ -1,12 +1,12 @@
 use Rattle.std.proofs.Common.{[], map, string_bytes, subst, ap, sym, ◌∙◌, ◌++◌}
 use Rattle.asg_io.specs.Laws.{Puts-nil}
-use Rattle.asg_app.specs.Due.{Due, DueForAsked, DueForPart}
-use Rattle.asg_app.specs.Fetches.{AreGiven, AsksOf, Given, MayHoldAll, Stopped, status_of}
-use Rattle.asg_app.specs.Requests.{files_of, asked_of}
+use Rattle.asg_promises.specs.Due.{Due, DueForAsked, DueForPart}
+use Rattle.asg_app.specs.Fetches.{AreGiven, AsksOf, Given, Stopped, status_of}
+use Rattle.asg_promises.specs.Sources.{MayHoldAll}
+use Rattle.asg_promises.specs.Requests.{files_of, asked_of}
 use Rattle.asg_answers.specs.Statuses.{IsAnswer}
 use Rattle.asg_app.proofs.Fetching.{all_asked, given_asked, given_held, given_short, stopped_asked}
 use Rattle.asg_app.proofs.RunLemmas.{answer_without_fault, status_of_no_write, stopped_answer, stopped_fault, written_in_part}
-use Rattle.asg_app.proofs.StageLaws.{short_answer}
 use Rattle.asg_app.proofs.program.run.Goals as goal
 
 pub returns-in-Ok-clause-in_turn : goal.returns-in-Ok-clause-in_turn
@@ -21,7 +21,7 @@ returns-in-Ok-clause-in_turn g c =
     c.answer.ensures.no_read_fault
     (λ e.
     let answered = c.answer.ensures.answered (rw e tt) in
-    short_answer c.in-Ok.asked.request sources answered.0 short (subst (λ status. DueForAsked c.in-Ok.asked.request sources status answered.0) e answered.1))
+    c.answer_law.ensures.short c.in-Ok.asked.request sources answered.0 short (subst (λ status. DueForAsked c.in-Ok.asked.request sources status answered.0) e answered.1))
 
 pub returns-in-Ok-clause-complete : goal.returns-in-Ok-clause-complete
 returns-in-Ok-clause-complete g c = λ tells status text due no_read no_write.

@@ -1,7 +1,7 @@
 use Rattle.std.proofs.Common.{◌≡◌, subst}
-use Rattle.asg_app.specs.Due.{DueForJob, DueForTask, Held}
-use Rattle.asg_app.specs.InstanceFile.{Holds, instance_in}
-use Rattle.asg_app.specs.Sources.{content_at}
+use Rattle.asg_promises.specs.Due.{DueForJob, DueForTask, Held}
+use Rattle.asg_promises.specs.InstanceFile.{Holds, instance_in}
+use Rattle.asg_promises.specs.Sources.{content_at}
 use Rattle.asg_app.specs.Stops.{StopsInstance}
 use Rattle.std.proofs.lemmas.Result.{IfOk-weaker}
 use Rattle.asg_answers.specs.Replies.{Answers}

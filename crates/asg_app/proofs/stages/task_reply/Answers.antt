@@ -1,17 +1,13 @@
-use Rattle.std.proofs.Common.{◌∙◌, length, sym, ap, subst}
+use Rattle.std.proofs.Common.{◌∷◌, ◌∙◌, [], sym, ap, subst}
 use Rattle.std.specs.Prelude.{IfOk}
-use Rattle.std.proofs.lemmas.Result.{IfOk-weaker}
+use Rattle.asg_check.specs.declared.document_forms.Form.TheVariants.{Edit}
 use Rattle.asg_requests.specs.declared.requests.Task.TheVariants.{Check}
 use Rattle.asg_scripts.specs.Scripts.{script_in, solved_instances}
-use Rattle.asg_answers.specs.Replies.{Answers, bytes_of}
-use Rattle.asg_app.specs.AnswersStage.{UnlessMiscounted}
-use Rattle.asg_app.specs.AnswerStage.{UnlessUnread}
-use Rattle.asg_app.specs.Due.{DueForTask}
-use Rattle.asg_app.specs.DueToCheck.{DueToCheck, form_asked}
-use Rattle.asg_app.specs.DueToJudge.{DueToJudge}
-use Rattle.asg_app.specs.ScriptStage.{DueForScript}
-use Rattle.asg_app.specs.Sources.{content_at}
-use Rattle.asg_app.proofs.TaskCases.{built_task, judged_due}
+use Rattle.asg_answers.specs.Replies.{Answers}
+use Rattle.asg_promises.specs.Due.{DueForTask}
+use Rattle.asg_promises.specs.DueToCheck.{DueToCheck, form_asked}
+use Rattle.asg_promises.specs.ScriptStage.{DueForScript}
+use Rattle.asg_promises.specs.Sources.{content_at}
 use Rattle.asg_app.proofs.stages.task_reply.Goals as goal
 
 pub returns-in-Solve : goal.returns-in-Solve
@@ -30,8 +26,8 @@ returns-in-Check-default-None-default c =
     let here = c.in-Check-default-None-default in
     let script_is = rw here.is at here.script-is in
     let r = c.reply-in-Check-default-None-default in
-    let formed = subst (λ form. IfOk r.result (Answers (UnlessUnread c.at.result.now (DueToCheck job form X)))) c.form_asked.ensures r.ensures in
-    let told = subst (λ bytes. IfOk r.result (Answers (UnlessUnread bytes (DueToCheck job (form_asked here.count) X)))) c.at.ensures.bytes formed in
+    let formed = subst (λ form. IfOk r.result (Answers (DueToCheck job.objective form (X ∷ []) c.at.result.now))) c.form_asked.ensures r.ensures in
+    let told = subst (λ bytes. IfOk r.result (Answers (DueToCheck job.objective (form_asked here.count) (X ∷ []) bytes))) c.at.ensures.bytes formed in
     subst (λ task. IfOk r.result (Answers (DueForTask task job contents X))) (sym (here.is ∙ ap (λ script. Check here.answer script here.count) script_is)) told
 
 pub returns-in-Check-default-Some-default : goal.returns-in-Check-default-Some-default
@@ -41,11 +37,9 @@ returns-in-Check-default-Some-default c =
     let contents = c.args.sources.now in
     let here = c.in-Check-default-Some-default in
     let script_is = rw here.is at here.script-is in
-    let r = c.reply-in-Check-default-Some-default in
+    let r = c.script_reply in
     let script = c.at-in-Check-default-Some-default in
     let answer = c.at-in-Check-default-Some-default-2 in
-    let scripted = subst (λ bytes. IfOk r.result (Answers (DueForScript (script_in job.objective X bytes) (λ lines. UnlessMiscounted answer.result.now (length (solved_instances X lines)) (DueToJudge job.objective 0 (solved_instances X lines)))))) script.ensures.bytes r.ensures in
-    let told = subst (λ bytes. IfOk r.result (Answers (DueForScript (script_in job.objective X (content_at contents 1)) (λ lines. UnlessMiscounted bytes (length (solved_instances X lines)) (DueToJudge job.objective 0 (solved_instances X lines)))))) answer.ensures.bytes scripted in
-    IfOk-weaker r.result _ _
-    (λ reply due. judged_due job.task job contents X here.answer here.script-0 here.count (built_task job c.requires.ready.built) (here.is ∙ ap (λ script. Check here.answer script here.count) script_is) reply.status (bytes_of reply.text) due)
-    told
+    let scripted = subst (λ bytes. IfOk r.result (Answers (DueForScript (script_in job.objective X bytes) (λ lines. DueToCheck job.objective Edit (solved_instances X lines) answer.result.now)))) script.ensures.bytes r.ensures in
+    let told = subst (λ bytes. IfOk r.result (Answers (DueForScript (script_in job.objective X (content_at contents 1)) (λ lines. DueToCheck job.objective Edit (solved_instances X lines) bytes)))) answer.ensures.bytes scripted in
+    subst (λ task. IfOk r.result (Answers (DueForTask task job contents X))) (sym (here.is ∙ ap (λ script. Check here.answer script here.count) script_is)) told

@@ -1,25 +1,27 @@
-use Rattle.std.proofs.Common.{refl, arith}
+use Rattle.std.proofs.Common.{◌∙◌, refl, sym}
 use Rattle.asg_doc.specs.Text.{texts_of}
+use Rattle.asg_scripts.specs.Scripts.{solved_instances}
 use Rattle.asg_answers.specs.declared.status.Status.TheVariants.{Document}
-use Rattle.asg_app.specs.AnswerStage.{UnlessUnread, Miscounted}
-use Rattle.asg_app.specs.DueToCheck.{DueToCheck}
-use Rattle.asg_app.proofs.AnswerLemmas.{one_has_text, one_read}
+use Rattle.asg_promises.specs.DueToCheck.{DueToCheck, Miscounted, Read}
+use Rattle.asg_promises.specs.DueToJudge.{DueToJudge}
+use Rattle.asg_answers.specs.Texts.{refused_document_text}
 use Rattle.asg_app.proofs.ReplyLemmas.{owed_as, replied}
+use Rattle.asg_scripts.specs.Laws.{solved_count}
 use Rattle.asg_app.proofs.commands.check.documents_reply.Goals as goal
 
-pub verdict-requires-clause-text : goal.verdict-requires-clause-text
-verdict-requires-clause-text c = one_has_text c.args.documents.now c.document-item.result c.requires.text c.in-len1.len_at_least c.document-item.is
-
-pub returns-in-len1 : goal.returns-in-len1
-returns-in-len1 c =
-    owed_as (DueToCheck c.args.job.now c.args.form c.args.inst.now c.document-item.result) (UnlessUnread (texts_of c.args.documents.now) (DueToCheck c.args.job.now c.args.form c.args.inst.now)) c.verdict.result
-    (one_read c.args.documents.now c.document-item.result (DueToCheck c.args.job.now c.args.form c.args.inst.now) c.requires.text c.in-len1.len_at_least c.in-len1.len_below c.document-item.is)
+pub returns-then-found-due : goal.returns-then-found-due
+returns-then-found-due c =
+    let instances = solved_instances c.args.inst c.args.lines.now in
+    let documents = c.args.documents.now in
+    let objective = c.args.job.now.objective in
+    owed_as (DueToJudge objective c.args.form 0 instances documents) (DueToCheck objective c.args.form instances (texts_of documents)) c.verdict.result
+    (λ status text owed. Read documents c.requires.text refl (c.if-found-due.true ∙ c.solve_count-due.ensures ∙ sym (solved_count c.args.inst c.args.lines.now)) owed)
     c.verdict.ensures
 
-pub returns-in-empty : goal.returns-in-empty
-returns-in-empty c =
-    replied (UnlessUnread (texts_of c.args.documents.now) (DueToCheck c.args.job.now c.args.form c.args.inst.now)) Document _ c.refusal.result
-    (Miscounted c.args.documents.now c.requires.text refl
-    (λ one. absurd (grind arith))
-    refl refl)
+pub returns-else-found-due : goal.returns-else-found-due
+returns-else-found-due c =
+    let instances = solved_instances c.args.inst c.args.lines.now in
+    let documents = c.args.documents.now in
+    replied (DueToCheck c.args.job.now.objective c.args.form instances (texts_of documents)) Document (refused_document_text 0) c.refusal.result
+    (Miscounted documents c.requires.text refl (λ same. c.if-found-due.false (same ∙ solved_count c.args.inst c.args.lines.now ∙ sym c.solve_count-due.ensures)) refl refl)
     c.refusal.ensures

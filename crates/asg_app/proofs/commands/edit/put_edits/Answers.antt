@@ -1,9 +1,8 @@
 use Rattle.std.proofs.Common.{◌≡◌, None, sym, subst}
-use Rattle.asg_app.specs.Sources.{content_at}
+use Rattle.asg_promises.specs.Sources.{content_at}
 use Rattle.asg_answers.specs.WrittenLines.{WritesAll, WritesFront}
 use Rattle.asg_scripts.specs.Scripts.{first_refused}
-use Rattle.asg_app.proofs.EditEnds.{Ends-done, Ends-fault, Ends-wanting, edits_algebraic}
-use Rattle.asg_app.proofs.TaskCases.{built_word}
+use Rattle.asg_app.proofs.EditEnds.{Ends-done, Ends-fault, Ends-wanting, edits_algebraic, word_of}
 use Rattle.asg_scripts.specs.Laws.{held_passes}
 use Rattle.asg_app.proofs.commands.edit.put_edits.Goals as goal
 
@@ -14,8 +13,8 @@ put_lines-requires g c =
     let started = c.requires.started.1 in
     let X = c.args.work.now.editor.instance in
     record {
-      word = built_word job c.requires.ready.built c.requires.ready.within;
-      algebraic = edits_algebraic job c.requires.edits c.requires.ready.within;
+      word = word_of job c.requires.within;
+      algebraic = edits_algebraic job c.requires.edits c.requires.within;
       side = c.instance_law.ensures.side (content_at contents 0) job X started.held;
       passes = c.instance_law.ensures.passes (content_at contents 0) job X started.held;
       objective = started.objective;

@@ -1,15 +1,16 @@
 use Rattle.std.proofs.Common.{inl, true, Some, subst}
 use Rattle.asg_requests.specs.declared.requests.Request.TheVariants.{Work}
-use Rattle.asg_app.specs.Due.{DueForJob, DueForPart}
+use Rattle.asg_answers.specs.Replies.{bytes_of}
+use Rattle.asg_promises.specs.Due.{DueForJob, DueForPart}
 use Rattle.asg_app.specs.Edits.{StopsJob}
-use Rattle.asg_app.proofs.EditEnds.{Ends-nothing, Ends-owed, stopped_answer}
+use Rattle.asg_app.proofs.EditEnds.{Ends-nothing, Ends-owed}
 use Rattle.asg_app.proofs.commands.edit.put_stop.Goals as goal
 
 pub put-requires : goal.put-requires
 put-requires g c =
     let job = c.requires.0 in
     let contents = c.requires.1 in
-    stopped_answer job contents c.in-Ok.reply (subst (StopsJob job contents) c.in-Ok.ensures c.requires.2)
+    c.answer_law.ensures.answers (Some (Work job)) contents c.in-Ok.reply.status (bytes_of c.in-Ok.reply.text) (subst (StopsJob job contents) c.in-Ok.ensures c.requires.2)
 
 pub returns-in-Ok : goal.returns-in-Ok
 returns-in-Ok g c = λ job contents stops.

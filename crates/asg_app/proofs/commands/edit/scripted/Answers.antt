@@ -3,13 +3,13 @@ use Rattle.std.proofs.lemmas.Result.{IfErr-weaker}
 use Rattle.asg_app.specs.Edits.{StopsJob}
 use Rattle.asg_app.specs.Stops.{StopsScript}
 use Rattle.asg_app.specs.declared.stops.Stop.TheVariants.{NoMemory}
-use Rattle.asg_app.specs.Sources.{content_at}
+use Rattle.asg_promises.specs.Sources.{content_at}
 use Rattle.asg_scripts.specs.Scripts.{HoldsLines, script_in}
 use Rattle.asg_app.proofs.EditEnds.{IsStarted-opened, edits_algebraic, script_stop, wanting_stop}
 use Rattle.asg_app.proofs.commands.edit.scripted.Goals as goal
 
 pub opened-requires-clause-algebraic : goal.opened-requires-clause-algebraic
-opened-requires-clause-algebraic c = edits_algebraic c.args.job.now c.requires.edits c.requires.ready.within
+opened-requires-clause-algebraic c = edits_algebraic c.args.job.now c.requires.edits c.requires.within
 
 pub opened-requires-clause-side : goal.opened-requires-clause-side
 opened-requires-clause-side c = c.instance_law.ensures.side (content_at c.args.sources.now 0) c.args.job.now c.args.inst c.requires.held

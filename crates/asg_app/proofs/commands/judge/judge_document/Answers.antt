@@ -1,7 +1,6 @@
 use Rattle.std.proofs.Common.{◌+◌, ◌∙◌, ap, sym, subst}
 use Rattle.std.specs.Int.{w64}
 use Rattle.std.proofs.lemmas.Int.{to_z-of_z}
-use Rattle.asg_check.specs.declared.verdicts.Form.TheVariants.{Edit as EditForm}
 use Rattle.asg_doc.specs.HasText.{HasText}
 use Rattle.asg_answers.specs.Texts.{no_text}
 use Rattle.asg_app.proofs.JudgeLemmas.{judges_certified, judges_denied}
@@ -14,8 +13,7 @@ returns-in-Yes c = λ instances.
     let X = c.args.inst.now in
     let document = c.index-documents-count.result in
     let certifies = c.in_ok-check.ensures.exact.0 c.in-Yes.is in
-    judges_certified objective c.args.count X instances c.args.documents.now document c.requires.within c.index-documents-count.is certifies
-    (c.soundness_law.ensures objective X EditForm document c.rows-rows.ensures.instance c.requires.passes tt certifies)
+    judges_certified objective c.args.form c.args.count X instances c.args.documents.now document c.requires.within c.index-documents-count.is certifies (c.in_ok-check.ensures.sound c.in-Yes.is)
 
 pub returns-in_ok-denial-in-No : goal.returns-in_ok-denial-in-No
 returns-in_ok-denial-in-No c = λ instances.
@@ -26,7 +24,7 @@ returns-in_ok-denial-in-No c = λ instances.
     let has_text = subst HasText (sym c.index-documents-count.is) (c.requires.text c.args.count document c.requires.within) in
     let fits = place_fits _ _ _ _ _ _ c.rows-rows.ensures.instance has_text first in
     let says = c.in_ok-denial-in-No.ensures in
-    judges_denied objective c.args.count X instances c.args.documents.now document c.requires.within c.index-documents-count.is c.in-No.reason c.in-No.place c.in_ok-denial-in-No.field-0
+    judges_denied objective c.args.form c.args.count X instances c.args.documents.now document c.requires.within c.index-documents-count.is c.in-No.reason c.in-No.place c.in_ok-denial-in-No.field-0
     (λ certifies. let yes_too = c.in_ok-check.ensures.exact.1 certifies in cc)
     first
     (says.0, sym (ap (no_text (c.args.count + 1) c.in-No.reason) (to_z-of_z w64 c.in-No.place fits)) ∙ says.1)

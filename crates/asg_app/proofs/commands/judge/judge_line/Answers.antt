@@ -20,7 +20,7 @@ returns-in-Solve-clause-judged c =
     let X = c.args.inst.now in
     IfOk-weaker c.judge_document.result _ _
     (λ denied judged number lines.
-    subst (λ line. JudgesOn objective c.args.count (solved_instances X ((number, line) ∷ lines)) c.args.documents.now (c.args.count + solves line) (solved_instances X lines) denied) (sym c.in-Solve.is) (judged (solved_instances X lines)))
+    subst (λ line. JudgesOn objective c.args.form c.args.count (solved_instances X ((number, line) ∷ lines)) c.args.documents.now (c.args.count + solves line) (solved_instances X lines) denied) (sym c.in-Solve.is) (judged (solved_instances X lines)))
     c.judge_document.ensures
 
 pub edit_instance-requires : goal.edit_instance-requires
@@ -44,5 +44,5 @@ pub returns-in_ok-edit_instance-in-Edit-clause-judged : goal.returns-in_ok-edit_
 returns-in_ok-edit_instance-in-Edit-clause-judged c = λ number lines.
     let objective = c.args.job.now.objective in
     let X = c.args.inst.now in
-    subst (λ line. JudgesOn objective c.args.count (solved_instances X ((number, line) ∷ lines)) c.args.documents.now (c.args.count + solves line) (solved_instances c.edit_instance.new.inst lines) None) (sym c.in-Edit.is)
-    (judges_edit objective c.args.count X c.edit_instance.new.inst c.in-Edit.edit c.args.documents.now c.in_ok-edit_instance-in-Edit.ensures number lines)
+    subst (λ line. JudgesOn objective c.args.form c.args.count (solved_instances X ((number, line) ∷ lines)) c.args.documents.now (c.args.count + solves line) (solved_instances c.edit_instance.new.inst lines) None) (sym c.in-Edit.is)
+    (judges_edit objective c.args.form c.args.count X c.edit_instance.new.inst c.in-Edit.edit c.args.documents.now c.in_ok-edit_instance-in-Edit.ensures number lines)

@@ -1,6 +1,6 @@
-use Rattle.std.proofs.Common.{◌≡◌, ap, ◌∙◌, refl, subst, sym}
-use Rattle.asg_text.specs.RectTexts.{IsPlain, rect_text}
-use Rattle.asg_app.proofs.MadeLaws.{generated_is_plain}
+use Rattle.std.proofs.Common.{subst, sym}
+use Rattle.asg_text.specs.RectTexts.{IsPlain}
+use Rattle.asg_promises.specs.laws.MadeInstances.{generated_is_plain}
 use Rattle.asg_app.proofs.commands.make.reply.Goals as goal
 
 pub write_rect-requires : goal.write_rect-requires

@@ -1,5 +1,5 @@
 use Rattle.std.proofs.Common.{refl}
-use Rattle.asg_app.specs.DueToSolve.{Unsolvable}
+use Rattle.asg_promises.specs.DueToSolve.{Unsolvable}
 use Rattle.asg_app.proofs.commands.solve.none_reply.Goals as goal
 
 pub returns : goal.returns

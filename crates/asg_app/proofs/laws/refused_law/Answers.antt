@@ -1,6 +1,0 @@
-use Rattle.asg_app.specs.Requests.{asked_of}
-use Rattle.asg_app.proofs.StageLaws.{refused_only}
-use Rattle.asg_app.proofs.laws.refused_law.Goals as goal
-
-pub returns : goal.returns
-returns c = λ words told text due. refused_only (asked_of words) told due.0 text due.1 due.2

@@ -1,0 +1,14 @@
+pub mod Due
+pub mod DueToCheck
+pub mod DueToEdit
+pub mod DueToJudge
+pub mod DueToMake
+pub mod DueToRank
+pub mod DueToSolve
+pub mod InstanceFile
+pub mod Promised
+pub mod RefusedCosts
+pub mod Requests
+pub mod ScriptStage
+pub mod Sources
+pub mod laws

@@ -58,5 +58,7 @@ pub(crate) fn found_by_arcs(
         return Ok(None);
     }
     let mut bench = ArcBench::make(alloc, arcs, columns)?;
-    found_on_bench(alloc, side, classes, arcs, &mut bench)
+    let found = found_on_bench(alloc, side, classes, arcs, &mut bench);
+    drop(bench);
+    found
 }

@@ -78,6 +78,16 @@ fn list_row(arcs: &mut Arcs, sums: &Sums<'_>, row: u32) -> Result<(), NoMemory> 
     Ok(())
 }
 
+// Lists the present cells of rows.
+fn list_rows(arcs: &mut Arcs, sums: &Sums<'_>, rows: &[u32]) -> Result<(), NoMemory> {
+    for row in rows {
+        arcs.starts.push(name(arcs.columns.len()))?;
+        list_row(arcs, sums, *row)?;
+    }
+    arcs.starts.push(name(arcs.columns.len()))?;
+    Ok(())
+}
+
 // The present cells of the counted rows, where they are few and each column is a class of its own;
 // `None` otherwise. The error is want of memory.
 pub(crate) fn arcs_of(
@@ -98,10 +108,11 @@ pub(crate) fn arcs_of(
         columns: Vec::with_capacity(alloc, count)?,
         cells: Vec::with_capacity(alloc, count)?,
     };
-    for place in 0..rows {
-        arcs.starts.push(name(arcs.columns.len()))?;
-        list_row(&mut arcs, sums, classes.rows[place])?;
+    match list_rows(&mut arcs, sums, classes.rows.as_slice()) {
+        Ok(()) => Ok(Some(arcs)),
+        Err(want) => {
+            drop(arcs);
+            Err(want)
+        }
     }
-    arcs.starts.push(name(arcs.columns.len()))?;
-    Ok(Some(arcs))
 }

@@ -118,6 +118,40 @@ fn restore<N: Number>(alloc: Global, bench: &mut Bench<N>, order: &[u32]) -> Res
     Ok(())
 }
 
+// Gives rows columns level by level, of an ordered table; whether each has one.
+fn enter_all<N: Number>(bench: &mut Bench<N>, own: &Table<N>, ends: &[usize]) -> bool {
+    let mut before = 0;
+    for level in 0..ends.len() {
+        let after = ends[level];
+        enter_columns(bench, own, before, after);
+        for row in before..after {
+            if !augment(bench, own, after, name(row)) {
+                return false;
+            }
+        }
+        before = after;
+    }
+    true
+}
+
+// Solves a table by its levels, and tells whether each row has a column.
+fn refine_by<N: Number>(
+    alloc: Global,
+    bench: &mut Bench<N>,
+    table: &Table<N>,
+    levels: &Levels,
+) -> Result<bool, NoMemory> {
+    let order = levels.order.as_slice();
+    let own = ordered(alloc, table, order)?;
+    bench.release(table.side);
+    let is_whole = enter_all(bench, &own, levels.ends.as_slice());
+    drop(own);
+    if is_whole {
+        restore(alloc, bench, order)?;
+    }
+    Ok(is_whole)
+}
+
 // Solves a table from coarse to fine, and tells whether each row has a column. The error is want of
 // memory.
 pub(crate) fn refine<N: Number>(
@@ -126,20 +160,7 @@ pub(crate) fn refine<N: Number>(
     table: &Table<N>,
 ) -> Result<bool, NoMemory> {
     let levels = levels_of(alloc, table.side)?;
-    let order = levels.order.as_slice();
-    let own = ordered(alloc, table, order)?;
-    bench.release(table.side);
-    let mut before = 0;
-    for level in 0..levels.ends.len() {
-        let after = levels.ends[level];
-        enter_columns(bench, &own, before, after);
-        for row in before..after {
-            if !augment(bench, &own, after, name(row)) {
-                return Ok(false);
-            }
-        }
-        before = after;
-    }
-    restore(alloc, bench, order)?;
-    Ok(true)
+    let is_whole = refine_by(alloc, bench, table, &levels);
+    drop(levels);
+    is_whole
 }

@@ -60,14 +60,15 @@ impl Conversion {
         falls: &[u64],
         rises: &[u64],
     ) -> Result<Conversion, NoMemory> {
-        let side = columns.len();
+        let own = Vec::from_slice(alloc, columns)?;
         let mut spans = spans_of(alloc, columns, falls, rises)?;
-        let mut amounts = no_amounts(alloc, side)?;
-        let mut left = nothing_left(alloc, side)?;
+        let mut amounts = no_amounts(alloc, columns.len())?;
         let has_more = first_amounts(alloc, &mut spans, &mut amounts)?;
+        let mut left = nothing_left(alloc, columns.len())?;
         left.after(&spans, &amounts);
+        drop(spans);
         Ok(Conversion {
-            columns: Vec::from_slice(alloc, columns)?,
+            columns: own,
             amounts,
             left,
             has_more,

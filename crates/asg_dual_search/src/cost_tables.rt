@@ -215,16 +215,44 @@ impl CostTable {
         }
     }
 
+    // Columns of their own for all rows, by a bench on which no row has one.
+    fn apart_on(&self, alloc: Global, bench: &mut Bench<i32>) -> Result<Option<Lead>, NoMemory> {
+        if !self.solve(alloc, bench)? {
+            return Ok(None);
+        }
+        let lead = self.lead_of(alloc, &*bench)?;
+        Ok(Some(lead))
+    }
+
     // Columns of their own for all rows.
     fn apart(&self, alloc: Global) -> Result<Option<Lead>, NoMemory> {
         if self.rows > self.table.side {
             return Ok(None);
         }
         let mut bench = Bench::make(alloc, &self.table)?;
-        if !self.solve(alloc, &mut bench)? {
+        let lead = self.apart_on(alloc, &mut bench);
+        drop(bench);
+        lead
+    }
+
+    // What a bench of classes came to.
+    fn class_lead_of(&self, alloc: Global, bench: &ClassBench<i32>) -> Result<Lead, NoMemory> {
+        let columns = first_names(alloc, bench.class_of.as_slice(), self.rows)?;
+        let rises = rises_of(alloc, bench.duals.as_slice(), self.table.side, 0)?;
+        Ok(Lead { columns, rises })
+    }
+
+    // Columns for all rows but so many, by a bench on which no row has a class.
+    fn together_on(
+        &self,
+        alloc: Global,
+        outside: usize,
+        bench: &mut ClassBench<i32>,
+    ) -> Result<Option<Lead>, NoMemory> {
+        if !place_rows(alloc, bench, &self.table, outside)? {
             return Ok(None);
         }
-        let lead = self.lead_of(alloc, &bench)?;
+        let lead = self.class_lead_of(alloc, &*bench)?;
         Ok(Some(lead))
     }
 
@@ -236,13 +264,9 @@ impl CostTable {
         outside: usize,
     ) -> Result<Option<Lead>, NoMemory> {
         let mut bench = ClassBench::make(alloc, &self.table, self.rows, rooms)?;
-        if !place_rows(alloc, &mut bench, &self.table, outside)? {
-            return Ok(None);
-        }
-        let side = self.table.side;
-        let columns = first_names(alloc, bench.class_of.as_slice(), self.rows)?;
-        let rises = rises_of(alloc, bench.duals.as_slice(), side, 0)?;
-        Ok(Some(Lead { columns, rises }))
+        let lead = self.together_on(alloc, outside, &mut bench);
+        drop(bench);
+        lead
     }
 
     /// Columns for all rows but so many, of which each takes at most as many rows as its room, of

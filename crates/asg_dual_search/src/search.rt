@@ -54,6 +54,21 @@ pub struct Search<'a> {
     way: Way,
 }
 
+// The rows and columns of a square by what they stand for, where its cells are even, else each by
+// itself.
+fn even_classes_of<V: Copy>(
+    alloc: Global,
+    square: &Square<V>,
+    sums: &Sums<'_>,
+) -> Result<Classes, NoMemory> {
+    let classes = classes_of(alloc, square, sums)?;
+    if are_even(square, sums, &classes) {
+        return Ok(classes);
+    }
+    drop(classes);
+    Classes::apart(alloc, sums.side)
+}
+
 impl<'a> Search<'a> {
     // The search over sums by these classes.
     fn by(alloc: Global, sums: Sums<'a>, classes: Classes) -> Result<Search<'a>, NoMemory> {
@@ -90,10 +105,7 @@ impl<'a> Search<'a> {
         numbers: &'a Numbers,
     ) -> Result<Search<'a>, NoMemory> {
         let sums = Sums::of_numbers(alloc, numbers)?;
-        let mut classes = classes_of(alloc, square, &sums)?;
-        if !are_even(square, &sums, &classes) {
-            classes = Classes::apart(alloc, sums.side)?;
-        }
+        let classes = even_classes_of(alloc, square, &sums)?;
         Search::by(alloc, sums, classes)
     }
 
@@ -102,6 +114,18 @@ impl<'a> Search<'a> {
             Some(arcs) => found_by_arcs(alloc, self.sums.side, &self.classes, arcs),
             None => Ok(None),
         }
+    }
+
+    // What a table of cells less a base comes to.
+    fn near_by(
+        &self,
+        alloc: Global,
+        base: u64,
+        table: &Table<i32>,
+    ) -> Result<Option<Found>, NoMemory> {
+        let leasts = vec![in alloc; base; self.classes.rows.len()]?;
+        let side = self.sums.side;
+        found_by_table(alloc, side, &self.classes, table, leasts.as_slice())
     }
 
     fn near(&mut self, alloc: Global) -> Result<Option<Found>, NoMemory> {
@@ -115,22 +139,21 @@ impl<'a> Search<'a> {
         )?;
         match table {
             Some(table) => {
-                let leasts = vec![in alloc; base; self.classes.rows.len()]?;
-                let side = self.sums.side;
-                found_by_table(alloc, side, &self.classes, &table, leasts.as_slice())
+                let found = self.near_by(alloc, base, &table);
+                drop(table);
+                found
             }
             None => Ok(None),
         }
     }
 
-    fn narrow(&mut self, alloc: Global) -> Result<Option<Found>, NoMemory> {
-        let ranges = class_ranges(alloc, &self.sums, &self.classes, &mut self.room)?;
-        if !is_narrow(&ranges) {
-            self.ranges = Some(ranges);
+    // What comes of numbers of 32 bits by the ranges of the rows.
+    fn narrow_by(&mut self, alloc: Global, ranges: &Ranges) -> Result<Option<Found>, NoMemory> {
+        if !is_narrow(ranges) {
             return Ok(None);
         }
         let leasts = ranges.leasts.as_slice();
-        let absent = narrow_absent(&ranges);
+        let absent = narrow_absent(ranges);
         let sums = &self.sums;
         let table: Table<i32> = class_table(
             alloc,
@@ -140,9 +163,14 @@ impl<'a> Search<'a> {
             absent,
             &mut self.room,
         )?;
-        let found = found_by_table(alloc, self.sums.side, &self.classes, &table, leasts)?;
+        found_by_table(alloc, self.sums.side, &self.classes, &table, leasts)
+    }
+
+    fn narrow(&mut self, alloc: Global) -> Result<Option<Found>, NoMemory> {
+        let ranges = class_ranges(alloc, &self.sums, &self.classes, &mut self.room)?;
+        let found = self.narrow_by(alloc, &ranges);
         self.ranges = Some(ranges);
-        Ok(found)
+        found
     }
 
     fn wide(&mut self, alloc: Global) -> Result<Option<Found>, NoMemory> {
@@ -187,9 +215,9 @@ impl<'a> Search<'a> {
         for _ in 0..MOST_WAYS {
             let way = self.way;
             self.way = way.next();
-            let found = self.attempt(alloc, way)?;
-            if found.is_some() {
-                return Ok(found);
+            match self.attempt(alloc, way)? {
+                Some(found) => return Ok(Some(found)),
+                None => {}
             }
         }
         Ok(None)

@@ -85,7 +85,25 @@ fn found_on_bench<N: Number>(
     Ok(Some(found_by(alloc, side, classes, placing)?))
 }
 
-// Solves a square where each class has one column and each row is to have one.
+// Solves a square where each class has one column and each row is to have one, by a bench on which
+// no row has one.
+fn solve_on_bench<N: Number>(
+    alloc: Global,
+    side: u32,
+    classes: &Classes,
+    table: &Table<N>,
+    leasts: &[u64],
+    bench: &mut Bench<N>,
+) -> Result<Option<Found>, NoMemory> {
+    let is_full = !classes.are_fewer(side as usize);
+    if solve_plain(alloc, bench, table, classes.rows.len(), is_full)? {
+        found_on_bench(alloc, side, classes, table, leasts, &*bench)
+    } else {
+        Ok(None)
+    }
+}
+
+// The same by a bench of its own.
 fn found_by_column<N: Number>(
     alloc: Global,
     side: u32,
@@ -94,12 +112,9 @@ fn found_by_column<N: Number>(
     leasts: &[u64],
 ) -> Result<Option<Found>, NoMemory> {
     let mut bench = Bench::make(alloc, table)?;
-    let is_full = !classes.are_fewer(side as usize);
-    if solve_plain(alloc, &mut bench, table, classes.rows.len(), is_full)? {
-        found_on_bench(alloc, side, classes, table, leasts, &bench)
-    } else {
-        Ok(None)
-    }
+    let found = solve_on_bench(alloc, side, classes, table, leasts, &mut bench);
+    drop(bench);
+    found
 }
 
 // What a bench of classes came to.
@@ -129,7 +144,23 @@ fn found_on_class_bench<N: Number>(
 }
 
 // Solves a square where rows may take columns that are copies of none, or classes have several
-// columns.
+// columns, by a bench on which no row has a class.
+fn solve_on_class_bench<N: Number>(
+    alloc: Global,
+    side: u32,
+    classes: &Classes,
+    table: &Table<N>,
+    leasts: &[u64],
+    bench: &mut ClassBench<N>,
+) -> Result<Option<Found>, NoMemory> {
+    if place_rows(alloc, bench, table, classes.outside)? {
+        found_on_class_bench(alloc, side, classes, table, leasts, &*bench)
+    } else {
+        Ok(None)
+    }
+}
+
+// The same by a bench of its own.
 fn found_by_class<N: Number>(
     alloc: Global,
     side: u32,
@@ -139,11 +170,9 @@ fn found_by_class<N: Number>(
 ) -> Result<Option<Found>, NoMemory> {
     let rooms = classes.rooms.as_slice();
     let mut bench = ClassBench::make(alloc, table, classes.rows.len(), rooms)?;
-    if place_rows(alloc, &mut bench, table, classes.outside)? {
-        found_on_class_bench(alloc, side, classes, table, leasts, &bench)
-    } else {
-        Ok(None)
-    }
+    let found = solve_on_class_bench(alloc, side, classes, table, leasts, &mut bench);
+    drop(bench);
+    found
 }
 
 // An assignment of a square of this side with dual variables, by the table of its classes, in which

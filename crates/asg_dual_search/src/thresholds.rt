@@ -12,6 +12,33 @@ use crate::places::at;
 use crate::tables::Table;
 use std::alloc::Global;
 
+// The columns of rows within the least limit, to which the bound rises, by a bench on which no row
+// has one; `None` where there is none. The error is want of memory.
+fn columns_on(
+    alloc: Global,
+    bench: &mut Bench<i32>,
+    table: &mut Table<i32>,
+    bound: &mut Bound,
+) -> Result<Option<Vec<u32>>, NoMemory> {
+    if !serve_all(bench, table, bound) {
+        return Ok(None);
+    }
+    let columns = Vec::from_slice(alloc, bench.column_of.as_slice())?;
+    Ok(Some(columns))
+}
+
+// The same by a bench of its own.
+fn columns_by(
+    alloc: Global,
+    table: &mut Table<i32>,
+    bound: &mut Bound,
+) -> Result<Option<Vec<u32>>, NoMemory> {
+    let mut bench = Bench::make(alloc, &*table)?;
+    let columns = columns_on(alloc, &mut bench, table, bound);
+    drop(bench);
+    columns
+}
+
 // The columns of rows within the least limit, to which the bound rises; `None` where there is none.
 // The error is want of memory.
 fn columns_within(
@@ -20,12 +47,9 @@ fn columns_within(
     bound: &mut Bound,
 ) -> Result<Option<Vec<u32>>, NoMemory> {
     let mut table: Table<i32> = table_by(alloc, numbers, MISSING)?;
-    let mut bench = Bench::make(alloc, &table)?;
-    if !serve_all(&mut bench, &mut table, bound) {
-        return Ok(None);
-    }
-    let columns = Vec::from_slice(alloc, bench.column_of.as_slice())?;
-    Ok(Some(columns))
+    let columns = columns_by(alloc, &mut table, bound);
+    drop(table);
+    columns
 }
 
 /// The least limit within which there is an assignment, and such an assignment, as a search found

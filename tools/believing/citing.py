@@ -90,9 +90,9 @@ def follow(sources, starts, known=()):
 
 
 def laws(sources):
-    """What the contracts of the laws of asg_app cite."""
+    """What the contracts of the laws of asg_promises cite."""
     found = set()
-    for file in sorted(CRATES.glob('asg_app/src/laws.rt')) + sorted(CRATES.glob('asg_app/src/laws/*.rt')):
+    for file in sorted(CRATES.glob('asg_promises/src/laws.rt')) + sorted(CRATES.glob('asg_promises/src/laws/*.rt')):
         for head in re.findall(r'^pub (fn \w+)', sources.text(file), re.M):
             found |= cited(sources, file, contract(sources, file, head))
     return found

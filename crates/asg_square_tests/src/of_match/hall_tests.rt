@@ -73,17 +73,42 @@ fn are_short(
     Ok(ids.as_slice() == short && is_hall(inst, Band::Whole, short))
 }
 
-// Whether the instance has a perfect assignment where no row is to be short, and else a Hall set of
-// these rows.
+// Whether the square of an instance has a perfect assignment where no row is to be short, and else
+// a Hall set of these rows.
+fn is_right_with(
+    alloc: Global,
+    inst: &Instance,
+    square: &Square<i64>,
+    short: &[u32],
+) -> Result<bool, NoMemory>
+    requires { HasLabelsOf inst.now square.now }
+{
+    let cells = PresentCells { square };
+    match perfect_or_hall(alloc, square.side(), &cells)? {
+        Pairing::Perfect(matching) => {
+            drop(matching);
+            Ok(short.is_empty())
+        }
+        Pairing::Short(rows) => are_short(alloc, square, inst, &rows, short),
+    }
+}
+
+// Whether that of an instance of a side that isn't too great has.
 fn is_right(alloc: Global, inst: &Instance, short: &[u32]) -> Result<bool, NoMemory>
     requires { square_side inst.now ≤ most_side }
 {
     let square = Square::of(alloc, inst, 0, &first_part)?;
-    let cells = PresentCells { square: &square };
-    match perfect_or_hall(alloc, square.side(), &cells)? {
-        Pairing::Perfect(_) => Ok(short.is_empty()),
-        Pairing::Short(rows) => are_short(alloc, &square, inst, &rows, short),
+    let is_right = is_right_with(alloc, inst, &square, short);
+    drop(square);
+    is_right
+}
+
+// The same, false where the side is too great.
+fn is_right_within(alloc: Global, inst: &Instance, short: &[u32]) -> Result<bool, NoMemory> {
+    if inst.side() > MOST_SIDE {
+        return Ok(false);
     }
+    is_right(alloc, inst, short)
 }
 
 // Whether the instance of a case has the rows that are expected.
@@ -97,10 +122,9 @@ fn is_right_on(alloc: Global, case: &Case) -> Result<bool, Fault> {
         place: Place::All,
     };
     let inst = sample.instance(alloc)?;
-    if inst.side() > MOST_SIDE {
-        return Ok(false);
-    }
-    Ok(is_right(alloc, &inst, short)?)
+    let is_right = is_right_within(alloc, &inst, short);
+    drop(inst);
+    Ok(is_right?)
 }
 
 #[test]

@@ -1,11 +1,13 @@
 //! Perfect assignments, deficient rows and augmenting paths.
 
-ghost use Rattle.std.specs.Prelude.{◌≡◌, ◌+◌, ◌*◌, ◌<◌, ℕ, None, false, IsTrue, length, slice_index_or};
+ghost use Rattle.std.specs.Prelude.{◌≡◌, ◌+◌, ◌*◌, ◌<◌, ℕ, None, false, IsTrue, length, replicate, slice_index_or};
 ghost use Rattle.asg_match.specs.Matching.{AllAllowed, IsMatched, column_at};
 
 use asg_match::{
-    Allowed, Grown, Matching, Pairing, Rows, Tree, augment, perfect_or_hall, short_or_perfect,
+    Allowed, Grown, Matching, NoMemory, Pairing, Rows, Tree, augment, perfect_or_hall,
+    short_or_perfect,
 };
+use std::alloc::Global;
 use std::test::Fail;
 
 // The allowed cells of a square of side 3, row by row.
@@ -64,6 +66,17 @@ fn is_perfect(matching: &Matching, want: [u32; 3]) -> bool
     copied == want && has_columns(matching, want.map(Some))
 }
 
+// Whether they have these, if any are wanted.
+fn is_perfect_as(matching: &Matching, want: Option<[u32; 3]>) -> bool
+    requires side { length matching.now ≡ 3 }
+    requires all { (r : ℕ) → r < 3 → IsMatched matching.now r }
+{
+    match want {
+        Some(want) => is_perfect(matching, want),
+        None => false,
+    }
+}
+
 // Whether these rows are short.
 fn are_short(short: Rows, want: &[u32]) -> bool {
     if short.as_slice() != want {
@@ -75,10 +88,13 @@ fn are_short(short: Rows, want: &[u32]) -> bool {
 #[test]
 fn perfect_assignments_and_short_rows(rt: HostRuntime) -> Result<(), Fail> {
     for (cells, columns, rows) in cases() {
-        let is_right = match (perfect_or_hall(rt.alloc(), 3, &cells_of(cells))?, *columns) {
-            (Pairing::Perfect(matching), Some(want)) => is_perfect(&matching, want),
-            (Pairing::Short(short), None) => are_short(short, rows),
-            _ => false,
+        let is_right = match perfect_or_hall(rt.alloc(), 3, &cells_of(cells))? {
+            Pairing::Perfect(matching) => {
+                let is_right = is_perfect_as(&matching, *columns);
+                drop(matching);
+                is_right
+            }
+            Pairing::Short(short) => columns.is_none() && are_short(short, rows),
         };
         assert!(rt; is_right);
     }
@@ -93,16 +109,40 @@ fn is_flipped(matching: &Matching, tree: &Tree) -> bool {
     has_columns(matching, [Some(1), Some(0), None])
 }
 
+// Whether the first row gets the first column by an empty tree, and the second row then by a path
+// of length three.
+fn is_grown(cells: &Grid, matching: &mut Matching, tree: &mut Tree) -> bool
+    requires matching { matching.old ≡ replicate 3 None }
+    requires tree { tree.old.side ≡ 3 }
+{
+    if !tree.rows().is_empty() {
+        return false;
+    }
+    let first = augment(cells, matching, 0, tree);
+    if first != Grown::Longer || !has_columns(matching, [Some(0), None, None]) {
+        return false;
+    }
+    let second = augment(cells, matching, 1, tree);
+    second == Grown::Longer && is_flipped(matching, tree)
+}
+
+// The same of a matching of three rows.
+fn is_grown_by(alloc: Global, cells: &Grid, matching: &mut Matching) -> Result<bool, NoMemory>
+    requires { matching.old ≡ replicate 3 None }
+{
+    let mut tree = Tree::make(alloc, 3)?;
+    let is_grown = is_grown(cells, matching, &mut tree);
+    drop(tree);
+    Ok(is_grown)
+}
+
 #[test]
 fn a_path_of_length_three_is_flipped(rt: HostRuntime) -> Result<(), Fail> {
     let cells = cells_of(b"xx.x.....");
     let mut matching = Matching::make(rt.alloc(), 3)?;
-    let mut tree = Tree::make(rt.alloc(), 3)?;
-    assert!(rt; tree.rows().is_empty());
-    let first = augment(&cells, &mut matching, 0, &mut tree);
-    assert!(rt; first == Grown::Longer && has_columns(&matching, [Some(0), None, None]));
-    let second = augment(&cells, &mut matching, 1, &mut tree);
-    assert!(rt; second == Grown::Longer && is_flipped(&matching, &tree));
+    let is_grown = is_grown_by(rt.alloc(), &cells, &mut matching);
+    drop(matching);
+    assert!(rt; is_grown?);
     short_or_perfect(&cells);
     Ok(())
 }
@@ -118,17 +158,30 @@ fn a_row_gets_another_column(rt: HostRuntime) -> Result<(), Fail> {
     matching.set(0, 1);
     matching.clear(0);
     matching.set(0, 2);
-    assert!(rt; is_set(&matching));
+    let is_set = is_set(&matching);
+    drop(matching);
+    assert!(rt; is_set);
     Ok(())
+}
+
+// Whether a matching of one pair that takes over another is that one.
+fn is_taken(alloc: Global, matching: &Matching) -> Result<bool, NoMemory>
+    requires { length matching.now ≡ 3 }
+{
+    let mut taken = Matching::make(alloc, 3)?;
+    taken.set(1, 1);
+    taken.take(matching);
+    let is_set = is_set(&taken);
+    drop(taken);
+    Ok(is_set)
 }
 
 #[test]
 fn a_matching_takes_over_another(rt: HostRuntime) -> Result<(), Fail> {
     let mut matching = Matching::make(rt.alloc(), 3)?;
     matching.set(0, 2);
-    let mut taken = Matching::make(rt.alloc(), 3)?;
-    taken.set(1, 1);
-    taken.take(&matching);
-    assert!(rt; is_set(&taken));
+    let is_taken = is_taken(rt.alloc(), &matching);
+    drop(matching);
+    assert!(rt; is_taken?);
     Ok(())
 }

@@ -126,7 +126,10 @@ fn are_spare(region: &mut Region<u64>) -> Result<bool, NoMemory> {
 #[test]
 fn records_reserved_are_spare(rt: HostRuntime) -> Result<(), Fail> {
     let mut region: Region<u64> = Region::make(rt.alloc(), 2)?;
-    assert!(rt; region.spare() == 0 && are_spare(&mut region)?);
+    let is_none = region.spare() == 0;
+    let are_spare = are_spare(&mut region);
+    drop(region);
+    assert!(rt; is_none && are_spare?);
     Ok(())
 }
 
@@ -153,7 +156,9 @@ fn are_both_shown(region: &Region<u64>, fork: Fork) -> bool
 fn two_trails_grow_on_one(rt: HostRuntime) -> Result<(), Fail> {
     let mut region = reserved(rt.alloc(), 3)?;
     let fork = forked(&mut region);
-    assert!(rt; are_both_shown(&region, fork));
+    let are_both_shown = are_both_shown(&region, fork);
+    drop(region);
+    assert!(rt; are_both_shown);
     Ok(())
 }
 
@@ -186,7 +191,9 @@ fn are_others_shown(region: &mut Region<u64>) -> bool
 #[test]
 fn a_trail_released_leaves_the_others(rt: HostRuntime) -> Result<(), Fail> {
     let mut region = reserved(rt.alloc(), 3)?;
-    assert!(rt; are_others_shown(&mut region));
+    let are_others_shown = are_others_shown(&mut region);
+    drop(region);
+    assert!(rt; are_others_shown);
     Ok(())
 }
 
@@ -206,7 +213,9 @@ fn is_record_reused(region: &mut Region<u64>) -> bool
 #[test]
 fn a_freed_record_serves_another_trail(rt: HostRuntime) -> Result<(), Fail> {
     let mut region = reserved(rt.alloc(), 3)?;
-    assert!(rt; is_record_reused(&mut region));
+    let is_record_reused = is_record_reused(&mut region);
+    drop(region);
+    assert!(rt; is_record_reused);
     Ok(())
 }
 
@@ -230,7 +239,9 @@ fn the_phases_of_a_trail_are_moved_out(rt: HostRuntime) -> Result<(), Fail> {
     let mut region = reserved(rt.alloc(), 4)?;
     let fork = forked(&mut region);
     let phases = region.into_phases(rt.alloc(), Some(fork.second))?;
-    assert!(rt; are_moved_out(phases.as_slice()));
+    let are_moved_out = are_moved_out(phases.as_slice());
+    drop(phases);
+    assert!(rt; are_moved_out);
     Ok(())
 }
 

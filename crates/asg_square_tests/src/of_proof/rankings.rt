@@ -74,16 +74,26 @@ fn has_child(
         return Ok(false);
     }
     let part = child(alloc, inst, choice, branch)?;
-    Ok(has_costs(&part, want))
+    let has_costs = has_costs(&part, want);
+    drop(part);
+    Ok(has_costs)
 }
 
-// Whether both children are those that are told.
+// Whether both children of an instance by that choice are those that are told.
+fn has_both(alloc: Global, inst: &Instance) -> Result<bool, NoMemory> {
+    let choice = choice(alloc)?;
+    let first = has_child(alloc, inst, &choice, 1, &FIRST);
+    let second = has_child(alloc, inst, &choice, 2, &SECOND);
+    drop(choice);
+    Ok(first? && second?)
+}
+
+// Whether those of two rows of three are.
 fn has_children(alloc: Global) -> Result<bool, Fault> {
     let inst = TWO_OF_THREE.instance(alloc)?;
-    let choice = choice(alloc)?;
-    let first = has_child(alloc, &inst, &choice, 1, &FIRST)?;
-    let second = has_child(alloc, &inst, &choice, 2, &SECOND)?;
-    Ok(first && second)
+    let has_both = has_both(alloc, &inst);
+    drop(inst);
+    Ok(has_both?)
 }
 
 #[test]
@@ -93,14 +103,22 @@ fn children_by_each_branch(rt: HostRuntime) -> Result<(), Fail> {
 }
 
 // Whether there are so many nodes, each with the first answer and no phase.
-fn are_nodes(nodes: Nodes, count: usize) -> bool {
+fn are_listed(nodes: &Nodes, count: usize) -> bool {
     for node in nodes.as_slice() {
         if !matches!(node.mark, Mark::Answered(1)) || !node.own.is_empty() {
             return false;
         }
     }
-    let is_right = nodes.len() == count && nodes.is_empty() == (count == 0);
-    is_right && nodes.into_vec().len() == count
+    nodes.len() == count && nodes.is_empty() == (count == 0)
+}
+
+// Whether there are so many in the list and in what it is made of.
+fn are_nodes(nodes: Nodes, count: usize) -> bool {
+    let are_listed = are_listed(&nodes, count);
+    let nodes = nodes.into_vec();
+    let is_so = are_listed && nodes.len() == count;
+    drop(nodes);
+    is_so
 }
 
 #[test]

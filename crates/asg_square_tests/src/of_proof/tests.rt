@@ -53,7 +53,9 @@ fn has_turns<V: Copy>(phase: &Phase<V>) -> bool {
 #[test]
 fn a_phase(rt: HostRuntime) -> Result<(), Fail> {
     let phase = phase(rt.alloc())?;
-    assert!(rt; phase.steps() == [5, 3].as_slice() && has_turns(&phase));
+    let is_so = phase.steps() == [5, 3].as_slice() && has_turns(&phase);
+    drop(phase);
+    assert!(rt; is_so);
     Ok(())
 }
 
@@ -87,13 +89,29 @@ fn is_written(phase: &WrittenPhase) -> bool {
         && phase.leaves() == [2, 1, 4].as_slice()
 }
 
+// Whether a copy of that phase in words is one.
+fn is_copied(alloc: Global) -> Result<bool, NoMemory> {
+    let phase = phase(alloc)?;
+    let copied = words(alloc, &Greatest, &phase);
+    drop(phase);
+    let copied = copied?;
+    let is_so = is_in_words(&copied);
+    drop(copied);
+    Ok(is_so)
+}
+
+// Whether what is written of it is.
+fn is_rewritten(alloc: Global) -> Result<bool, NoMemory> {
+    let written = into_words(alloc, &Greatest, phase(alloc)?)?;
+    let is_so = is_written(&written);
+    drop(written);
+    Ok(is_so)
+}
+
 #[test]
 fn a_phase_in_words(rt: HostRuntime) -> Result<(), Fail> {
-    let phase = phase(rt.alloc())?;
-    let copied = words(rt.alloc(), &Greatest, &phase)?;
-    assert!(rt; is_in_words(&copied));
-    let written = into_words(rt.alloc(), &Greatest, phase)?;
-    assert!(rt; is_written(&written));
+    assert!(rt; is_copied(rt.alloc())?);
+    assert!(rt; is_rewritten(rt.alloc())?);
     Ok(())
 }
 
@@ -121,20 +139,27 @@ const MIXED: [Word; 5] = [
     },
 ];
 
-#[test]
-fn steps_of_any_length(rt: HostRuntime) -> Result<(), Fail> {
-    let mut steps = StepWords::none(rt.alloc());
-    assert!(rt; steps.is_empty() && are_steps(&steps.as_steps(), &[]));
+// Whether there is no step at first, and then each step that is pushed.
+fn are_pushed(steps: &mut StepWords) -> Result<bool, NoMemory> {
+    let are_none = steps.is_empty() && are_steps(&steps.as_steps(), &[]);
     for step in &MIXED {
         steps.push(*step)?;
     }
     steps.shrink();
-    assert!(rt; !steps.is_empty() && are_steps(&steps.as_steps(), &MIXED));
+    Ok(are_none && !steps.is_empty() && are_steps(&steps.as_steps(), &MIXED))
+}
+
+#[test]
+fn steps_of_any_length(rt: HostRuntime) -> Result<(), Fail> {
+    let mut steps = StepWords::none(rt.alloc());
+    let are_pushed = are_pushed(&mut steps);
+    drop(steps);
+    assert!(rt; are_pushed?);
     Ok(())
 }
 
-// A phase of these steps of one row, which enters at the first step, and of two columns, which leave
-// after it and after the last.
+// A phase of these steps of one row, which enters at the first step, and of two columns, which
+// leave after it and after the last.
 fn phase_of(alloc: Global, words: &[Word]) -> Result<WrittenPhase, NoMemory>
     ensures { IfOk result IsPhase }
 {
@@ -157,7 +182,9 @@ fn phases_of_any_length(rt: HostRuntime) -> Result<(), Fail> {
     for count in 0..6 {
         let words = &MIXED[..count];
         let phase = phase_of(rt.alloc(), words)?;
-        assert!(rt; is_phase_of(&phase, words));
+        let is_so = is_phase_of(&phase, words);
+        drop(phase);
+        assert!(rt; is_so);
     }
     Ok(())
 }
@@ -189,20 +216,30 @@ fn phases_up_to(alloc: Global, count: usize) -> Result<Phases, NoMemory>
 fn lists_of_phases(rt: HostRuntime) -> Result<(), Fail> {
     for count in 0..4 {
         let phases = phases_up_to(rt.alloc(), count)?;
-        assert!(rt; are_phases(&phases, count));
+        let are_phases = are_phases(&phases, count);
+        drop(phases);
+        assert!(rt; are_phases);
     }
     Ok(())
 }
 
 // Whether there are so many windows, each of the values 0 and 1 with the row 3.
-fn are_windows(windows: Windows, count: usize) -> bool {
+fn are_listed(windows: &Windows, count: usize) -> bool {
     for window in windows.as_slice() {
         if (window.lo, window.hi) != (0, 1) || window.rows.as_slice() != [3].as_slice() {
             return false;
         }
     }
-    let is_right = windows.len() == count && windows.is_empty() == (count == 0);
-    is_right && windows.into_vec().len() == count
+    windows.len() == count && windows.is_empty() == (count == 0)
+}
+
+// Whether there are so many in the list and in what it is made of.
+fn are_windows(windows: Windows, count: usize) -> bool {
+    let are_listed = are_listed(&windows, count);
+    let windows = windows.into_vec();
+    let is_so = are_listed && windows.len() == count;
+    drop(windows);
+    is_so
 }
 
 #[test]

@@ -3,9 +3,10 @@
 ghost use Rattle.std.specs.Prelude.{◌≡◌};
 
 use crate::of_square::samples::sample;
-use asg_model::Cost;
 use asg_model::Place::All;
-use asg_square::{BitRows, Square};
+use asg_model::{Cost, Instance};
+use asg_square::{BitRows, NoMemory, Square};
+use std::alloc::Global;
 use std::test::Fail;
 
 // Whether these are rows of bits of two rows and 70 columns with these words.
@@ -37,11 +38,17 @@ fn leaves_columns(bits: &mut BitRows) -> bool {
     has_words(bits, [3 << 62, 1, 7, 60])
 }
 
+// Whether no bit is set at first, and then the bits are set and cleared so.
+fn are_set(bits: &mut BitRows) -> bool {
+    has_words(bits, [0; 4]) && sets_all(bits) && clears_columns(bits) && leaves_columns(bits)
+}
+
 #[test]
 fn bits_are_set_side_by_side(rt: HostRuntime) -> Result<(), Fail> {
     let mut bits = BitRows::make(rt.alloc(), 2, 70)?;
-    assert!(rt; has_words(&bits, [0; 4]));
-    assert!(rt; sets_all(&mut bits) && clears_columns(&mut bits) && leaves_columns(&mut bits));
+    let are_set = are_set(&mut bits);
+    drop(bits);
+    assert!(rt; are_set);
     Ok(())
 }
 
@@ -61,14 +68,28 @@ fn keeps(square: &Square<u8>, r: u32, words: &[u64], want: u64) -> bool {
 }
 
 // The third row has no cell in its first column; words that lack keep none.
+fn keeps_present(square: &Square<u8>) -> bool {
+    keeps(square, 2, &[15, 15, 15, 15], 0b1110)
+        && keeps(square, 2, &[0, 0, 5], 0b0100)
+        && keeps(square, 3, &[15, 15, 15], 0)
+}
+
+// Whether the square of an instance, whose side is 4, keeps so.
+fn are_kept(alloc: Global, inst: &Instance) -> Result<bool, NoMemory> {
+    if inst.side() != 4 {
+        return Ok(false);
+    }
+    let square = Square::of(alloc, inst, 1, &one)?;
+    let keeps_present = keeps_present(&square);
+    drop(square);
+    Ok(keeps_present)
+}
+
 #[test]
 fn kept_cells_are_present_and_kept(rt: HostRuntime) -> Result<(), Fail> {
     let inst = sample(rt.alloc(), All, true)?;
-    assert_eq!(rt; inst.side(), 4);
-    let square = Square::of(rt.alloc(), &inst, 1, &one)?;
-    assert!(rt;
-        keeps(&square, 2, &[15, 15, 15, 15], 0b1110) && keeps(&square, 2, &[0, 0, 5], 0b0100)
-    );
-    assert!(rt; keeps(&square, 3, &[15, 15, 15], 0));
+    let are_kept = are_kept(rt.alloc(), &inst);
+    drop(inst);
+    assert!(rt; are_kept?);
     Ok(())
 }

@@ -8,6 +8,7 @@ use asg_model::Place::{All, Exactly};
 use asg_model::limits::MOST_SIDE;
 use asg_model::{Cost, Instance, Place};
 use asg_square::*;
+use std::alloc::Global;
 use std::test::Fail;
 
 // What each cost enters as.
@@ -52,12 +53,23 @@ fn changes_values(square: &mut Square<u8>) -> bool {
     is_replaced(square)
 }
 
+// Whether the square of an instance, whose side is 4, is changed so.
+fn changes_square_of(alloc: Global, inst: &Instance) -> Result<bool, NoMemory> {
+    if inst.side() != 4 {
+        return Ok(false);
+    }
+    let mut square = Square::of(alloc, inst, 1, &two)?;
+    let changes_values = changes_values(&mut square);
+    drop(square);
+    Ok(changes_values)
+}
+
 #[test]
 fn changes_values_alone(rt: HostRuntime) -> Result<(), Fail> {
     let inst = sample(rt.alloc(), All, true)?;
-    assert_eq!(rt; inst.side(), 4);
-    let mut square = Square::of(rt.alloc(), &inst, 1, &two)?;
-    assert!(rt; changes_values(&mut square));
+    let is_so = changes_square_of(rt.alloc(), &inst);
+    drop(inst);
+    assert!(rt; is_so?);
     Ok(())
 }
 
@@ -99,13 +111,31 @@ fn is_changed_and_restored(square: &mut Square<i64>, copy: &Square<i64>) -> bool
     is_changed && is_restored(square)
 }
 
+// Whether a square is changed so, and takes the cells of a copy of what it was.
+fn is_copied(alloc: Global, square: &mut Square<i64>) -> Result<bool, NoMemory> {
+    let copy = square.copy(alloc)?;
+    let is_so = is_changed_and_restored(square, &copy);
+    drop(copy);
+    Ok(is_so)
+}
+
+// Whether the square of an instance, whose side is 4, does.
+fn copies_square_of(alloc: Global, inst: &Instance) -> Result<bool, NoMemory> {
+    if inst.side() != 4 {
+        return Ok(false);
+    }
+    let mut square = filled(alloc, inst)?;
+    let is_copied = is_copied(alloc, &mut square);
+    drop(square);
+    is_copied
+}
+
 #[test]
 fn copies_and_changes_squares(rt: HostRuntime) -> Result<(), Fail> {
     let inst = sample(rt.alloc(), All, true)?;
-    assert_eq!(rt; inst.side(), 4);
-    let mut square = filled(rt.alloc(), &inst)?;
-    let copy = square.copy(rt.alloc())?;
-    assert!(rt; is_changed_and_restored(&mut square, &copy));
+    let is_so = copies_square_of(rt.alloc(), &inst);
+    drop(inst);
+    assert!(rt; is_so?);
     Ok(())
 }
 
@@ -157,12 +187,23 @@ fn is_greatest_changed(square: &mut Square<u8>) -> bool {
     is_last_row_changed(square)
 }
 
+// Whether one more than the greatest side and then that side can be set, and the square of the
+// instance is then filled and changed so.
+fn changes_greatest_of(alloc: Global, inst: &mut Instance) -> Result<bool, NoMemory> {
+    if !has_side(inst, Exactly(2), MOST_SIDE + 1) || !has_side(inst, All, MOST_SIDE) {
+        return Ok(false);
+    }
+    let mut square = Square::of(alloc, inst, 1, &two)?;
+    let is_so = is_greatest_changed(&mut square);
+    drop(square);
+    Ok(is_so)
+}
+
 #[test]
 fn fills_and_changes_the_greatest_square(rt: HostRuntime) -> Result<(), Fail> {
     let mut inst = sample(rt.alloc(), All, true)?;
-    assert!(rt; has_side(&mut inst, Exactly(2), MOST_SIDE + 1));
-    assert!(rt; has_side(&mut inst, All, MOST_SIDE));
-    let mut square = Square::of(rt.alloc(), &inst, 1, &two)?;
-    assert!(rt; is_greatest_changed(&mut square));
+    let is_so = changes_greatest_of(rt.alloc(), &mut inst);
+    drop(inst);
+    assert!(rt; is_so?);
     Ok(())
 }

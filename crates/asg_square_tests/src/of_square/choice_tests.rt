@@ -3,6 +3,7 @@
 ghost use Rattle.std.specs.Prelude.{◌≤◌};
 ghost use Rattle.asg_model.specs.ValidChoice.{IsValid};
 ghost use Rattle.asg_model.specs.Shapes.{square_side};
+ghost use Rattle.asg_square.specs.Grid.{CoversSquareOf};
 
 use crate::of_square::samples::{filled, sample};
 use asg_model::Place::{All, Exactly};
@@ -28,8 +29,25 @@ fn are_chosen(choice: &Choice, columns: [Option<u32>; 3]) -> bool {
     [choice.get(0), choice.get(1), choice.get(2)] == columns
 }
 
-// Whether a valid choice of these columns gives this perfect assignment, and the assignment the
-// choice.
+// Whether a valid choice of these columns gives this perfect assignment of the square, and the
+// assignment the choice.
+fn is_perfect_on(
+    alloc: Global,
+    inst: &Instance,
+    square: &Square<i64>,
+    choice: &Choice,
+    columns: [Option<u32>; 3],
+    want: &[u32],
+) -> Result<bool, NoMemory>
+    requires covers { CoversSquareOf inst.now square.now }
+    requires valid { IsValid inst.now choice.now }
+{
+    let perm = square.perm_of(alloc, inst, choice)?;
+    let back = square.choice_of(alloc, perm.as_slice())?;
+    Ok(perm.as_slice() == want && are_chosen(&back, columns))
+}
+
+// Whether it does so of the square of the instance.
 fn is_perfect_of(
     alloc: Global,
     inst: &Instance,
@@ -41,9 +59,9 @@ fn is_perfect_of(
     requires valid { IsValid inst.now choice.now }
 {
     let square = filled(alloc, inst)?;
-    let perm = square.perm_of(alloc, inst, choice)?;
-    let back = square.choice_of(alloc, perm.as_slice())?;
-    Ok(perm.as_slice() == want && are_chosen(&back, columns))
+    let is_perfect = is_perfect_on(alloc, inst, &square, choice, columns, want);
+    drop(square);
+    is_perfect
 }
 
 // Whether the choice of these columns is valid, and gives this perfect assignment.
@@ -58,6 +76,18 @@ fn is_perfect_with(
         return Ok(false);
     }
     is_perfect_of(alloc, inst, &choice, columns, want)
+}
+
+// The same of an instance that it lets go.
+fn is_perfect(
+    alloc: Global,
+    inst: Instance,
+    columns: [Option<u32>; 3],
+    want: &[u32],
+) -> Result<bool, NoMemory> {
+    let is_perfect = is_perfect_with(alloc, &inst, columns, want);
+    drop(inst);
+    is_perfect
 }
 
 // A place rule, a choice, and the perfect assignment that it gives.
@@ -75,7 +105,7 @@ fn choices() -> &'static [(Place, [Option<u32>; 3], &'static [u32])] {
 fn gives_a_perfect_assignment_and_its_choice(rt: HostRuntime) -> Result<(), Fail> {
     for (place, columns, want) in choices() {
         let inst = sample(rt.alloc(), *place, true)?;
-        assert!(rt; is_perfect_with(rt.alloc(), &inst, *columns, want)?);
+        assert!(rt; is_perfect(rt.alloc(), inst, *columns, want)?);
     }
     Ok(())
 }
@@ -83,8 +113,10 @@ fn gives_a_perfect_assignment_and_its_choice(rt: HostRuntime) -> Result<(), Fail
 #[test]
 fn gives_a_perfect_assignment_of_a_shaped_instance(rt: HostRuntime) -> Result<(), Fail> {
     let mut inst = sample(rt.alloc(), All, true)?;
-    assert_eq!(rt; inst.shape(Exactly(3), 3), Ok(()));
+    let shaped = inst.shape(Exactly(3), 3);
     let (columns, want) = ([Some(1), Some(0), Some(1)], [3, 0, 4, 5, 2, 1]);
-    assert!(rt; is_perfect_with(rt.alloc(), &inst, columns, &want)?);
+    let is_perfect = is_perfect(rt.alloc(), inst, columns, &want);
+    assert_eq!(rt; shaped, Ok(()));
+    assert!(rt; is_perfect?);
     Ok(())
 }

@@ -48,11 +48,18 @@ fn is_answered(inst: &mut Instance, before: &Instance, rule: &Rule) -> bool {
     }
 }
 
-// Whether each rule in turn is.
+// Whether the instance is as it should be against what it was.
+fn is_answered_once(alloc: Global, inst: &mut Instance, rule: &Rule) -> Result<bool, NoMemory> {
+    let before = inst.copy(alloc)?;
+    let is_answered = is_answered(inst, &before, rule);
+    drop(before);
+    Ok(is_answered)
+}
+
+// Whether each rule in turn is answered so.
 fn are_answered(alloc: Global, inst: &mut Instance) -> Result<bool, NoMemory> {
     for rule in rules() {
-        let before = inst.copy(alloc)?;
-        if !is_answered(inst, &before, rule) {
+        if !is_answered_once(alloc, inst, rule)? {
             return Ok(false);
         }
     }
@@ -62,6 +69,8 @@ fn are_answered(alloc: Global, inst: &mut Instance) -> Result<bool, NoMemory> {
 #[test]
 fn refuses_place_rules_out_of_range(rt: HostRuntime) -> Result<(), Fail> {
     let mut inst = sample(rt.alloc(), Exactly(2), true)?;
-    assert!(rt; are_answered(rt.alloc(), &mut inst)?);
+    let are_answered = are_answered(rt.alloc(), &mut inst);
+    drop(inst);
+    assert!(rt; are_answered?);
     Ok(())
 }

@@ -75,14 +75,23 @@ fn is_square_of(alloc: Global, inst: &Instance, side: u32, want: &Cells) -> Resu
         return Ok(false);
     }
     let square = filled(alloc, inst)?;
-    Ok(has_rows(&square, want))
+    let has_rows = has_rows(&square, want);
+    drop(square);
+    Ok(has_rows)
+}
+
+// The same of an instance that it lets go.
+fn is_square(alloc: Global, inst: Instance, side: u32, want: &Cells) -> Result<bool, NoMemory> {
+    let is_square = is_square_of(alloc, &inst, side, want);
+    drop(inst);
+    is_square
 }
 
 #[test]
 fn fills_the_square_of_an_instance(rt: HostRuntime) -> Result<(), Fail> {
     for (place, second, side, want) in squares() {
         let inst = sample(rt.alloc(), *place, *second)?;
-        assert!(rt; is_square_of(rt.alloc(), &inst, *side, want)?);
+        assert!(rt; is_square(rt.alloc(), inst, *side, want)?);
     }
     Ok(())
 }
@@ -123,8 +132,10 @@ fn shaped() -> &'static [(bool, Cells)] {
 fn fills_the_square_of_a_shaped_instance(rt: HostRuntime) -> Result<(), Fail> {
     for (second, want) in shaped() {
         let mut inst = sample(rt.alloc(), All, *second)?;
-        assert_eq!(rt; inst.shape(Exactly(3), 3), Ok(()));
-        assert!(rt; is_square_of(rt.alloc(), &inst, 6, want)?);
+        let shaped = inst.shape(Exactly(3), 3);
+        let is_square = is_square(rt.alloc(), inst, 6, want);
+        assert_eq!(rt; shaped, Ok(()));
+        assert!(rt; is_square?);
     }
     Ok(())
 }
@@ -160,22 +171,34 @@ fn tables() -> &'static [(bool, Cells)] {
     &TABLES
 }
 
-// Whether the values of the square of a table are 16, of which the second is 3.
+// Whether these are 16 values, of which the second is 3.
+fn are_values(values: &[i64]) -> bool {
+    values.len() == 16 && values[1] == 3
+}
+
+// Whether the values of the square of a table are such.
 fn has_values(alloc: Global, inst: &Instance) -> Result<bool, NoMemory> {
     if inst.side() != 4 {
         return Ok(false);
     }
     let square = filled(alloc, inst)?;
-    let values = square.values();
-    Ok(values.len() == 16 && values[1] == 3)
+    let is_so = are_values(square.values());
+    drop(square);
+    Ok(is_so)
+}
+
+// Whether this and its cells are those of an instance, which it lets go.
+fn is_table(alloc: Global, inst: Instance, want: &Cells) -> Result<bool, NoMemory> {
+    let has_values = has_values(alloc, &inst);
+    let is_square = is_square(alloc, inst, 4, want);
+    Ok(has_values? && is_square?)
 }
 
 #[test]
 fn fills_the_square_of_a_table(rt: HostRuntime) -> Result<(), Fail> {
     for (second, want) in tables() {
         let inst = table(rt.alloc(), *second)?;
-        assert!(rt; is_square_of(rt.alloc(), &inst, 4, want)?);
-        assert!(rt; has_values(rt.alloc(), &inst)?);
+        assert!(rt; is_table(rt.alloc(), inst, want)?);
     }
     Ok(())
 }

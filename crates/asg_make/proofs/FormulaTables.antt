@@ -1,22 +1,15 @@
 -- The instance of the formula, as a table.
-use Rattle.std.proofs.Common.{◌≡◌, ℕ, zero, suc, ◌+◌, ◌*◌, ◌/◌, ◌%◌, ◌<◌, ◌≤◌, cond, List, [], ◌∷◌, length, get_or, map, refl, sym, ap, ◌∙◌, inr, arith, subst, length-append}
-use Rattle.std.specs.Prelude.{ℤ, pos, All, ◌^◌}
-use Rattle.std.specs.List.{enumerate_from, filter_map, flat_map, range_with_len}
-use Rattle.std.proofs.lemmas.List.{get_or_append_left, get_or-append-add, same_lists}
-use Rattle.std.proofs.lemmas.List.Elements.{All-nil, All-map}
-use Rattle.std.proofs.lemmas.List.FromFn.{length-map-range_with_len, get_or-map-range_with_len}
-use Rattle.std.proofs.lemmas.List.Sums.{get_or-le-sum_by}
-use Rattle.std.proofs.lemmas.Nat.{div-add-mod', div_below, mod_below}
+use Rattle.asg_make.proofs.Common.{◌≡◌, ℕ, zero, suc, ◌+◌, ◌*◌, ◌/◌, ◌%◌, ◌^◌, ◌<◌, ◌≤◌, cond, List, [], ◌∷◌, map, length, get_or, ℤ, pos, All, flat_map, sym, refl, ap, ◌∙◌, subst, inr, div-add-mod', arith, length-append, get_or-append-add, All-map, All-nil, div_below, enumerate_from, get_or-le-sum_by, get_or-map-range_with_len, get_or_append_left, length-map-range_with_len, mod_below, range_with_len, same_lists, cost_of_place}
+use Rattle.std.specs.List.{filter_map}
 use Rattle.asg_model.specs.declared.parts.Column.{Column}
 use Rattle.asg_model.specs.declared.parts.Place.{Place}
-use Rattle.asg_model.specs.declared.parts.Place.TheVariants.{All as PlaceAll}
 use Rattle.asg_model.specs.declared.parts.Row.{Row}
 use Rattle.asg_model.specs.Instances.{IsInstance, IsWellFormed, IsCostInRange}
 use Rattle.asg_model.specs.Problem.{problem_of}
 use Rattle.asg_model.specs.Table.{IsTable, IsEntry, table_cell, table_cells}
 use Rattle.asg_model.specs.ValueRange.{IsPartInRange}
 use Rattle.asg_make.specs.Formula.{row_of, column_of, cell_of, cells_of, generated_problem}
-use Rattle.asg_make.specs.Places.{cost_of_place}
+use Rattle.asg_model.specs.declared.parts.Place.TheVariants.{All as PlaceAll}
 
 row_at : (side k : ℕ) (d : Row) → k < side → get_or (map row_of (range_with_len 1 side)) k d ≡ row_of (1 + k)
 row_at side k d within = get_or-map-range_with_len row_of 1 side k (1 + k) d within refl

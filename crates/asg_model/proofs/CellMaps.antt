@@ -1,11 +1,5 @@
 -- What an insert into a map of cells keeps.
-use Rattle.std.proofs.Common.{List, [], ◌∷◌}
-use Rattle.std.specs.Prelude.{All}
-use Rattle.std.specs.BTreeMap.{insert_entry}
-use Rattle.std.specs.Ordering.{match_ordering}
-use Rattle.std.specs.declared.cmp.Ordering.{Ordering}
-use Rattle.std.specs.declared.cmp.Ordering.TheVariants.{Less, Equal, Greater}
-use Rattle.std.proofs.lemmas.List.Elements.{All-cons, All-head, All-tail}
+use Rattle.asg_model.proofs.Common.{List, [], ◌∷◌, All, Ordering, Less, Equal, Greater, All-cons, All-head, All-tail, insert_entry, match_ordering}
 
 module _ {K V : Type 0} (A : K → Type 0) (B : V → Type 0) where
   insert_at : (o : Ordering) (e : K × V) (es rest : List (K × V)) (k : K) (v : V) → A k → B v → A e.0 → B e.1 → All (λ e. A e.0 × B e.1) es → All (λ e. A e.0 × B e.1) rest

@@ -1,28 +1,7 @@
 -- Edited instances are instances.
-use Rattle.std.proofs.Common.{◌≡◌, ◌≢◌, ℕ, zero, suc, ◌+◌, ◌<◌, ◌≤◌, Bool, true, false, cond, eqb, List, [], ◌∷◌, length, get_or, map, Option, Some, None, refl, sym, ap, subst, ◌∙◌, ⊎_elim, arith}
-use Rattle.std.specs.Prelude.{All, AllPairs, IfSome, count_by, sum_by, ◌^◌}
-use Rattle.std.specs.BTreeMap.{is_at}
-use Rattle.std.specs.List.Sorted.{IsStrictlySortedBy}
-use Rattle.std.specs.Map.{keys_of, remove_entry}
-use Rattle.std.proofs.lemmas.Bool.{cases_Bool, cond-true, cond-false, eqb-true}
-use Rattle.std.proofs.lemmas.List.{get_or-map, length-map}
-use Rattle.std.proofs.lemmas.List.Elements.{All-map, All-cons, All-head, All-tail, All-weaker}
-use Rattle.std.proofs.lemmas.List.Sums.{sum_by-cons}
-use Rattle.asg_model.specs.declared.parts.Cost.{Cost}
-use Rattle.asg_model.specs.declared.parts.Row.{Row}
-use Rattle.asg_model.specs.declared.parts.Column.{Column}
-use Rattle.asg_model.specs.declared.parts.Place.{Place}
-use Rattle.asg_model.specs.declared.parts.Place.TheVariants.{All as PlaceAll, Exactly}
-use Rattle.asg_model.specs.Counts.{active_count, total_capacity}
-use Rattle.asg_model.specs.Edits.{dropped, closed, with_cell}
-use Rattle.asg_model.specs.Instances.{IsCostInRange, IsPlaceInRange, IsInstance, by_places}
-use Rattle.asg_model.specs.Limits.{most_capacity}
-use Rattle.asg_model.specs.Problem.{Problem, problem_of}
-use Rattle.std.specs.Prelude.{Result, Ok, Err, OnOk, OnErr}
-use Rattle.asg_model.specs.declared.cell_store.CellStore.{CellStore}
-use Rattle.asg_model.specs.declared.cell_store.CellStore.TheVariants.{Map, Table}
-use Rattle.asg_model.specs.CellStores.{cells_in, IsStoreOf, stored_problem, IsStored}
+use Rattle.asg_model.proofs.Common.{◌≡◌, ℕ, zero, suc, ◌+◌, ◌^◌, ◌<◌, ◌≤◌, Bool, true, false, cond, eqb, ◌≢◌, List, [], ◌∷◌, map, length, get_or, IfSome, OnOk, OnErr, Some, None, Ok, Err, All, sum_by, count_by, Option, Result, AllPairs, sym, refl, ap, ◌∙◌, subst, ⊎_elim, arith, eqb-true, All-cons, All-head, All-map, All-tail, All-weaker, IsStrictlySortedBy, cases_Bool, cond-false, cond-true, get_or-map, is_at, keys_of, length-map, remove_entry, sum_by-cons, cells_in, IsStoreOf, stored_problem, IsStored, active_count, total_capacity, dropped, closed, with_cell, IsCostInRange, IsPlaceInRange, IsInstance, by_places, most_capacity, Problem, problem_of, CellStore, Map, Table, Column, Cost, Place, Row}
 use Rattle.asg_model.proofs.CellMaps.{All-insert_entry}
+use Rattle.asg_model.specs.declared.parts.Place.TheVariants.{All as PlaceAll, Exactly}
 
 abbrev Cells : Type 0
 Cells = List ((ℕ × ℕ) × Cost)

@@ -1,21 +1,6 @@
 -- The cells of a table in which one cell was changed.
-use Rattle.std.proofs.Common.{◌≡◌, ◌≢◌, ℕ, zero, suc, ◌+◌, ◌*◌, ◌/◌, ◌%◌, ◌<◌, ◌≤◌, Bool, true, false, cond, List, [], ◌∷◌, length, get_or, set, Option, Some, None, sym, refl, ap, ◌∙◌, ⊎_elim, arith, ℤ, pos}
-use Rattle.std.specs.Prelude.{IfSome, filter_map}
-use Rattle.std.specs.BTreeMap.{insert_entry, is_at}
-use Rattle.std.specs.Option.{option_map}
-use Rattle.std.specs.List.{enumerate_from, AllByRecursion, cons_option}
-use Rattle.std.specs.Map.{keys_of, remove_entry}
-use Rattle.std.specs.Ordering.{nat_cmp, ordering_then, int_eq, match_ordering, is_eq}
-use Rattle.std.specs.declared.cmp.Ordering.TheVariants.{Less, Equal, Greater}
-use Rattle.std.specs.Cmp.{nat_cmp_is}
-use Rattle.std.proofs.lemmas.Bool.{cases_order}
-use Rattle.std.proofs.lemmas.Nat.{div-add-mod', le-div}
-use Rattle.std.proofs.Math.Nat.{div-mul-le_self}
-use Rattle.asg_model.specs.declared.parts.Cost.{Cost}
-use Rattle.asg_model.specs.Edits.{with_cell}
-use Rattle.asg_model.specs.CellStores.{slot_of, PutsInTable}
-use Rattle.asg_model.specs.Instances.{IsCostInRange, by_places}
-use Rattle.asg_model.specs.Table.{absent, table_cost, table_cell, table_cells}
+use Rattle.asg_model.proofs.Common.{◌≡◌, ℕ, zero, suc, ◌+◌, ◌*◌, ◌/◌, ◌%◌, ◌<◌, ◌≤◌, Bool, true, false, cond, ◌≢◌, List, [], ◌∷◌, length, get_or, set, ℤ, pos, IfSome, Some, None, Option, option_map, filter_map, nat_cmp, int_eq, is_eq, Less, Equal, Greater, sym, refl, ap, ◌∙◌, ⊎_elim, div-add-mod', div-mul-le_self, arith, AllByRecursion, cases_order, cons_option, enumerate_from, insert_entry, is_at, keys_of, le-div, match_ordering, nat_cmp_is, ordering_then, remove_entry, slot_of, PutsInTable, with_cell, IsCostInRange, by_places, absent, table_cost, table_cell, Cost}
+use Rattle.asg_model.specs.Table.{table_cells}
 use Rattle.asg_model.proofs.Tables.{later_keys}
 
 abbrev Cells : Type 0

@@ -1,13 +1,5 @@
 -- The place of the one row, or the one column, that has an id.
-use Rattle.std.proofs.Common.{◌≡◌, ◌≢◌, ℕ, ◌<◌, ◌≤◌, Bool, true, false, cond, List, length, get_or, refl, arith, sym, ap, ◌∙◌, ⊎_elim, inl, inr, ◌⊎◌}
-use Rattle.std.specs.Prelude.{Option, Some, None, IfSome, AllPairs, ◌==◌, nat_lt, slice_get}
-use Rattle.std.specs.List.{position, position_or_len}
-use Rattle.std.specs.Option.{option_map_or}
-use Rattle.std.proofs.lemmas.Bool.{false≢true, cases_lt, false_from_ne_true, cond-true}
-use Rattle.std.proofs.lemmas.Bool.Decides.{Decides-eqb, Decides-ltb}
-use Rattle.std.proofs.lemmas.Option.{slice_get-get_or, slice_get_past}
-use Rattle.std.proofs.lemmas.List.Sums.{position_or_len_is}
-use Rattle.std.proofs.lemmas.List.Quantifiers.{position-Some}
+use Rattle.asg_model.proofs.Common.{◌≡◌, ℕ, ◌<◌, ◌≤◌, Bool, true, false, cond, ◌≢◌, ◌⊎◌, List, length, get_or, IfSome, nat_lt, ◌==◌, slice_get, Some, None, Option, AllPairs, position, sym, refl, ap, ◌∙◌, inl, inr, ⊎_elim, arith, Decides-eqb, Decides-ltb, cases_lt, cond-true, false_from_ne_true, false≢true, option_map_or, position-Some, position_or_len, position_or_len_is, slice_get-get_or, slice_get_past}
 
 -- an element that alone has an id stands where its id is found first
 pub position-unique : {X : Type 0} (id : X → ℕ) (xs : List X) (k n : ℕ) (d : X) → AllPairs (λ x y. id x ≢ id y) xs → option_map_or (λ x. id x == n) (slice_get xs k) false ≡ true → position (λ x. id x == n) xs ≡ Some k

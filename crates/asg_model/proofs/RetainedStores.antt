@@ -1,27 +1,7 @@
 -- Stores of whose cells some are taken out.
-use Rattle.std.proofs.Common.{◌≡◌, ℕ, suc, ◌+◌, ◌/◌, ◌%◌, ◌<◌, ◌≤◌, Bool, true, false, cond, List, [], ◌∷◌, ◌++◌, length, get_or, set, Option, Some, None, inl, refl, sym, ap, subst, ◌∙◌, arith, ℤ, pos, add-zero, ⊎_elim}
-use Rattle.std.specs.Prelude.{Vec, All, filter_map}
-use Rattle.std.specs.declared.alloc.Global.{Global}
-use Rattle.std.specs.Option.{option_map}
-use Rattle.std.specs.List.{enumerate_from, cons_option, FoldsTo}
+use Rattle.asg_model.proofs.Common.{◌≡◌, ℕ, suc, ◌+◌, ◌/◌, ◌%◌, ◌<◌, ◌≤◌, Bool, true, false, cond, List, [], ◌∷◌, ◌++◌, length, get_or, set, ℤ, pos, Some, None, All, Option, Vec, option_map, filter_map, int_eq, Global, sym, refl, ap, ◌∙◌, subst, inl, ⊎_elim, add-zero, arith, length-set, get_or-set_other, get_or-set_same, All-from_get_or, All-head, All-same, All-tail, Decides-int_eq, FoldsTo, cases_eq, cond-true, cons_option, enumerate_from, cells_in, IsStored, IsCellStore, stored_problem, IsCostInRange, problem_of, retained, AnswersAs, RetainsCells, absent, table_cost, table_cell, IsEntry, IsTable, RetainsFirsts, CellStore, Table, Column, Cost, Place, Row, IsInstance-cells, AreCellsOf-instance, All-retained, kept_from_answers}
 use Rattle.std.specs.Map.Calls.{SomeCallAtPair, CallableOnEachPair, RetainsPairs}
-use Rattle.std.specs.Ordering.{int_eq}
-use Rattle.std.proofs.lemmas.Bool.{cond-true, cases_eq}
-use Rattle.std.proofs.lemmas.Bool.Decides.{Decides-int_eq}
-use Rattle.std.proofs.lemmas.List.{get_or-set_same, get_or-set_other, length-set}
-use Rattle.std.proofs.lemmas.List.Elements.{All-head, All-tail, All-same, All-from_get_or}
-use Rattle.asg_model.specs.declared.cell_store.CellStore.{CellStore}
-use Rattle.asg_model.specs.declared.cell_store.CellStore.TheVariants.{Table}
-use Rattle.asg_model.specs.declared.parts.Column.{Column}
-use Rattle.asg_model.specs.declared.parts.Cost.{Cost}
-use Rattle.asg_model.specs.declared.parts.Place.{Place}
-use Rattle.asg_model.specs.declared.parts.Row.{Row}
-use Rattle.asg_model.specs.CellStores.{cells_in, IsStored, IsCellStore, stored_problem}
-use Rattle.asg_model.specs.Instances.{IsCostInRange}
-use Rattle.asg_model.specs.Problem.{problem_of}
-use Rattle.asg_model.specs.Retained.{retained, AnswersAs, RetainsCells}
-use Rattle.asg_model.specs.Table.{absent, table_cost, table_cell, table_cells, IsEntry, IsTable, RetainsFirsts}
-use Rattle.asg_model.specs.laws.Retained.{IsInstance-cells, AreCellsOf-instance, All-retained, kept_from_answers}
+use Rattle.asg_model.specs.Table.{table_cells}
 use Rattle.asg_model.proofs.Tables.{cells_ascend}
 
 abbrev Cell : Type 0

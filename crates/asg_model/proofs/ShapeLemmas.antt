@@ -1,21 +1,6 @@
 -- Instances with another place rule and other capacities, and copies.
-use Rattle.std.proofs.Common.{◌≡◌, ◌≢◌, ℕ, ◌+◌, ◌*◌, ◌<◌, ◌≤◌, ◌⊎◌, inl, inr, Bool, true, false, cond, ltb, ◌&&◌, List, [], ◌∷◌, length, get_or, set, map, refl, arith, sym, ap, subst, ◌∙◌, ⊎_elim}
-use Rattle.std.specs.Prelude.{All, AllPairs, sum_by, nat_le, ◌^◌}
-use Rattle.std.proofs.lemmas.Bool.{false≢true, leb-true, leb-false, lt-ltb, le-ltb, cases_order}
-use Rattle.std.proofs.lemmas.List.{get_or-map, get_or-set_same, get_or-set_other, get_or_default, length-map, same_lists}
-use Rattle.std.proofs.lemmas.List.Elements.{All-map}
-use Rattle.std.proofs.lemmas.List.Sums.{sum_by-cons}
-use Rattle.asg_model.specs.declared.cell_store.CellStore.{CellStore}
-use Rattle.asg_model.specs.declared.parts.Row.{Row}
-use Rattle.asg_model.specs.declared.parts.Column.{Column}
-use Rattle.asg_model.specs.declared.parts.Place.{Place}
+use Rattle.asg_model.proofs.Common.{◌≡◌, ℕ, ◌+◌, ◌*◌, ◌^◌, ◌<◌, ◌≤◌, Bool, true, false, cond, ◌&&◌, ltb, ◌≢◌, ◌⊎◌, List, [], ◌∷◌, map, length, get_or, set, nat_le, All, sum_by, AllPairs, sym, refl, ap, ◌∙◌, subst, inl, inr, ⊎_elim, arith, get_or-set_other, get_or-set_same, le-ltb, lt-ltb, leb-false, leb-true, All-map, cases_order, false≢true, get_or-map, get_or_default, length-map, same_lists, sum_by-cons, cells_in, IsStoreOf, stored_problem, IsStored, IsCopyOf, total_capacity, IsPlaceInRange, IsInstance, most_capacity, Problem, problem_of, with_capacity, shaped, IsPlaceOutOfRange, is_range_of, CellStore, Column, Place, Row}
 use Rattle.asg_model.specs.declared.parts.Place.TheVariants.{All as PlaceAll, Exactly}
-use Rattle.asg_model.specs.Counts.{total_capacity}
-use Rattle.asg_model.specs.Instances.{IsPlaceInRange, IsInstance}
-use Rattle.asg_model.specs.Limits.{most_capacity}
-use Rattle.asg_model.specs.CellStores.{cells_in, IsStoreOf, stored_problem, IsStored, IsCopyOf}
-use Rattle.asg_model.specs.Problem.{Problem, problem_of}
-use Rattle.asg_model.specs.Shapes.{with_capacity, shaped, IsPlaceOutOfRange, is_range_of}
 
 -- so many columns of one capacity
 total_of_each : (each : ℕ) (columns : List Column) → sum_by (λ column. column.cap) (map (with_capacity each) columns) ≡ length columns * each

@@ -1,11 +1,5 @@
 -- Both parts of the costs of a row of a table, as they are cut from the table.
-use Rattle.std.proofs.Common.{◌≡◌, ℕ, ◌+◌, ◌-◌, min, ◌*◌, ◌<◌, ◌≤◌, cond, List, length, get_or, take, drop, Some, None, sym, ap, ◌∙◌, ⊎_elim, arith, ℤ, pos}
-use Rattle.std.specs.Prelude.{option_and_then}
-use Rattle.std.specs.Ordering.{int_eq}
-use Rattle.std.proofs.lemmas.Bool.{cases_lt}
-use Rattle.std.proofs.lemmas.Option.{slice_get-get_or}
-use Rattle.std.proofs.lemmas.List.{get_or_past, get_or-take, get_or-drop, length-take, length-take-le, length-drop}
-use Rattle.asg_model.specs.Table.{absent, table_cost, AreTableParts}
+use Rattle.asg_model.proofs.Common.{◌≡◌, ℕ, ◌+◌, ◌-◌, ◌*◌, ◌<◌, ◌≤◌, min, cond, List, length, get_or, take, drop, ℤ, pos, Some, None, option_and_then, int_eq, sym, ap, ◌∙◌, ⊎_elim, arith, length-drop, length-take, length-take-le, get_or-drop, get_or-take, cases_lt, get_or_past, slice_get-get_or, absent, table_cost, AreTableParts}
 use Rattle.asg_model.proofs.Tables.{cost_at-table, row_end}
 
 -- the second parts of a row, cut from those of the table as far as they go

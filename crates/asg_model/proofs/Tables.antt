@@ -1,35 +1,10 @@
 -- The cells of a table: what stands at a place, and that they are cells of an instance.
-use Rattle.std.proofs.Common.{◌≡◌, ◌≢◌, ℕ, zero, suc, ◌+◌, ◌*◌, ◌/◌, ◌%◌, ◌<◌, ◌≤◌, Bool, true, false, cond, ◌&&◌, eqb, List, [], ◌∷◌, length, get_or, take, drop, Option, Some, None, inl, inr, sym, refl, ap, subst, ◌∙◌, ⊎_elim, arith, ℤ, pos, mul-le-mul_right}
-use Rattle.std.specs.Prelude.{Vec, All, IfSome, filter_map, slice_get, option_and_then}
-use Rattle.std.specs.Option.{option_map}
-use Rattle.std.specs.List.{enumerate_from, AllByRecursion, cons_option}
+use Rattle.asg_model.proofs.Common.{◌≡◌, ℕ, zero, suc, ◌+◌, ◌*◌, ◌/◌, ◌%◌, ◌<◌, ◌≤◌, Bool, true, false, cond, ◌&&◌, eqb, ◌≢◌, List, [], ◌∷◌, length, get_or, ℤ, pos, IfSome, slice_get, Some, None, All, Option, Vec, option_map, filter_map, option_and_then, nat_cmp, int_eq, Less, Equal, Global, sym, refl, ap, ◌∙◌, subst, inl, inr, ⊎_elim, div-add-mod', div-mul-le_self, arith, eq-eqb, eqb-true, All-cons, All-head, All-nil, All-tail, AllByRecursion, Decides-int_eq, and_parts, cases_Bool, cases_lt, cases_order, cond-false, cond-true, cons_option, div-mul-add, div_below, enumerate_from, false≢true, get_or_past, keys_of, le-div, mod-mul-add, mod_below, nat_cmp_is, ordering_then, cells_in, stored_problem, IsStoreOf, IsCostInRange, IsPlaceInRange, IsWellFormed, by_places, cost_at, Problem, problem_of, absent, table_cost, table_cell, IsEntry, IsTable, CellStore, Table, Column, Cost, Place, Row}
+use Rattle.std.proofs.Common.{mul-le-mul_right}
 use Rattle.std.specs.List.Sorted.{IsStrictlySortedBy}
-use Rattle.std.specs.Map.{keys_of}
-use Rattle.std.specs.Ordering.{nat_cmp, ordering_then, int_eq}
-use Rattle.std.specs.declared.cmp.Ordering.TheVariants.{Less, Equal}
-use Rattle.std.specs.Cmp.{nat_cmp_is}
-use Rattle.std.proofs.Math.Nat.{div-mul-le_self}
-use Rattle.std.proofs.lemmas.Bool.{cases_lt, cases_order, cases_Bool, and_parts, eqb-true, eq-eqb, cond-true, cond-false, false≢true}
-use Rattle.std.proofs.lemmas.Bool.Decides.{Decides-int_eq}
-use Rattle.std.proofs.lemmas.Nat.{div-add-mod', div_below, mod_below, div-mul-add, mod-mul-add, mul-add-lt, le-div}
-use Rattle.std.proofs.lemmas.Option.{slice_get-get_or}
-use Rattle.std.proofs.lemmas.List.{get_or_past, get_or-take, get_or-drop, length-take-le, length-drop}
-use Rattle.std.proofs.lemmas.List.Elements.{All-nil, All-cons, All-head, All-tail}
-use Rattle.asg_model.specs.declared.parts.Cost.{Cost}
-use Rattle.asg_model.specs.Limits.{most_columns}
-use Rattle.asg_model.specs.Live.{cost_at}
-use Rattle.asg_model.specs.declared.parts.Row.{Row}
-use Rattle.asg_model.specs.declared.parts.Column.{Column}
-use Rattle.asg_model.specs.declared.parts.Place.{Place}
-use Rattle.asg_model.specs.declared.parts.Place.TheVariants.{All as PlaceAll, Exactly}
-use Rattle.std.specs.declared.alloc.Global.{Global}
-use Rattle.asg_model.specs.declared.cell_store.CellStore.{CellStore}
-use Rattle.asg_model.specs.declared.cell_store.CellStore.TheVariants.{Table}
-use Rattle.asg_model.specs.CellStores.{cells_in, stored_problem, IsStoreOf}
-use Rattle.asg_model.specs.Problem.{Problem, problem_of}
-use Rattle.asg_model.specs.Instances.{IsCostInRange, IsPlaceInRange, IsWellFormed, by_places}
 use Rattle.asg_model.specs.ValueRange.{IsPartInRange}
-use Rattle.asg_model.specs.Table.{absent, table_cost, table_cell, table_cells, IsEntry, IsTable, IsSlotOf, AreRowCosts}
+use Rattle.asg_model.specs.Table.{table_cells}
+use Rattle.asg_model.specs.declared.parts.Place.TheVariants.{All as PlaceAll, Exactly}
 
 -- ---- what stands at a place
 
@@ -193,10 +168,6 @@ cost_in_range : (seconds : List ℤ) (k : ℕ) (a : ℤ) (b : Bool) → int_eq a
 cost_in_range seconds k a true e is all = tt
 cost_in_range seconds k a false e is all = record { a_in_range = entry_in_range a e is; b_in_range = second_in_range seconds k all }
 
-slot_is : (a second : ℤ) (b : Bool) → int_eq a absent ≡ b → IsEntry a → IsSlotOf (cond b None (Some (record { a = a; b = second }))) a
-slot_is a second true e is = (Decides-int_eq a absent).0 e
-slot_is a second false e is = (refl, entry_in_range a e is)
-
 module _ (rows n : ℕ) (firsts seconds : List ℤ) (table : IsTable rows n firsts seconds) where
   cells_within : All (λ cell. (cell.0.0 < rows) × (cell.0.1 < n)) (table_cells n firsts seconds)
   unfolding table_cells
@@ -216,15 +187,6 @@ module _ (rows n : ℕ) (firsts seconds : List ℤ) (table : IsTable rows n firs
       placed (λ cell. IsCostInRange cell.1) (k / n, k % n) (table_cost seconds k a)
       (cost_in_range seconds k a (int_eq a absent) refl is table.seconds_in_range))
       0 firsts (omega (arith, table.whole)) table.firsts_in_range
-
-  -- what stands in the table for a cell
-  pub slot_at : (r c : ℕ) → r < rows → c < n → IsSlotOf (cost_at (table_cells n firsts seconds) r c) (get_or firsts (r * n + c) absent)
-  slot_at r c row column =
-      let k = r * n + c in
-      let within : k < length firsts = omega (arith, table.whole, mul-add-lt r n c rows row column) in
-      let at = cost_at-table n firsts seconds r c column ∙ ap (option_and_then (table_cost seconds k)) (slice_get-get_or firsts k absent within) in
-      subst (λ (o : Option Cost). IsSlotOf o (get_or firsts k absent)) (sym at)
-      (slot_is (get_or firsts k absent) (get_or seconds k (pos 0)) (int_eq (get_or firsts k absent) absent) refl (table.firsts_in_range k absent within))
 
 place_in_range : (rows : List Row) (columns : List Column) (cells : List ((ℕ × ℕ) × Cost)) (place : Place) → IsPlaceInRange (problem_of rows columns [] place) place → IsPlaceInRange (problem_of rows columns cells place) place
 place_in_range rows columns cells PlaceAll is = is
@@ -252,24 +214,6 @@ IsWellFormed-table rows columns firsts seconds place parts table =
 
 pub row_end : (r rows n : ℕ) → r < rows → r * n + n ≤ rows * n
 row_end r rows n there = omega (arith, mul-le-mul_right n there)
-
--- the entries of a row, side by side, are its costs
-pub AreRowCosts-table : (X : Problem) (firsts seconds : List ℤ) (r : ℕ) → X.cells ≡ table_cells (length X.columns) firsts seconds → IsTable (length X.rows) (length X.columns) firsts seconds → r < length X.rows → length X.columns ≤ most_columns → AreRowCosts X r (take (length X.columns) (drop (r * length X.columns) firsts))
-AreRowCosts-table X firsts seconds r cells table there few =
-    let n = length X.columns in
-    let start = r * n in
-    let behind : start + n ≤ length firsts = omega (arith, table.whole, row_end r (length X.rows) n there) in
-    let long : length (take n (drop start firsts)) ≡ n = length-take-le n (drop start firsts) (omega (arith, length-drop start firsts, behind)) in
-    record {
-      there = there;
-      whole = long;
-      few = omega (arith, long, few);
-      slots = λ c within.
-          let at : get_or (take n (drop start firsts)) c absent ≡ get_or firsts (start + c) absent = get_or-take n (drop start firsts) c absent within ∙ get_or-drop start firsts c absent in
-          subst (λ (a : ℤ). IsSlotOf (cost_at X.cells r c) a) (sym at)
-          (subst (λ (list : List ((ℕ × ℕ) × Cost)). IsSlotOf (cost_at list r c) (get_or firsts (start + c) absent)) (sym cells)
-          (slot_at (length X.rows) n firsts seconds table r c there within));
-    }
 
 -- ---- an instance that keeps a table
 module _ (rows : List Row) (columns : List Column) (store : CellStore) (place : Place) (X : Problem) (view : stored_problem rows columns store place ≡ X) (firsts seconds : Vec ℤ Global) (is : store ≡ Table firsts seconds) where

@@ -1,4 +1,4 @@
-use Rattle.std.specs.Prelude.{◌≡◌, ℕ, ◌<◌, pos, Bool, false, int_lt, IsTrue, Some, slice_get, IfSome}
+use Rattle.std.specs.Prelude.{◌≡◌, ◌⊎◌, ℕ, ◌<◌, ℤ, pos, ◌≤ℤ◌, Bool, false, int_lt, IsTrue, Some, slice_get, IfSome}
 use Rattle.std.specs.Option.{option_map, option_map_or}
 use Rattle.asg_model.specs.declared.parts.Cost.{Cost}
 use Rattle.asg_model.specs.declared.objectives.Objective.{Objective}
@@ -11,6 +11,10 @@ abbrev pub is_refused : Objective → Cost → Bool
 is_refused (Capped cap) cost = int_lt cost.a (pos 0)
 is_refused TimeCost cost = int_lt cost.b (pos 0)
 is_refused _ cost = false
+
+-- a part is one that is passed over, or isn't negative
+abbrev pub IsPassed : ℤ → ℤ → Type 0
+IsPassed passed part = (part ≡ passed) ⊎ (pos 0 ≤ℤ part)
 
 -- the objective refuses no live cost of an instance
 abbrev pub PassesNegative : Objective → Problem → Type 0

@@ -1,9 +1,8 @@
-use Rattle.std.specs.Prelude.{◌≡◌, ◌⊎◌, ℕ, ◌<◌, ◌≤◌, ◌*◌, ◌/◌, ◌%◌, Bool, ℤ, pos, negsuc, if◌then◌else◌, Option, Some, None, List, length, filter_map, slice_index_or, All}
+use Rattle.std.specs.Prelude.{◌≡◌, ◌⊎◌, ℕ, ◌<◌, ◌*◌, ◌/◌, ◌%◌, Bool, ℤ, pos, negsuc, if◌then◌else◌, Option, Some, None, List, length, filter_map, slice_index_or, All}
 use Rattle.std.specs.List.{enumerate_from}
 use Rattle.std.specs.Option.{option_map}
 use Rattle.std.specs.Ordering.{int_eq}
 use Rattle.asg_model.specs.declared.parts.Cost.{Cost}
-use Rattle.asg_model.specs.Limits.{most_columns}
 use Rattle.asg_model.specs.Live.{cost_at}
 use Rattle.asg_model.specs.Problem.{Problem}
 use Rattle.asg_model.specs.ValueRange.{IsPartInRange}
@@ -38,19 +37,6 @@ pub record IsTable (rows columns : ℕ) (firsts seconds : List ℤ) : Type 0 whe
   pub whole : length firsts ≡ rows * columns
   pub firsts_in_range : All IsEntry firsts
   pub seconds_in_range : All IsPartInRange seconds
-
--- what stands in a table for a cell that has this cost, or none
-abbrev pub IsSlotOf : Option Cost → ℤ → Type 0
-IsSlotOf None a = a ≡ absent
-IsSlotOf (Some cost) a = (a ≡ cost.a) × IsPartInRange a
-
--- the first parts of the costs of the row at place r, column by column
-pub record AreRowCosts (X : Problem) (r : ℕ) (costs : List ℤ) : Type 0 where
-  pub there : r < length X.rows
-  pub whole : length costs ≡ length X.columns
-  pub few : length costs ≤ most_columns
-  pub slots : (c : ℕ) → c < length X.columns →
-      IsSlotOf (cost_at X.cells r c) (slice_index_or costs c absent)
 
 -- the first and the second parts of a row at place r of a table: the cost of each of the row's
 -- cells is that of its parts

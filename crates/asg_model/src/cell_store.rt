@@ -71,7 +71,7 @@ pub(crate) fn second_part(seconds: &[i64], index: usize) -> i64
 }
 
 // The first parts of the row at this place of a table of so many rows and columns.
-pub(crate) fn table_row(rows: usize, columns: usize, firsts: &[i64], row: u32) -> Option<&[i64]>
+fn table_row(rows: usize, columns: usize, firsts: &[i64], row: u32) -> Option<&[i64]>
     requires few { columns ≤ most_columns }
     requires whole { length firsts.now ≡ rows * columns }
     ensures there { OnSome result (row < rows) }

@@ -54,8 +54,8 @@ impl Choice {
         self.columns[row as usize] = col;
     }
 
-    // The number of rows that choose.
-    pub(crate) fn placed_count(&self) -> u32
+    /// The number of rows that choose.
+    pub fn placed_count(&self) -> u32
         ensures { result ≡ count_by is_some self.now }
     {
         self.columns

@@ -3,7 +3,7 @@
 ghost use Rattle.std.specs.Prelude.{◌≡◌, ◌<◌, ◌≤◌, ℕ, ◌^◌, [], None, length, All, IfSome, slice_index_or};
 ghost use Rattle.asg_model.specs.Problem.{problem_of};
 
-use crate::cell_store::{CellStore, table_cell, table_parts, table_row};
+use crate::cell_store::{CellStore, table_cell, table_parts};
 use crate::parts::{Column, Cost, Place, Row, RowParts};
 use crate::row_rooms::RowRoom;
 use std::collections::BTreeMap;
@@ -35,7 +35,7 @@ impl Instance {
     ghost use Rattle.asg_model.specs.Instances.{IsWellFormed, IsInstance, IsCostInRange};
     ghost use Rattle.asg_model.specs.Live.{is_active, is_open, cost_at, live_at};
     ghost use Rattle.asg_model.specs.Counts.{active_count, placed, slack, is_counted};
-    ghost use Rattle.asg_model.specs.Table.{absent, table_cost, table_cells, IsTable, AreRowCosts, AreRowParts};
+    ghost use Rattle.asg_model.specs.Table.{absent, table_cost, table_cells, IsTable, AreRowParts};
 
     /// The instance of these parts. It takes no memory.
     pub fn with(
@@ -152,8 +152,9 @@ impl Instance {
         self.rows.iter().filter(|row| row.active).count() as u32
     }
 
-    // Whether the row at this place is counted.
-    pub(crate) fn is_counted(&self, row: u32) -> bool
+    /// Whether the row at this place is counted: where all rows are placed, it is there and active;
+    /// else it is there.
+    pub fn is_counted(&self, row: u32) -> bool
         ensures { result ≡ is_counted self.now row }
     {
         match self.place {
@@ -179,24 +180,6 @@ impl Instance {
         match self.columns.get(col as usize) {
             Some(found) => found.usable,
             None => false,
-        }
-    }
-
-    // The first parts of the costs of the cells of a row, column by column, live or not,
-    // [`ABSENT`] exactly where there is no cell, where they stand side by side.
-    pub(crate) fn row_costs(&self, row: u32) -> Option<&[i64]>
-        ensures { IfSome result (λ costs. AreRowCosts self.now row costs.now) }
-    {
-        match &self.store {
-            CellStore::Map(_) => None,
-            CellStore::Table { firsts, .. } => {
-                table_row(
-                    self.rows().len(),
-                    self.columns().len(),
-                    firsts.as_slice(),
-                    row,
-                )
-            }
         }
     }
 

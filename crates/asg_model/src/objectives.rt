@@ -1,7 +1,9 @@
 //! What a choice is judged by.
 
 ghost use Rattle.std.specs.Prelude.{◌≡◌};
+ghost use Rattle.asg_model.specs.Refused.{is_refused};
 
+use crate::parts::Cost;
 use std::alloc::Global;
 use std::marker::Model;
 
@@ -26,6 +28,20 @@ pub enum Objective {
     Balanced,
     /// The `a`s from the greatest down; less at the first difference is better.
     Lex,
+}
+
+impl Objective {
+    /// Whether the objective refuses the cost: `Capped` a negative `a`, `TimeCost` a negative `b`,
+    /// and no other objective any.
+    pub fn refuses(self, cost: Cost) -> bool
+        ensures { result ≡ is_refused self cost }
+    {
+        match self {
+            Objective::Capped(_) => cost.a < 0,
+            Objective::TimeCost => cost.b < 0,
+            _ => false,
+        }
+    }
 }
 
 /// A list of costs.

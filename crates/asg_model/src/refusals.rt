@@ -12,7 +12,6 @@ ghost use Rattle.asg_model.specs.Refused.{is_refused};
 use crate::edits::{Edit, EditRefusal};
 use crate::instances::Instance;
 use crate::limits::MOST_COST;
-use crate::negatives::is_refused;
 use crate::objectives::Objective;
 use crate::parts::Cost;
 
@@ -169,7 +168,7 @@ fn gives_refused_cost(objective: Objective, edit: Edit) -> bool
     ensures { result ≡ option_map_or (is_refused objective) (given_cost edit) false }
 {
     match edit {
-        Edit::Cost { cost, .. } => is_refused(objective, cost),
+        Edit::Cost { cost, .. } => objective.refuses(cost),
         _ => false,
     }
 }

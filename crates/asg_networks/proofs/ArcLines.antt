@@ -1,23 +1,11 @@
 -- A line with the arc of short integers, its fields with one space between them.
-use Rattle.std.proofs.Common.{◌≡◌, ◌==◌, ℕ, ◌+◌, ◌-◌, ◌<◌, ◌≤◌, Bool, true, false, cond, ◌||◌, List, [], ◌∷◌, ◌++◌, length, map, take, Option, Some, None, refl, sym, ap, ◌∙◌, arith, append_assoc}
-use Rattle.std.specs.Prelude.{ℤ, pos, All, unsigned_abs, filter, nat_lt, option_and_then}
-use Rattle.std.specs.Option.{option_map}
-use Rattle.std.specs.Str.Lines.{lines, strip_carriage_return}
-use Rattle.std.proofs.lemmas.Bool.{le-leb, lt-ltb}
-use Rattle.std.proofs.lemmas.List.Elements.{All-nil, All-cons, All-append, All-weaker, All-get_or}
+use Rattle.asg_networks.proofs.Common.{◌≡◌, ℕ, ◌+◌, ◌-◌, ◌<◌, ◌≤◌, Bool, true, false, cond, ◌||◌, List, [], ◌∷◌, ◌++◌, map, length, take, ℤ, pos, nat_lt, ◌==◌, unsigned_abs, Some, None, All, filter, Option, option_map, option_and_then, sym, refl, ap, ◌∙◌, append_assoc, arith, lt-ltb, le-leb, All-append, All-cons, All-get_or, All-nil, All-weaker, digits_value, lines, strip_carriage_return, most_cost, line_of_fields, Arc, Arrow, integer_of, size_of, integer_in_range, fields, is_blank, is_space, some_bytes, line_at}
 use Rattle.std.proofs.lemmas.List.Splits.{slice_split_none}
-use Rattle.asg_model.specs.Limits.{most_cost}
-use Rattle.asg_networks.specs.declared.asn_lines.Arc.{Arc}
-use Rattle.asg_networks.specs.declared.asn_lines.Line.TheVariants.{Arrow}
-use Rattle.asg_networks.specs.AsnLines.{line_of, line_of_fields}
-use Rattle.asg_tokens.specs.Numbers.{integer_of, size_of, integer_in_range}
+use Rattle.asg_networks.specs.AsnLines.{line_of}
 use Rattle.asg_tokens.specs.NextCells.{IsShortInteger, IsShortAmount}
-use Rattle.asg_tokens.specs.Pieces.{pieces, fields, is_blank, is_space}
-use Rattle.asg_tokens.specs.laws.CellLemmas.{some_bytes}
-use Rattle.asg_tokens.specs.laws.LineCuts.{line_at}
+use Rattle.asg_tokens.specs.Pieces.{pieces}
 use Rattle.asg_tokens.specs.laws.NumberLemmas.{size_of_digits}
 use Rattle.asg_tokens.specs.laws.ShortLemmas.{word_first, no_spaces}
-use Rattle.std.specs.Str.Parse.{digits_value}
 
 none_of_four : (p q r s : Bool) → (p || q || r || s) ≡ false → ((p || q) ≡ false) × (r ≡ false) × (s ≡ false)
 none_of_four true q r s e = cc

@@ -1,17 +1,5 @@
 -- How far the lines of an asn file are read.
-use Rattle.std.proofs.Common.{◌≡◌, ℕ, ◌+◌, ◌<◌, ◌≤◌, List, [], ◌∷◌, ◌++◌, length, get_or, take, drop, Option, Some, None, sym, ap, ◌∙◌, arith, subst, length-drop}
-use Rattle.std.specs.Prelude.{slice_get, IfSome}
-use Rattle.std.proofs.lemmas.List.{take_more, drop_more, take_all, take-append-drop, length-map}
-use Rattle.std.proofs.lemmas.Option.{none-some}
-use Rattle.asg_model.specs.Problem.{Problem}
-use Rattle.asg_networks.specs.declared.asn_lines.Line.{Line}
-use Rattle.asg_networks.specs.declared.network.Network.{Network}
-use Rattle.asg_tokens.specs.declared.refusals.TextRefusal.{TextRefusal}
-use Rattle.asg_tokens.specs.Faults.{Fault, fault_of}
-use Rattle.asg_tokens.specs.Readings.{Refuses, reading_with, TellsOf}
-use Rattle.asg_networks.specs.AsnArcs.{arcs, line_faults, count_faults, cost_between, instance_of, nodes_of, reading_of_asn}
-use Rattle.asg_networks.specs.Networks.{IsNetworkOf, arc_of_link, reading_of_network}
-use Rattle.asg_tokens.specs.Slots.{IsEarliest}
+use Rattle.asg_networks.proofs.Common.{◌≡◌, ℕ, ◌+◌, ◌<◌, ◌≤◌, List, [], ◌∷◌, ◌++◌, length, get_or, take, drop, IfSome, slice_get, Some, None, Option, sym, ap, ◌∙◌, subst, arith, take-append-drop, take_all, drop_more, length-map, none-some, take_more, length-drop, Problem, arcs, line_faults, count_faults, cost_between, instance_of, nodes_of, reading_of_asn, IsNetworkOf, arc_of_link, reading_of_network, Line, Network, Fault, fault_of, Refuses, reading_with, TellsOf, IsEarliest, TextRefusal}
 use Rattle.asg_networks.proofs.NetworkLemmas.{faults_append}
 
 -- the next of all lines

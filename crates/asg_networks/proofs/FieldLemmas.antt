@@ -1,6 +1,5 @@
 -- Lines with too many fields.
-use Rattle.std.proofs.Common.{◌≡◌, ℕ, false, ◌==◌, List, [], ◌∷◌, length, None, refl}
-use Rattle.asg_networks.specs.AsnLines.{sizes_of, arc_of}
+use Rattle.asg_networks.proofs.Common.{◌≡◌, ℕ, false, List, [], ◌∷◌, length, ◌==◌, None, refl, sizes_of, arc_of}
 
 pub no_fourth : (a b c : List ℕ) (more : List (List ℕ)) → (length more == 0) ≡ false → arc_of (a ∷ b ∷ c ∷ more) ≡ None
 no_fourth a b c [] some = cc

@@ -1,22 +1,6 @@
 -- The first arc that repeats another at another cost, by arcs that are sorted by their ends.
-use Rattle.std.proofs.Common.{◌≡◌, ℕ, zero, suc, ◌+◌, ◌-◌, ◌*◌, ◌^◌, ◌<◌, ◌≤◌, Bool, true, false, ◌&&◌, List, [], ◌∷◌, ◌++◌, length, get_or, take, drop, map, Some, inl, inr, ◌⊎◌, ⊎_elim, refl, sym, ap, ◌∙◌, subst, arith}
-use Rattle.std.specs.Prelude.{All, IsTrue, not, slice_get}
-use Rattle.std.specs.List.{range_with_len}
-use Rattle.std.specs.List.Sorted.{IsNonDecreasingBy, IsPermutation}
-use Rattle.std.specs.Ordering.{int_eq}
+use Rattle.asg_networks.proofs.Common.{◌≡◌, ℕ, zero, suc, ◌+◌, ◌-◌, ◌*◌, ◌^◌, ◌<◌, ◌≤◌, Bool, true, false, not, ◌&&◌, ◌⊎◌, List, [], ◌∷◌, ◌++◌, map, length, get_or, take, drop, IsTrue, slice_get, Some, All, int_eq, sym, refl, ap, ◌∙◌, subst, inl, inr, ⊎_elim, arith, take-append-drop, length-take-le, take_all, get_or-take, eq-eqb, eqb-true, All-permutation, Contains-permutation, Decides-int_eq, IsNonDecreasingBy, and_parts, cases_Bool, cases_lt, false≢true, get_or-map, get_or-range_with_len, get_or_default, length-map, length-range_with_len, list_any_at, list_any_none, range_with_len, take_more, are_unlike, differs_from, is_beside, AreByEnds, IsFirstTwice, IsFit, are_unlike_at, is_unlike, link_of, no_link, order_number, arc_of_link, twice_faults, Arc, Link, ArcTwice, fault_where, IsPermutation}
 use Rattle.std.proofs.Math.Nat.{mul-le-mul_right}
-use Rattle.std.proofs.lemmas.Bool.{and_parts, cases_Bool, cases_lt, eq-eqb, eqb-true, false≢true}
-use Rattle.std.proofs.lemmas.Bool.Decides.{Decides-int_eq}
-use Rattle.std.proofs.lemmas.List.{get_or_default, get_or-map, get_or-take, length-map, length-take-le, take_all, take_more, take-append-drop}
-use Rattle.std.proofs.lemmas.List.Folds.{list_any_at, list_any_none}
-use Rattle.std.proofs.lemmas.List.FromFn.{get_or-range_with_len, length-range_with_len}
-use Rattle.std.proofs.lemmas.List.Sorted.{All-permutation, Contains-permutation}
-use Rattle.asg_networks.specs.declared.asn_lines.Arc.{Arc}
-use Rattle.asg_networks.specs.declared.links.Link.{Link}
-use Rattle.asg_networks.specs.AsnArcs.{are_unlike, differs_from, is_beside}
-use Rattle.asg_tokens.specs.Faults.{ArcTwice, fault_where}
-use Rattle.asg_networks.specs.LinkOrder.{AreByEnds, IsFirstTwice, IsFit, are_unlike_at, is_unlike, link_of, no_link, order_number}
-use Rattle.asg_networks.specs.Networks.{arc_of_link, twice_faults}
 use Rattle.asg_networks.proofs.TwiceLemmas.{twice_append, twice_more}
 
 -- ---- the first that repeats another is the first fault

@@ -1,25 +1,8 @@
 -- A table of costs, cell by cell.
-use Rattle.std.proofs.Common.{◌≡◌, ℕ, ◌+◌, ◌*◌, ◌/◌, ◌%◌, ◌<◌, ◌≤◌, ◌||◌, true, false, cond, refl, rules, List, [], ◌∷◌, length, get_or, set, take, map, Option, Some, None, sym, ap, ◌∙◌, ⊎_elim, arith, subst, length-append, mul-le-mul_right}
-use Rattle.std.specs.Prelude.{ℤ, pos, not, All, IfSome, option_and_then, replicate}
-use Rattle.std.specs.List.{flat_map}
-use Rattle.std.specs.Option.{option_map}
-use Rattle.std.specs.Ordering.{int_eq}
-use Rattle.std.proofs.lemmas.Bool.{cases_Bool, cases_eq, and_parts, and_from, eqb-true, eq-eqb, false≢true}
-use Rattle.std.proofs.lemmas.Bool.Decides.{Decides-eqb, Decides-int_eq}
-use Rattle.std.proofs.lemmas.Map.Made.{is_member-Decides}
-use Rattle.std.proofs.lemmas.List.{length-map, get_or_default, get_or-map, length-take-le, same_lists, get_or-set_same, get_or-set_other, length-set, get_or-replicate, length-replicate}
-use Rattle.std.proofs.lemmas.List.Elements.{All-weaker}
-use Rattle.std.proofs.lemmas.List.Concat.{get_or-flat_map}
-use Rattle.std.proofs.lemmas.Nat.{div-add-mod', div-mul-add, mod-mul-add, div_below, mod_below}
-use Rattle.std.proofs.lemmas.Option.{same_Some}
-use Rattle.asg_model.specs.Table.{absent}
-use Rattle.asg_model.specs.ValueRange.{IsPartInRange}
-use Rattle.asg_networks.specs.declared.layouts.Layout.{Layout}
-use Rattle.asg_networks.specs.declared.links.Link.{Link}
-use Rattle.asg_networks.specs.AsnArcs.{is_among, are_unlike, targets as targets_of}
-use Rattle.asg_networks.specs.Layouts.{IsLayout, HasCell, cell_between, with_cost}
-use Rattle.asg_networks.specs.Networks.{are_same_ends, first_of, firsts_between, IsRightLink}
+use Rattle.asg_networks.proofs.Common.{◌≡◌, ℕ, ◌+◌, ◌*◌, ◌/◌, ◌%◌, ◌<◌, ◌≤◌, true, false, cond, not, ◌||◌, List, [], ◌∷◌, map, length, get_or, take, set, replicate, ℤ, pos, IfSome, Some, None, All, Option, option_map, flat_map, option_and_then, int_eq, sym, refl, ap, ◌∙◌, subst, ⊎_elim, div-add-mod', arith, length-append, length-set, length-take-le, get_or-set_other, get_or-set_same, rules, eq-eqb, eqb-true, All-weaker, Decides-eqb, Decides-int_eq, and_from, and_parts, cases_Bool, cases_eq, div-mul-add, div_below, false≢true, get_or-flat_map, get_or-map, get_or-replicate, get_or_default, is_member-Decides, length-map, length-replicate, mod-mul-add, mod_below, same_Some, same_lists, mul-le-mul_right, absent, IsPartInRange, IsLayout, HasCell, cell_between, with_cost, are_same_ends, first_of, IsRightLink, Layout, Link}
+use Rattle.asg_networks.specs.Networks.{firsts_between}
 use Rattle.asg_networks.proofs.NetworkTables.{target_among}
+use Rattle.asg_networks.specs.AsnArcs.{is_among, are_unlike, targets as targets_of}
 
 -- a cell stands within its table
 cell_below : (r c n m : ℕ) → r < n → c < m → r * m + c < n * m

@@ -1,17 +1,6 @@
 -- The costs of arc lines are in range.
-use Rattle.std.proofs.Common.{◌≡◌, ℕ, ◌==◌, Bool, true, false, cond, List, [], ◌∷◌, get_or, map, Option, Some, None, refl}
-use Rattle.std.specs.Prelude.{ℤ, All, IfSome, bytes_eq, codes, nat_le, option_and_then, slice_index, unsigned_abs}
-use Rattle.std.specs.Option.{option_map}
-use Rattle.std.proofs.lemmas.Bool.{leb-true}
-use Rattle.std.proofs.lemmas.List.Elements.{All-map}
-use Rattle.asg_model.specs.Limits.{most_cost}
-use Rattle.asg_model.specs.ValueRange.{IsPartInRange}
-use Rattle.asg_networks.specs.declared.asn_lines.Arc.{Arc}
-use Rattle.asg_networks.specs.declared.asn_lines.Line.{Line}
-use Rattle.asg_networks.specs.declared.asn_lines.Line.TheVariants.{Empty, Header, Node, Arrow, Other}
-use Rattle.asg_networks.specs.AsnLines.{sizes_of, node_of, arc_of, line_of, line_of_fields, IsLineInRange}
-use Rattle.asg_tokens.specs.Numbers.{integer_of, size_of, integer_in_range}
-use Rattle.asg_tokens.specs.Pieces.{fields}
+use Rattle.asg_networks.proofs.Common.{◌≡◌, ℕ, Bool, true, false, cond, List, [], ◌∷◌, map, get_or, ℤ, IfSome, nat_le, ◌==◌, slice_index, unsigned_abs, Some, None, codes, All, Option, option_map, option_and_then, bytes_eq, refl, leb-true, All-map, most_cost, IsPartInRange, sizes_of, node_of, arc_of, line_of_fields, IsLineInRange, Arc, Line, Empty, Header, Node, Arrow, Other, integer_of, size_of, integer_in_range, fields}
+use Rattle.asg_networks.specs.AsnLines.{line_of}
 
 then_some : {A B : Type 0} (f : A → Option B) (P : B → Type 0) (o : Option A) → ((x : A) → IfSome (f x) P) → IfSome (option_and_then f o) P
 then_some f P None each = tt

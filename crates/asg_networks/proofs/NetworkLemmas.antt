@@ -1,27 +1,7 @@
 -- What is kept of the lines of an asn file, one line further.
-use Rattle.std.proofs.Common.{◌≡◌, ℕ, ◌+◌, ◌<◌, ◌≤◌, Bool, true, false, cond, ◌&&◌, ◌||◌, ◌==◌, List, [], ◌∷◌, ◌++◌, length, get_or, map, Option, Some, None, refl, sym, ap, ◌∙◌, ⊎_elim, arith, subst, append_assoc, append-nil}
-use Rattle.std.specs.Prelude.{not, nat_eq, nat_le, is_some, slice_get, All}
-use Rattle.std.specs.List.{list_any, IsDistinct}
-use Rattle.std.proofs.lemmas.Bool.{cases_Bool, and_parts, eqb-true, eq-eqb, ne_eqb, false≢true, leb-true}
-use Rattle.std.proofs.lemmas.Cmp.{nat_eq_equiv}
-use Rattle.std.proofs.lemmas.List.{map-append, get_or_default}
-use Rattle.std.proofs.lemmas.List.Folds.{list_any-append, list_any_at}
-use Rattle.std.proofs.lemmas.List.Elements.{All-nil, All-push}
-use Rattle.std.proofs.lemmas.Map.Keys.{IsDistinct-push}
-use Rattle.asg_model.specs.ValueRange.{IsPartInRange}
-use Rattle.asg_networks.specs.declared.asn_lines.Arc.{Arc}
-use Rattle.asg_networks.specs.declared.asn_lines.Line.{Line}
-use Rattle.asg_networks.specs.declared.asn_lines.Line.TheVariants.{Empty, Header, Node, Arrow}
-use Rattle.asg_networks.specs.declared.asn_lines.Sizes.{Sizes}
-use Rattle.asg_networks.specs.declared.links.Link.{Link}
-use Rattle.asg_networks.specs.declared.network.Network.{Network}
-use Rattle.asg_networks.specs.declared.node_sets.NodeSet.{NodeSet}
-use Rattle.asg_tokens.specs.declared.refusals.TextRefusal.{TextRefusal}
-use Rattle.asg_tokens.specs.Faults.{Fault, SecondProblemLine, BadNode, BadArc, CostRange, ArcTwice, fault_where}
-use Rattle.asg_networks.specs.AsnArcs.{stated, arcs, sources, arc_in, is_among, is_target, with_id, differs_from, is_node, node_faults, arc_faults, goes_right, faults_behind, faults_of_line, line_faults, nodes_of}
-use Rattle.asg_networks.specs.Networks.{arc_of_link, twice_faults, IsRightLink, AreSound, IsSound, IsNetworkOf, PutsArc, PutsSource, RefusesLine, RefusesOwn}
-use Rattle.asg_networks.specs.NodeSets.{has}
-use Rattle.asg_tokens.specs.Slots.{IsEarliest}
+use Rattle.asg_networks.proofs.Common.{◌≡◌, ℕ, ◌+◌, ◌<◌, ◌≤◌, Bool, true, false, cond, not, ◌&&◌, ◌||◌, List, [], ◌∷◌, ◌++◌, map, length, get_or, is_some, nat_eq, nat_le, ◌==◌, slice_get, Some, None, All, Option, sym, refl, ap, ◌∙◌, subst, ⊎_elim, append_assoc, arith, eq-eqb, ne_eqb, eqb-true, leb-true, All-nil, All-push, IsDistinct-push, and_parts, cases_Bool, false≢true, get_or_default, list_any, list_any-append, list_any_at, map-append, nat_eq_equiv, append-nil, IsPartInRange, arc_in, is_among, is_target, with_id, differs_from, is_node, node_faults, arc_faults, goes_right, faults_behind, faults_of_line, line_faults, nodes_of, arc_of_link, twice_faults, IsRightLink, AreSound, IsSound, IsNetworkOf, PutsArc, PutsSource, RefusesLine, RefusesOwn, has, Arc, Line, Empty, Header, Node, Arrow, Sizes, Link, Network, NodeSet, Fault, SecondProblemLine, BadNode, BadArc, CostRange, ArcTwice, fault_where, IsEarliest, TextRefusal}
+use Rattle.std.specs.List.{IsDistinct}
+use Rattle.asg_networks.specs.AsnArcs.{stated, arcs, sources}
 use Rattle.asg_networks.proofs.OneMoreLine.{stated_stays, arcs_stay, arcs_grow, sources_stay, sources_grow, stated_first}
 use Rattle.asg_networks.proofs.TwiceLemmas.{twice_more}
 

@@ -1,28 +1,13 @@
 -- The table of a network.
-use Rattle.std.proofs.Common.{◌≡◌, ◌≢◌, ℕ, ◌-◌, ◌*◌, ◌<◌, ◌≤◌, true, false, List, [], ◌∷◌, ◌++◌, length, get_or, map, Option, Some, None, refl, sym, ap, ◌∙◌, arith, subst, length-append, eqb-true, filter}
-use Rattle.std.specs.Prelude.{ℤ, pos, not, nat_eq, All, IfSome}
-use Rattle.std.specs.List.{IsDistinct, range_with_len}
-use Rattle.std.proofs.lemmas.Bool.{le-leb, and_from}
-use Rattle.std.proofs.lemmas.Bool.Decides.{Decides-eqb}
-use Rattle.std.proofs.lemmas.Cmp.{nat_eq_equiv}
-use Rattle.std.proofs.lemmas.List.{length-map, get_or-map, map-append}
-use Rattle.std.proofs.lemmas.List.Elements.{All-nil, All-cons, All-append, All-weaker, All-filter}
-use Rattle.std.proofs.lemmas.List.Filters.{length-filter_both}
-use Rattle.std.proofs.lemmas.List.FromFn.{length-range_with_len, get_or-range_with_len}
-use Rattle.std.proofs.lemmas.List.Kept.{AllPairs-filter}
-use Rattle.std.proofs.lemmas.Map.Made.{length-le_from_is_member, is_member-filter, is_member-Decides, AllPairs-from_IsDistinct}
+use Rattle.asg_networks.proofs.Common.{◌≡◌, ℕ, ◌-◌, ◌*◌, ◌<◌, ◌≤◌, true, false, not, ◌≢◌, List, [], ◌∷◌, ◌++◌, map, length, get_or, ℤ, pos, IfSome, nat_eq, Some, None, All, filter, Option, sym, refl, ap, ◌∙◌, subst, arith, length-append, le-leb, All-append, All-cons, All-filter, All-nil, All-weaker, AllPairs-filter, AllPairs-from_IsDistinct, Decides-eqb, IsDistinct, and_from, get_or-map, get_or-range_with_len, is_member-Decides, is_member-filter, length-filter_both, length-le_from_is_member, length-map, length-range_with_len, map-append, nat_eq_equiv, range_with_len, problem_of, IsTable, table_cells, IsPartInRange, is_among, plain_cost, AreNodeIds, first_of, row_of, column_of, first_part, IsSlot, AreDistinct, range_is_distinct, same_cells, is_table}
+use Rattle.std.proofs.Common.{eqb-true}
 use Rattle.asg_model.specs.declared.parts.Cost.{Cost}
-use Rattle.asg_model.specs.declared.parts.Place.TheVariants.{All as PlaceAll}
-use Rattle.asg_model.specs.Problem.{problem_of}
-use Rattle.asg_model.specs.Table.{IsTable, table_cells}
-use Rattle.asg_model.specs.ValueRange.{IsPartInRange}
-use Rattle.asg_tokens.specs.Readings.{row_of, column_of, table_of}
-use Rattle.asg_networks.specs.AsnArcs.{is_among, targets, plain_cost, costs_between}
-use Rattle.asg_networks.specs.Layouts.{AreNodeIds}
-use Rattle.asg_networks.specs.Networks.{first_of, firsts_between}
-use Rattle.asg_tokens.specs.Slots.{first_part, IsSlot}
+use Rattle.asg_tokens.specs.Readings.{table_of}
+use Rattle.asg_networks.specs.AsnArcs.{targets, costs_between}
+use Rattle.asg_networks.specs.Networks.{firsts_between}
 use Rattle.asg_tokens.specs.laws.ReadCells.{slot_of_none, slot_in_range}
-use Rattle.asg_tokens.specs.laws.TableInstances.{AreDistinct, AreSlots, range_is_distinct, same_cells, is_table}
+use Rattle.asg_tokens.specs.laws.TableInstances.{AreSlots}
+use Rattle.asg_model.specs.declared.parts.Place.TheVariants.{All as PlaceAll}
 
 -- a node that is no source is among the others
 pub target_among : (sources : List ℕ) (nodes id : ℕ) → is_among sources id ≡ false → 1 ≤ id → id ≤ nodes → is_among (targets sources nodes) id ≡ true

@@ -1,14 +1,6 @@
 -- Sets of nodes.
-use Rattle.std.proofs.Common.{◌≡◌, ℕ, ◌<◌, ◌≤◌, true, false, cond, List, [], length, get_or, ap, ◌∙◌, ⊎_elim, arith}
-use Rattle.std.specs.Prelude.{replicate, nat_lt, not, filter}
-use Rattle.std.specs.List.{range_with_len}
-use Rattle.std.specs.Ordering.{nat_cmp}
-use Rattle.std.specs.BTreeSet.{contains}
-use Rattle.std.proofs.lemmas.Bool.{cases_lt}
-use Rattle.std.proofs.lemmas.List.{get_or-replicate, get_or_past, length-replicate}
-use Rattle.asg_networks.specs.declared.node_sets.NodeSet.{NodeSet}
-use Rattle.asg_networks.specs.AsnArcs.{is_among, targets}
-use Rattle.asg_networks.specs.NodeSets.{has}
+use Rattle.asg_networks.proofs.Common.{◌≡◌, ℕ, ◌<◌, ◌≤◌, true, false, cond, not, List, [], length, get_or, replicate, nat_lt, filter, nat_cmp, ap, ◌∙◌, ⊎_elim, arith, cases_lt, contains, get_or-replicate, get_or_past, length-replicate, range_with_len, is_among, has, NodeSet}
+use Rattle.asg_networks.specs.AsnArcs.{targets}
 
 none_low : (n id : ℕ) → get_or (replicate n false) id false ≡ false
 none_low n id =

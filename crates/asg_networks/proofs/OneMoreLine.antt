@@ -1,14 +1,6 @@
 -- What one more line of an asn file says.
-use Rattle.std.proofs.Common.{◌≡◌, ℕ, List, [], ◌∷◌, ◌++◌, Option, Some, None, refl, ap, ◌∙◌, append-nil}
-use Rattle.std.specs.Prelude.{slice_get, fold}
-use Rattle.std.specs.List.{filter_map, cons_option}
-use Rattle.std.proofs.lemmas.List.Elements.{filter_map-append}
-use Rattle.std.proofs.lemmas.List.Sums.{fold_push}
-use Rattle.asg_networks.specs.declared.asn_lines.Arc.{Arc}
-use Rattle.asg_networks.specs.declared.asn_lines.Line.{Line}
-use Rattle.asg_networks.specs.declared.asn_lines.Line.TheVariants.{Header}
-use Rattle.asg_networks.specs.declared.asn_lines.Sizes.{Sizes}
-use Rattle.asg_networks.specs.AsnArcs.{stated, arcs, sources, sizes_in, node_in, arc_in, with_id}
+use Rattle.asg_networks.proofs.Common.{◌≡◌, ℕ, List, [], ◌∷◌, ◌++◌, slice_get, Some, None, fold, Option, refl, ap, ◌∙◌, cons_option, filter_map-append, fold_push, append-nil, sizes_in, node_in, arc_in, with_id, Arc, Line, Header, Sizes, filter_map}
+use Rattle.asg_networks.specs.AsnArcs.{stated, arcs, sources}
 
 -- one more line adds what it says to a list of what lines say
 module _ {A : Type 0} (h : Line → Option A) (before : List Line) (line : Line) where

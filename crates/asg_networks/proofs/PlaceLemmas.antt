@@ -1,10 +1,5 @@
 -- The places of ids among others.
-use Rattle.std.proofs.Common.{◌≡◌, ◌≢◌, ℕ, ◌+◌, ◌<◌, ◌≤◌, List, [], length, get_or, set, take, Option, Some, None, sym, ap, ◌∙◌, ⊎_elim, arith, subst}
-use Rattle.std.specs.Prelude.{AllPairs, IfSome, replicate}
-use Rattle.std.proofs.lemmas.Bool.{cases_eq, cases_lt}
-use Rattle.std.proofs.lemmas.List.{length-take-le, get_or-take, get_or-set_same, get_or-set_other, get_or-replicate, get_or_past, length-replicate}
-use Rattle.std.proofs.lemmas.Option.{IfSome_then}
-use Rattle.asg_networks.specs.Layouts.{TellsPlaces}
+use Rattle.asg_networks.proofs.Common.{◌≡◌, ℕ, ◌+◌, ◌<◌, ◌≤◌, ◌≢◌, List, [], length, get_or, take, set, replicate, IfSome, Some, None, Option, AllPairs, sym, ap, ◌∙◌, subst, ⊎_elim, arith, length-take-le, get_or-set_other, get_or-take, get_or-set_same, IfSome_then, cases_eq, cases_lt, get_or-replicate, get_or_past, length-replicate, TellsPlaces}
 
 -- nothing is told
 abbrev pub nothing : Option ℕ

@@ -1,23 +1,7 @@
 -- What an asn file spells is an instance.
-use Rattle.std.proofs.Common.{◌≡◌, ℕ, ◌+◌, ◌-◌, ◌<◌, ◌≤◌, Bool, true, false, cond, ◌&&◌, ◌||◌, ◌==◌, List, [], ◌∷◌, ◌++◌, length, Option, Some, None, refl, sym, ◌∙◌, arith, subst, append_assoc, append-nil}
-use Rattle.std.specs.Prelude.{ℤ, All, IfSome, ◌^◌, not, nat_eq, nat_le, nat_lt, fold, find, is_some, option_and_then}
-use Rattle.std.specs.List.{IsDistinct, filter_map, cons_option, range_with_len}
-use Rattle.std.proofs.lemmas.Bool.{and_parts, leb-true}
-use Rattle.std.proofs.lemmas.Cmp.{nat_eq_equiv}
-use Rattle.std.proofs.lemmas.List.Elements.{All-nil, All-cons, All-head, All-tail, All-push, All-filter, All-weaker}
-use Rattle.std.proofs.lemmas.Map.Keys.{IsDistinct-push}
-use Rattle.asg_model.specs.Instances.{IsInstance}
-use Rattle.asg_model.specs.Limits.{most_rows, most_columns}
-use Rattle.asg_model.specs.Problem.{Problem}
-use Rattle.asg_model.specs.ValueRange.{IsPartInRange}
-use Rattle.asg_networks.specs.declared.asn_lines.Arc.{Arc}
-use Rattle.asg_networks.specs.declared.asn_lines.Line.{Line}
-use Rattle.asg_networks.specs.declared.asn_lines.Line.TheVariants.{Empty, Header, Node, Arrow, Other}
-use Rattle.asg_networks.specs.declared.asn_lines.Sizes.{Sizes}
-use Rattle.asg_networks.specs.AsnArcs.{stated, arcs, sources, sizes_in, node_in, arc_in, is_among, with_id, is_target, is_node, node_faults, faults_behind, faults_of_line, line_faults, count_faults, cost_between, targets, instance_of, nodes_of, reading_of_asn}
-use Rattle.asg_networks.specs.AsnLines.{IsLineInRange}
-use Rattle.asg_tokens.specs.Faults.{ArcCount, BadNode, NoRows, SecondProblemLine, TooLarge, fault_where}
-use Rattle.asg_tokens.specs.Readings.{Spells}
+use Rattle.asg_networks.proofs.Common.{◌≡◌, ℕ, ◌+◌, ◌-◌, ◌^◌, ◌<◌, ◌≤◌, Bool, true, false, cond, not, ◌&&◌, ◌||◌, List, [], ◌∷◌, ◌++◌, length, ℤ, is_some, IfSome, nat_eq, nat_lt, nat_le, ◌==◌, Some, None, fold, All, Option, find, option_and_then, sym, refl, ◌∙◌, subst, append_assoc, arith, leb-true, All-cons, All-filter, All-head, All-nil, All-push, All-tail, All-weaker, IsDistinct-push, and_parts, cons_option, nat_eq_equiv, range_with_len, append-nil, IsInstance, most_rows, most_columns, Problem, IsPartInRange, stated, sizes_in, node_in, arc_in, is_among, with_id, is_target, is_node, node_faults, faults_behind, faults_of_line, line_faults, count_faults, cost_between, nodes_of, reading_of_asn, IsLineInRange, Arc, Line, Empty, Header, Node, Arrow, Other, Sizes, ArcCount, BadNode, NoRows, SecondProblemLine, TooLarge, fault_where, Spells, filter_map}
+use Rattle.std.specs.List.{IsDistinct}
+use Rattle.asg_networks.specs.AsnArcs.{arcs, sources, targets, instance_of}
 use Rattle.asg_networks.proofs.TwiceLemmas.{found_told}
 use Rattle.asg_networks.proofs.OneMoreLine.{stated_stays, sources_stay, sources_grow}
 use Rattle.asg_networks.proofs.NetworkTables.{length-targets, sources_differ, targets_differ, whole_table, table_same}

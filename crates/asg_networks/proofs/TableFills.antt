@@ -1,15 +1,5 @@
 -- A table that is filled by the costs of arcs.
-use Rattle.std.proofs.Common.{◌≡◌, ℕ, ◌+◌, ◌<◌, Bool, true, false, cond, ◌&&◌, ◌==◌, List, [], ◌∷◌, length, get_or, take, map, Option, Some, None, refl, ap, ◌∙◌, subst}
-use Rattle.std.specs.Prelude.{ℤ, not, find, All, IfSome, slice_get, option_and_then}
-use Rattle.std.proofs.lemmas.List.Elements.{All-nil, All-cons, All-head, All-tail, All-take, All-weaker}
-use Rattle.asg_model.specs.ValueRange.{IsPartInRange}
-use Rattle.asg_networks.specs.declared.asn_lines.Arc.{Arc}
-use Rattle.asg_networks.specs.declared.layouts.Layout.{Layout}
-use Rattle.asg_networks.specs.declared.links.Link.{Link}
-use Rattle.asg_networks.specs.AsnArcs.{are_unlike}
-use Rattle.asg_tokens.specs.Faults.{ArcTwice}
-use Rattle.asg_networks.specs.Layouts.{HasCell, with_cost}
-use Rattle.asg_networks.specs.Networks.{arc_of_link, known_cost, firsts_between, twice_faults}
+use Rattle.asg_networks.proofs.Common.{◌≡◌, ℕ, ◌+◌, ◌<◌, Bool, true, false, cond, not, ◌&&◌, List, [], ◌∷◌, map, length, get_or, take, ℤ, IfSome, ◌==◌, slice_get, Some, None, All, Option, find, option_and_then, refl, ap, ◌∙◌, subst, All-cons, All-head, All-nil, All-tail, All-take, All-weaker, IsPartInRange, are_unlike, HasCell, with_cost, arc_of_link, known_cost, firsts_between, twice_faults, Arc, Layout, Link, ArcTwice}
 use Rattle.asg_networks.proofs.TwiceLemmas.{AreOnce, one_more_once, twice_here, found_told, ends_flip}
 
 -- costs of arcs that are in range

@@ -1,19 +1,5 @@
 -- Arcs that repeat others, and the costs that are known of them.
-use Rattle.std.proofs.Common.{◌≡◌, ℕ, suc, ◌+◌, ◌<◌, Bool, true, false, cond, ◌&&◌, ◌||◌, ◌==◌, List, [], ◌∷◌, ◌++◌, length, get_or, take, drop, map, Option, Some, None, refl, sym, ap, ◌∙◌, ⊎_elim, arith, rules, subst, append_assoc, append-nil}
-use Rattle.std.specs.Prelude.{ℤ, not, slice_get, find, All, IsSome, option_and_then}
-use Rattle.std.specs.Option.{option_or}
-use Rattle.std.specs.Ordering.{int_eq}
-use Rattle.std.proofs.lemmas.Bool.{cases_Bool, and_parts, eqb-true, eq-eqb, false≢true}
-use Rattle.std.proofs.lemmas.Bool.Decides.{Decides-int_eq}
-use Rattle.std.proofs.lemmas.List.{map-append, get_or_default, take_more, take-append-drop}
-use Rattle.std.proofs.lemmas.List.Folds.{find-append}
-use Rattle.std.proofs.lemmas.List.Elements.{All-nil, All-push}
-use Rattle.asg_networks.specs.declared.asn_lines.Arc.{Arc}
-use Rattle.asg_networks.specs.declared.links.Link.{Link}
-use Rattle.asg_tokens.specs.Faults.{ArcTwice, fault_where}
-use Rattle.asg_networks.specs.AsnArcs.{is_beside, are_unlike, differs_from, cost_between}
-use Rattle.asg_networks.specs.LinkOrder.{no_link}
-use Rattle.asg_networks.specs.Networks.{are_same_ends, arc_of_link, twice_faults}
+use Rattle.asg_networks.proofs.Common.{◌≡◌, ℕ, suc, ◌+◌, ◌<◌, Bool, true, false, cond, not, ◌&&◌, ◌||◌, List, [], ◌∷◌, ◌++◌, map, length, get_or, take, drop, ℤ, IsSome, ◌==◌, slice_get, Some, None, All, Option, find, option_and_then, int_eq, sym, refl, ap, ◌∙◌, subst, ⊎_elim, append_assoc, arith, take-append-drop, rules, eq-eqb, eqb-true, All-nil, All-push, Decides-int_eq, and_parts, cases_Bool, false≢true, find-append, get_or_default, map-append, option_or, take_more, append-nil, is_beside, are_unlike, differs_from, cost_between, no_link, are_same_ends, arc_of_link, twice_faults, Arc, Link, ArcTwice, fault_where}
 
 some_same : {A : Type 0} {x y : A} → Some x ≡ Some y → x ≡ y
 some_same e = cc

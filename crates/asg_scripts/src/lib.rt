@@ -6,7 +6,6 @@
 //! `edit` and `check --script` stand on it.
 #![tactic(auto)]
 
-pub mod laws;
 mod scripts;
 mod solve_lines;
 

@@ -1,14 +1,8 @@
 -- What an input file spells is an instance.
-use Rattle.std.proofs.Common.{◌≡◌, ℕ, List, map}
-use Rattle.std.specs.Str.Lines.{lines}
-use Rattle.asg_model.specs.Instances.{IsInstance}
-use Rattle.asg_model.specs.Problem.{Problem}
+use Rattle.asg_text.proofs.Common.{◌≡◌, ℕ, List, map, lines, IsInstance, Problem, Asn, Square, Rect, tokens, Spells}
 use Rattle.asg_text.specs.declared.formats.Format.{Format}
-use Rattle.asg_text.specs.declared.formats.Format.TheVariants.{Asn, Square, Rect}
 use Rattle.asg_networks.specs.AsnArcs.{reading_of_asn}
 use Rattle.asg_networks.specs.AsnLines.{line_of}
-use Rattle.asg_tokens.specs.Pieces.{tokens}
-use Rattle.asg_tokens.specs.Readings.{Spells}
 use Rattle.asg_text.specs.Texts.{reading_of}
 use Rattle.asg_tokens.specs.laws.SpelledTables.{TablesAreInstances, square_spells_instance, rect_spells_instance}
 

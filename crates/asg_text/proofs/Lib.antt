@@ -1,3 +1,4 @@
+pub mod Common
 pub mod SameCellsLaw
 pub mod InstanceLaw
 pub mod ScriptLineLemmas

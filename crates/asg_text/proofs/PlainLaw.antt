@@ -1,17 +1,7 @@
 -- What a square or a rect file spells is a plain instance.
-use Rattle.std.proofs.Common.{◌≡◌, ℕ, List, [], ◌∷◌, map, Option, Some, None, refl, sym, ap, subst}
-use Rattle.std.specs.List.{range_with_len}
-use Rattle.std.proofs.lemmas.List.FromFn.{length-map-range_with_len}
-use Rattle.asg_model.specs.declared.parts.Cost.{Cost}
-use Rattle.asg_model.specs.Problem.{Problem}
-use Rattle.asg_text.specs.declared.formats.Format.TheVariants.{Square, Rect}
-use Rattle.asg_tokens.specs.Numbers.{size_of}
-use Rattle.asg_tokens.specs.Pieces.{tokens}
-use Rattle.asg_tokens.specs.Readings.{Spells, row_of, column_of, table_of}
-use Rattle.asg_text.specs.RectTexts.{IsPlain}
-use Rattle.asg_tokens.specs.Tables.{cell_of, table_faults, reading_of_table, reading_of_square, reading_of_rect}
+use Rattle.asg_text.proofs.Common.{◌≡◌, ℕ, List, [], ◌∷◌, map, Some, None, Option, sym, refl, ap, subst, length-map-range_with_len, range_with_len, Problem, Cost, IsPlain, Square, Rect, size_of, tokens, Spells, row_of, column_of, cell_of, table_faults, reading_of_table, reading_of_square, reading_of_rect, spelled}
+use Rattle.asg_tokens.specs.Readings.{table_of}
 use Rattle.asg_text.specs.Texts.{reading_of}
-use Rattle.asg_tokens.specs.laws.Spelled.{spelled}
 
 table_is_plain : (n m : ℕ) (costs : List (Option Cost)) → IsPlain (table_of (range_with_len 1 n) (range_with_len 1 m) costs)
 unfolding table_of

@@ -1,26 +1,8 @@
 -- The rect text of a plain instance is read as the instance.
-use Rattle.std.proofs.Common.{◌≡◌, ℕ, zero, suc, ◌+◌, ◌*◌, ◌/◌, ◌%◌, ◌<◌, ◌≤◌, List, [], ◌∷◌, ◌++◌, length, get_or, take, map, Option, Some, None, sym, ap, ◌∙◌, arith, eqb, length-append}
-use Rattle.std.specs.Prelude.{All, not, ◌||◌}
-use Rattle.std.specs.Fmt.{decimal}
-use Rattle.std.specs.List.{flat_map, range_with_len}
-use Rattle.std.proofs.Math.Nat.{mul_comm}
-use Rattle.std.proofs.lemmas.Bool.{cond_both, eq-eqb, ne_eqb, le-ltb}
-use Rattle.std.proofs.lemmas.List.{take_all, length-map}
-use Rattle.std.proofs.lemmas.List.Elements.{All-nil, All-cons, All-head, All-tail, All-map, All-weaker}
-use Rattle.std.proofs.lemmas.List.FromFn.{length-range_with_len, length-map-range_with_len}
-use Rattle.std.proofs.lemmas.List.Sums.{count_by-le-length}
-use Rattle.std.proofs.lemmas.Nat.{mul-add-lt, div-add-mod', div_below, mod_below}
-use Rattle.asg_model.specs.declared.parts.Cost.{Cost}
-use Rattle.asg_model.specs.Instances.{IsInstance, IsCostInRange}
-use Rattle.asg_model.specs.Limits.{most_rows, most_columns, longest_file}
-use Rattle.asg_model.specs.Live.{cost_at}
-use Rattle.asg_model.specs.Problem.{Problem, problem_of}
-use Rattle.asg_text.specs.declared.formats.Format.TheVariants.{Rect}
+use Rattle.asg_text.proofs.Common.{◌≡◌, ℕ, zero, suc, ◌+◌, ◌*◌, ◌/◌, ◌%◌, ◌<◌, ◌≤◌, not, ◌||◌, eqb, List, [], ◌∷◌, ◌++◌, map, length, get_or, take, Some, None, decimal, All, Option, flat_map, sym, ap, ◌∙◌, mul_comm, div-add-mod', arith, length-append, take_all, le-ltb, eq-eqb, ne_eqb, All-cons, All-head, All-map, All-nil, All-tail, All-weaker, cond_both, count_by-le-length, div_below, length-map, length-map-range_with_len, length-range_with_len, mod_below, mul-add-lt, range_with_len, IsInstance, IsCostInRange, most_rows, most_columns, longest_file, cost_at, Problem, problem_of, Cost, IsPlain, cell_text, costs_of_row, row_line, size_line, Rect, tokens, Spells, reading_with, cells_of_rows, cell_of, cell_faults, size_faults, reading_of_table, reading_of_rect}
 use Rattle.asg_tokens.specs.Faults.{NoRows, TooLarge, TokenCount, fault_where}
-use Rattle.asg_tokens.specs.Pieces.{tokens}
-use Rattle.asg_tokens.specs.Readings.{Spells, reading_with, cells_of_rows, table_of}
-use Rattle.asg_text.specs.RectTexts.{IsPlain, cell_text, costs_of_row, row_line, size_line, rect_text}
-use Rattle.asg_tokens.specs.Tables.{cell_of, cell_faults, size_faults, reading_of_table, reading_of_rect}
+use Rattle.asg_tokens.specs.Readings.{table_of}
+use Rattle.asg_text.specs.RectTexts.{rect_text}
 use Rattle.asg_text.specs.Texts.{reading_of}
 use Rattle.asg_text.proofs.AscendingCells.{index_of, ascend, same_table, cost_of_index}
 use Rattle.asg_text.proofs.RectLengths.{IsShort, cells_are_short, size_is_short, length-line, length-lines, few_bytes}

@@ -1,16 +1,5 @@
 -- How long rect texts are.
-use Rattle.std.proofs.Common.{ℕ, suc, ◌+◌, ◌*◌, ◌≤◌, List, [], ◌∷◌, ◌++◌, length, map, Option, Some, None, arith, length-append}
-use Rattle.std.specs.Prelude.{ℤ, pos, negsuc, All, unsigned_abs}
-use Rattle.std.specs.Fmt.{decimal, signed_decimal}
-use Rattle.std.specs.List.{flat_map, join_with_byte}
-use Rattle.std.specs.Ordering.{int_eq}
-use Rattle.std.proofs.lemmas.Bool.{cond_both}
-use Rattle.std.proofs.lemmas.Fmt.{length-decimal-le}
-use Rattle.std.proofs.lemmas.List.Elements.{All-head, All-tail, All-map, All-weaker}
-use Rattle.std.proofs.lemmas.Nat.{mul-le}
-use Rattle.asg_model.specs.declared.parts.Cost.{Cost}
-use Rattle.asg_model.specs.Limits.{most_cost, longest_file}
-use Rattle.asg_text.specs.RectTexts.{cell_text, token_line}
+use Rattle.asg_text.proofs.Common.{ℕ, suc, ◌+◌, ◌*◌, ◌≤◌, List, [], ◌∷◌, ◌++◌, map, length, ℤ, pos, negsuc, unsigned_abs, Some, None, decimal, All, Option, flat_map, int_eq, arith, length-append, All-head, All-map, All-tail, All-weaker, cond_both, join_with_byte, length-decimal-le, mul-le, signed_decimal, most_cost, longest_file, Cost, cell_text, token_line}
 use Rattle.asg_text.proofs.WrittenCells.{IsCellInRange}
 
 -- a token of at most 23 bytes

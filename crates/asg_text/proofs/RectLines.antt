@@ -1,17 +1,5 @@
 -- Rect texts piece by piece.
-use Rattle.std.proofs.Common.{◌≡◌, ℕ, zero, suc, ◌+◌, ◌<◌, cond, List, [], ◌∷◌, ◌++◌, length, map, refl, sym, ap, ◌∙◌, arith, append_assoc}
-use Rattle.std.specs.Prelude.{ℤ, slice_index_or}
-use Rattle.std.specs.List.{flat_map, join_with_byte, range_with_len}
-use Rattle.std.proofs.lemmas.Bool.{ne_eqb}
-use Rattle.std.proofs.lemmas.List.{append-nil, map-id}
-use Rattle.std.proofs.lemmas.List.Concat.{flat_map-append}
-use Rattle.std.proofs.lemmas.List.FromFn.{length-map-range_with_len, map-range_with_len_more}
-use Rattle.std.proofs.lemmas.Simd.{map-map}
-use Rattle.asg_model.specs.Live.{cost_at}
-use Rattle.asg_model.specs.Problem.{Problem}
-use Rattle.asg_model.specs.Table.{absent, table_cost, AreRowParts}
-use Rattle.asg_text.specs.RectTexts.{cell_text, costs_of_row, row_line}
-use Rattle.asg_text.specs.RectSteps.{next_text}
+use Rattle.asg_text.proofs.Common.{◌≡◌, ℕ, zero, suc, ◌+◌, ◌<◌, cond, List, [], ◌∷◌, ◌++◌, map, length, ℤ, slice_index_or, flat_map, sym, refl, ap, ◌∙◌, append_assoc, append-nil, map-id, arith, ne_eqb, flat_map-append, join_with_byte, length-map-range_with_len, map-map, map-range_with_len_more, range_with_len, cost_at, Problem, absent, table_cost, AreRowParts, next_text, cell_text, costs_of_row, row_line}
 
 -- one more token of a line
 join_behind : (first : List ℕ) (tokens : List (List ℕ)) (token : List ℕ) → join_with_byte 32 (first ∷ (tokens ++ token ∷ [])) ≡ join_with_byte 32 (first ∷ tokens) ++ 32 ∷ token

@@ -1,17 +1,9 @@
 -- Square and rect files with the same cells.
-use Rattle.std.proofs.Common.{◌≡◌, ℕ, ◌+◌, ◌*◌, ◌↔◌, Bool, true, false, cond, List, [], ◌∷◌, ◌++◌, take, map, Option, Some, None, refl, sym, ap, ◌∙◌}
-use Rattle.std.specs.Prelude.{not}
-use Rattle.std.specs.List.{range_with_len}
-use Rattle.asg_model.specs.declared.parts.Cost.{Cost}
-use Rattle.asg_model.specs.Problem.{Problem}
-use Rattle.asg_text.specs.declared.formats.Format.TheVariants.{Square, Rect}
+use Rattle.asg_text.proofs.Common.{◌≡◌, ℕ, ◌+◌, ◌*◌, Bool, true, false, cond, not, ◌↔◌, List, [], ◌∷◌, ◌++◌, map, take, Some, None, Option, sym, refl, ap, ◌∙◌, range_with_len, Problem, Cost, Square, Rect, size_of, Spells, reading_with, table_of, is_absent, is_in_range, cost_of, cost_faults, cell_faults, cell_of, faults_of_cells, size_faults, table_faults, reading_of_table, reading_of_square, reading_of_rect, none_in_front, spelled}
 use Rattle.asg_tokens.specs.Faults.{CostRange}
-use Rattle.asg_tokens.specs.Numbers.{size_of}
-use Rattle.asg_tokens.specs.Readings.{Spells, reading_with, table_of}
-use Rattle.asg_tokens.specs.Tables.{is_absent, is_in_range, cost_of, cost_faults, token_faults, cell_faults, cell_of, faults_of_cells, size_faults, table_faults, reading_of_table, reading_of_square, reading_of_rect}
+use Rattle.asg_tokens.specs.Tables.{token_faults}
 use Rattle.asg_text.specs.SameCells.{HaveSameCells}
 use Rattle.asg_text.specs.Texts.{reading_of}
-use Rattle.asg_tokens.specs.laws.Spelled.{none_in_front, spelled}
 
 -- whether a cell has a fault doesn't hang on its place
 cost_right : (p q : ℕ) (cost : Option Cost) → cost_faults p cost ≡ [] → cost_faults q cost ≡ []

@@ -1,15 +1,7 @@
 -- What the lines of each script keep.
-use Rattle.std.proofs.Common.{◌≡◌, ℕ, ◌+◌, ◌≤◌, Bool, true, false, cond, List, [], ◌∷◌, length, take, drop, Option, Some, None, refl, sym, ap, ◌∙◌, arith, subst, length-drop}
-use Rattle.std.specs.Prelude.{All}
-use Rattle.std.specs.Option.{option_map}
-use Rattle.std.specs.List.{filter_map, flat_map, cons_option}
-use Rattle.std.proofs.lemmas.List.{take_all}
-use Rattle.std.proofs.lemmas.List.Elements.{All-nil, All-cons}
-use Rattle.asg_text.specs.declared.script_lines.Line.{Line}
-use Rattle.asg_text.specs.ScriptFaults.{ScriptFault, CostRange}
-use Rattle.asg_text.specs.ScriptLines.{script_line_of, is_line_in_range}
+use Rattle.asg_text.proofs.Common.{◌≡◌, ℕ, ◌+◌, ◌≤◌, Bool, true, false, cond, List, [], ◌∷◌, length, take, drop, Some, None, All, Option, option_map, flat_map, sym, refl, ap, ◌∙◌, subst, arith, take_all, All-cons, All-nil, cons_option, ScriptFault, CostRange, script_line_of, is_line_in_range, SpellsLines, script_with, most_script_lines, line_faults, faults_of_line, faults_beyond, script_faults, numbered_line, reading_of_lines, Line, filter_map}
+use Rattle.std.proofs.Common.{length-drop}
 use Rattle.asg_text.specs.ScriptRanges.{AreLinesOfScript}
-use Rattle.asg_text.specs.Scripts.{SpellsLines, script_with, most_script_lines, line_faults, faults_of_line, faults_beyond, script_faults, numbered_line, reading_of_lines}
 use Rattle.asg_text.proofs.ScriptLemmas.{Numbered, none_in_both}
 
 abbrev InRange : ℕ × Line → Type 0

@@ -1,17 +1,8 @@
 -- How far the lines of a script are read.
-use Rattle.std.proofs.Common.{◌≡◌, ℕ, zero, suc, ◌+◌, ◌-◌, ◌≤◌, Bool, true, false, cond, eqb, ◌==◌, List, [], ◌∷◌, ◌++◌, length, take, drop, Option, Some, None, refl, sym, ap, ◌∙◌, ⊎_elim, arith, append_assoc, append-nil, length-append, subst}
-use Rattle.std.specs.Prelude.{slice_get, IfSome}
-use Rattle.std.specs.Option.{option_map}
-use Rattle.std.specs.List.{filter_map, flat_map, cons_option}
-use Rattle.std.proofs.lemmas.Bool.{cases_Bool, eqb-true, eqb-false}
+use Rattle.asg_text.proofs.Common.{◌≡◌, ℕ, zero, suc, ◌+◌, ◌-◌, ◌≤◌, Bool, true, false, cond, eqb, List, [], ◌∷◌, ◌++◌, length, take, drop, IfSome, ◌==◌, slice_get, Some, None, Option, option_map, flat_map, sym, refl, ap, ◌∙◌, subst, ⊎_elim, append_assoc, arith, length-append, eqb-true, cases_Bool, cons_option, eqb-false, filter_map-append, none-some, ScriptFault, TooManyEdits, script_fault_of, script_line_of, SpellsLines, RefusesScript, script_with, TellsOfScript, most_script_lines, numbered_from, line_faults, faults_of_line, faults_beyond, script_faults, numbered_line, reading_of_lines, Line, filter_map}
+use Rattle.std.proofs.Common.{append-nil}
 use Rattle.std.proofs.lemmas.Grind.{flat_map-append}
-use Rattle.std.proofs.lemmas.List.Elements.{filter_map-append}
-use Rattle.std.proofs.lemmas.Option.{none-some}
-use Rattle.asg_text.specs.declared.script_lines.Line.{Line}
 use Rattle.asg_text.specs.declared.script_refusals.ScriptRefusal.{ScriptRefusal}
-use Rattle.asg_text.specs.ScriptFaults.{ScriptFault, TooManyEdits, script_fault_of}
-use Rattle.asg_text.specs.ScriptLines.{script_line_of}
-use Rattle.asg_text.specs.Scripts.{SpellsLines, RefusesScript, script_with, TellsOfScript, most_script_lines, numbered_from, line_faults, faults_of_line, faults_beyond, script_faults, numbered_line, reading_of_lines}
 use Rattle.asg_text.specs.ScriptSteps.{faults_behind, lines_of, IsEarliestFault}
 use Rattle.asg_text.proofs.ScriptLineLemmas.{ended}
 

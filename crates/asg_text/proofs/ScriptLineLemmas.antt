@@ -1,15 +1,5 @@
 -- What the fields of a line of a script say.
-use Rattle.std.proofs.Common.{◌≡◌, ℕ, suc, Bool, true, false, cond, ◌==◌, List, [], ◌∷◌, length, Option, Some, None, refl, sym, ap, ◌∙◌, arith}
-use Rattle.std.specs.Prelude.{option_and_then}
-use Rattle.std.specs.Option.{option_map}
-use Rattle.std.proofs.lemmas.Bool.{eqb-true}
-use Rattle.asg_model.specs.declared.parts.Cost.{Cost}
-use Rattle.asg_text.specs.declared.script_lines.Line.{Line}
-use Rattle.asg_tokens.specs.Numbers.{size_of}
-use Rattle.asg_text.specs.ScriptFaults.{BadScriptLine, CostRange}
-use Rattle.asg_text.specs.ScriptLines.{cost_line, cost_line_of, forbid_line_of, is_line_in_range, line_in_range}
-use Rattle.asg_text.specs.Scripts.{line_faults}
-use Rattle.asg_tokens.specs.Tables.{is_in_range, cost_of, cost_in_range}
+use Rattle.asg_text.proofs.Common.{◌≡◌, ℕ, suc, Bool, true, false, cond, List, [], ◌∷◌, length, ◌==◌, Some, None, Option, option_map, option_and_then, sym, refl, ap, ◌∙◌, arith, eqb-true, Cost, BadScriptLine, CostRange, cost_line, cost_line_of, forbid_line_of, is_line_in_range, line_in_range, line_faults, Line, size_of, is_in_range, cost_of, cost_in_range}
 
 -- lines with too many fields
 pub no_fourth : (a b c : List ℕ) (more : List (List ℕ)) → (length more == 0) ≡ false → cost_line_of (a ∷ b ∷ c ∷ more) ≡ None

@@ -1,12 +1,7 @@
 -- The tokens of lines of tokens.
-use Rattle.std.proofs.Common.{◌≡◌, ℕ, List, [], ◌∷◌, ◌++◌, refl, sym, ap, ◌∙◌, append_assoc}
-use Rattle.std.specs.Prelude.{All}
-use Rattle.std.specs.List.{flat_map, join_with_byte}
-use Rattle.std.proofs.lemmas.List.Elements.{All-head, All-tail}
-use Rattle.asg_tokens.specs.Pieces.{pieces, tokens, is_space}
-use Rattle.asg_text.specs.RectTexts.{token_line}
+use Rattle.asg_text.proofs.Common.{◌≡◌, ℕ, List, [], ◌∷◌, ◌++◌, All, flat_map, sym, refl, ap, ◌∙◌, append_assoc, All-head, All-tail, join_with_byte, token_line, tokens, is_space, word_first}
+use Rattle.asg_tokens.specs.Pieces.{pieces}
 use Rattle.asg_tokens.specs.laws.FirstPiece.{pieces_behind}
-use Rattle.asg_tokens.specs.laws.ShortLemmas.{word_first}
 use Rattle.asg_text.proofs.WrittenNumbers.{IsToken}
 
 -- of one line, before other text

@@ -1,17 +1,5 @@
 -- The texts of cells as tokens.
-use Rattle.std.proofs.Common.{◌≡◌, ℕ, ◌+◌, ◌≤◌, false, cond, List, [], ◌∷◌, ◌++◌, map, Option, Some, None, refl, sym, ap, ⊎_elim, subst, arith, length-append}
-use Rattle.std.specs.Prelude.{ℤ, pos, All, IfSome, unsigned_abs}
-use Rattle.std.specs.Fmt.{signed_decimal}
-use Rattle.std.specs.Ordering.{int_eq}
-use Rattle.std.proofs.lemmas.Bool.{cases_Bool}
-use Rattle.std.proofs.lemmas.Bool.Decides.{Decides-int_eq}
-use Rattle.std.proofs.lemmas.List.Elements.{All-nil, All-cons, All-head, All-tail, All-append, All-map, All-weaker}
-use Rattle.asg_model.specs.declared.parts.Cost.{Cost}
-use Rattle.asg_model.specs.Instances.{IsCostInRange}
-use Rattle.asg_model.specs.Limits.{most_cost}
-use Rattle.asg_tokens.specs.Pieces.{is_space}
-use Rattle.asg_text.specs.RectTexts.{cell_text, cost_text}
-use Rattle.asg_tokens.specs.Tables.{cell_of, cell_faults, token_faults}
+use Rattle.asg_text.proofs.Common.{◌≡◌, ℕ, ◌+◌, ◌≤◌, false, cond, List, [], ◌∷◌, ◌++◌, map, ℤ, pos, IfSome, unsigned_abs, Some, None, All, Option, int_eq, sym, refl, ap, subst, ⊎_elim, arith, length-append, All-append, All-cons, All-head, All-map, All-nil, All-tail, All-weaker, Decides-int_eq, cases_Bool, signed_decimal, IsCostInRange, most_cost, Cost, cell_text, cost_text, is_space, cell_of, cell_faults, token_faults}
 use Rattle.asg_tokens.specs.laws.CellLemmas.{absent_faults, absent_cell, right_faults, right_cell, integer_is_present, plain_in_range}
 use Rattle.asg_tokens.specs.laws.PairLemmas.{pair_present, spells_pair}
 use Rattle.asg_text.proofs.WrittenNumbers.{IsToken, part_integer}

@@ -1,19 +1,6 @@
 -- The texts of numbers as tokens.
-use Rattle.std.proofs.Common.{◌≡◌, ◌==◌, ℕ, suc, ◌<◌, ◌≤◌, true, false, List, [], ◌∷◌, length, Some, refl, ap, ◌∙◌, arith}
-use Rattle.std.specs.Prelude.{ℤ, pos, negsuc, neg_ℤ, All, unsigned_abs}
-use Rattle.std.specs.Fmt.{decimal, signed_decimal}
-use Rattle.std.specs.List.{list_all}
-use Rattle.std.specs.Char.{is_ascii_digit}
-use Rattle.std.specs.Str.Parse.{digits_value, AllDigits}
-use Rattle.std.proofs.lemmas.Bool.{le-leb, and_from}
-use Rattle.std.proofs.lemmas.Fmt.{decimal_is_IsNumeral}
-use Rattle.std.proofs.lemmas.List.Elements.{All-cons}
-use Rattle.std.proofs.lemmas.Str.Parse.{digit_from_value}
-use Rattle.asg_model.specs.Limits.{most_cost}
-use Rattle.asg_tokens.specs.Numbers.{integer_of, size_of}
-use Rattle.asg_tokens.specs.Pieces.{is_space}
+use Rattle.asg_text.proofs.Common.{◌≡◌, ℕ, suc, ◌<◌, ◌≤◌, true, false, List, [], ◌∷◌, length, ℤ, pos, negsuc, neg_ℤ, ◌==◌, unsigned_abs, Some, decimal, All, refl, ap, ◌∙◌, arith, le-leb, All-cons, AllDigits, and_from, decimal_is_IsNumeral, digit_from_value, digits_value, is_ascii_digit, list_all, signed_decimal, most_cost, integer_of, size_of, is_space, no_spaces, no_colons, digits_spell, minus_spells}
 use Rattle.asg_tokens.specs.laws.NumberLemmas.{size_of_digits}
-use Rattle.asg_tokens.specs.laws.ShortLemmas.{no_spaces, no_colons, digits_spell, minus_spells}
 
 -- bytes that a text may have as a token
 pub record IsToken (token : List ℕ) : Type 0 where

@@ -1,18 +1,5 @@
 -- Plain numbers and absent cells as the next cells of a table.
-use Rattle.std.proofs.Common.{◌≡◌, ℕ, ◌+◌, ◌<◌, ◌≤◌, true, List, ◌∷◌, length, get_or, set, drop, refl, sym, ap, ◌∙◌, subst, ⊎_elim, arith, Some, None, length-set, w64, to_z, of_z}
-use Rattle.std.specs.Prelude.{ℤ, pos, FitsSigned}
-use Rattle.std.proofs.lemmas.Int.{ints, to_z-of_z}
-use Rattle.std.proofs.lemmas.List.{drop_more}
-use Rattle.asg_model.specs.Table.{absent, IsEntry}
-use Rattle.asg_model.specs.ValueRange.{IsPartInRange}
-use Rattle.asg_tokens.specs.CellBlocks.{AreReadOn, IsPlainCell}
-use Rattle.asg_tokens.specs.Pieces.{tokens, is_space}
-use Rattle.asg_tokens.specs.Slots.{AreRead, first_part}
-use Rattle.asg_tokens.specs.laws.FirstPiece.{pieces_behind}
-use Rattle.asg_tokens.specs.NextCells.{IsShortAmount, IsBehindSpace}
-use Rattle.asg_tokens.specs.laws.CellLemmas.{integer_cell, short_absent_cell, short_fits}
-use Rattle.asg_tokens.specs.laws.ShortLemmas.{plain_integer}
-use Rattle.asg_tokens.specs.laws.ReadCells.{one_more_read, slot_of_token}
+use Rattle.asg_tokens.proofs.Common.{◌≡◌, ℕ, ◌+◌, ◌<◌, ◌≤◌, true, List, ◌∷◌, length, get_or, drop, set, ℤ, pos, FitsSigned, Some, None, sym, refl, ap, ◌∙◌, subst, ⊎_elim, arith, to_z-of_z, w64, to_z, of_z, drop_more, ints, length-set, absent, IsEntry, IsPartInRange, AreReadOn, IsPlainCell, IsShortAmount, IsBehindSpace, tokens, is_space, AreRead, first_part, integer_cell, short_absent_cell, short_fits, pieces_behind, one_more_read, slot_of_token, plain_integer}
 
 pub nothing_more : (text : List ℕ) (from : ℕ) (firsts : List ℤ) → from ≤ length firsts → AreReadOn text text from from firsts firsts
 nothing_more text from firsts within = record {

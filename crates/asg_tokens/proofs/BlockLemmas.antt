@@ -1,23 +1,6 @@
 -- Plain numbers in a block of bytes, by the bits of the bytes that are no digits.
-use Rattle.std.proofs.Common.{◌≡◌, ℕ, suc, ◌+◌, ◌-◌, ◌*◌, ◌%◌, ◌^◌, ◌<◌, ◌≤◌, Bool, true, false, cond, ltb, List, [], ◌∷◌, ◌++◌, map, length, get_or, take, drop, replicate, add-one, length-drop, lit<, refl, sym, ap, ◌∙◌, subst, ⊎_elim, arith, w8, w64, to_z, Fits}
-use Rattle.std.specs.Prelude.{pos, bit_and}
-use Rattle.std.specs.Int.{bit_at, bit_not, trailing_zeros}
-use Rattle.std.specs.List.{list_all}
-use Rattle.std.specs.Char.{is_ascii_digit}
-use Rattle.std.specs.Str.Parse.{digits_value}
-use lib.Lanes.{zip2, mask_l}
-use Rattle.std.proofs.Math.Facts.{Fits-lt-pow, to_z_pos}
-use Rattle.std.proofs.lemmas.Bool.{cases_Bool, cases_lt, cases_eq, false≢true, ltb-true, le-leb, and_from}
-use Rattle.std.proofs.Math.Nat.{pow-le-pow_right, pow-suc}
-use Rattle.std.proofs.lemmas.Nat.{pow_pos}
+use Rattle.asg_tokens.proofs.Common.{◌≡◌, ℕ, suc, ◌+◌, ◌-◌, ◌*◌, ◌%◌, ◌^◌, ◌<◌, ◌≤◌, Bool, true, false, cond, ltb, List, [], ◌∷◌, ◌++◌, map, length, get_or, take, drop, replicate, pos, bit_and, sym, refl, ap, ◌∙◌, subst, ⊎_elim, pow-suc, add-one, arith, lit<, length-take, get_or-drop, get_or-take, take-take, pow_pos, w8, w64, Fits, to_z, ltb-true, le-leb, Fits-lt-pow, and_from, bit_at, bit_at-lt, bit_at-trailing_zeros, bit_at_and, bit_at_clear_other, bit_at_clear_same, bit_at_mask_below, bit_at_mask_inside, bit_at_not, bit_mask_l, bit_not, cases_Bool, cases_eq, cases_lt, chunk-drop, digits_value, false≢true, get_or-map, is_ascii_digit, length-map, length-zip2, list_all, list_all_at, map-map, mask_l, mask_l-lt, pow-le-pow_right, to_z_pos, trailing_zeros, zip2, zip2_splat, length-drop, AreDigitsFrom, IsShortAmount, IsDigitStep, digit_step, short_value, length-replicate}
 use Rattle.asg_model.specs.Limits.{most_cost}
-use Rattle.std.proofs.lemmas.List.{length-take, take-take, get_or-take, get_or-map, get_or-drop, length-map}
-use Rattle.std.proofs.lemmas.List.Folds.{list_all_at}
-use Rattle.std.proofs.lemmas.Nat.Bits.{bit_at-lt, bit_at_not, bit_at-trailing_zeros, bit_at_clear_same, bit_at_clear_other, bit_at_and, bit_at_mask_below, bit_at_mask_inside}
-use Rattle.std.proofs.lemmas.Simd.{zip2_splat, map-map, bit_mask_l, mask_l-lt, length-zip2, length-replicate, chunk-drop}
-use Rattle.asg_tokens.specs.CellBlocks.{AreDigitsFrom}
-use Rattle.asg_tokens.specs.NextCells.{IsShortAmount}
-use Rattle.asg_tokens.specs.laws.ShortLemmas.{IsDigitStep, digit_step, short_value}
 
 -- a byte less the digit zero, around the end of a byte
 abbrev pub less : ℕ → ℕ → ℕ

@@ -1,23 +1,7 @@
 -- Pairs of plain numbers as the next cells of a table.
-use Rattle.std.proofs.Common.{◌≡◌, ◌≢◌, ℕ, ◌+◌, ◌*◌, ◌%◌, ◌^◌, ◌<◌, ◌≤◌, true, List, ◌∷◌, length, get_or, set, drop, refl, sym, ap, ◌∙◌, subst, inr, ⊎_elim, arith, Some, length-set, w64, to_z, of_z}
-use Rattle.std.specs.Prelude.{ℤ, pos, FitsSigned, bit_and}
-use Rattle.std.specs.Char.{is_ascii_digit}
-use Rattle.std.specs.Int.{bit_at, bit_not, trailing_zeros}
-use Rattle.std.proofs.lemmas.Int.{ints, to_z-of_z}
-use Rattle.std.proofs.lemmas.Nat.{and_le_l}
-use Rattle.std.proofs.lemmas.List.{drop_more, get_or-set_same, get_or-set_other}
-use Rattle.std.proofs.lemmas.List.Elements.{All-set}
+use Rattle.asg_tokens.proofs.Common.{◌≡◌, ℕ, ◌+◌, ◌*◌, ◌%◌, ◌^◌, ◌<◌, ◌≤◌, true, ◌≢◌, List, ◌∷◌, length, get_or, drop, set, ℤ, pos, bit_and, FitsSigned, Some, sym, refl, ap, ◌∙◌, subst, inr, ⊎_elim, arith, get_or-set_other, get_or-set_same, to_z-of_z, w64, to_z, of_z, All-set, and_le_l, bit_at, bit_not, drop_more, ints, is_ascii_digit, trailing_zeros, length-set, absent, IsEntry, IsPartInRange, AreDigitsFrom, ArePairsReadOn, IsShortAmount, IsShortInteger, IsBehindSpace, IsCell, tokens, first_part, AreRead, short_pair, slot_of_token, one_more_read, second_in_range, plain_integer}
 use Rattle.asg_model.specs.declared.parts.Cost.{Cost}
-use Rattle.asg_model.specs.Table.{absent, IsEntry}
-use Rattle.asg_model.specs.ValueRange.{IsPartInRange}
-use Rattle.asg_tokens.specs.CellBlocks.{AreDigitsFrom, ArePairsReadOn}
-use Rattle.asg_tokens.specs.NextCells.{IsShortAmount, IsShortInteger, IsBehindSpace, IsCell}
-use Rattle.asg_tokens.specs.Pieces.{tokens}
-use Rattle.asg_tokens.specs.Slots.{first_part, AreRead}
 use Rattle.asg_tokens.proofs.BlockLemmas.{end_low, end_past, digits_before, none_before, digits_behind}
-use Rattle.asg_tokens.specs.laws.PairLemmas.{short_pair}
-use Rattle.asg_tokens.specs.laws.ReadCells.{slot_of_token, one_more_read, second_in_range}
-use Rattle.asg_tokens.specs.laws.ShortLemmas.{plain_integer}
 
 pub no_pairs_more : (text : List ℕ) (from : ℕ) (firsts seconds : List ℤ) → from ≤ length firsts → ArePairsReadOn text text from from firsts firsts seconds seconds
 no_pairs_more text from firsts seconds within = record {

@@ -1,10 +1,5 @@
 -- The number of eight digits, by their values in the bytes of a word: three multiplications give it.
-use Rattle.std.proofs.Common.{◌≡◌, ℕ, ◌+◌, ◌-◌, ◌*◌, ◌/◌, ◌%◌, ◌^◌, ◌<◌, ◌≤◌, true, ap, ◌∙◌, arith}
-use Rattle.std.specs.Prelude.{bit_and}
-use Rattle.std.specs.Char.{is_ascii_digit, digit_value}
-use Rattle.std.proofs.lemmas.Bool.{and_parts, leb-true}
-use Rattle.std.proofs.lemmas.Nat.{and_mask, and_block}
-use Rattle.asg_tokens.specs.laws.NumberLemmas.{digit_value_is}
+use Rattle.asg_tokens.proofs.Common.{◌≡◌, ℕ, ◌+◌, ◌-◌, ◌*◌, ◌/◌, ◌%◌, ◌^◌, ◌<◌, ◌≤◌, true, bit_and, ap, ◌∙◌, arith, leb-true, and_block, and_mask, and_parts, digit_value, is_ascii_digit, digit_value_is}
 
 whole : (x : ℕ) → x < 2 ^ 64 → x % 2 ^ 64 ≡ x
 whole x h = omega arith

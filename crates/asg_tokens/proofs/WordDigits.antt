@@ -1,10 +1,5 @@
 -- The number of the digits with which the bytes of a word begin: those behind them are shifted out.
-use Rattle.std.proofs.Common.{◌≡◌, ℕ, suc, zero, ◌+◌, ◌-◌, ◌*◌, ◌%◌, ◌/◌, ◌^◌, ◌<◌, ◌≤◌, true, List, [], ◌∷◌, length, get_or, take, ap, ◌∙◌, arith, w64}
-use Rattle.std.specs.Int.{from_le_bytes}
-use Rattle.std.specs.List.{list_all}
-use Rattle.std.specs.Char.{is_ascii_digit, digit_value}
-use Rattle.std.specs.Str.Parse.{digits_value}
-use Rattle.std.proofs.lemmas.Bool.{and_parts}
+use Rattle.asg_tokens.proofs.Common.{◌≡◌, ℕ, zero, suc, ◌+◌, ◌-◌, ◌*◌, ◌/◌, ◌%◌, ◌^◌, ◌<◌, ◌≤◌, true, List, [], ◌∷◌, length, get_or, take, ap, ◌∙◌, arith, w64, and_parts, digit_value, digits_value, from_le_bytes, is_ascii_digit, list_all}
 use Rattle.asg_tokens.proofs.EightDigits.{of_digit, less_zeros, worth, values_joined}
 
 -- what the multiplications make of the values in a word

@@ -1,3 +1,4 @@
+pub mod Common
 pub mod Matches
 pub mod Taken
 pub mod WorkedWords

@@ -1,16 +1,9 @@
 -- The words as the command takes or refuses them.
-use Rattle.std.proofs.Common.{◌≡◌, true, false, arith, List, [], ◌∷◌, Option, Some, None, Result, Ok, Err, IfOk, IsErrOf, refl}
-use Rattle.std.proofs.lemmas.Bool.Decides.{nat_tests}
-use Rattle.clap.specs.Walk.{Row, Text, is_empty}
-use Rattle.clap.specs.Simple.{matches_of, is_simple}
-use Rattle.clap.specs.Faults.{fault_of, is_simple_and_free}
-use Rattle.clap.specs.Kinds.{IsAmong, Kinds}
+use Rattle.asg_words.proofs.Common.{◌≡◌, true, false, List, [], ◌∷◌, IfOk, Some, None, Ok, Err, Option, Result, IsErrOf, refl, arith, nat_tests, Answers, request_found, Usage, NoMemory, found_in, fault_of, is_simple_and_free, IsAmong, Kinds, matches_of, is_simple, Row, Text, is_empty}
 use Rattle.clap.specs.declared.error.kind.ErrorKind.{ErrorKind}
 use Rattle.clap.proofs.OnLiterals.{clap_on_literals}
 use Rattle.asg_requests.specs.declared.requests.WordsRefusal.{WordsRefusal}
-use Rattle.asg_requests.specs.declared.requests.WordsRefusal.TheVariants.{Usage, NoMemory}
-use Rattle.asg_words.specs.CommandLine.{command_line, found_in}
-use Rattle.asg_requests.specs.Requests.{Answers, request_found}
+use Rattle.asg_words.specs.CommandLine.{command_line}
 use Rattle.asg_words.specs.Requests.{request_of}
 
 pub is_simple_line : is_simple command_line ≡ true

@@ -1,7 +1,5 @@
 -- Command lines of which the request is known.
-use Rattle.std.proofs.Common.{◌≡◌, true, false, [], ◌∷◌, Some, None, codes, refl}
-use Rattle.clap.specs.Simple.{is_simple}
-use Rattle.clap.specs.Faults.{is_simple_and_free}
+use Rattle.asg_words.proofs.Common.{◌≡◌, true, false, [], ◌∷◌, Some, None, codes, refl, is_simple_and_free, is_simple}
 use Rattle.clap.proofs.OnLiterals.{clap_on_literals}
 use Rattle.asg_model.specs.declared.objectives.Objective.TheVariants.{Sum, Capped}
 use Rattle.asg_model.specs.declared.parts.Place.TheVariants.{All, Exactly}

@@ -1,9 +1,11 @@
--- Laws of rows that upper crates cite: which are active, and how many are counted.
-use Rattle.std.proofs.Common.{◌≡◌, ℕ, zero, suc, ◌<◌, ◌≤◌, Bool, true, false, cond, ◌&&◌, length, get_or, refl, arith, sym, ap, ◌∙◌, ⊎_elim}
-use Rattle.std.specs.Prelude.{Option, None, IsSome, nat_lt}
+-- Laws of rows and cells that upper crates cite: which rows are active, how many are counted, and
+-- what the costs at the places are.
+use Rattle.std.proofs.Common.{◌≡◌, ℕ, zero, suc, ◌<◌, ◌≤◌, Bool, true, false, cond, ◌&&◌, ◌==◌, List, [], ◌∷◌, length, get_or, refl, arith, sym, ap, ◌∙◌, ⊎_elim}
+use Rattle.std.specs.Prelude.{Option, Some, None, All, IsSome, IfSome, nat_lt}
 use Rattle.std.specs.Option.{option_map_or}
 use Rattle.std.proofs.lemmas.Bool.{false≢true, cases_lt}
 use Rattle.std.proofs.lemmas.Bool.Decides.{Decides-ltb}
+use Rattle.std.proofs.lemmas.List.Elements.{All-head, All-tail}
 use Rattle.std.proofs.lemmas.Option.{slice_get-get_or, slice_get_past}
 use Rattle.asg_model.specs.declared.parts.Column.{Column}
 use Rattle.asg_model.specs.declared.parts.Cost.{Cost}
@@ -59,3 +61,15 @@ row-from_active X r active =
 pub counted-from_active : (X : Problem) (place : Place) (r : ℕ) → is_active X r ≡ true → is_counted_by place (is_active X r) (nat_lt r (length X.rows)) ≡ true
 counted-from_active X PlaceAll r active = active
 counted-from_active X (Exactly k) r active = (Decides-ltb r (length X.rows)).1 (row-from_active X r active)
+
+cost_at-here : (P : Cost → Type 0) (b : Bool) (cost : Cost) (rest : Option Cost) → P cost → IfSome rest P → IfSome (cond b (Some cost) rest) P
+cost_at-here P true cost rest here more = here
+cost_at-here P false cost rest here more = more
+
+-- what holds of the cost of each cell holds of the one at a place
+pub cost_at-All : (P : Cost → Type 0) (cells : List ((ℕ × ℕ) × Cost)) (r c : ℕ) → All (λ cell. P cell.1) cells → IfSome (cost_at cells r c) P
+cost_at-All P [] r c all = tt
+cost_at-All P (e ∷ es) r c all =
+    cost_at-here P ((e.0.0 == r) && (e.0.1 == c)) e.1 (cost_at es r c)
+    (All-head (λ cell. P cell.1) e es all)
+    (cost_at-All P es r c (All-tail (λ cell. P cell.1) e es all))

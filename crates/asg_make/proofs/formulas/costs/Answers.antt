@@ -1,8 +1,4 @@
-use Rattle.std.proofs.Common.{◌≡◌, ℕ, ◌++◌, ◌∷◌, [], pos, ℤ, sym, ap, ◌∙◌, arith, rules, w64, to_z, of_z}
-use Rattle.std.specs.Prelude.{FitsSigned}
-use Rattle.std.proofs.lemmas.Int.{to_z-of_z}
-use Rattle.std.proofs.lemmas.List.FromFn.{map-range_with_len_more}
-use Rattle.asg_make.specs.Places.{cost_of_place}
+use Rattle.asg_make.proofs.Common.{◌≡◌, ℕ, [], ◌∷◌, ◌++◌, ℤ, pos, FitsSigned, sym, ap, ◌∙◌, arith, to_z-of_z, w64, to_z, of_z, rules, map-range_with_len_more, cost_of_place}
 use Rattle.asg_make.proofs.formulas.costs.Goals as goal
 
 pub loop-place-preserved : goal.loop-place-preserved

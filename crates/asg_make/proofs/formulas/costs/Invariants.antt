@@ -1,7 +1,4 @@
-use Rattle.std.proofs.Common.{◌≡◌, map}
-use Rattle.std.specs.Prelude.{pos}
-use Rattle.std.specs.List.{range_with_len}
-use Rattle.asg_make.specs.Places.{cost_of_place}
+use Rattle.asg_make.proofs.Common.{◌≡◌, map, pos, range_with_len, cost_of_place}
 use Rattle.asg_make.proofs.formulas.costs.Given as goal
 
 abbrev pub invariant-loop-place : goal.invariant-loop-place

@@ -1,4 +1,4 @@
-use Rattle.std.proofs.Common.{◌∙◌}
+use Rattle.asg_make.proofs.Common.{◌∙◌}
 use Rattle.asg_make.proofs.FormulaTables.{are_parts, made_table, made_problem}
 use Rattle.asg_make.proofs.formulas.generated.Goals as goal
 

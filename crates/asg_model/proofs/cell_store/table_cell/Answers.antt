@@ -1,5 +1,5 @@
 -- The cost in a table is that at the index of the place; past the last column there is none.
-use Rattle.std.proofs.Common.{◌∙◌, sym}
+use Rattle.asg_model.proofs.Common.{sym, ◌∙◌}
 use Rattle.asg_model.proofs.Tables.{cost_at-table, cost_at-past}
 use Rattle.asg_model.proofs.cell_store.table_cell.Goals as goal
 

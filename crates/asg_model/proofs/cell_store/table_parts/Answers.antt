@@ -1,6 +1,5 @@
 -- Both cuts are those of the row.
-use Rattle.std.proofs.Common.{sym, subst}
-use Rattle.asg_model.specs.Table.{AreTableParts}
+use Rattle.asg_model.proofs.Common.{sym, subst, AreTableParts}
 use Rattle.asg_model.proofs.TableRows.{AreTableParts-row}
 use Rattle.asg_model.proofs.cell_store.table_parts.Goals as goal
 

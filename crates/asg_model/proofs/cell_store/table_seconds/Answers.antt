@@ -1,5 +1,5 @@
 -- The cut is that of the row.
-use Rattle.std.proofs.Common.{◌*◌}
+use Rattle.asg_model.proofs.Common.{◌*◌}
 use Rattle.asg_model.proofs.TableRows.{seconds_of_row}
 use Rattle.asg_model.proofs.cell_store.table_seconds.Goals as goal
 

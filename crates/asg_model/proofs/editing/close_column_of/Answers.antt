@@ -1,8 +1,4 @@
-use Rattle.std.proofs.Common.{◌<◌, length, get_or, set, ◌∙◌, ap, arith}
-use Rattle.std.proofs.lemmas.List.{get_or_default}
-use Rattle.std.proofs.lemmas.List.Edits.{map_over_more}
-use Rattle.asg_model.specs.Edits.{closed}
-use Rattle.asg_model.specs.laws.Rows.{no_column}
+use Rattle.asg_model.proofs.Common.{◌<◌, length, get_or, set, ap, ◌∙◌, arith, get_or_default, map_over_more, closed, no_column}
 use Rattle.asg_model.proofs.editing.close_column_of.Goals as goal
 
 pub loop-column-preserved : goal.loop-column-preserved

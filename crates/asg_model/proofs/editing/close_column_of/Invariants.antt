@@ -1,5 +1,4 @@
-use Rattle.std.proofs.Common.{◌≡◌, ◌++◌, take, drop, map}
-use Rattle.asg_model.specs.Edits.{closed}
+use Rattle.asg_model.proofs.Common.{◌≡◌, ◌++◌, map, take, drop, closed}
 use Rattle.asg_model.proofs.editing.close_column_of.Given as goal
 
 -- those so far are done

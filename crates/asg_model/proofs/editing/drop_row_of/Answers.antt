@@ -1,8 +1,4 @@
-use Rattle.std.proofs.Common.{◌<◌, length, get_or, set, ◌∙◌, ap, arith}
-use Rattle.std.proofs.lemmas.List.{get_or_default}
-use Rattle.std.proofs.lemmas.List.Edits.{map_over_more}
-use Rattle.asg_model.specs.Edits.{dropped}
-use Rattle.asg_model.specs.laws.Rows.{no_row}
+use Rattle.asg_model.proofs.Common.{◌<◌, length, get_or, set, ap, ◌∙◌, arith, get_or_default, map_over_more, dropped, no_row}
 use Rattle.asg_model.proofs.editing.drop_row_of.Goals as goal
 
 pub loop-row-preserved : goal.loop-row-preserved

@@ -1,5 +1,4 @@
-use Rattle.std.proofs.Common.{◌≡◌, ◌++◌, take, drop, map}
-use Rattle.asg_model.specs.Edits.{dropped}
+use Rattle.asg_model.proofs.Common.{◌≡◌, ◌++◌, map, take, drop, dropped}
 use Rattle.asg_model.proofs.editing.drop_row_of.Given as goal
 
 -- those so far are done

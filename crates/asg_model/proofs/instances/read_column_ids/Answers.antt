@@ -1,7 +1,5 @@
 -- One more id was read.
-use Rattle.std.proofs.Common.{◌<◌, ◌^◌, below_more, subst}
-use Rattle.std.proofs.lemmas.List.{get_or_default}
-use Rattle.asg_model.specs.declared.parts.Column.{Column}
+use Rattle.asg_model.proofs.Common.{◌^◌, ◌<◌, subst, below_more, get_or_default, Column}
 use Rattle.asg_model.proofs.instances.read_column_ids.Goals as goal
 
 pub loop-column-preserved : goal.loop-column-preserved

@@ -1,5 +1,4 @@
-use Rattle.std.proofs.Common.{ℕ, ◌<◌, ◌^◌, get_or}
-use Rattle.asg_model.specs.declared.parts.Column.{Column}
+use Rattle.asg_model.proofs.Common.{ℕ, ◌^◌, ◌<◌, get_or, Column}
 use Rattle.asg_model.proofs.instances.read_column_ids.Given as goal
 
 abbrev pub invariant-loop-column : goal.invariant-loop-column

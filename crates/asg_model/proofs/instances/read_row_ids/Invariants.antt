@@ -1,5 +1,4 @@
-use Rattle.std.proofs.Common.{ℕ, ◌<◌, ◌^◌, get_or}
-use Rattle.asg_model.specs.declared.parts.Row.{Row}
+use Rattle.asg_model.proofs.Common.{ℕ, ◌^◌, ◌<◌, get_or, Row}
 use Rattle.asg_model.proofs.instances.read_row_ids.Given as goal
 
 abbrev pub invariant-loop-row : goal.invariant-loop-row

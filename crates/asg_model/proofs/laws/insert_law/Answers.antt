@@ -1,5 +1,4 @@
-use Rattle.std.proofs.Common.{ℕ, ◌<◌}
-use Rattle.asg_model.specs.Instances.{IsCostInRange, by_places}
+use Rattle.asg_model.proofs.Common.{ℕ, ◌<◌, IsCostInRange, by_places}
 use Rattle.asg_model.proofs.CellMaps.{All-insert_entry}
 use Rattle.asg_model.proofs.laws.insert_law.Goals as goal
 

@@ -1,5 +1,4 @@
-use Rattle.std.proofs.Common.{length, refl}
-use Rattle.asg_model.specs.Counts.{total_capacity}
+use Rattle.asg_model.proofs.Common.{length, refl, total_capacity}
 use Rattle.asg_model.proofs.ShapeLemmas.{shaped_is_instance, range_in}
 use Rattle.asg_model.proofs.laws.shape_law.Goals as goal
 

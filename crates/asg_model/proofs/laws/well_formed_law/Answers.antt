@@ -1,7 +1,4 @@
-use Rattle.std.proofs.Common.{◌<◌, ℕ, length}
-use Rattle.std.proofs.lemmas.List.Elements.{All-weaker}
-use Rattle.asg_model.specs.declared.parts.Cost.{Cost}
-use Rattle.asg_model.specs.Instances.{IsCostInRange}
+use Rattle.asg_model.proofs.Common.{ℕ, ◌<◌, length, All-weaker, IsCostInRange, Cost}
 use Rattle.asg_model.proofs.Tables.{IsWellFormed-cells}
 use Rattle.asg_model.proofs.laws.well_formed_law.Goals as goal
 

@@ -1,5 +1,5 @@
 -- The parts and the cells of a whole table are those of an instance.
-use Rattle.std.proofs.Common.{length}
+use Rattle.asg_model.proofs.Common.{length}
 use Rattle.asg_model.proofs.Tables.{IsWellFormed-table, cells_ascend}
 use Rattle.asg_model.proofs.laws.whole_table_law.Goals as goal
 

@@ -1,4 +1,4 @@
-use Rattle.std.proofs.Common.{rules}
+use Rattle.asg_model.proofs.Common.{rules}
 use Rattle.asg_model.proofs.RetainedStores.{callable_on_each, RetainsCells-pairs}
 use Rattle.asg_model.proofs.retaining.retain_entries.Goals as goal
 

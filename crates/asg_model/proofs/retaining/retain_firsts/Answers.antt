@@ -1,5 +1,4 @@
-use Rattle.std.proofs.Common.{◌*◌, ◌<◌, arith}
-use Rattle.std.proofs.lemmas.Nat.{div_below, mod_below}
+use Rattle.asg_model.proofs.Common.{◌*◌, ◌<◌, arith, div_below, mod_below}
 use Rattle.asg_model.proofs.RetainedStores.{kept_more}
 use Rattle.asg_model.proofs.Tables.{columns_below}
 use Rattle.asg_model.proofs.retaining.retain_firsts.Goals as goal

@@ -1,9 +1,4 @@
-use Rattle.std.proofs.Common.{subst, sym, ◌<◌}
-use Rattle.asg_model.specs.declared.cell_store.CellStore.TheVariants.{Map, Table}
-use Rattle.asg_model.specs.CellStores.{cells_in, IsCellStore}
-use Rattle.asg_model.specs.Instances.{IsCostInRange}
-use Rattle.asg_model.specs.Retained.{RetainsCells}
-use Rattle.asg_model.specs.laws.Retained.{All-retained}
+use Rattle.asg_model.proofs.Common.{◌<◌, sym, subst, cells_in, IsCellStore, IsCostInRange, RetainsCells, Map, Table, All-retained}
 use Rattle.asg_model.proofs.RetainedStores.{RetainsCells-table, IsCellStore-table}
 use Rattle.asg_model.proofs.retaining.retain_stored.Goals as goal
 

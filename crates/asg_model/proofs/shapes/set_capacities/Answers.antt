@@ -1,6 +1,4 @@
-use Rattle.std.proofs.Common.{◌∙◌, arith}
-use Rattle.std.proofs.lemmas.List.{length-set}
-use Rattle.asg_model.specs.Shapes.{with_capacity}
+use Rattle.asg_model.proofs.Common.{◌∙◌, arith, length-set, with_capacity}
 use Rattle.asg_model.proofs.ShapeLemmas.{capacities_more, capacities_done}
 use Rattle.asg_model.proofs.shapes.set_capacities.Goals as goal
 

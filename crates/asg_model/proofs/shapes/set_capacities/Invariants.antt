@@ -1,4 +1,4 @@
-use Rattle.std.proofs.Common.{◌≡◌, length}
+use Rattle.asg_model.proofs.Common.{◌≡◌, length}
 use Rattle.asg_model.proofs.ShapeLemmas.{CapacitiesTo}
 use Rattle.asg_model.proofs.shapes.set_capacities.Given as goal
 

@@ -1,7 +1,5 @@
-use Rattle.std.proofs.Common.{sym, subst}
-use Rattle.asg_model.specs.ValueRange.{IsPartInRange}
+use Rattle.asg_networks.proofs.Common.{sym, subst, IsPartInRange, short_fits}
 use Rattle.asg_networks.proofs.ArcLines.{arc_said}
-use Rattle.asg_tokens.specs.laws.CellLemmas.{short_fits}
 use Rattle.asg_networks.proofs.arc_lines.arc_line.Goals as goal
 
 pub returns-clause-says : goal.returns-clause-says

@@ -1,6 +1,4 @@
-use Rattle.std.proofs.Common.{◌∷◌, map, sym, ap, ◌∙◌}
-use Rattle.std.specs.Str.Lines.{lines}
-use Rattle.asg_networks.specs.AsnLines.{line_of}
+use Rattle.asg_networks.proofs.Common.{◌∷◌, map, sym, ap, ◌∙◌, lines, line_of}
 use Rattle.asg_networks.proofs.asn.first_said_of_any.Goals as goal
 
 pub returns-clause-says : goal.returns-clause-says

@@ -1,13 +1,4 @@
-use Rattle.std.proofs.Common.{◌≡◌, [], ◌+◌, map, take, sym, ap, ◌∙◌, arith, subst, length}
-use Rattle.std.specs.Prelude.{IfOk, IfErr}
-use Rattle.std.specs.Str.Lines.{lines}
-use Rattle.std.proofs.lemmas.List.{length-map, length-take}
-use Rattle.asg_tokens.specs.Readings.{Spells, TellsOf}
-use Rattle.asg_networks.specs.AsnLines.{line_of}
-use Rattle.asg_networks.specs.AsnArcs.{line_faults, reading_of_asn}
-use Rattle.asg_networks.specs.Networks.{IsNetworkOf, reading_of_network}
-use Rattle.asg_tokens.specs.Slots.{IsEarliest}
-use Rattle.asg_tokens.specs.laws.LineCuts.{length-lines}
+use Rattle.asg_networks.proofs.Common.{◌≡◌, ◌+◌, [], map, length, take, IfOk, sym, ap, ◌∙◌, subst, arith, length-take, length-map, lines, IfErr, line_faults, reading_of_asn, line_of, IsNetworkOf, reading_of_network, Spells, TellsOf, IsEarliest, length-lines}
 use Rattle.asg_networks.proofs.AsnReading.{IsNextLine, next_line, refuses, whole_reading}
 use Rattle.asg_tokens.specs.laws.Refusing.{handed_on}
 use Rattle.asg_networks.proofs.asn.read_asn.Goals as goal

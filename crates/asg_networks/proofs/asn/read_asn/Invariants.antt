@@ -1,7 +1,4 @@
-use Rattle.std.proofs.Common.{◌≡◌, ◌≤◌, length, take, drop, map}
-use Rattle.std.specs.Str.Lines.{lines}
-use Rattle.asg_networks.specs.AsnLines.{line_of}
-use Rattle.asg_networks.specs.Networks.{IsSound, IsNetworkOf}
+use Rattle.asg_networks.proofs.Common.{◌≡◌, ◌≤◌, map, length, take, drop, lines, line_of, IsSound, IsNetworkOf}
 use Rattle.asg_networks.proofs.asn.read_asn.Given as goal
 
 -- so many lines are read, and what they say is kept

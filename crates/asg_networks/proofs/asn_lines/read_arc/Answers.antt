@@ -1,6 +1,4 @@
-use Rattle.std.proofs.Common.{◌∙◌, ap, sym, ◌∷◌}
-use Rattle.asg_networks.specs.AsnLines.{arc_of}
-use Rattle.asg_tokens.specs.Pieces.{fields}
+use Rattle.asg_networks.proofs.Common.{◌∷◌, sym, ap, ◌∙◌, arc_of, fields}
 use Rattle.asg_networks.proofs.FieldLemmas.{no_fourth}
 use Rattle.asg_networks.proofs.asn_lines.read_arc.Goals as goal
 

@@ -1,6 +1,4 @@
-use Rattle.std.proofs.Common.{◌∙◌, ap, sym, ◌∷◌}
-use Rattle.asg_networks.specs.AsnLines.{sizes_of}
-use Rattle.asg_tokens.specs.Pieces.{fields}
+use Rattle.asg_networks.proofs.Common.{◌∷◌, sym, ap, ◌∙◌, sizes_of, fields}
 use Rattle.asg_networks.proofs.FieldLemmas.{no_fifth}
 use Rattle.asg_networks.proofs.asn_lines.read_sizes.Goals as goal
 

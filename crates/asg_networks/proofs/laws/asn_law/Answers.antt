@@ -1,6 +1,4 @@
-use Rattle.std.proofs.Common.{map}
-use Rattle.std.specs.Str.Lines.{lines}
-use Rattle.asg_networks.specs.AsnLines.{line_of}
+use Rattle.asg_networks.proofs.Common.{map, lines, line_of}
 use Rattle.asg_networks.proofs.LineRanges.{lines_in_range}
 use Rattle.asg_networks.proofs.SpelledNetworks.{asn_spells_instance}
 use Rattle.asg_networks.proofs.laws.asn_law.Goals as goal

@@ -1,7 +1,4 @@
-use Rattle.std.proofs.Common.{◌≡◌, ◌+◌, ap, ◌∙◌, length, arith}
-use Rattle.std.specs.Prelude.{replicate}
-use Rattle.std.proofs.lemmas.List.{length-replicate, length-set}
-use Rattle.std.proofs.lemmas.Grind.{common_steps}
+use Rattle.asg_networks.proofs.Common.{◌≡◌, ◌+◌, length, replicate, ap, ◌∙◌, arith, length-set, common_steps, length-replicate}
 use Rattle.asg_networks.proofs.PlaceLemmas.{nothing, no_places, one_more_place}
 use Rattle.asg_networks.proofs.layouts.places_of.Goals as goal
 use Rattle.asg_networks.proofs.layouts.places_of.Goals.{In_ok-places}

@@ -1,5 +1,4 @@
-use Rattle.std.proofs.Common.{◌≡◌, ◌+◌, length, take}
-use Rattle.asg_networks.specs.Layouts.{TellsPlaces}
+use Rattle.asg_networks.proofs.Common.{◌≡◌, ◌+◌, length, take, TellsPlaces}
 use Rattle.asg_networks.proofs.layouts.places_of.Given as goal
 
 abbrev pub invariant-loop-place : goal.invariant-loop-place

@@ -1,4 +1,4 @@
-use Rattle.std.proofs.Math.Facts.{Fits-lt-pow}
+use Rattle.asg_networks.proofs.Common.{Fits-lt-pow}
 use Rattle.asg_networks.proofs.FirstTwice.{all_seen, one_more_seen}
 use Rattle.asg_networks.proofs.links.first_unlike.Goals as goal
 

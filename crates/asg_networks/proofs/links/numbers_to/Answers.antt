@@ -1,4 +1,4 @@
-use Rattle.std.proofs.Common.{◌∷◌, [], ◌++◌, ap, ◌∙◌}
+use Rattle.asg_networks.proofs.Common.{[], ◌∷◌, ◌++◌, ap, ◌∙◌}
 use Rattle.asg_networks.proofs.FirstTwice.{one_more_number}
 use Rattle.asg_networks.proofs.links.numbers_to.Goals as goal
 

@@ -1,5 +1,4 @@
-use Rattle.std.proofs.Common.{◌≡◌}
-use Rattle.std.specs.List.{range_with_len}
+use Rattle.asg_networks.proofs.Common.{◌≡◌, range_with_len}
 use Rattle.asg_networks.proofs.links.numbers_to.Given as goal
 
 abbrev pub invariant-loop-number : goal.invariant-loop-number

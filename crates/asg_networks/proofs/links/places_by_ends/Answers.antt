@@ -1,5 +1,4 @@
-use Rattle.std.proofs.Common.{rules, subst}
-use Rattle.std.specs.List.Sorted.{IsPermutation}
+use Rattle.asg_networks.proofs.Common.{subst, rules, IsPermutation}
 use Rattle.asg_networks.proofs.FirstTwice.{by_ends}
 use Rattle.asg_networks.proofs.links.places_by_ends.Goals as goal
 

@@ -1,6 +1,4 @@
-use Rattle.std.proofs.Common.{rules}
-use Rattle.std.proofs.lemmas.List.Sorted.{IsNonDecreasingBy-from_sort_by_key}
-use Rattle.asg_networks.specs.LinkOrder.{order_number}
+use Rattle.asg_networks.proofs.Common.{rules, IsNonDecreasingBy-from_sort_by_key, order_number}
 use Rattle.asg_networks.proofs.links.sort_by_ends.Goals as goal
 
 pub returns-clause-ascending : goal.returns-clause-ascending

@@ -1,7 +1,5 @@
-use Rattle.std.proofs.Common.{map}
-use Rattle.std.specs.Str.Lines.{lines}
-use Rattle.asg_tokens.specs.Pieces.{fields}
-use Rattle.asg_text.specs.Scripts.{numbered_from, reading_of_script}
+use Rattle.asg_text.proofs.Common.{map, lines, numbered_from, fields}
+use Rattle.asg_text.specs.Scripts.{reading_of_script}
 use Rattle.asg_text.proofs.ScriptLaw.{lines_keep}
 use Rattle.asg_text.proofs.laws.script_law.Goals as goal
 

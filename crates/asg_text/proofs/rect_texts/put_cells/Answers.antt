@@ -1,8 +1,4 @@
-use Rattle.std.proofs.Common.{◌++◌, ◌∙◌, ap}
-use Rattle.std.specs.Prelude.{slice_index_or}
-use Rattle.asg_model.specs.Table.{absent, table_cost}
-use Rattle.asg_text.specs.RectSteps.{next_text}
-use Rattle.asg_text.specs.RectTexts.{cell_text}
+use Rattle.asg_text.proofs.Common.{◌++◌, slice_index_or, ap, ◌∙◌, absent, table_cost, next_text, cell_text}
 use Rattle.asg_text.proofs.RectLines.{one_more_token}
 use Rattle.asg_text.proofs.rect_texts.put_cells.Goals as goal
 

@@ -1,8 +1,4 @@
-use Rattle.std.proofs.Common.{◌≡◌, ◌++◌, map}
-use Rattle.std.specs.Prelude.{slice_index_or}
-use Rattle.std.specs.List.{join_with_byte, range_with_len}
-use Rattle.asg_model.specs.Table.{absent, table_cost}
-use Rattle.asg_text.specs.RectTexts.{cell_text}
+use Rattle.asg_text.proofs.Common.{◌≡◌, ◌++◌, map, slice_index_or, join_with_byte, range_with_len, absent, table_cost, cell_text}
 use Rattle.asg_text.proofs.rect_texts.put_cells.Given as goal
 
 abbrev pub invariant-loop-column : goal.invariant-loop-column

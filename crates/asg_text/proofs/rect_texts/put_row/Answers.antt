@@ -1,4 +1,4 @@
-use Rattle.std.proofs.Common.{length, ap}
+use Rattle.asg_text.proofs.Common.{length, ap}
 use Rattle.asg_text.proofs.RectLines.{row_put}
 use Rattle.asg_text.proofs.rect_texts.put_row.Goals as goal
 

@@ -1,4 +1,4 @@
-use Rattle.asg_text.specs.RectTexts.{row_line}
+use Rattle.asg_text.proofs.Common.{row_line}
 use Rattle.asg_text.proofs.RectLines.{one_more_row}
 use Rattle.asg_text.proofs.rect_texts.put_rows.Goals as goal
 

@@ -1,6 +1,4 @@
-use Rattle.std.proofs.Common.{◌≡◌, ◌++◌}
-use Rattle.std.specs.List.{flat_map, range_with_len}
-use Rattle.asg_text.specs.RectTexts.{row_line}
+use Rattle.asg_text.proofs.Common.{◌≡◌, ◌++◌, flat_map, range_with_len, row_line}
 use Rattle.asg_text.proofs.rect_texts.put_rows.Given as goal
 
 abbrev pub invariant-loop-row : goal.invariant-loop-row

@@ -1,8 +1,5 @@
-use Rattle.std.proofs.Common.{◌≡◌, ◌≤◌, ◌++◌, length, sym, ap, ◌∙◌, subst}
-use Rattle.std.specs.List.{flat_map, range_with_len}
-use Rattle.asg_model.specs.Limits.{longest_file}
-use Rattle.asg_text.specs.declared.formats.Format.TheVariants.{Rect}
-use Rattle.asg_text.specs.RectTexts.{row_line, size_line, rect_text}
+use Rattle.asg_text.proofs.Common.{◌≡◌, ◌≤◌, ◌++◌, length, flat_map, sym, ap, ◌∙◌, subst, range_with_len, longest_file, row_line, size_line, Rect}
+use Rattle.asg_text.specs.RectTexts.{rect_text}
 use Rattle.asg_text.specs.Texts.{reading_of}
 use Rattle.asg_text.proofs.rect_texts.write_rect.Goals as goal
 use Rattle.asg_text.proofs.rect_texts.write_rect.Goals.{In_ok-put_rows}

@@ -1,7 +1,4 @@
-use Rattle.std.proofs.Common.{◌∙◌, ap, sym, ◌∷◌, Some}
-use Rattle.std.specs.Option.{option_map}
-use Rattle.asg_tokens.specs.Pieces.{fields}
-use Rattle.asg_text.specs.ScriptLines.{cost_line_of, line_in_range}
+use Rattle.asg_text.proofs.Common.{◌∷◌, Some, option_map, sym, ap, ◌∙◌, cost_line_of, line_in_range, fields}
 use Rattle.asg_text.proofs.ScriptLineLemmas.{no_fourth, ended, cost_said}
 use Rattle.asg_text.proofs.script_lines.read_cost.Goals as goal
 

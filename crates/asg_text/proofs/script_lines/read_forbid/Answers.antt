@@ -1,7 +1,4 @@
-use Rattle.std.proofs.Common.{◌∙◌, ap, sym, ◌∷◌}
-use Rattle.std.specs.Option.{option_map}
-use Rattle.asg_tokens.specs.Pieces.{fields}
-use Rattle.asg_text.specs.ScriptLines.{forbid_line_of, line_in_range}
+use Rattle.asg_text.proofs.Common.{◌∷◌, option_map, sym, ap, ◌∙◌, forbid_line_of, line_in_range, fields}
 use Rattle.asg_text.proofs.ScriptLineLemmas.{no_third}
 use Rattle.asg_text.proofs.script_lines.read_forbid.Goals as goal
 

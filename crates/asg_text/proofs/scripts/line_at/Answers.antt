@@ -1,6 +1,4 @@
-use Rattle.std.proofs.Common.{sym, ap, ◌∙◌, Some}
-use Rattle.asg_tokens.specs.Pieces.{fields}
-use Rattle.asg_text.specs.ScriptLines.{script_line_of}
+use Rattle.asg_text.proofs.Common.{Some, sym, ap, ◌∙◌, script_line_of, fields}
 use Rattle.asg_text.proofs.ScriptLineLemmas.{kept_line, kept_faults, past_faults, formless}
 use Rattle.asg_text.proofs.scripts.line_at.Goals as goal
 

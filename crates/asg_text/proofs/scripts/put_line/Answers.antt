@@ -1,5 +1,4 @@
-use Rattle.std.proofs.Common.{length, sym}
-use Rattle.asg_tokens.specs.Pieces.{fields}
+use Rattle.asg_text.proofs.Common.{length, sym, fields}
 use Rattle.asg_text.proofs.ScriptLemmas.{blank_right, blank_adds}
 use Rattle.asg_text.proofs.scripts.put_line.Goals as goal
 

@@ -1,7 +1,5 @@
-use Rattle.std.proofs.Common.{◌∷◌, length, map, ap, arith, subst}
-use Rattle.std.specs.Str.Lines.{lines}
-use Rattle.asg_tokens.specs.Pieces.{fields}
-use Rattle.asg_text.specs.Scripts.{TellsOfScript, numbered_from, reading_of_lines, reading_of_script}
+use Rattle.asg_text.proofs.Common.{◌∷◌, map, length, ap, subst, arith, lines, TellsOfScript, numbered_from, reading_of_lines, fields}
+use Rattle.asg_text.specs.Scripts.{reading_of_script}
 use Rattle.asg_tokens.specs.laws.LineCuts.{length-lines}
 use Rattle.asg_tokens.specs.laws.Refusing.{handed_on}
 use Rattle.asg_text.proofs.ScriptLemmas.{AreTaken, none_taken, line_taken, line_refused, all_taken}

@@ -1,7 +1,4 @@
-use Rattle.std.proofs.Common.{◌≡◌, ◌≤◌, ◌+◌, length, map}
-use Rattle.std.specs.Str.Lines.{lines}
-use Rattle.asg_tokens.specs.Pieces.{fields}
-use Rattle.asg_text.specs.Scripts.{numbered_from, most_script_lines}
+use Rattle.asg_text.proofs.Common.{◌≡◌, ◌+◌, ◌≤◌, map, length, lines, numbered_from, most_script_lines, fields}
 use Rattle.asg_text.proofs.ScriptLemmas.{AreTaken}
 use Rattle.asg_text.proofs.scripts.read_script.Given as goal
 

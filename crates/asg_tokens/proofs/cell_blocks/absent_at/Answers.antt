@@ -1,5 +1,4 @@
-use Rattle.std.proofs.Common.{◌≡◌, sym, arith}
-use Rattle.std.specs.Prelude.{slice_index}
+use Rattle.asg_tokens.proofs.Common.{◌≡◌, slice_index, sym, arith}
 use Rattle.asg_tokens.proofs.BlockCells.{absent_cell_at}
 use Rattle.asg_tokens.proofs.cell_blocks.absent_at.Goals as goal
 

@@ -1,4 +1,4 @@
-use Rattle.std.proofs.Common.{sym, ◌∙◌}
+use Rattle.asg_tokens.proofs.Common.{sym, ◌∙◌}
 use Rattle.asg_tokens.proofs.BlockCells.{tokens_behind}
 use Rattle.asg_tokens.proofs.cell_blocks.from_token.Goals as goal
 

@@ -1,7 +1,4 @@
-use Rattle.std.proofs.Common.{◌≡◌, ℕ, take, replicate, length, ltb, sym, ◌∙◌, arith, w8}
-use lib.Lanes.{zip2}
-use Rattle.std.proofs.lemmas.List.{length-take}
-use Rattle.std.proofs.lemmas.Simd.{bitmask_splat, length-zip2, length-replicate}
+use Rattle.asg_tokens.proofs.Common.{◌≡◌, ℕ, ltb, length, take, replicate, sym, ◌∙◌, arith, length-take, w8, bitmask_splat, length-zip2, zip2, length-replicate}
 use Rattle.asg_tokens.proofs.BlockLemmas.{less, other_bits}
 use Rattle.asg_tokens.proofs.cell_blocks.other_bytes.Goals as goal
 

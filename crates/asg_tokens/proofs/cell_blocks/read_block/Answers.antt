@@ -1,5 +1,4 @@
-use Rattle.std.proofs.Common.{◌<◌, ◌≤◌, length, arith, sym, ◌∙◌}
-use Rattle.std.proofs.Math.Facts.{Fits-lt-pow}
+use Rattle.asg_tokens.proofs.Common.{◌<◌, ◌≤◌, length, sym, ◌∙◌, arith, Fits-lt-pow}
 use Rattle.asg_tokens.proofs.BlockLemmas.{end_low, end_past, digits_before, none_up_to, same_past}
 use Rattle.asg_tokens.proofs.BlockCells.{one_more_cell}
 use Rattle.asg_tokens.proofs.cell_blocks.read_block.Goals as goal

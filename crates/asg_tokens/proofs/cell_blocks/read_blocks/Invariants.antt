@@ -1,5 +1,4 @@
-use Rattle.std.proofs.Common.{◌-◌, length}
-use Rattle.asg_tokens.specs.CellBlocks.{AreReadOn}
+use Rattle.asg_tokens.proofs.Common.{◌-◌, length, AreReadOn}
 use Rattle.asg_tokens.proofs.cell_blocks.read_blocks.Given as goal
 
 abbrev pub invariant-runs : goal.invariant-runs

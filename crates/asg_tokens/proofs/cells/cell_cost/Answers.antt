@@ -1,5 +1,4 @@
-use Rattle.std.proofs.Common.{ap, sym, ◌∙◌, Some}
-use Rattle.asg_tokens.specs.laws.CellLemmas.{absent_faults, absent_cell, right_faults, right_cell, range_faults, bad_faults}
+use Rattle.asg_tokens.proofs.Common.{Some, sym, ap, ◌∙◌, absent_faults, absent_cell, right_faults, right_cell, range_faults, bad_faults}
 use Rattle.asg_tokens.proofs.cells.cell_cost.Goals as goal
 
 pub returns-then-is_absent-clause-cost : goal.returns-then-is_absent-clause-cost

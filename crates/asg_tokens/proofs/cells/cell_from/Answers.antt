@@ -1,4 +1,4 @@
-use Rattle.asg_tokens.specs.laws.CellLemmas.{short_cell}
+use Rattle.asg_tokens.proofs.Common.{short_cell}
 use Rattle.asg_tokens.proofs.cells.cell_from.Goals as goal
 
 pub returns-in-Some : goal.returns-in-Some

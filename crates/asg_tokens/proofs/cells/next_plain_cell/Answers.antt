@@ -1,6 +1,4 @@
-use Rattle.asg_tokens.specs.NextCells.{IsFaultyCell}
-use Rattle.asg_tokens.specs.laws.CellLemmas.{faulty_cell}
-use Rattle.asg_tokens.specs.laws.Refusing.{handed_on}
+use Rattle.asg_tokens.proofs.Common.{IsFaultyCell, faulty_cell, handed_on}
 use Rattle.asg_tokens.proofs.cells.next_plain_cell.Goals as goal
 
 pub returns-in_err-cost-in-Some-clause-refused : goal.returns-in_err-cost-in-Some-clause-refused

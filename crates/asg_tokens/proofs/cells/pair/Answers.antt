@@ -1,8 +1,5 @@
-use Rattle.std.proofs.Common.{◌+◌, ap, ◌∙◌, arith, Some}
-use Rattle.std.specs.Option.{option_map}
-use Rattle.std.proofs.lemmas.List.{take_rest}
+use Rattle.asg_tokens.proofs.Common.{◌+◌, Some, option_map, ap, ◌∙◌, arith, take_rest, pair_in_range, no_pair}
 use Rattle.asg_tokens.specs.Numbers.{integer_of, integer_in_range}
-use Rattle.asg_tokens.specs.laws.CellLemmas.{pair_in_range, no_pair}
 use Rattle.asg_tokens.proofs.cells.pair.Goals as goal
 
 pub returns-then-colon-token : goal.returns-then-colon-token

@@ -1,6 +1,4 @@
-use Rattle.std.proofs.Common.{subst}
-use Rattle.asg_tokens.specs.NextCells.{IsShortInteger}
-use Rattle.asg_tokens.specs.laws.PairLemmas.{short_pair}
+use Rattle.asg_tokens.proofs.Common.{subst, IsShortInteger, short_pair}
 use Rattle.asg_tokens.proofs.cells.pair_from.Goals as goal
 
 pub returns : goal.returns

@@ -1,7 +1,4 @@
-use Rattle.std.proofs.Common.{refl, drop}
-use Rattle.std.proofs.lemmas.List.{take_rest}
-use Rattle.asg_tokens.specs.NextCells.{IsBehindSpace}
-use Rattle.asg_tokens.specs.laws.CellLemmas.{short_absent_cell}
+use Rattle.asg_tokens.proofs.Common.{drop, refl, take_rest, IsBehindSpace, short_absent_cell}
 use Rattle.asg_tokens.proofs.cells.short_absent_cell.Goals as goal
 
 pub returns-in_ok-rest : goal.returns-in_ok-rest

@@ -1,4 +1,4 @@
-use Rattle.std.proofs.Common.{◌+◌, ◌-◌, ◌<◌, ◌≤◌, arith}
+use Rattle.asg_tokens.proofs.Common.{◌+◌, ◌-◌, ◌<◌, ◌≤◌, arith}
 use Rattle.asg_tokens.proofs.BlockLemmas.{word_digits_between, word_amount}
 use Rattle.asg_tokens.proofs.digit_words.amount_of.Goals as goal
 

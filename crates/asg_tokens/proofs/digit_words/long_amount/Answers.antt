@@ -1,4 +1,4 @@
-use Rattle.std.proofs.Common.{arith}
+use Rattle.asg_tokens.proofs.Common.{arith}
 use Rattle.asg_tokens.proofs.BlockLemmas.{digits_between, amount_between}
 use Rattle.asg_tokens.proofs.digit_words.long_amount.Goals as goal
 

@@ -1,8 +1,4 @@
-use Rattle.std.proofs.Common.{◌<◌, length, arith, ◌∙◌, ap}
-use Rattle.std.specs.Str.Parse.{digits_value}
-use Rattle.std.specs.List.{list_all}
-use Rattle.std.specs.Char.{is_ascii_digit}
-use Rattle.std.proofs.lemmas.List.{take_all, take-take}
+use Rattle.asg_tokens.proofs.Common.{◌<◌, length, ap, ◌∙◌, arith, take_all, take-take, digits_value, is_ascii_digit, list_all}
 use Rattle.asg_tokens.proofs.BlockLemmas.{number_step, front_digits}
 use Rattle.asg_tokens.proofs.digit_words.number_past_word.Goals as goal
 

@@ -1,5 +1,4 @@
-use Rattle.std.proofs.Common.{◌≡◌, take}
-use Rattle.std.specs.Str.Parse.{digits_value}
+use Rattle.asg_tokens.proofs.Common.{◌≡◌, take, digits_value}
 use Rattle.asg_tokens.proofs.digit_words.number_past_word.Given as goal
 
 -- the number of the digits so far

@@ -1,7 +1,4 @@
-use Rattle.std.proofs.Common.{◌∙◌, ap, arith, ◌∷◌, take, drop, length, ◌-◌, ◌+◌, false-eqb, sym}
-use Rattle.std.specs.Prelude.{not, ◌==◌}
-use Rattle.std.proofs.lemmas.List.Sums.{prefix_len-le-length}
-use Rattle.std.specs.Str.Lines.{lines}
+use Rattle.asg_tokens.proofs.Common.{◌+◌, ◌-◌, not, ◌∷◌, length, take, drop, ◌==◌, sym, ap, ◌∙◌, arith, false-eqb, lines, prefix_len-le-length}
 use Rattle.asg_tokens.specs.laws.LineCuts.{last_line, line_before}
 use Rattle.asg_tokens.proofs.lines.first_line.Goals as goal
 

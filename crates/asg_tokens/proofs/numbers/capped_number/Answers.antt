@@ -1,13 +1,4 @@
-use Rattle.std.proofs.Common.{◌≡◌, ◌+◌, ◌*◌, Some, ◌<◌, true, length, get_or, take, min, ap, ◌∙◌, sym, arith, eqb-true, false-eqb}
-use Rattle.std.specs.Option.{option_map}
-use Rattle.std.specs.List.{list_all}
-use Rattle.std.specs.Char.{is_ascii_digit}
-use Rattle.std.specs.Str.Parse.{digits_value}
-use Rattle.std.proofs.Math.Seq.{take-length}
-use Rattle.std.proofs.lemmas.Bool.{and_from}
-use Rattle.std.proofs.lemmas.List.Folds.{list_all_more}
-use Rattle.asg_tokens.specs.declared.numbers.TheConstants.{CAP}
-use Rattle.asg_tokens.specs.laws.NumberLemmas.{number_of_nothing, number_of_no_digit, number_of_digits, capped_more}
+use Rattle.asg_tokens.proofs.Common.{◌≡◌, ◌+◌, ◌*◌, ◌<◌, min, true, length, get_or, take, Some, option_map, sym, ap, ◌∙◌, arith, false-eqb, and_from, digits_value, is_ascii_digit, list_all, list_all_more, take-length, eqb-true, CAP, number_of_nothing, number_of_no_digit, number_of_digits, capped_more}
 use Rattle.asg_tokens.proofs.numbers.capped_number.Goals as goal
 
 pub returns-then-is_empty : goal.returns-then-is_empty

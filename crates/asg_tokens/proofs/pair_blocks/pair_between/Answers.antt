@@ -1,5 +1,4 @@
-use Rattle.std.proofs.Common.{◌≡◌, ◌<◌, length, arith}
-use Rattle.std.specs.Prelude.{slice_index}
+use Rattle.asg_tokens.proofs.Common.{◌≡◌, ◌<◌, length, slice_index, arith}
 use Rattle.asg_tokens.proofs.BlockPairs.{pair_from}
 use Rattle.asg_tokens.proofs.pair_blocks.pair_between.Goals as goal
 

@@ -1,5 +1,4 @@
-use Rattle.std.proofs.Common.{◌<◌, length, arith}
-use Rattle.std.proofs.Math.Facts.{Fits-lt-pow}
+use Rattle.asg_tokens.proofs.Common.{◌<◌, length, arith, Fits-lt-pow}
 use Rattle.asg_tokens.proofs.BlockPairs.{pair_ends, one_more_pair}
 use Rattle.asg_tokens.proofs.pair_blocks.read_pair_block.Goals as goal
 

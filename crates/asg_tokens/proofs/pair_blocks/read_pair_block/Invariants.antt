@@ -1,6 +1,4 @@
-use Rattle.std.proofs.Common.{◌≡◌, ℕ, ◌-◌, ◌<◌, ◌≤◌, drop}
-use Rattle.std.specs.Int.{bit_at}
-use Rattle.asg_tokens.specs.CellBlocks.{AreDigitsFrom, ArePairsReadOn}
+use Rattle.asg_tokens.proofs.Common.{◌≡◌, ℕ, ◌-◌, ◌<◌, ◌≤◌, drop, bit_at, AreDigitsFrom, ArePairsReadOn}
 use Rattle.asg_tokens.proofs.pair_blocks.read_pair_block.Given as goal
 
 -- the next pair begins at `start`, before the first of the ends that are left

@@ -1,5 +1,4 @@
-use Rattle.std.proofs.Common.{◌-◌, length}
-use Rattle.asg_tokens.specs.CellBlocks.{ArePairsReadOn}
+use Rattle.asg_tokens.proofs.Common.{◌-◌, length, ArePairsReadOn}
 use Rattle.asg_tokens.proofs.pair_blocks.read_pair_blocks.Given as goal
 
 abbrev pub invariant-runs : goal.invariant-runs

@@ -1,6 +1,4 @@
-use Rattle.std.proofs.Common.{length, ap, arith}
-use Rattle.asg_tokens.specs.Separators.{separates}
-use Rattle.asg_tokens.specs.laws.FirstPiece.{length-pieces}
+use Rattle.asg_tokens.proofs.Common.{length, ap, arith, separates, length-pieces}
 use Rattle.asg_tokens.proofs.pieces.count_pieces.Goals as goal
 
 pub overflow_add-count : goal.overflow_add-count

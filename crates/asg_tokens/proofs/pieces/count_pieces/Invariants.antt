@@ -1,6 +1,4 @@
-use Rattle.std.proofs.Common.{◌≡◌, ◌+◌, length}
-use Rattle.asg_tokens.specs.Pieces.{pieces}
-use Rattle.asg_tokens.specs.Separators.{separates}
+use Rattle.asg_tokens.proofs.Common.{◌≡◌, ◌+◌, length, pieces, separates}
 use Rattle.asg_tokens.proofs.pieces.count_pieces.Given as goal
 
 abbrev pub invariant-loop-piece : goal.invariant-loop-piece

@@ -1,8 +1,4 @@
-use Rattle.std.proofs.Common.{ap, ◌∙◌, sym, drop, take, arith, eqb-true, false-eqb}
-use Rattle.std.specs.Prelude.{not}
-use Rattle.std.proofs.lemmas.List.Sums.{prefix_len-le-length}
-use Rattle.asg_tokens.specs.Separators.{separates}
-use Rattle.asg_tokens.specs.laws.FirstPiece.{IsCut, cut_first, cut_none}
+use Rattle.asg_tokens.proofs.Common.{not, take, drop, sym, ap, ◌∙◌, arith, false-eqb, prefix_len-le-length, eqb-true, separates, IsCut, cut_first, cut_none}
 use Rattle.asg_tokens.proofs.pieces.first_piece.Goals as goal
 use Rattle.asg_tokens.proofs.pieces.first_piece.Goals.{After-is_empty}
 

@@ -1,9 +1,5 @@
-use Rattle.std.proofs.Common.{refl, drop, Some, None, Option}
-use Rattle.std.specs.Prelude.{IfSome}
-use Rattle.std.proofs.lemmas.List.{take_rest}
+use Rattle.asg_tokens.proofs.Common.{drop, IfSome, Some, None, Option, refl, take_rest, IsShortInteger, IsShortAmount, plain_integer, negative_integer_fits}
 use Rattle.asg_tokens.specs.declared.short_integers.ShortInteger.{ShortInteger}
-use Rattle.asg_tokens.specs.NextCells.{IsShortInteger, IsShortAmount}
-use Rattle.asg_tokens.specs.laws.ShortLemmas.{plain_integer, negative_integer_fits}
 use Rattle.asg_tokens.proofs.short_integers.short_integer.Goals as goal
 
 pub returns-in_ok-short : goal.returns-in_ok-short

@@ -1,8 +1,4 @@
-use Rattle.std.proofs.Common.{◌+◌, take, ap, ◌∙◌, sym, arith}
-use Rattle.std.specs.List.{list_all}
-use Rattle.std.specs.Char.{is_ascii_digit}
-use Rattle.std.specs.Str.Parse.{digits_value}
-use Rattle.asg_tokens.specs.laws.ShortLemmas.{IsDigitStep, digit_step}
+use Rattle.asg_tokens.proofs.Common.{◌+◌, take, sym, ap, ◌∙◌, arith, digits_value, is_ascii_digit, list_all, IsDigitStep, digit_step}
 use Rattle.asg_tokens.proofs.short_integers.short_number.Goals as goal
 use Rattle.asg_tokens.proofs.short_integers.short_number.Goals.{Else-not-is_ascii_digit}
 

@@ -1,7 +1,4 @@
-use Rattle.std.proofs.Common.{◌≡◌, true, take}
-use Rattle.std.specs.List.{list_all}
-use Rattle.std.specs.Char.{is_ascii_digit}
-use Rattle.std.specs.Str.Parse.{digits_value}
+use Rattle.asg_tokens.proofs.Common.{◌≡◌, true, take, digits_value, is_ascii_digit, list_all}
 use Rattle.asg_tokens.proofs.short_integers.short_number.Given as goal
 
 -- the digits so far are digits, and the number is theirs

@@ -1,5 +1,4 @@
-use Rattle.std.proofs.Common.{◌+◌}
-use Rattle.asg_tokens.specs.Pieces.{tokens}
+use Rattle.asg_tokens.proofs.Common.{◌+◌, tokens}
 use Rattle.asg_tokens.proofs.tables.fill_costs.Goals as goal
 
 pub fill_upto-requires-clause-before : goal.fill_upto-requires-clause-before

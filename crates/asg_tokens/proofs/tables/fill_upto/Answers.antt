@@ -1,13 +1,4 @@
-use Rattle.std.proofs.Common.{◌≡◌, ◌+◌, refl, sym, ◌∙◌, arith, rules, w64, subst, [], length, length-set}
-use Rattle.std.specs.Prelude.{FitsSigned}
-use Rattle.std.proofs.lemmas.Int.{to_z-of_z}
-use Rattle.asg_model.specs.ValueRange.{IsPartInRange}
-use Rattle.asg_tokens.specs.Slots.{IsEarliest, AreSeconds}
-use Rattle.asg_tokens.specs.NextCells.{IsCell}
-use Rattle.asg_tokens.specs.Pieces.{tokens}
-use Rattle.asg_tokens.specs.Tables.{faults_of_cells}
-use Rattle.asg_tokens.specs.laws.ReadCells.{one_more_read, none_next, refused_next, second_in_range}
-use Rattle.asg_tokens.specs.laws.Refusing.{handed_on}
+use Rattle.asg_tokens.proofs.Common.{◌≡◌, ◌+◌, [], length, FitsSigned, sym, refl, ◌∙◌, subst, arith, to_z-of_z, w64, rules, length-set, IsPartInRange, IsCell, tokens, IsEarliest, AreSeconds, faults_of_cells, one_more_read, none_next, refused_next, second_in_range, handed_on}
 use Rattle.asg_tokens.proofs.tables.fill_upto.Goals as goal
 use Rattle.asg_tokens.proofs.tables.fill_upto.Goals.{In-Some}
 

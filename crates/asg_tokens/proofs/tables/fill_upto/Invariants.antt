@@ -1,6 +1,4 @@
-use Rattle.std.proofs.Common.{◌≡◌, ◌+◌, length}
-use Rattle.asg_tokens.specs.Pieces.{tokens}
-use Rattle.asg_tokens.specs.Slots.{AreRead}
+use Rattle.asg_tokens.proofs.Common.{◌≡◌, ◌+◌, length, tokens, AreRead}
 use Rattle.asg_tokens.proofs.tables.fill_upto.Given as goal
 
 abbrev pub invariant-loop-place : goal.invariant-loop-place

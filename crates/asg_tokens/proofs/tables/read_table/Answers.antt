@@ -1,16 +1,9 @@
-use Rattle.std.proofs.Common.{◌≡◌, ◌+◌, ◌*◌, [], length, map, sym, ap, ◌∙◌, arith}
-use Rattle.std.specs.List.{range_with_len}
-use Rattle.std.proofs.lemmas.List.{length-map}
-use Rattle.std.proofs.lemmas.List.FromFn.{length-range_with_len}
-use Rattle.asg_model.specs.declared.parts.Place.TheVariants.{All as PlaceAll}
+use Rattle.asg_tokens.proofs.Common.{◌≡◌, ◌+◌, ◌*◌, [], map, length, sym, ap, ◌∙◌, arith, length-map, length-range_with_len, range_with_len, IsTable, table_cells, tokens, is_space, cell_of, length-pieces}
 use Rattle.asg_model.specs.Instances.{IsWellFormed}
 use Rattle.asg_model.specs.Problem.{problem_of}
-use Rattle.asg_model.specs.Table.{IsTable, table_cells}
-use Rattle.asg_tokens.specs.Pieces.{tokens, is_space}
 use Rattle.asg_tokens.specs.Readings.{Spells, row_of, column_of, cells_of_rows, table_of}
-use Rattle.asg_tokens.specs.Tables.{cell_of}
-use Rattle.asg_tokens.specs.laws.FirstPiece.{length-pieces}
 use Rattle.asg_tokens.specs.laws.TableInstances.{range_is_distinct, are_parts, same_cells, is_table, all_of, room_is, tokens_are, slots_are, miscounted, faultless}
+use Rattle.asg_model.specs.declared.parts.Place.TheVariants.{All as PlaceAll}
 use Rattle.asg_tokens.proofs.tables.read_table.Goals as goal
 use Rattle.asg_tokens.proofs.tables.read_table.Goals.{In_ok-columns}
 

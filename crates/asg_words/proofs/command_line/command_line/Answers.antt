@@ -1,7 +1,5 @@
 -- The options come behind the words.
-use Rattle.std.proofs.Common.{◌∙◌, ap, fold}
-use Rattle.std.proofs.lemmas.Result.{IfOk-weaker}
-use Rattle.clap.specs.Simple.{App, with_rule}
+use Rattle.asg_words.proofs.Common.{fold, ap, ◌∙◌, IfOk-weaker, App, with_rule}
 use Rattle.asg_words.specs.CommandLine.{command_line, doing_options, reading_options, words_alone}
 use Rattle.asg_words.proofs.command_line.command_line.Goals as goal
 

@@ -1,8 +1,5 @@
 -- Each argument is added at the end of those before.
-use Rattle.std.proofs.Common.{◌∙◌, ap, ap₂}
-use Rattle.std.proofs.lemmas.Result.{IfOk-weaker}
-use Rattle.clap.specs.Walk.{Rule}
-use Rattle.clap.specs.Simple.{app_of, with_rule}
+use Rattle.asg_words.proofs.Common.{ap, ◌∙◌, ap₂, IfOk-weaker, app_of, with_rule, Rule}
 use Rattle.asg_words.specs.CommandLine.{doing_options}
 use Rattle.asg_words.proofs.command_line.with_doing.Goals as goal
 

@@ -1,7 +1,5 @@
 -- Each argument is added at the end of those before.
-use Rattle.std.proofs.Common.{◌≡◌, ◌∙◌, ap, ap₂, true, codes}
-use Rattle.std.proofs.lemmas.Result.{IfOk-weaker}
-use Rattle.clap.specs.Simple.{App, Shape, app_of, app_of_fields, new_app, on_top, with_rule}
+use Rattle.asg_words.proofs.Common.{◌≡◌, true, codes, ap, ◌∙◌, ap₂, IfOk-weaker, App, Shape, app_of, app_of_fields, new_app, on_top, with_rule}
 use Rattle.asg_words.specs.CommandLine.{words_alone}
 use Rattle.asg_words.proofs.command_line.words_alone.Goals as goal
 

@@ -1,15 +1,9 @@
 -- What the command takes is what it finds in the words.
-use Rattle.std.proofs.Common.{◌≡◌, Some, None, List, Bool, true, false, if◌then◌else◌}
-use Rattle.clap.specs.Walk.{Text, is_empty}
-use Rattle.clap.specs.Simple.{matches_of}
-use Rattle.clap.specs.Faults.{fault_of}
+use Rattle.asg_words.proofs.Common.{◌≡◌, Bool, true, false, List, if◌then◌else◌, Some, None, is_request, request_found, command_line, found_in, fault_of, matches_of, Text, is_empty}
 use Rattle.asg_requests.specs.declared.requests.Request.{Request}
 use Rattle.asg_requests.specs.Bounds.{IsRequest}
 use Rattle.asg_requests.specs.Found.{Found}
-use Rattle.asg_words.specs.CommandLine.{command_line, found_in}
-use Rattle.asg_requests.specs.Requests.{request_found}
 use Rattle.asg_words.specs.Requests.{request_of}
-use Rattle.asg_requests.proofs.RequestBounds.{is_request}
 use Rattle.asg_words.proofs.laws.request_law.Goals as goal
 
 taken : (takes : Bool) (found : Found) (request : Request) → (if takes then request_found found else None) ≡ Some request → IsRequest request

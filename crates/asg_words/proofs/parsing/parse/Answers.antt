@@ -1,17 +1,9 @@
 -- The command's own definition says what it finds in the words, and where it refuses them.
-use Rattle.std.proofs.Common.{◌≡◌, ◌∙◌, ◌⊎◌, subst, List, map, string_bytes, ap, sym, inl, inr}
-use Rattle.clap.specs.Walk.{Text, rows_of}
+use Rattle.asg_words.proofs.Common.{◌≡◌, ◌⊎◌, List, map, string_bytes, sym, ap, ◌∙◌, subst, inl, inr, IfOk-weaker, is_request, request_found, Usage, fault_of, is_simple_and_free, IsAmong, App, is_simple, matches_of, Text, rows_of}
 use Rattle.clap.specs.Matches.{found_of}
-use Rattle.clap.specs.Simple.{App, is_simple, matches_of}
-use Rattle.clap.specs.Faults.{fault_of, is_simple_and_free}
-use Rattle.clap.specs.Kinds.{IsAmong}
 use Rattle.clap.specs.Values.{kind_of}
 use Rattle.clap.specs.declared.error.kind.ErrorKind.TheVariants.{OutOfMemory}
-use Rattle.asg_requests.specs.declared.requests.WordsRefusal.TheVariants.{Usage}
-use Rattle.asg_requests.specs.Requests.{request_found}
 use Rattle.asg_words.specs.Requests.{request_of}
-use Rattle.std.proofs.lemmas.Result.{IfOk-weaker}
-use Rattle.asg_requests.proofs.RequestBounds.{is_request}
 use Rattle.asg_words.proofs.Taken.{is_simple_line, is_free_line, request_of-taken, request_of-refused, answer_is_due, usage_is_due}
 use Rattle.asg_words.proofs.parsing.parse.Goals as goal
 

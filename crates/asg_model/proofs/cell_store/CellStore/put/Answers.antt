@@ -1,12 +1,5 @@
 -- The cells of the table are those with the cell put.
-use Rattle.std.proofs.Common.{◌∙◌, ◌+◌, ◌*◌, ◌<◌, ap, sym, subst, length, arith}
-use Rattle.std.proofs.lemmas.List.{length-set}
-use Rattle.std.proofs.lemmas.Nat.{div-mul-add, mod-mul-add, mul-add-lt}
-use Rattle.std.proofs.lemmas.Result.{on_ok_weaker}
-use Rattle.asg_model.specs.CellStores.{cells_in, IsStoreOf, slot_of}
-use Rattle.asg_model.specs.declared.cell_store.CellStore.{CellStore}
-use Rattle.asg_model.specs.Edits.{with_cell}
-use Rattle.asg_model.specs.Table.{table_cells, IsTable}
+use Rattle.asg_model.proofs.Common.{◌+◌, ◌*◌, ◌<◌, length, sym, ap, ◌∙◌, subst, arith, length-set, div-mul-add, mod-mul-add, mul-add-lt, on_ok_weaker, cells_in, IsStoreOf, slot_of, with_cell, table_cells, IsTable, CellStore}
 use Rattle.asg_model.proofs.EditedTables.{table_cells-put}
 use Rattle.asg_model.proofs.Tables.{cells_ascend}
 use Rattle.asg_model.proofs.cell_store.CellStore.put.Goals as goal

@@ -1,16 +1,7 @@
 -- The look-up, in the map or in the table, is the cost that the list of the cells has.
-use Rattle.std.proofs.Common.{◌≡◌, ℕ, ◌∙◌, ap, sym, subst, length, List, Option}
-use Rattle.std.specs.Prelude.{IfSome}
-use Rattle.asg_model.specs.declared.parts.Cost.{Cost}
-use Rattle.asg_model.specs.declared.cell_store.CellStore.{CellStore}
-use Rattle.asg_model.specs.Problem.{Problem}
-use Rattle.asg_model.specs.Instances.{IsInstance, IsCostInRange}
-use Rattle.asg_model.specs.Live.{cost_at}
-use Rattle.asg_model.specs.CellStores.{cells_in}
-use Rattle.asg_model.specs.declared.parts.Column.{Column}
-use Rattle.asg_model.specs.Table.{table_cells}
+use Rattle.asg_model.proofs.Common.{◌≡◌, ℕ, List, length, IfSome, Option, sym, ap, ◌∙◌, subst, cells_in, IsInstance, IsCostInRange, cost_at, Problem, table_cells, CellStore, Column, Cost, cost_at-All}
 use Rattle.asg_model.proofs.Tables.{cells_are}
-use Rattle.asg_model.proofs.Cells.{lookup_is-cost_at, cost_at-All}
+use Rattle.asg_model.proofs.Cells.{lookup_is-cost_at}
 use Rattle.asg_model.proofs.instances.Instance.cell.Goals as goal
 use Rattle.asg_model.proofs.instances.Instance.cell.Goals.{After-copied, After-table_cell}
 

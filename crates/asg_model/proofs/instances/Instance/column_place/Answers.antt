@@ -1,10 +1,5 @@
 -- The column at the guessed place is the one that has the id.
-use Rattle.std.proofs.Common.{◌≡◌, ◌==◌, ◌<◌, ℕ, true, false, length, sym, subst, ◌∙◌}
-use Rattle.std.specs.Prelude.{List, Option, Some, IfSome, slice_get}
-use Rattle.std.specs.Option.{option_map_or}
-use Rattle.asg_model.specs.declared.parts.Column.{Column}
-use Rattle.asg_model.specs.HallSet.{column_place_of}
-use Rattle.asg_model.specs.laws.Rows.{no_column}
+use Rattle.asg_model.proofs.Common.{◌≡◌, ℕ, ◌<◌, true, false, List, length, IfSome, ◌==◌, slice_get, Some, Option, sym, ◌∙◌, subst, option_map_or, column_place_of, Column, no_column}
 use Rattle.asg_model.proofs.Positions.{position-unique, position-there}
 use Rattle.asg_model.proofs.instances.Instance.column_place.Goals as goal
 use Rattle.asg_model.proofs.instances.Instance.column_place.Goals.{Then-is_column_at}

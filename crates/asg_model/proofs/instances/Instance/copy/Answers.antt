@@ -1,4 +1,4 @@
-use Rattle.std.proofs.Common.{◌∙◌}
+use Rattle.asg_model.proofs.Common.{◌∙◌}
 use Rattle.asg_model.proofs.ShapeLemmas.{copy_is_stored}
 use Rattle.asg_model.proofs.instances.Instance.copy.Goals as goal
 

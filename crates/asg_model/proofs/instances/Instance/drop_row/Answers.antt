@@ -1,5 +1,4 @@
-use Rattle.std.proofs.Common.{ap, ◌∙◌, sym}
-use Rattle.asg_model.specs.Counts.{active_count}
+use Rattle.asg_model.proofs.Common.{sym, ap, ◌∙◌, active_count}
 use Rattle.asg_model.proofs.EditedInstances.{IsStored-dropped}
 use Rattle.asg_model.proofs.instances.Instance.drop_row.Goals as goal
 

@@ -1,8 +1,5 @@
 -- The parts and the cells of the table are those of an instance.
-use Rattle.std.proofs.Common.{subst, List, length}
-use Rattle.std.specs.Prelude.{All, ◌<◌, ◌^◌}
-use Rattle.asg_model.specs.declared.parts.Row.{Row}
-use Rattle.asg_model.specs.declared.parts.Column.{Column}
+use Rattle.asg_model.proofs.Common.{◌^◌, ◌<◌, List, length, All, subst, Column, Row}
 use Rattle.asg_model.proofs.Tables.{IsWellFormed-table, cells_ascend}
 use Rattle.asg_model.proofs.instances.Instance.of_table.Goals as goal
 

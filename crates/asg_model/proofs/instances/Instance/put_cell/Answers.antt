@@ -1,6 +1,4 @@
-use Rattle.std.proofs.Common.{◌<◌, ap, ◌∙◌, sym, subst, length}
-use Rattle.std.specs.Prelude.{IfSome}
-use Rattle.asg_model.specs.Problem.{Problem}
+use Rattle.asg_model.proofs.Common.{◌<◌, length, IfSome, sym, ap, ◌∙◌, subst, Problem}
 use Rattle.asg_model.proofs.EditedInstances.{IsStored-put}
 use Rattle.asg_model.proofs.instances.Instance.put_cell.Goals as goal
 

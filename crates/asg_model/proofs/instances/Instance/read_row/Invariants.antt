@@ -1,6 +1,4 @@
-use Rattle.std.proofs.Common.{◌≡◌, ◌<◌, ℕ, get_or}
-use Rattle.asg_model.specs.Live.{cost_at}
-use Rattle.asg_model.specs.Table.{absent, table_cost}
+use Rattle.asg_model.proofs.Common.{◌≡◌, ℕ, ◌<◌, get_or, cost_at, absent, table_cost}
 use Rattle.asg_model.proofs.instances.Instance.read_row.Given as goal
 
 abbrev pub invariant-loop-col : goal.invariant-loop-col

@@ -1,8 +1,4 @@
-use Rattle.std.proofs.Common.{◌≡◌, List, length, subst, sym, ap, ◌∙◌}
-use Rattle.asg_model.specs.declared.parts.Column.{Column}
-use Rattle.asg_model.specs.CellStores.{cells_in}
-use Rattle.asg_model.specs.Problem.{Problem}
-use Rattle.asg_model.specs.Retained.{retained, AnswersAs, RetainsCells}
+use Rattle.asg_model.proofs.Common.{◌≡◌, List, length, sym, ap, ◌∙◌, subst, cells_in, Problem, retained, AnswersAs, RetainsCells, Column}
 use Rattle.asg_model.proofs.RetainedStores.{retained_view}
 use Rattle.asg_model.proofs.instances.Instance.retain.Goals as goal
 use Rattle.asg_model.proofs.instances.Instance.retain.Goals.{After-columns-columns}

@@ -1,10 +1,5 @@
 -- A row of the table has both parts of the row's costs.
-use Rattle.std.proofs.Common.{◌<◌, ◌∙◌, ap, subst, length, List}
-use Rattle.std.specs.Prelude.{Option, Some, None, IfSome, OnSome}
-use Rattle.asg_model.specs.declared.parts.Row.{Row}
-use Rattle.asg_model.specs.declared.parts.Column.{Column}
-use Rattle.asg_model.specs.Live.{cost_at}
-use Rattle.asg_model.specs.Table.{AreTableParts}
+use Rattle.asg_model.proofs.Common.{◌<◌, List, length, IfSome, OnSome, Some, None, Option, ap, ◌∙◌, subst, cost_at, AreTableParts, Column, Row}
 use Rattle.asg_model.proofs.Tables.{cells_are}
 use Rattle.asg_model.proofs.instances.Instance.row_parts.Goals as goal
 

@@ -1,10 +1,5 @@
 -- The row at the guessed place is the one that has the id.
-use Rattle.std.proofs.Common.{◌≡◌, ◌==◌, ◌<◌, ℕ, true, false, length, sym, subst, ◌∙◌}
-use Rattle.std.specs.Prelude.{List, Option, Some, IfSome, slice_get}
-use Rattle.std.specs.Option.{option_map_or}
-use Rattle.asg_model.specs.declared.parts.Row.{Row}
-use Rattle.asg_model.specs.HallSet.{row_place_of}
-use Rattle.asg_model.specs.laws.Rows.{no_row}
+use Rattle.asg_model.proofs.Common.{◌≡◌, ℕ, ◌<◌, true, false, List, length, IfSome, ◌==◌, slice_get, Some, Option, sym, ◌∙◌, subst, option_map_or, row_place_of, Row, no_row}
 use Rattle.asg_model.proofs.Positions.{position-unique, position-there}
 use Rattle.asg_model.proofs.instances.Instance.row_place.Goals as goal
 use Rattle.asg_model.proofs.instances.Instance.row_place.Goals.{Then-is_row_at}

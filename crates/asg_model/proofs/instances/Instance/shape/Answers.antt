@@ -1,5 +1,4 @@
-use Rattle.std.proofs.Common.{◌≡◌, ◌*◌, true, length, sym, ap, ◌∙◌}
-use Rattle.asg_model.specs.Shapes.{shaped, is_range_of}
+use Rattle.asg_model.proofs.Common.{◌≡◌, ◌*◌, true, length, sym, ap, ◌∙◌, shaped, is_range_of}
 use Rattle.asg_model.proofs.ShapeLemmas.{shaped_is_stored, range_in, range_out, total_shaped}
 use Rattle.asg_model.proofs.instances.Instance.shape.Goals as goal
 

@@ -1,8 +1,5 @@
 -- The parts are those of an instance.
-use Rattle.std.proofs.Common.{subst, List}
-use Rattle.std.specs.Prelude.{All, ◌<◌, ◌^◌}
-use Rattle.asg_model.specs.declared.parts.Row.{Row}
-use Rattle.asg_model.specs.declared.parts.Column.{Column}
+use Rattle.asg_model.proofs.Common.{◌^◌, ◌<◌, List, All, subst, Column, Row}
 use Rattle.asg_model.proofs.instances.Instance.with.Goals as goal
 
 pub invariant_of-result : goal.invariant_of-result

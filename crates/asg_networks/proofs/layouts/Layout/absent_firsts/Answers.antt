@@ -1,4 +1,4 @@
-use Rattle.std.proofs.lemmas.Result.{IfOk-weaker}
+use Rattle.asg_networks.proofs.Common.{IfOk-weaker}
 use Rattle.asg_networks.proofs.LayoutLemmas.{no_costs}
 use Rattle.asg_networks.proofs.layouts.Layout.absent_firsts.Goals as goal
 

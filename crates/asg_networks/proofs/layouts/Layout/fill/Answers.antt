@@ -1,7 +1,6 @@
-use Rattle.std.proofs.Common.{◌∙◌, ap, length, get_or, sym}
+use Rattle.asg_networks.proofs.Common.{length, get_or, sym, ap, ◌∙◌, no_link}
 use Rattle.asg_networks.proofs.LayoutLemmas.{length-firsts_between}
 use Rattle.asg_networks.proofs.TableFills.{fill_more, fill_twice}
-use Rattle.asg_networks.specs.LinkOrder.{no_link}
 use Rattle.asg_networks.proofs.TwiceLemmas.{link_at}
 use Rattle.asg_networks.proofs.layouts.Layout.fill.Goals as goal
 

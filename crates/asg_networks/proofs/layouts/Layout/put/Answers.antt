@@ -1,8 +1,4 @@
-use Rattle.std.proofs.Common.{◌∙◌, ◌||◌, sym, ap, get_or, set, w64, arith, rules}
-use Rattle.std.proofs.lemmas.Int.{to_z-of_z}
-use Rattle.std.specs.Prelude.{pos}
-use Rattle.std.specs.Ordering.{int_eq}
-use Rattle.asg_model.specs.Table.{absent}
+use Rattle.asg_networks.proofs.Common.{◌||◌, get_or, set, pos, int_eq, sym, ap, ◌∙◌, arith, to_z-of_z, w64, rules, absent}
 use Rattle.asg_networks.proofs.LayoutLemmas.{place_within, put_cell, told_alike}
 use Rattle.asg_networks.proofs.layouts.Layout.put.Goals as goal
 

@@ -1,8 +1,4 @@
-use Rattle.std.proofs.Common.{◌≤◌, ◌∙◌, ap, sym, subst, length, arith}
-use Rattle.std.specs.Prelude.{All}
-use Rattle.asg_networks.specs.AsnArcs.{targets}
-use Rattle.asg_networks.specs.Layouts.{AreNodeIds, HasCell}
-use Rattle.asg_networks.specs.Networks.{IsRightLink}
+use Rattle.asg_networks.proofs.Common.{◌≤◌, length, All, sym, ap, ◌∙◌, subst, arith, targets, AreNodeIds, HasCell, IsRightLink}
 use Rattle.asg_networks.proofs.LayoutLemmas.{right_cells}
 use Rattle.asg_networks.proofs.NetworkTables.{sources_are_ids, targets_are_ids, length-targets}
 use Rattle.asg_networks.proofs.network.Network.firsts.Goals as goal

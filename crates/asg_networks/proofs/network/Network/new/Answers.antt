@@ -1,4 +1,4 @@
-use Rattle.std.proofs.Common.{refl}
+use Rattle.asg_networks.proofs.Common.{refl}
 use Rattle.asg_networks.proofs.NetworkLemmas.{nothing_kept, nothing_sound}
 use Rattle.asg_networks.proofs.network.Network.new.Goals as goal
 

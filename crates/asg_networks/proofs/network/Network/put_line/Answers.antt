@@ -1,5 +1,4 @@
-use Rattle.std.proofs.Common.{[], ◌∷◌, ◌++◌, sym, subst}
-use Rattle.asg_networks.specs.Networks.{IsNetworkOf}
+use Rattle.asg_networks.proofs.Common.{[], ◌∷◌, ◌++◌, sym, subst, IsNetworkOf}
 use Rattle.asg_networks.proofs.NetworkLemmas.{empty_kept}
 use Rattle.asg_networks.proofs.network.Network.put_line.Goals as goal
 

@@ -1,19 +1,9 @@
-use Rattle.std.proofs.Common.{◌≡◌, [], ◌++◌, length, map, sym, ap, ◌∙◌, arith, subst, ℕ, List, ◌≤◌}
-use Rattle.std.specs.Prelude.{All, IfSome}
-use Rattle.std.proofs.lemmas.List.{length-map}
-use Rattle.std.proofs.lemmas.List.Elements.{All-weaker}
-use Rattle.asg_model.specs.ValueRange.{IsPartInRange}
-use Rattle.asg_model.specs.declared.parts.Place.TheVariants.{All as PlaceAll}
-use Rattle.asg_model.specs.Instances.{IsWellFormed}
-use Rattle.asg_model.specs.Problem.{problem_of}
-use Rattle.asg_model.specs.Table.{IsTable, table_cells}
-use Rattle.asg_tokens.specs.Readings.{Spells, reading_with, row_of, column_of}
-use Rattle.asg_networks.specs.AsnArcs.{targets, instance_of, nodes_of}
-use Rattle.asg_networks.specs.Networks.{IsRightLink, known_cost, firsts_between}
+use Rattle.asg_networks.proofs.Common.{◌≡◌, ℕ, ◌≤◌, List, [], ◌++◌, map, length, IfSome, All, sym, ap, ◌∙◌, subst, arith, All-weaker, length-map, IsWellFormed, problem_of, IsTable, table_cells, IsPartInRange, targets, nodes_of, IsRightLink, known_cost, firsts_between, Spells, reading_with, row_of, column_of, are_parts}
+use Rattle.asg_networks.specs.AsnArcs.{instance_of}
 use Rattle.asg_networks.proofs.NodeSetLemmas.{others_are}
 use Rattle.asg_networks.proofs.TableFills.{known_in_range}
-use Rattle.asg_tokens.specs.laws.TableInstances.{are_parts}
 use Rattle.asg_networks.proofs.NetworkTables.{length-targets, sources_differ, targets_differ, whole_table, table_same}
+use Rattle.asg_model.specs.declared.parts.Place.TheVariants.{All as PlaceAll}
 use Rattle.asg_networks.proofs.network.Network.table.Goals as goal
 use Rattle.asg_networks.proofs.network.Network.table.Goals.{After-new, After-as_slice}
 

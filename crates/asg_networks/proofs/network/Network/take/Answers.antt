@@ -1,6 +1,4 @@
-use Rattle.std.proofs.Common.{◌∙◌, [], ◌++◌, subst}
-use Rattle.asg_networks.specs.Networks.{twice_faults}
-use Rattle.asg_tokens.specs.Slots.{IsEarliest}
+use Rattle.asg_networks.proofs.Common.{[], ◌++◌, ◌∙◌, subst, twice_faults, IsEarliest}
 use Rattle.asg_networks.proofs.NetworkLemmas.{refuses_all}
 use Rattle.asg_networks.proofs.network.Network.take.Goals as goal
 

@@ -1,10 +1,4 @@
-use Rattle.std.proofs.Common.{◌≡◌, [], ◌∷◌, ◌++◌, refl, ap, sym, ◌∙◌, subst, w64, to_z, of_z, rules, true}
-use Rattle.std.proofs.lemmas.Int.{to_z-of_z}
-use Rattle.asg_networks.specs.declared.asn_lines.Arc.{Arc}
-use Rattle.asg_networks.specs.declared.asn_lines.Line.TheVariants.{Arrow}
-use Rattle.asg_networks.specs.declared.links.Link.{Link}
-use Rattle.asg_networks.specs.AsnArcs.{goes_right}
-use Rattle.asg_networks.specs.Networks.{IsNetworkOf, PutsArc, arc_of_link}
+use Rattle.asg_networks.proofs.Common.{◌≡◌, true, [], ◌∷◌, ◌++◌, sym, refl, ap, ◌∙◌, subst, to_z-of_z, w64, to_z, of_z, rules, goes_right, IsNetworkOf, PutsArc, arc_of_link, Arc, Arrow, Link}
 use Rattle.asg_networks.proofs.NetworkLemmas.{arc_kept, arc_sound}
 use Rattle.asg_networks.proofs.network.Network.take_arc.Goals as goal
 use Rattle.asg_networks.proofs.network.Network.take_arc.Goals.{In_ok-put}

@@ -1,9 +1,4 @@
-use Rattle.std.proofs.Common.{◌≡◌, [], ◌∷◌, ◌++◌, Some, sym, ◌∙◌, subst}
-use Rattle.std.specs.Prelude.{slice_get}
-use Rattle.asg_networks.specs.declared.asn_lines.Line.TheVariants.{Node}
-use Rattle.asg_networks.specs.AsnArcs.{faults_of_line}
-use Rattle.asg_tokens.specs.Faults.{BadNode}
-use Rattle.asg_networks.specs.Networks.{IsNetworkOf}
+use Rattle.asg_networks.proofs.Common.{◌≡◌, [], ◌∷◌, ◌++◌, slice_get, Some, sym, ◌∙◌, subst, faults_of_line, IsNetworkOf, Node, BadNode}
 use Rattle.asg_networks.proofs.NetworkLemmas.{node_refused, node_kept, node_sound}
 use Rattle.asg_networks.proofs.network.Network.take_node.Goals as goal
 

@@ -1,5 +1,4 @@
-use Rattle.std.proofs.Common.{refl}
-use Rattle.asg_networks.specs.AsnArcs.{nodes_of}
+use Rattle.asg_networks.proofs.Common.{refl, nodes_of}
 use Rattle.asg_networks.proofs.NetworkLemmas.{sizes_kept, sizes_sound}
 use Rattle.asg_networks.proofs.network.Network.take_sizes.Goals as goal
 

@@ -1,6 +1,4 @@
-use Rattle.std.proofs.Common.{◌+◌, arith}
-use Rattle.std.proofs.lemmas.Grind.{common_steps}
-use Rattle.asg_model.specs.Limits.{most_rows, most_columns}
+use Rattle.asg_networks.proofs.Common.{◌+◌, arith, common_steps, most_rows, most_columns}
 use Rattle.asg_networks.proofs.NodeSetLemmas.{has_none}
 use Rattle.asg_networks.proofs.node_sets.NodeSet.new.Goals as goal
 

@@ -1,8 +1,4 @@
-use Rattle.std.proofs.Common.{ap, ◌∙◌, drop, arith}
-use Rattle.std.proofs.lemmas.List.Sums.{prefix_len-le-length}
-use Rattle.asg_tokens.specs.Pieces.{pieces}
-use Rattle.asg_tokens.specs.Separators.{separates}
-use Rattle.asg_tokens.specs.laws.FirstPiece.{pieces_skipped}
+use Rattle.asg_tokens.proofs.Common.{drop, ap, ◌∙◌, arith, prefix_len-le-length, pieces, separates, pieces_skipped}
 use Rattle.asg_tokens.proofs.pieces.Separators.skip.Goals as goal
 
 pub split_at-requires : goal.split_at-requires

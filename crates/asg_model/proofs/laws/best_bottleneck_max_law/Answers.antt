@@ -1,5 +1,0 @@
-use Rattle.asg_model.proofs.BottleneckLaw.{best_max_law}
-use Rattle.asg_model.proofs.laws.best_bottleneck_max_law.Goals as goal
-
-pub returns : goal.returns
-returns c = best_max_law

@@ -1,5 +1,0 @@
-use Rattle.asg_model.proofs.BottleneckLaw.{bottleneck_law}
-use Rattle.asg_model.proofs.laws.bottleneck_law.Goals as goal
-
-pub returns : goal.returns
-returns c = bottleneck_law

@@ -1,5 +1,0 @@
-use Rattle.asg_model.proofs.BottleneckLaw.{bottleneck_max_law}
-use Rattle.asg_model.proofs.laws.bottleneck_max_law.Goals as goal
-
-pub returns : goal.returns
-returns c = bottleneck_max_law

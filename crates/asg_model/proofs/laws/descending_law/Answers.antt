@@ -1,5 +1,0 @@
-use Rattle.asg_model.proofs.DescendingLists.{IsPermutation-descending, IsDescending-descending, descending_only}
-use Rattle.asg_model.proofs.laws.descending_law.Goals as goal
-
-pub returns : goal.returns
-returns c = record { rearranged = IsPermutation-descending; down = IsDescending-descending; only = descending_only }

@@ -1,6 +1,0 @@
-use Rattle.std.proofs.Common.{◌≡◌, ℕ, ◌<◌, false}
-use Rattle.asg_model.specs.Refused.{is_refused_at}
-use Rattle.asg_model.proofs.negatives.negative.Given as goal
-
-abbrev pub invariant-loop-place : goal.invariant-loop-place
-invariant-loop-place l = (r c : ℕ) → r < l.place → is_refused_at l.objective l.inst r c ≡ false

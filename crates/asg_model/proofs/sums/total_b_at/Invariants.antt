@@ -1,9 +1,0 @@
-use Rattle.std.proofs.Common.{◌≡◌, ◌≤◌, ◌*◌, take}
-use Rattle.std.specs.Prelude.{unsigned_abs}
-use Rattle.asg_model.specs.Values.{second_parts, costs_at, total}
-use Rattle.asg_model.specs.Limits.{most_cost}
-use Rattle.asg_model.proofs.sums.total_b_at.Given as goal
-
-abbrev pub invariant-loop-cost : goal.invariant-loop-cost
-invariant-loop-cost l =
-    (l.sum ≡ total (second_parts (costs_at l.a (take l.cost-index l.costs)))) × (unsigned_abs l.sum ≤ most_cost * l.cost-index)

@@ -1,0 +1,15 @@
+pub mod Common
+mod Enumerated
+mod Steps
+mod DescendingLists
+mod LessLists
+mod ExtremeBounds
+mod HallRows
+mod Takers
+mod Decisions
+mod Slots
+mod HallLaw
+mod BottleneckLaw
+mod SpreadLaw
+mod ValueRanges
+mod RefusedParts

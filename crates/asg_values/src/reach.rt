@@ -1,0 +1,139 @@
+//! The columns that a row reaches: marks for them, kept in an array of as many places as an
+//! instance may have columns.
+
+ghost use Rattle.std.specs.Prelude.{◌≡◌, ◌≤◌, ◌<◌, ℕ, ℤ, ◌+◌, unsigned_abs, false, ◌||◌, ◌&&◌, int_le, IsTrue, All, length, slice_index_or, slice_get};
+ghost use Rattle.std.specs.Option.{option_map_or};
+ghost use Rattle.asg_model.specs.Limits.{most_cost, most_columns};
+ghost use Rattle.asg_model.specs.Bands.{in_band};
+ghost use Rattle.asg_model.specs.Live.{is_active};
+ghost use Rattle.asg_model.specs.HallSet.{is_live_within, reaches};
+ghost use Rattle.asg_model.specs.Table.{absent, IsEntry};
+ghost use Rattle.asg_model.specs.ValueRange.{IsPartInRange};
+
+use asg_model::limits::{MOST_COLUMNS, MOST_COST};
+use asg_model::{Band, Column, Instance, RowRoom};
+
+// Marks the columns in which the row that has the id has a live cell of the band. The room is for
+// the costs of a row.
+pub(crate) fn reach_id(
+    inst: &Instance,
+    band: Band,
+    id: u32,
+    room: &mut RowRoom,
+    reached: &mut [bool; MOST_COLUMNS],
+)
+    ensures { (c : ℕ) → c < length inst.now.columns →
+        slice_index_or reached.new c false
+        ≡ (slice_index_or reached.old c false || reaches inst.now band c id) }
+{
+    match inst.row_place(id) {
+        Some(row) => reach_row(inst, band, row, room, reached),
+        None => {}
+    }
+}
+
+// The same for the row at a place.
+fn reach_row(
+    inst: &Instance,
+    band: Band,
+    row: u32,
+    room: &mut RowRoom,
+    reached: &mut [bool; MOST_COLUMNS],
+)
+    ensures { (c : ℕ) → c < length inst.now.columns →
+        slice_index_or reached.new c false
+        ≡ (slice_index_or reached.old c false || is_live_within inst.now band row c) }
+{
+    if inst.is_active(row) {
+        reach_active(inst, band, row, room, reached);
+    }
+}
+
+// The same for an active row.
+fn reach_active(
+    inst: &Instance,
+    band: Band,
+    row: u32,
+    room: &mut RowRoom,
+    reached: &mut [bool; MOST_COLUMNS],
+)
+    requires { IsTrue (is_active inst.now row) }
+    ensures { (c : ℕ) → c < length inst.now.columns →
+        slice_index_or reached.new c false
+        ≡ (slice_index_or reached.old c false || is_live_within inst.now band row c) }
+{
+    if let Some(parts) = inst.row_parts(row, room) {
+        let (low, high) = ends(band);
+        reach_costs(inst.columns(), parts.firsts, low, high, reached);
+    }
+}
+
+// Marks the open columns whose costs lie between two ends, both included.
+fn reach_costs(
+    columns: &[Column],
+    costs: &[i64],
+    low: i64,
+    high: i64,
+    reached: &mut [bool; MOST_COLUMNS],
+)
+    requires few { length columns.now ≤ most_columns }
+    requires whole { length costs.now ≡ length columns.now }
+    requires entries { All IsEntry costs.now }
+    ensures { (c : ℕ) → c < length columns.now →
+        slice_index_or reached.new c false ≡ (slice_index_or reached.old c false
+        || (option_map_or (λ column. column.usable) (slice_get columns.now c) false
+        && (int_le low (slice_index_or costs.now c absent)
+        && int_le (slice_index_or costs.now c absent) high))) }
+{
+    for (place, column) in columns.iter().enumerate() {
+        reached[place] = reached[place] | (column.usable & is_between(costs[place], low, high));
+    }
+}
+
+// Whether the cost lies between two ends, both included.
+fn is_between(cost: i64, low: i64, high: i64) -> bool
+    ensures { result ≡ (int_le low cost && int_le cost high) }
+{
+    low <= cost && cost <= high
+}
+
+// The ends of the band among the costs that an instance may have.
+fn ends(band: Band) -> (i64, i64)
+    ensures within { (a : ℤ) → IsPartInRange a →
+        in_band band a ≡ (int_le result.0 a && int_le a result.1) }
+    ensures low { unsigned_abs result.0 ≤ most_cost + 1 }
+    ensures high { unsigned_abs result.1 ≤ most_cost + 1 }
+{
+    match band {
+        Band::Whole => (-MOST_COST, MOST_COST),
+        Band::Under(bound) => (-MOST_COST, bound.max(-MOST_COST).min(MOST_COST + 1) - 1),
+        Band::Over(bound) => (bound.max(-MOST_COST - 1).min(MOST_COST) + 1, MOST_COST),
+        Band::Between(least, most) => ends_between(least, most),
+    }
+}
+
+// The ends of the band between two bounds, both included.
+fn ends_between(least: i64, most: i64) -> (i64, i64)
+    ensures within { (a : ℤ) → IsPartInRange a →
+        (int_le least a && int_le a most) ≡ (int_le result.0 a && int_le a result.1) }
+    ensures low { unsigned_abs result.0 ≤ most_cost + 1 }
+    ensures high { unsigned_abs result.1 ≤ most_cost + 1 }
+{
+    (low_end(least), high_end(most))
+}
+
+// The least of the costs from `least` on that an instance may have, or one above them all.
+fn low_end(least: i64) -> i64
+    ensures within { (a : ℤ) → IsPartInRange a → int_le result a ≡ int_le least a }
+    ensures near { unsigned_abs result ≤ most_cost + 1 }
+{
+    least.max(-MOST_COST).min(MOST_COST + 1)
+}
+
+// The greatest of the costs up to `most` that an instance may have, or one below them all.
+fn high_end(most: i64) -> i64
+    ensures within { (a : ℤ) → IsPartInRange a → int_le a result ≡ int_le a most }
+    ensures near { unsigned_abs result ≤ most_cost + 1 }
+{
+    most.max(-MOST_COST - 1).min(MOST_COST)
+}

@@ -1,10 +1,6 @@
 -- What follows from the laws for powers.
-use Rattle.std.proofs.Common.{◌≡◌, ℕ, zero, suc, ◌+◌, List, [], ◌∷◌, length, map, arith, sym, ap, ◌∙◌, zero-add}
-use Rattle.std.specs.Prelude.{replicate, All}
-use Rattle.std.proofs.lemmas.List.Elements.{All-head, All-tail, All-replicate, All-map, All-weaker}
-use Rattle.asg_order.specs.Monoid.{Monoid, IsValue, IsOrderedMonoid, fold_of}
+use Rattle.asg_order.proofs.Common.{◌≡◌, ℕ, zero, suc, ◌+◌, List, [], ◌∷◌, map, length, replicate, All, sym, ap, ◌∙◌, zero-add, arith, All-head, All-map, All-replicate, All-tail, All-weaker, Monoid, IsValue, IsOrderedMonoid, fold_of, fold_is_value, fold-cons}
 use Rattle.asg_order.specs.Powers.{power_of}
-use Rattle.asg_order.specs.laws.Products.{fold_is_value, fold-cons}
 
 module _ {V : Type 0} (M : Monoid V) (laws : IsOrderedMonoid M) where
   -- a power of a value is a value

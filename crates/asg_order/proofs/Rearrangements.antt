@@ -1,13 +1,5 @@
 -- The product of a rearranged list is that of the list.
-use Rattle.std.proofs.Common.{◌≡◌, ◌≢◌, ℕ, zero, suc, ◌<◌, List, [], ◌∷◌, length, refl, arith, sym, ap, ◌∙◌, subst, inl, inr, get_or, set}
-use Rattle.std.specs.Prelude.{All, IsPermutation}
-use Rattle.std.proofs.lemmas.Bool.{cases_eq}
-use Rattle.std.proofs.lemmas.List.{set-get_or, set-set}
-use Rattle.std.proofs.lemmas.List.Elements.{All-head, All-tail, All-set, All-get_or}
-use Rattle.std.proofs.lemmas.List.Sorted.{IsPermutation-keeps}
-use Rattle.std.specs.List.{swap}
-use Rattle.asg_order.specs.Monoid.{Monoid, IsValue, IsOrderedMonoid, fold_of}
-use Rattle.asg_order.specs.laws.Products.{fold_is_value, fold-cons, exchanged}
+use Rattle.asg_order.proofs.Common.{◌≡◌, ℕ, zero, suc, ◌<◌, ◌≢◌, List, [], ◌∷◌, length, get_or, set, All, swap, IsPermutation, sym, refl, ap, ◌∙◌, subst, inl, inr, arith, set-set, All-get_or, All-head, All-set, All-tail, IsPermutation-keeps, cases_eq, set-get_or, Monoid, IsValue, IsOrderedMonoid, fold_of, fold_is_value, fold-cons, exchanged}
 
 exchange_same : {V : Type 0} (xs : List V) (i j : ℕ) (d : V) → i ≡ j → set (set xs i (get_or xs j d)) j (get_or xs i d) ≡ xs
 exchange_same xs i j d e =

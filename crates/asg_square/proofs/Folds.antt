@@ -1,29 +1,12 @@
 -- The values of a perfect assignment, and their product where the free value is the unit.
-use Rattle.std.proofs.Common.{◌≡◌, ℕ, zero, suc, ◌+◌, ◌<◌, ◌≤◌, Bool, true, false, cond, ◌&&◌, List, [], ◌∷◌, length, refl, arith, sym, ap, ◌∙◌, ⊎_elim, map}
-use Rattle.std.specs.Prelude.{Option, Some, None, IsSome, nat_lt, slice_get, slice_index, filter_map, fold, IfSome}
-use Rattle.std.specs.List.{range_with_len, cons_option}
-use Rattle.std.specs.Option.{option_map_or, option_map, option_and_then}
-use Rattle.std.proofs.lemmas.Bool.{false≢true, cases_Bool, cases_lt}
-use Rattle.std.proofs.lemmas.Bool.Decides.{Decides-ltb}
-use Rattle.std.proofs.lemmas.Option.{slice_get-get_or, slice_get_past}
-use Rattle.std.proofs.lemmas.List.FromFn.{length-map-range_with_len, get_or-map-range_with_len}
-use Rattle.asg_model.specs.declared.parts.Cost.{Cost}
-use Rattle.asg_model.specs.declared.parts.Place.{Place}
-use Rattle.asg_model.specs.declared.parts.Place.TheVariants.{All as PlaceAll, Exactly}
-use Rattle.asg_model.specs.Problem.{Problem}
-use Rattle.asg_model.specs.Instances.{IsPlaceInRange}
-use Rattle.asg_model.specs.Live.{live_at}
-use Rattle.asg_model.specs.Counts.{is_counted}
+use Rattle.asg_square.proofs.Common.{◌≡◌, ℕ, zero, suc, ◌+◌, ◌<◌, ◌≤◌, Bool, true, false, cond, ◌&&◌, List, [], ◌∷◌, map, length, IfSome, IsSome, nat_lt, slice_get, slice_index, Some, None, fold, Option, option_map, filter_map, sym, refl, ap, ◌∙◌, ⊎_elim, arith, Decides-ltb, cases_Bool, cases_lt, cons_option, false≢true, get_or-map-range_with_len, length-map-range_with_len, option_map_or, range_with_len, slice_get-get_or, slice_get_past, extra_column_cell, corner_cell, labelled_cell, is_counted, IsPlaceInRange, live_at, Problem, square_side, Cost, Place, square_cell, IsAssignment, chosen_by, choice_of, entered_or_free, assignment_values, row_label, column_label, row-from_counted, rows_within, option_and_then}
 use Rattle.asg_model.specs.Values.{chosen_cost, costs_of}
 use Rattle.asg_order.specs.Monoid.{Monoid, IsValue, IsOrderedMonoid, fold_of}
 use Rattle.asg_order.specs.Bridge.{costs_fold}
 use Rattle.asg_order.specs.laws.Products.{neutral_right}
-use Rattle.asg_model.specs.Shapes.{square_side}
-use Rattle.asg_square.specs.Labels.{row_label, column_label}
-use Rattle.asg_square.specs.Cells.{extra_column_cell, corner_cell, labelled_cell, square_cell, IsAssignment, chosen_by, choice_of, entered_or_free, assignment_values}
-use Rattle.asg_square.specs.laws.Rows.{row-from_counted, rows_within}
 use Rattle.asg_square.proofs.PerfectValid.{labelled_as, column_below}
 use Rattle.asg_model.specs.laws.Listing.{all_there}
+use Rattle.asg_model.specs.declared.parts.Place.TheVariants.{All as PlaceAll, Exactly}
 
 extra_value : {V : Type 0} (place : Place) (free : V) → IsSome (extra_column_cell place free) → extra_column_cell place free ≡ Some free
 extra_value PlaceAll free h = absurd (false≢true h)

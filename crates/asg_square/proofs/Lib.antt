@@ -1,3 +1,4 @@
+pub mod Common
 pub mod PerfectValid
 pub mod ValidPerfect
 pub mod Folds
@@ -5,11 +6,3 @@ pub mod SquareFilling
 pub mod SquareAssignments
 pub mod PermSteps
 pub mod Presences
-pub mod BitLemmas
-pub mod WordLemmas
-pub mod RunLemmas
-pub mod TablePieces
-pub mod PieceLemmas
-pub mod TableLemmas
-pub mod RowLemmas
-pub mod ChangeLemmas

@@ -1,28 +1,6 @@
 -- The choice of a perfect assignment is valid.
-use Rattle.std.proofs.Common.{◌≡◌, ◌≢◌, ℕ, ◌+◌, ◌-◌, ◌<◌, ◌≤◌, Bool, true, false, cond, ◌&&◌, List, length, get_or, refl, arith, sym, ap, subst, ◌∙◌, ⊎_elim}
-use Rattle.std.specs.Prelude.{Option, Some, None, IsSome, is_some, count_by, nat_lt, slice_index, AllPairs}
-use Rattle.std.specs.Option.{option_map, option_and_then}
-use Rattle.std.proofs.lemmas.Bool.{false≢true, cases_Bool, cases_order}
-use Rattle.std.proofs.lemmas.Bool.Decides.{Decides-ltb}
-use Rattle.std.proofs.lemmas.Option.{slice_get-get_or, slice_get_within, same_Some}
-use Rattle.std.proofs.lemmas.List.FromFn.{length-map-range_with_len, get_or-map-range_with_len}
-use Rattle.asg_model.specs.declared.parts.Cost.{Cost}
-use Rattle.asg_model.specs.declared.parts.Place.{Place}
+use Rattle.asg_square.proofs.Common.{◌≡◌, ℕ, ◌+◌, ◌-◌, ◌<◌, ◌≤◌, Bool, true, false, cond, ◌&&◌, ◌≢◌, List, length, get_or, is_some, IsSome, nat_lt, slice_index, Some, None, count_by, Option, option_map, AllPairs, sym, refl, ap, ◌∙◌, subst, ⊎_elim, arith, Decides-ltb, cases_Bool, cases_order, false≢true, get_or-map-range_with_len, length-map-range_with_len, same_Some, slice_get-get_or, slice_get_within, extra_column_cell, corner_cell, labelled_cell, active_count, placed_by, counted_by, is_counted, is_counted_by, total_capacity, capacity_at, IsPlaceInRange, is_active, live_at, Problem, square_side, side_by, sum_below, count_below, one, takes, IsValid, Cost, Place, sum_below-same, sum_below-le, sum_by-below, sum_below-zero, counted_total, ones_below, square_cell, IsAssignment, chosen_by, choice_of, row_label, column_label, copies, sum_below-split, sum_below-upto, permute-count, length-copies, count-copies_at, count-labels, row-from_counted, count-map, rows_within, copies_within, option_and_then}
 use Rattle.asg_model.specs.declared.parts.Place.TheVariants.{All as PlaceAll, Exactly}
-use Rattle.asg_model.specs.Problem.{Problem}
-use Rattle.asg_model.specs.Instances.{IsPlaceInRange}
-use Rattle.asg_model.specs.Live.{is_active, live_at}
-use Rattle.asg_model.specs.Counts.{active_count, placed_by, counted_by, is_counted, is_counted_by, total_capacity, capacity_at}
-use Rattle.asg_model.specs.ValidChoice.{takes, IsValid}
-use Rattle.asg_model.specs.Shapes.{square_side, side_by}
-use Rattle.asg_square.specs.Labels.{row_label, column_label, copies}
-use Rattle.asg_square.specs.Cells.{extra_column_cell, corner_cell, labelled_cell, square_cell, IsAssignment, chosen_by, choice_of}
-use Rattle.asg_model.specs.Sums.{sum_below, count_below, one}
-use Rattle.asg_model.specs.laws.Counting.{sum_below-same, sum_below-le, sum_by-below, sum_below-zero}
-use Rattle.asg_square.specs.laws.Bijections.{sum_below-split, sum_below-upto, permute-count}
-use Rattle.asg_square.specs.laws.Copies.{length-copies, count-copies_at, count-labels}
-use Rattle.asg_square.specs.laws.Rows.{row-from_counted, count-map, rows_within, copies_within}
-use Rattle.asg_model.specs.laws.Rows.{counted_total, ones_below}
 
 pub cell_parts : {V : Type 0} (b d : Bool) (o : Option V) → IsSome (cond (b && d) o None) → (b ≡ true) × (d ≡ true) × IsSome o
 cell_parts true true o h = (refl, refl, h)

@@ -1,20 +1,6 @@
 -- Steps of the loops that make an assignment.
-use Rattle.std.proofs.Common.{◌≡◌, ℕ, zero, suc, get_or, map, Option, None, ⊎_elim, ◌+◌, ◌-◌, ◌<◌, ◌≤◌, Bool, true, false, cond, not, List, [], ◌∷◌, ◌++◌, length, refl, sym, ap, ◌∙◌, arith, append_assoc}
-use Rattle.std.specs.List.{range_with_len}
-use Rattle.std.specs.Option.{option_map}
-use Rattle.std.proofs.lemmas.Bool.{cases_lt}
-use Rattle.std.proofs.lemmas.List.{get_or_past}
-use Rattle.std.proofs.lemmas.List.FromFn.{length-map-range_with_len, get_or-map-range_with_len}
-use Rattle.asg_model.specs.Problem.{Problem}
-use Rattle.asg_model.specs.Shapes.{square_side}
-use Rattle.asg_square.specs.Labels.{first_copy}
-use Rattle.asg_square.specs.ChoiceAssignment.{own_copy, takers_before}
-use Rattle.asg_model.specs.Sums.{count_below, passing_below, one}
-use Rattle.asg_square.specs.Completion.{completed, is_free, free_columns}
+use Rattle.asg_square.proofs.Common.{◌≡◌, ℕ, zero, suc, ◌+◌, ◌-◌, ◌<◌, ◌≤◌, Bool, true, false, cond, not, List, [], ◌∷◌, ◌++◌, map, length, get_or, IfSome, Some, None, All, Option, option_map, sym, refl, ap, ◌∙◌, ⊎_elim, append_assoc, arith, cases_lt, get_or-map-range_with_len, get_or_past, length-map-range_with_len, range_with_len, IsPlaceInRange, Problem, square_side, count_below, passing_below, one, IsValid, own_copy, takers_before, completed, is_free, free_columns, first_copy}
 use Rattle.asg_square.proofs.ValidPerfect.{own_within}
-use Rattle.asg_model.specs.ValidChoice.{IsValid}
-use Rattle.asg_model.specs.Instances.{IsPlaceInRange}
-use Rattle.std.specs.Prelude.{IfSome, All, Some}
 
 -- one more number
 pub count_more : (p : ℕ → Bool) (n : ℕ) → count_below p (n + 1) ≡ count_below p n + one (p n)

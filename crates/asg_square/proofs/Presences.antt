@@ -1,15 +1,6 @@
 -- A cell of the square is present where its labels say so.
-use Rattle.std.proofs.Common.{◌≡◌, ℕ, true, false, refl}
-use Rattle.std.specs.Prelude.{Option, Some, None, is_some}
-use Rattle.std.specs.Option.{option_map, option_map_or}
-use Rattle.asg_model.specs.declared.parts.Cost.{Cost}
-use Rattle.asg_model.specs.declared.parts.Place.{Place}
+use Rattle.asg_square.proofs.Common.{◌≡◌, ℕ, true, false, is_some, Some, None, Option, option_map, refl, option_map_or, extra_column_cell, corner_cell, labelled_cell, leaves_rows, has_corner, is_labelled_within, live_at, Problem, Whole, Cost, Place}
 use Rattle.asg_model.specs.declared.parts.Place.TheVariants.{All as PlaceAll, Exactly}
-use Rattle.asg_model.specs.declared.bands.Band.TheVariants.{Whole}
-use Rattle.asg_model.specs.Problem.{Problem}
-use Rattle.asg_model.specs.Live.{live_at}
-use Rattle.asg_square.specs.Cells.{extra_column_cell, corner_cell, labelled_cell}
-use Rattle.asg_square.specs.Presence.{leaves_rows, has_corner, is_labelled_within}
 
 extra_some : {V : Type 0} (place : Place) (free : V) → is_some (extra_column_cell place free) ≡ leaves_rows place
 extra_some PlaceAll free = refl

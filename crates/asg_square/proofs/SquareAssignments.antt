@@ -1,21 +1,6 @@
 -- Perfect assignments of squares, and those of the square of an instance.
-use Rattle.std.proofs.Common.{◌≡◌, ℕ, ◌<◌, Bool, true, false, cond, ◌&&◌, List, length, get_or, Option, None, refl, sym, ap, subst, ◌∙◌, arith}
-use Rattle.std.specs.Prelude.{slice_index, is_some, nat_lt}
-use Rattle.std.specs.Option.{option_and_then}
-use Rattle.std.proofs.lemmas.List.{same_lists}
-use Rattle.std.proofs.lemmas.List.FromFn.{length-map-range_with_len, get_or-map-range_with_len}
-use Rattle.asg_model.specs.declared.parts.Cost.{Cost}
-use Rattle.asg_model.specs.declared.bands.Band.TheVariants.{Whole}
-use Rattle.asg_model.specs.Problem.{Problem}
-use Rattle.asg_model.specs.Instances.{IsPlaceInRange}
-use Rattle.asg_model.specs.ValidChoice.{IsValid}
-use Rattle.asg_model.specs.Shapes.{square_side}
-use Rattle.asg_square.specs.Labels.{row_label, column_label}
-use Rattle.asg_square.specs.Cells.{labelled_cell, square_cell, IsAssignment, choice_of, chosen_by}
-use Rattle.asg_square.specs.ChoiceAssignment.{perm_list}
+use Rattle.asg_square.proofs.Common.{◌≡◌, ℕ, ◌<◌, Bool, true, false, cond, ◌&&◌, List, length, get_or, is_some, nat_lt, slice_index, None, Option, sym, refl, ap, ◌∙◌, subst, arith, get_or-map-range_with_len, length-map-range_with_len, same_lists, labelled_cell, IsPlaceInRange, Problem, square_side, IsValid, Whole, Cost, square_cell, IsAssignment, choice_of, chosen_by, perm_list, Grid, cell_at, HasLabelsOf, IsSquareOf, IsWithinSquareOf, CoversSquareOf, IsPerm, IsPermOf, grid_choice, grid_chosen, row_label, column_label, rows_within, option_and_then}
 use Rattle.asg_square.specs.Presence.{has_cell}
-use Rattle.asg_square.specs.Grid.{Grid, cell_at, HasLabelsOf, IsSquareOf, IsWithinSquareOf, CoversSquareOf, IsPerm, IsPermOf, grid_choice, grid_chosen}
-use Rattle.asg_square.specs.laws.Rows.{rows_within}
 use Rattle.asg_square.proofs.Presences.{present_is}
 use Rattle.asg_square.proofs.PerfectValid.{choice_is_valid, column_below}
 use Rattle.asg_square.proofs.ValidPerfect.{perm_is_assignment, choice_of-perm}

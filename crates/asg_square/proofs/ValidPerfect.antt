@@ -1,34 +1,9 @@
 -- Every valid choice is the choice of a perfect assignment: a row that chooses takes of its
 -- column's copies the one whose number is that of the rows before it that choose this column, and
 -- the other rows take the free columns from the last down.
-use Rattle.std.proofs.Common.{◌≡◌, ℕ, ◌+◌, ◌-◌, ◌<◌, ◌≤◌, true, false, cond, ◌&&◌, not, List, length, get_or, refl, arith, sym, ap, subst, ◌∙◌, ⊎_elim}
-use Rattle.std.specs.Prelude.{Option, Some, None, IsSome, is_some, nat_lt, slice_index}
-use Rattle.std.specs.Option.{option_map, option_and_then}
-use Rattle.std.proofs.lemmas.Bool.{false≢true, cases_Bool, cases_lt, eq-eqb, ne_eqb}
-use Rattle.std.proofs.lemmas.Bool.Decides.{Decides-ltb}
-use Rattle.std.proofs.lemmas.Option.{slice_get-get_or, slice_get_past, same_Some, none-some}
-use Rattle.std.proofs.lemmas.List.{get_or_past, same_lists}
-use Rattle.std.proofs.lemmas.List.FromFn.{length-map-range_with_len, get_or-map-range_with_len}
-use Rattle.asg_model.specs.declared.parts.Cost.{Cost}
-use Rattle.asg_model.specs.declared.parts.Place.{Place}
-use Rattle.asg_model.specs.declared.parts.Place.TheVariants.{All as PlaceAll, Exactly}
-use Rattle.asg_model.specs.Problem.{Problem}
-use Rattle.asg_model.specs.Instances.{IsPlaceInRange}
-use Rattle.asg_model.specs.Live.{is_active, live_at}
-use Rattle.asg_model.specs.Counts.{active_count, placed_by, placed, counted_by, is_counted, is_counted_by, total_capacity, capacity_at}
-use Rattle.asg_model.specs.ValidChoice.{takes, Chooses, IsValid}
-use Rattle.asg_square.specs.ChoiceAssignment.{chosen, own_copy, perm_column, perm_list}
-use Rattle.asg_model.specs.Shapes.{square_side, side_by}
-use Rattle.asg_square.specs.Labels.{row_label, column_label, copies, first_copy}
-use Rattle.asg_square.specs.Cells.{extra_column_cell, corner_cell, labelled_cell, square_cell, IsPresent, IsAssignment, chosen_by, choice_of}
-use Rattle.asg_model.specs.Sums.{sum_below, count_below, passing_below, one}
-use Rattle.asg_model.specs.laws.Counting.{sum_below-same, sum_below-add, sum_by-below, sum_below-zero, term-le-sum_below}
-use Rattle.asg_square.specs.laws.Bijections.{sum_below-upto, rank-less, same-rank, count-not, completed_some, completed_none, completed_below, completed_apart, rank_within, top_high, top_low}
-use Rattle.asg_square.specs.Completion.{is_free, free_columns, lacks}
-use Rattle.asg_square.specs.laws.Copies.{length-copies, label_at, copy_below}
-use Rattle.asg_square.specs.laws.Rows.{row-from_counted, rows_within, copies_within}
-use Rattle.asg_model.specs.laws.Rows.{counted_total, counted-from_active, is_active-from_live}
+use Rattle.asg_square.proofs.Common.{◌≡◌, ℕ, ◌+◌, ◌-◌, ◌<◌, ◌≤◌, true, false, cond, not, ◌&&◌, List, length, get_or, is_some, IsSome, nat_lt, slice_index, Some, None, Option, option_map, sym, refl, ap, ◌∙◌, subst, ⊎_elim, arith, eq-eqb, ne_eqb, Decides-ltb, cases_Bool, cases_lt, false≢true, get_or-map-range_with_len, get_or_past, length-map-range_with_len, none-some, same_Some, same_lists, slice_get-get_or, slice_get_past, extra_column_cell, corner_cell, labelled_cell, active_count, placed_by, placed, counted_by, is_counted, is_counted_by, total_capacity, capacity_at, IsPlaceInRange, is_active, live_at, Problem, square_side, side_by, sum_below, count_below, passing_below, one, takes, Chooses, IsValid, Cost, Place, sum_below-same, sum_below-add, sum_by-below, sum_below-zero, term-le-sum_below, counted_total, counted-from_active, is_active-from_live, square_cell, IsPresent, IsAssignment, chosen_by, choice_of, chosen, own_copy, perm_column, perm_list, is_free, free_columns, lacks, row_label, column_label, copies, first_copy, sum_below-upto, rank-less, same-rank, count-not, completed_some, completed_none, completed_below, completed_apart, rank_within, top_high, top_low, length-copies, label_at, copy_below, row-from_counted, rows_within, copies_within, option_and_then}
 use Rattle.asg_model.specs.laws.Tests.{split_one}
+use Rattle.asg_model.specs.declared.parts.Place.TheVariants.{All as PlaceAll, Exactly}
 
 Chooses-from_chosen : (f : List (Option ℕ)) (r c : ℕ) → chosen f r ≡ Some c → (r < length f) × Chooses f r c
 Chooses-from_chosen f r c e =

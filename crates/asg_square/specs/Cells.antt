@@ -1,33 +1,13 @@
 -- The cells of the square of an instance, and its perfect assignments.
-use Rattle.std.specs.Prelude.{◌≡◌, ◌≢◌, ℕ, ◌<◌, ◌&&◌, if◌then◌else◌, nat_lt, Option, Some, None, IsSome, List, length, map, AllPairs, slice_index, filter_map}
+use Rattle.std.specs.Prelude.{◌≡◌, ◌≢◌, ℕ, ◌<◌, ◌&&◌, if◌then◌else◌, nat_lt, Option, None, IsSome, List, length, map, AllPairs, slice_index, filter_map}
 use Rattle.std.specs.List.{range_with_len}
-use Rattle.std.specs.Option.{option_map, option_and_then, option_map_or}
+use Rattle.std.specs.Option.{option_and_then, option_map_or}
 use Rattle.asg_model.specs.declared.parts.Cost.{Cost}
-use Rattle.asg_model.specs.declared.parts.Place.{Place}
-use Rattle.asg_model.specs.declared.parts.Place.TheVariants.{All, Exactly}
 use Rattle.asg_model.specs.Problem.{Problem}
-use Rattle.asg_model.specs.Live.{live_at}
 use Rattle.asg_model.specs.Values.{chosen_cost}
 use Rattle.asg_model.specs.Shapes.{square_side}
+use Rattle.asg_cell_tables.specs.LabelledCells.{labelled_cell}
 use Rattle.asg_square.specs.Labels.{column_label, row_label}
-
--- the cell of a counted row in an extra column
-abbrev pub extra_column_cell : {V : Type 0} → Place → V → Option V
-extra_column_cell All free = None
-extra_column_cell (Exactly k) free = Some free
-
--- the cell of a row that isn't counted in an extra column
-abbrev pub corner_cell : {V : Type 0} → Place → V → Option V
-corner_cell All free = Some free
-corner_cell (Exactly k) free = None
-
--- a cell, by the row that its square row stands for and the column that its square column is a copy
--- of
-abbrev pub labelled_cell : {V : Type 0} → Problem → V → (Cost → V) → Option ℕ → Option ℕ → Option V
-labelled_cell X free enter (Some r) (Some d) = option_map enter (live_at X r d)
-labelled_cell X free enter (Some r) None = extra_column_cell X.place free
-labelled_cell X free enter None (Some d) = Some free
-labelled_cell X free enter None None = corner_cell X.place free
 
 -- the cell of the square
 abbrev pub square_cell : {V : Type 0} → Problem → V → (Cost → V) → ℕ → ℕ → Option V

@@ -1,18 +1,18 @@
 -- What contracts see of a square.
-use Rattle.std.specs.Prelude.{◌≡◌, ℕ, ◌≤◌, IsTrue, Option, Some, None, List, length, map, IfSome, IsSome, is_some, slice_index_or, slice_index}
+use Rattle.std.specs.Prelude.{◌≡◌, ℕ, ◌≤◌, IsTrue, Option, None, List, length, map, IsSome, is_some, slice_index_or, slice_index}
 use Rattle.std.specs.List.{range_with_len}
 use Rattle.std.specs.Option.{option_and_then}
 use Rattle.asg_model.specs.declared.parts.Cost.{Cost}
 use Rattle.asg_model.specs.declared.bands.Band.TheVariants.{Whole}
 use Rattle.asg_model.specs.Problem.{Problem}
 use Rattle.asg_model.specs.Instances.{IsInstance}
-use Rattle.asg_model.specs.Live.{live_at}
 use Rattle.asg_model.specs.ValidChoice.{IsValid}
 use Rattle.asg_model.specs.Shapes.{square_side}
 use Rattle.asg_square.specs.Labels.{row_label, column_label}
 use Rattle.asg_square.specs.Cells.{square_cell, IsAssignment}
 use Rattle.asg_square.specs.Presence.{has_cell}
-use Rattle.asg_square.specs.CellTable.{CellTable, IsCellTable, entry_at}
+use Rattle.asg_cell_tables.specs.CellTable.{CellTable, IsCellTable, entry_at}
+use Rattle.asg_cell_tables.specs.LabelledCells.{Entering}
 
 -- a square: its side, how many of its rows are rows of the instance, what its rows and columns
 -- stand for, and its cells row by row
@@ -58,18 +58,6 @@ HasPresenceOf X Q = (r c : ℕ) → is_some (cell_at Q r c) ≡ has_cell X Whole
 pub record IsSquareOf {V : Type 0} (X : Problem) (free : V) (enter : Cost → V) (Q : Grid V) : Type 0 where
   pub labels : HasLabelsOf X Q
   pub cells : HasCellsOf X free enter Q
-
--- each live cost may enter
-abbrev pub MayEnterEach : Problem → (Cost → Type 0) → Type 0
-MayEnterEach X may = (r c : ℕ) → IfSome (live_at X r c) may
-
--- live costs enter as their values
-abbrev pub EntersAs : {V : Type 0} → Problem → (Cost → V → Type 0) → (Cost → V) → Type 0
-EntersAs {V} X enters entered = (r c : ℕ) (cost : Cost) (v : V) → live_at X r c ≡ Some cost → enters cost v → v ≡ entered cost
-
--- the fact holds, whatever values the live costs enter as
-abbrev pub Entering : {V : Type 0} → Problem → (Cost → V → Type 0) → ((Cost → V) → Type 0) → Type 0
-Entering {V} X enters Fact = (entered : Cost → V) → EntersAs X enters entered → Fact entered
 
 -- the square is that of the instance, where live costs enter so
 abbrev pub IsSquareBy : {V : Type 0} → Problem → V → (Cost → V → Type 0) → Grid V → Type 0

@@ -2,12 +2,8 @@ pub mod Labels
 pub mod Cells
 pub mod Presence
 pub mod HallColumns
-pub mod WordBits
-pub mod BitTable
-pub mod CellTable
-pub mod Filling
-pub mod Changes
 pub mod Grid
+pub mod RowChanges
 pub mod Masked
 pub mod Completion
 pub mod ChoiceAssignment

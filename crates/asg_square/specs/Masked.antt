@@ -1,7 +1,7 @@
 -- Squares without some cells, which rows of bits tell.
 use Rattle.std.specs.Prelude.{◌≡◌, ℕ, ◌+◌, ◌/◌, ◌%◌, ◌<◌, if◌then◌else◌, Bool, None, List, length, map, slice_index, slice_index_or, bit_and}
 use Rattle.std.specs.List.{range_with_len}
-use Rattle.asg_square.specs.BitTable.{bit_table, has_bit}
+use Rattle.asg_bit_rows.specs.BitTable.{bit_table, has_bit}
 use Rattle.asg_square.specs.Grid.{Grid}
 
 -- rows of bits over a side, in words row by row, keep the cell at a row and a column: the bit is

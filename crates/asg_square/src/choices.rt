@@ -2,7 +2,7 @@
 
 ghost use Rattle.std.specs.Prelude.{◌≡◌, ◌<◌, length, IfOk};
 ghost use Rattle.asg_model.specs.ValidChoice.{IsValid};
-ghost use Rattle.asg_square.specs.Grid.{Grid, CoversSquareOf, IsPerm, IsPermOf, IsValidWithin, grid_chosen, grid_choice};
+ghost use Rattle.asg_square.specs.Grid.{CoversSquareOf, IsPerm, IsPermOf, IsValidWithin, grid_chosen, grid_choice};
 
 use crate::assignments::perm_list;
 use crate::{NoMemory, Square};

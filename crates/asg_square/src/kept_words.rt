@@ -2,7 +2,7 @@
 
 ghost use Rattle.std.specs.Prelude.{◌≡◌, ◌<◌, ◌≤◌, ◌*◌, ◌+◌, length, is_some, slice_index};
 ghost use Rattle.asg_model.specs.Limits.{most_side};
-ghost use Rattle.asg_square.specs.BitTable.{AreWordsOf, word_count};
+ghost use Rattle.asg_bit_rows.specs.BitTable.{AreWordsOf, word_count};
 ghost use Rattle.asg_square.specs.Grid.{cell_at};
 ghost use Rattle.asg_square.specs.Masked.{masked_grid, AreBoth};
 

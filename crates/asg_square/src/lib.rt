@@ -3,27 +3,18 @@
 //!
 //! Each column of the instance stands as so many columns of the square as its capacity, side by
 //! side, and rows and columns without a place of their own have free cells. Contracts see a square
-//! as its side, its labels and the map of its cells. The choices of the perfect assignments of an
-//! instance's square are exactly its valid choices, with equal folds. Every solver and checker of
-//! phases works on it.
+//! as its side, its labels and the map of its cells, which stand in a table (`asg_cell_tables`). The
+//! choices of the perfect assignments of an instance's square are exactly its valid choices, with
+//! equal folds. Every solver and checker of phases works on it.
 #![tactic(auto)]
 
 mod assignments;
-mod bit_rows;
-mod cell_tables;
-mod cells;
 mod choices;
 mod kept_words;
 mod labels;
 pub mod laws;
-mod pieces;
-mod row_bits;
-mod row_changes;
-mod rows;
 mod squares;
 
-pub use bit_rows::{BitRows, overwrite};
-pub use row_bits::first_bits;
 pub use squares::Square;
 
 /// There was not enough memory.

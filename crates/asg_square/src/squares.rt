@@ -2,18 +2,19 @@
 
 ghost use Rattle.std.specs.Prelude.{◌≡◌, ◌<◌, ◌≤◌, ◌+◌, ◌*◌, Some, is_some, IsSome, IfOk, slice_get, slice_set};
 ghost use Rattle.asg_model.specs.declared.parts.Cost.{Cost};
-ghost use Rattle.asg_square.specs.BitTable.{AreWordsOf};
-ghost use Rattle.asg_square.specs.Changes.{MapsRow, MayMapRow};
-ghost use Rattle.asg_square.specs.CellTable.{AreValuesOf, AreAllValuesOf};
-ghost use Rattle.asg_square.specs.Grid.{Grid, IsGrid, cell_at, MayEnterEach, IsSquareBy, HasLabelsOf, HasPresenceOf};
+ghost use Rattle.asg_bit_rows.specs.BitTable.{AreWordsOf};
+ghost use Rattle.asg_cell_tables.specs.Changes.{MayMapRow};
+ghost use Rattle.asg_square.specs.RowChanges.{MapsRow};
+ghost use Rattle.asg_cell_tables.specs.CellTable.{AreValuesOf, AreAllValuesOf};
+ghost use Rattle.asg_square.specs.Grid.{Grid, IsGrid, cell_at, IsSquareBy, HasLabelsOf, HasPresenceOf};
+ghost use Rattle.asg_cell_tables.specs.LabelledCells.{MayEnterEach};
 ghost use Rattle.asg_model.specs.Limits.{most_side};
 ghost use Rattle.asg_model.specs.Shapes.{square_side};
 
 use crate::NoMemory;
-use crate::bit_rows::overwrite;
-use crate::cell_tables::CellTable;
-use crate::cells::fill_cells;
 use crate::labels::{fill_column_labels, fill_row_labels};
+use asg_bit_rows::overwrite;
+use asg_cell_tables::{CellTable, fill_cells};
 use asg_model::{Cost, Instance};
 use std::alloc::Global;
 use std::marker::Model;

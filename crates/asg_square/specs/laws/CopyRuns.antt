@@ -12,10 +12,10 @@ use Rattle.asg_model.specs.declared.parts.Column.{Column}
 use Rattle.asg_model.specs.Problem.{Problem}
 use Rattle.asg_model.specs.Counts.{capacity_at}
 use Rattle.asg_model.specs.ValidChoice.{takes}
-use Rattle.asg_square.specs.BitTable.{is_from_to}
+use Rattle.asg_bit_rows.specs.BitTable.{is_from_to}
 use Rattle.asg_square.specs.Labels.{copies_of, copies, first_copy, column_label}
 use Rattle.asg_square.specs.laws.Copies.{label_at}
-use Rattle.asg_square.specs.laws.Words.{same_bool, in_run, run_parts}
+use Rattle.asg_bit_rows.specs.laws.Words.{same_bool, in_run, run_parts}
 
 -- a place among the copies is one of those of its column
 copy_back : (i : ℕ) (columns : List Column) (c : ℕ) → c < length (flat_map copies_of (enumerate_from i columns)) → (j : ℕ) × (get_or (flat_map copies_of (enumerate_from i columns)) c 0 ≡ i + j) × (sum_by (λ column. column.cap) (take j columns) ≤ c) × (c < sum_by (λ column. column.cap) (take j columns) + option_map_or (λ column. column.cap) (slice_get columns j) 0)

@@ -1,13 +1,12 @@
 -- Where all rows are placed, the capacity that rows reach is the number of columns of the square in
 -- which they have cells: so a Hall set is told from the square, either way.
-use Rattle.std.proofs.Common.{◌≡◌, ◌≢◌, ◌↔◌, ℕ, ◌+◌, ◌-◌, ◌<◌, ◌≤◌, Bool, true, false, ◌&&◌, ◌||◌, cond, List, [], ◌∷◌, length, refl, arith, sym, ap, subst, ◌∙◌}
-use Rattle.std.specs.Prelude.{Option, Some, None, IsTrue, nat_lt, All, AllPairs}
+use Rattle.std.proofs.Common.{◌≡◌, ◌≢◌, ◌↔◌, ℕ, ◌+◌, ◌-◌, ◌<◌, Bool, true, false, ◌&&◌, ◌||◌, cond, List, [], ◌∷◌, length, refl, arith, sym, ap, subst, ◌∙◌}
+use Rattle.std.specs.Prelude.{Option, Some, None, IsTrue, All}
 use Rattle.std.specs.List.{list_any, enumerate_from}
 use Rattle.std.specs.Option.{option_map_or}
 use Rattle.std.proofs.lemmas.Bool.{false≢true, lt-ltb}
 use Rattle.std.proofs.lemmas.List.Elements.{All-head, All-tail}
 use Rattle.asg_model.specs.declared.bands.Band.TheVariants.{Whole}
-use Rattle.asg_model.specs.declared.parts.Place.{Place}
 use Rattle.asg_model.specs.declared.parts.Place.TheVariants.{All as PlaceAll}
 use Rattle.asg_model.specs.Counts.{active_count, placed_by, counted_by, is_counted, total_capacity, slack}
 use Rattle.asg_model.specs.HallSet.{row_place_of, is_live_within, reaches, is_reached, reached_capacity, is_counted_id, IsHall}
@@ -18,7 +17,7 @@ use Rattle.asg_model.specs.Sums.{sum_below, count_below, one}
 use Rattle.asg_model.specs.laws.Counting.{sum_below-same, sum_below-zero}
 use Rattle.asg_square.specs.HallColumns.{TellsCells, is_met, met_count, OutnumberColumns}
 use Rattle.asg_square.specs.Labels.{row_label, column_label, copies}
-use Rattle.asg_square.specs.Presence.{leaves_rows, is_labelled_within, has_cell}
+use Rattle.asg_cell_tables.specs.LabelledCells.{leaves_rows, is_labelled_within}
 use Rattle.asg_square.specs.laws.Copies.{count-copies, count-labels}
 use Rattle.asg_square.specs.laws.Rows.{row-from_counted, rows_within, copies_within}
 

@@ -5,11 +5,11 @@ use Rattle.std.proofs.lemmas.Bool.{false≢true, cases_lt, lt-ltb, le-ltb}
 use Rattle.std.proofs.lemmas.List.{get_or_past}
 use Rattle.std.proofs.lemmas.List.FromFn.{length-map-range_with_len, get_or-map-range_with_len}
 use Rattle.std.proofs.lemmas.Nat.{div-mul-add, mod-mul-add}
-use Rattle.asg_square.specs.BitTable.{word_count, is_bit_set, AreWordsOf}
-use Rattle.asg_square.specs.CellTable.{AreValuesOf}
+use Rattle.asg_bit_rows.specs.BitTable.{word_count, is_bit_set, AreWordsOf}
+use Rattle.asg_cell_tables.specs.CellTable.{AreValuesOf}
 use Rattle.asg_square.specs.Grid.{Grid, IsGrid, cell_at}
 use Rattle.asg_square.specs.Masked.{keeps, masked_grid, AreBoth}
-use Rattle.asg_square.specs.laws.Words.{is_and}
+use Rattle.asg_bit_rows.specs.laws.Words.{is_and}
 
 -- whether a cell is kept, by the word that holds its bit
 pub keeps-word : (side : ℕ) (words : List ℕ) (r k : ℕ) → k / 64 < word_count side → keeps side words r k ≡ is_bit_set (get_or words (r * word_count side + k / 64) 0) (k % 64)

@@ -1,5 +1,4 @@
-use Rattle.std.proofs.Common.{◌≡◌, take}
-use Rattle.asg_order.specs.Monoid.{IsValue, fold_of}
+use Rattle.asg_order.proofs.Common.{◌≡◌, take, IsValue, fold_of}
 use Rattle.asg_order.proofs.folds.fold.Given as goal
 
 -- the product so far is that of the values so far, and a value

@@ -1,4 +1,4 @@
-use Rattle.asg_order.specs.laws.Products.{fold_of-append}
+use Rattle.asg_order.proofs.Common.{fold_of-append}
 use Rattle.asg_order.proofs.laws.joined.Goals as goal
 
 pub returns : goal.returns

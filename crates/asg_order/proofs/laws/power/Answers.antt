@@ -1,4 +1,4 @@
-use Rattle.std.proofs.Common.{refl}
+use Rattle.asg_order.proofs.Common.{refl}
 use Rattle.asg_order.proofs.PowerLaws.{power_is_value, power_of-add}
 use Rattle.asg_order.proofs.laws.power.Goals as goal
 

@@ -1,9 +1,4 @@
-use Rattle.std.proofs.Common.{◌≡◌, ◌++◌, ◌∷◌, [], ℕ, length, get_or, None, map, sym, ap, ◌∙◌, arith}
-use Rattle.std.specs.List.{range_with_len}
-use Rattle.std.specs.Option.{unwrap_or}
-use Rattle.std.proofs.lemmas.List.FromFn.{map-range_with_len_more}
-use Rattle.asg_square.specs.Completion.{lacks, completed, free_columns}
-use Rattle.asg_square.specs.laws.Bijections.{rank_within}
+use Rattle.asg_square.proofs.Common.{◌≡◌, ℕ, [], ◌∷◌, ◌++◌, map, length, get_or, None, sym, ap, ◌∙◌, arith, map-range_with_len_more, range_with_len, lacks, completed, free_columns, rank_within, unwrap_or}
 use Rattle.asg_square.proofs.PermSteps.{count_more}
 use Rattle.asg_square.proofs.assignments.complete.Goals as goal
 

@@ -1,7 +1,4 @@
-use Rattle.std.proofs.Common.{◌≡◌, ◌≤◌, length, get_or, None, map}
-use Rattle.std.specs.List.{range_with_len}
-use Rattle.asg_model.specs.Sums.{count_below}
-use Rattle.asg_square.specs.Completion.{lacks, completed}
+use Rattle.asg_square.proofs.Common.{◌≡◌, ◌≤◌, map, length, get_or, None, range_with_len, count_below, lacks, completed}
 use Rattle.asg_square.proofs.assignments.complete.Given as goal
 
 abbrev pub invariant-loop-r : goal.invariant-loop-r

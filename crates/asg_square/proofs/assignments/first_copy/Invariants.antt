@@ -1,5 +1,4 @@
-use Rattle.std.proofs.Common.{◌≡◌, ◌≤◌, ◌*◌}
-use Rattle.asg_square.specs.Labels.{first_copy}
+use Rattle.asg_square.proofs.Common.{◌≡◌, ◌*◌, ◌≤◌, first_copy}
 use Rattle.asg_square.proofs.assignments.first_copy.Given as goal
 
 abbrev pub invariant-loop-place : goal.invariant-loop-place

@@ -1,5 +1,4 @@
-use Rattle.std.proofs.Common.{ℕ, ◌-◌, ◌+◌, ◌++◌, false, not, length, get_or, refl, ap, ◌∙◌}
-use Rattle.asg_model.specs.Sums.{passing_below}
+use Rattle.asg_square.proofs.Common.{ℕ, ◌+◌, ◌-◌, false, not, ◌++◌, length, get_or, refl, ap, ◌∙◌, passing_below}
 use Rattle.asg_square.proofs.PermSteps.{down_yes, down_no}
 use Rattle.asg_square.proofs.assignments.free_columns.Goals.{then-not-taken-c+in_ok-push, else-not-taken-c}
 use Rattle.asg_square.proofs.assignments.free_columns.Goals as goal

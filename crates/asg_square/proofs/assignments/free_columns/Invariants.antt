@@ -1,5 +1,4 @@
-use Rattle.std.proofs.Common.{◌≡◌, ◌-◌, ◌++◌, false, not, length, get_or}
-use Rattle.asg_model.specs.Sums.{passing_below}
+use Rattle.asg_square.proofs.Common.{◌≡◌, ◌-◌, false, not, ◌++◌, length, get_or, passing_below}
 use Rattle.asg_square.proofs.assignments.free_columns.Given as goal
 
 abbrev pub invariant-loop-i : goal.invariant-loop-i

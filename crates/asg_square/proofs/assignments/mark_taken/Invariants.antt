@@ -1,6 +1,4 @@
-use Rattle.std.proofs.Common.{◌≡◌, ℕ, ◌<◌, false, not, eqb, length, get_or, None}
-use Rattle.asg_model.specs.ValidChoice.{takes}
-use Rattle.asg_model.specs.Sums.{count_below}
+use Rattle.asg_square.proofs.Common.{◌≡◌, ℕ, ◌<◌, false, not, eqb, length, get_or, None, count_below, takes}
 use Rattle.asg_square.proofs.assignments.mark_taken.Given as goal
 
 abbrev pub invariant-loop-r : goal.invariant-loop-r

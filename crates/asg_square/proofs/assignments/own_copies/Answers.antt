@@ -1,7 +1,4 @@
-use Rattle.std.proofs.Common.{◌++◌, ◌∷◌, [], map, sym, ap, ◌∙◌, arith}
-use Rattle.std.proofs.lemmas.List.FromFn.{map-range_with_len_more}
-use Rattle.std.specs.List.{range_with_len}
-use Rattle.asg_square.specs.ChoiceAssignment.{own_copy}
+use Rattle.asg_square.proofs.Common.{[], ◌∷◌, ◌++◌, map, sym, ap, ◌∙◌, arith, map-range_with_len_more, range_with_len, own_copy}
 use Rattle.asg_square.proofs.assignments.own_copies.Goals as goal
 
 pub loop-r-preserved : goal.loop-r-preserved

@@ -1,6 +1,4 @@
-use Rattle.std.proofs.Common.{◌≡◌, map}
-use Rattle.std.specs.List.{range_with_len}
-use Rattle.asg_square.specs.ChoiceAssignment.{own_copy}
+use Rattle.asg_square.proofs.Common.{◌≡◌, map, range_with_len, own_copy}
 use Rattle.asg_square.proofs.assignments.own_copies.Given as goal
 
 abbrev pub invariant-loop-r : goal.invariant-loop-r

@@ -1,12 +1,4 @@
-use Rattle.std.proofs.Common.{◌≡◌, ◌<◌, ℕ, length, get_or, None, false, not, map, sym, ap, ◌∙◌, arith, subst}
-use Rattle.std.specs.List.{range_with_len}
-use Rattle.std.proofs.lemmas.Result.{IfOk-weaker}
-use Rattle.asg_model.specs.Shapes.{square_side}
-use Rattle.asg_model.specs.Sums.{passing_below}
-use Rattle.asg_square.specs.Completion.{is_free, free_columns, completed}
-use Rattle.std.proofs.lemmas.List.FromFn.{length-map-range_with_len}
-use Rattle.asg_square.specs.laws.Rows.{rows_within}
-use Rattle.asg_square.specs.ChoiceAssignment.{own_copy, perm_list}
+use Rattle.asg_square.proofs.Common.{◌≡◌, ℕ, ◌<◌, false, not, map, length, get_or, None, sym, ap, ◌∙◌, subst, arith, IfOk-weaker, length-map-range_with_len, range_with_len, square_side, passing_below, own_copy, perm_list, is_free, free_columns, completed, rows_within}
 use Rattle.asg_square.proofs.PermSteps.{own_list_within, free_list_is, completed_list_is}
 use Rattle.asg_square.proofs.assignments.perm_list.Goals as goal
 

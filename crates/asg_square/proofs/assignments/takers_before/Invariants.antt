@@ -1,5 +1,4 @@
-use Rattle.std.proofs.Common.{◌≡◌, ◌≤◌}
-use Rattle.asg_square.specs.ChoiceAssignment.{takers_before}
+use Rattle.asg_square.proofs.Common.{◌≡◌, ◌≤◌, takers_before}
 use Rattle.asg_square.proofs.assignments.takers_before.Given as goal
 
 abbrev pub invariant-loop-s : goal.invariant-loop-s

@@ -1,5 +1,4 @@
-use Rattle.std.proofs.Common.{◌≡◌, ◌+◌, length, ℕ, ◌<◌}
-use Rattle.std.specs.Prelude.{bit_and, slice_index}
+use Rattle.asg_square.proofs.Common.{◌≡◌, ℕ, ◌+◌, ◌<◌, length, slice_index, bit_and}
 use Rattle.asg_square.proofs.kept_words.write_both.Given as goal
 
 -- the words so far have the bits of both

@@ -1,9 +1,7 @@
-use Rattle.std.proofs.Common.{None, arith, length}
-use Rattle.std.proofs.lemmas.List.FromFn.{fill_by_all}
-use Rattle.asg_square.specs.Labels.{column_label}
+use Rattle.asg_square.proofs.Common.{length, None, arith, fill_by_all, column_label}
 use Rattle.asg_square.proofs.labels.fill_column_labels.Goals as goal
 
 pub returns-clause-labels : goal.returns-clause-labels
 returns-clause-labels c =
-    fill_by_all (column_label c.args.inst.now) c.loop-c.labels.items (length c.args.labels.now.items) None c.loop-c.invariant.0
-    (λ k h. c.loop-c.invariant.1 k (omega arith))
+    fill_by_all (column_label c.args.inst.now) c.loop-c.labels.items (length c.args.labels.now.items) None c.loop-c.invariant.count
+    (λ k h. c.loop-c.invariant.done k (omega arith))

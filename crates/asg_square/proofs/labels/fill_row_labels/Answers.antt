@@ -1,6 +1,4 @@
-use Rattle.std.proofs.Common.{None, arith, length}
-use Rattle.std.proofs.lemmas.List.FromFn.{fill_by_all}
-use Rattle.asg_square.specs.Labels.{row_label}
+use Rattle.asg_square.proofs.Common.{length, None, arith, fill_by_all, row_label}
 use Rattle.asg_square.proofs.labels.fill_row_labels.Goals as goal
 
 pub returns-clause-labels : goal.returns-clause-labels

@@ -1,6 +1,4 @@
-use Rattle.asg_square.specs.ChoiceAssignment.{perm_list}
-use Rattle.asg_model.specs.ValidChoice.{IsValid}
-use Rattle.std.proofs.Common.{subst}
+use Rattle.asg_square.proofs.Common.{subst, IsValid, perm_list}
 use Rattle.asg_square.proofs.Folds.{value_at, folds_equal}
 use Rattle.asg_square.proofs.PerfectValid.{choice_is_valid}
 use Rattle.asg_square.proofs.SquareAssignments.{presence}

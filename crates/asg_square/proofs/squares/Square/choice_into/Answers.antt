@@ -1,7 +1,4 @@
-use Rattle.std.proofs.Common.{None, sym, subst, arith, ◌∙◌}
-use Rattle.std.proofs.lemmas.List.FromFn.{fill_by_all}
-use Rattle.asg_model.specs.ValidChoice.{IsValid}
-use Rattle.asg_square.specs.Grid.{grid_chosen}
+use Rattle.asg_square.proofs.Common.{None, sym, ◌∙◌, subst, arith, fill_by_all, IsValid, grid_chosen}
 use Rattle.asg_square.proofs.SquareAssignments.{valid_within}
 use Rattle.asg_square.proofs.squares.Square.choice_into.Goals as goal
 

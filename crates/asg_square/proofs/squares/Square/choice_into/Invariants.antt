@@ -1,5 +1,4 @@
-use Rattle.std.proofs.Common.{◌≡◌, ◌<◌, ℕ, length, None, get_or}
-use Rattle.asg_square.specs.Grid.{grid_chosen}
+use Rattle.asg_square.proofs.Common.{◌≡◌, ℕ, ◌<◌, length, get_or, None, grid_chosen}
 use Rattle.asg_square.proofs.squares.Square.choice_into.Given as goal
 
 abbrev pub invariant-loop-r : goal.invariant-loop-r

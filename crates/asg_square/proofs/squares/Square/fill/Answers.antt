@@ -1,14 +1,4 @@
-use Rattle.std.proofs.Common.{◌≡◌, ◌∙◌, length, map, sym, ap, subst, arith}
-use Rattle.std.specs.List.{range_with_len}
-use Rattle.asg_model.specs.Shapes.{square_side}
-use Rattle.asg_model.specs.declared.bands.Band.TheVariants.{Whole}
-use Rattle.asg_square.specs.Labels.{row_label, column_label}
-use Rattle.asg_square.specs.Cells.{labelled_cell}
-use Rattle.asg_square.specs.Filling.{AreFilled}
-use Rattle.asg_square.specs.CellTable.{table_at, is_present_at}
-use Rattle.asg_square.specs.Grid.{Grid}
-use Rattle.asg_square.specs.Presence.{is_labelled_within}
-use Rattle.asg_square.specs.laws.Rows.{rows_within}
+use Rattle.asg_square.proofs.Common.{◌≡◌, map, length, sym, ap, ◌∙◌, subst, arith, range_with_len, table_at, is_present_at, AreFilled, labelled_cell, is_labelled_within, square_side, Whole, Grid, row_label, column_label, rows_within}
 use Rattle.asg_square.proofs.SquareFilling.{has_cells, has_presence}
 use Rattle.asg_square.proofs.squares.Square.fill.Goals as goal
 

@@ -1,4 +1,4 @@
-use Rattle.std.proofs.Common.{◌*◌, subst}
+use Rattle.asg_square.proofs.Common.{◌*◌, subst}
 use Rattle.asg_square.specs.Masked.{AreBoth}
 use Rattle.asg_square.specs.laws.Masks.{AreWordsOf-masked}
 use Rattle.asg_square.proofs.squares.Square.kept_words.Goals as goal

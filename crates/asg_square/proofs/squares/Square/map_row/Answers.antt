@@ -1,6 +1,5 @@
-use Rattle.std.proofs.Common.{◌∙◌, refl, sym, subst, arith}
-use Rattle.asg_square.specs.Grid.{Grid}
-use Rattle.asg_square.specs.Changes.{MapsRow}
+use Rattle.asg_square.proofs.Common.{sym, refl, ◌∙◌, subst, arith, Grid}
+use Rattle.asg_square.specs.RowChanges.{MapsRow}
 use Rattle.asg_square.proofs.squares.Square.map_row.Goals as goal
 
 pub invariant_of-self : goal.invariant_of-self

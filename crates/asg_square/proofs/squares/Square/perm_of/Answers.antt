@@ -1,7 +1,4 @@
-use Rattle.std.proofs.Common.{◌≡◌}
-use Rattle.std.proofs.lemmas.Result.{IfOk-weaker}
-use Rattle.asg_square.specs.ChoiceAssignment.{perm_list}
-use Rattle.asg_square.specs.Grid.{IsPermOf}
+use Rattle.asg_square.proofs.Common.{◌≡◌, IfOk-weaker, perm_list, IsPermOf}
 use Rattle.asg_square.proofs.SquareAssignments.{perm_serves}
 use Rattle.asg_square.proofs.squares.Square.perm_of.Goals as goal
 

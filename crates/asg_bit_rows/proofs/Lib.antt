@@ -1,0 +1,4 @@
+pub mod Common
+mod BitLemmas
+mod RunLemmas
+mod WordLemmas

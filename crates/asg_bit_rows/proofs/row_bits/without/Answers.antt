@@ -1,0 +1,5 @@
+use Rattle.asg_bit_rows.proofs.Common.{Fits-lt-pow, is_without}
+use Rattle.asg_bit_rows.proofs.row_bits.without.Goals as goal
+
+pub returns : goal.returns
+returns c k h = is_without c.args.word c.args.bits k (Fits-lt-pow c.ranges.bits) h

@@ -1,0 +1,3 @@
+pub mod WordBits
+pub mod BitTable
+pub mod laws

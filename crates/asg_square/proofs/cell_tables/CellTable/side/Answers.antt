@@ -1,9 +1,0 @@
-use Rattle.std.proofs.Common.{subst}
-use Rattle.asg_square.specs.CellTable.{IsCellTable}
-use Rattle.asg_square.proofs.TableLemmas.{is_table}
-use Rattle.asg_square.proofs.cell_tables.CellTable.side.Goals as goal
-
-pub returns-clause-table : goal.returns-clause-table
-returns-clause-table g c =
-    let s = c.self.inside in
-    subst IsCellTable c.self.view_is (is_table s.side s.values.items s.present c.self.invariant)

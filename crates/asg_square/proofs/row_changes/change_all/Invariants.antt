@@ -1,7 +1,0 @@
-use Rattle.std.proofs.Common.{true}
-use Rattle.asg_square.specs.Changes.{ChangesValues}
-use Rattle.asg_square.proofs.row_changes.change_all.Given as goal
-
--- the values so far
-abbrev pub invariant-loop-k : goal.invariant-loop-k
-invariant-loop-k g l = ChangesValues l.fn.values l.values l.start l.from l.k (λ _. true) (goal.F-post g l.change)

@@ -1,8 +1,0 @@
-use Rattle.std.proofs.Common.{ℕ, ◌<◌}
-use Rattle.std.specs.Prelude.{IsTrue}
-use Rattle.asg_model.specs.Live.{is_open}
-use Rattle.asg_square.proofs.rows.are_all_open.Given as goal
-
--- the columns so far are open
-abbrev pub invariant-loop-column : goal.invariant-loop-column
-invariant-loop-column l = (k : ℕ) → k < l.column-index → IsTrue (is_open l.inst k)

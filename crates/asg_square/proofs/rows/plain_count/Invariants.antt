@@ -1,6 +1,0 @@
-use Rattle.asg_square.specs.Filling.{ArePlain}
-use Rattle.asg_square.proofs.rows.plain_count.Given as goal
-
--- the columns so far are plain
-abbrev pub invariant-loop-c : goal.invariant-loop-c
-invariant-loop-c l = ArePlain l.c l.labels

@@ -1,19 +1,7 @@
 -- Answers whose sums ascend are a ranking.
-use Rattle.std.proofs.Common.{◌≡◌, ◌≢◌, ℕ, ◌+◌, ◌-◌, ◌<◌, ◌≤◌, true, List, [], length, map, Option, refl, sym, ap, subst, ◌∙◌, arith}
-use Rattle.std.specs.Prelude.{AllPairs, Contains, get_or, slice_index_or}
-use Rattle.std.proofs.Math.ListN.{get_or-map}
-use Rattle.std.proofs.lemmas.List.{length-map, get_or_default}
-use Rattle.std.proofs.lemmas.List.Elements.{All-get_or, All-map, All-weaker}
-use Rattle.asg_model.specs.declared.objectives.Objective.{Objective}
-use Rattle.asg_model.specs.Instances.{IsInstance}
-use Rattle.asg_model.specs.Problem.{Problem}
-use Rattle.asg_model.specs.ValidChoice.{IsValid}
-use Rattle.asg_proof.specs.Nodes.{answer_at}
-use Rattle.asg_proof.specs.Ranked.{IsBetterChoice, AreListed, IsRanking}
-use Rattle.asg_proof.specs.SearchTrees.{last_answer}
-use Rattle.asg_dual_bounds.specs.Plain.{IsPlain}
-use Rattle.asg_monoids.specs.NarrowObjectives.{is_narrow_objective}
-use Rattle.asg_dual_bounds.specs.Numbers.{choice_of, sum_at, IsAnswer}
+use Rattle.asg_dual_bounds.proofs.Common.{◌≡◌, ℕ, ◌+◌, ◌-◌, ◌<◌, ◌≤◌, true, ◌≢◌, List, [], map, length, get_or, slice_index_or, Contains, Option, AllPairs, sym, refl, ap, ◌∙◌, subst, arith, All-get_or, All-map, All-weaker, get_or_default, length-map, choice_of, sum_at, IsAnswer, IsPlain, IsInstance, Problem, IsValid, Objective, is_narrow_objective, IsBetterChoice, AreListed, IsRanking, get_or-map}
+use Rattle.asg_rankings.specs.Nodes.{answer_at}
+use Rattle.asg_rankings.specs.SearchTrees.{last_answer}
 use Rattle.asg_dual_bounds.specs.SumRankings.{sum_of_answer, IsSumRanking}
 use Rattle.asg_dual_bounds.proofs.AnswerSums.{better_is}
 use Rattle.asg_dual_bounds.proofs.PlainChoices.{columns_of, columns-of_choice, columns_from_valid, IsValid-from_answer, answer-from_valid}

@@ -1,37 +1,15 @@
 -- Of two answers the better one has the lesser sum.
-use Rattle.std.proofs.Common.{◌≡◌, ◌+◌, ◌^◌, ◌<◌, ◌≤◌, ℕ, zero, suc, true, List, length, map, Option, Some, None, refl, sym, ap, ◌∙◌, arith}
-use Rattle.std.specs.Prelude.{◌↔◌, false, pos, All, IfSome, slice_get, option_and_then, option_to_list, sum_by, filter_map, unwrap_or}
-use Rattle.std.specs.List.{range_with_len}
-use Rattle.std.specs.Option.{option_map_or}
-use Rattle.std.proofs.lemmas.Bool.Decides.{nat_tests}
-use Rattle.std.proofs.lemmas.Int.{ints}
-use Rattle.std.proofs.lemmas.List.Elements.{All-weaker}
-use Rattle.std.proofs.lemmas.List.FromFn.{length-map-range_with_len}
-use Rattle.std.proofs.lemmas.List.Sums.{sum_by-append, sum_by-le, sum-map}
-use Rattle.std.proofs.lemmas.List.{length-map}
-use Rattle.asg_model.specs.declared.objectives.Objective.{Objective}
-use Rattle.asg_model.specs.declared.objectives.Objective.TheVariants.{Sum, SumMax}
-use Rattle.asg_model.specs.declared.parts.Cost.{Cost}
-use Rattle.asg_model.specs.Instances.{IsInstance}
+use Rattle.asg_dual_bounds.proofs.Common.{◌≡◌, ℕ, zero, suc, ◌+◌, ◌^◌, ◌<◌, ◌≤◌, true, false, ◌↔◌, List, map, length, pos, IfSome, slice_get, Some, None, All, sum_by, Option, option_to_list, filter_map, option_and_then, unwrap_or, sym, refl, ap, ◌∙◌, arith, All-weaker, ints, length-map, length-map-range_with_len, nat_tests, option_map_or, range_with_len, sum-map, sum_by-append, sum_by-le, choice_of, chosen_number, sum_at, IsAnswer, IsInstance, live_at, Problem, sum_below, Objective, Sum, SumMax, Cost, sum_below-same, cost_reach, sum_entered, is_narrow_objective, costs_may_enter, IsBetterChoice}
 use Rattle.asg_model.specs.Limits.{most_rows}
-use Rattle.asg_model.specs.Live.{live_at}
-use Rattle.asg_model.specs.Problem.{Problem}
 use Rattle.asg_model.specs.Refused.{is_refused, PassesNegative}
-use Rattle.asg_model.specs.Sums.{sum_below}
 use Rattle.asg_model.specs.Values.{chosen_cost, costs_of}
-use Rattle.asg_model.specs.laws.Counting.{sum_below-same}
 use Rattle.asg_model.specs.laws.Listing.{all_there, filter_map-range_more, All-filter_map}
 use Rattle.asg_order.specs.Bridge.{KeepsOrder, costs_fold}
 use Rattle.asg_order.specs.Entering.{MayEnter}
 use Rattle.asg_order.specs.Monoid.{IsLess}
 use Rattle.asg_monoids.specs.BoundedSums.{bounded_sums}
-use Rattle.asg_monoids.specs.Entered.{cost_reach, sum_entered}
 use Rattle.asg_monoids.specs.laws.SumFolds.{bounded_fold}
 use Rattle.asg_monoids.specs.laws.SumOrders.{sums_keep_order}
-use Rattle.asg_proof.specs.Ranked.{IsBetterChoice}
-use Rattle.asg_proof.specs.laws.LiveCosts.{costs_may_enter}
-use Rattle.asg_monoids.specs.NarrowObjectives.{is_narrow_objective}
-use Rattle.asg_dual_bounds.specs.Numbers.{choice_of, chosen_number, sum_at, IsAnswer}
 use Rattle.asg_dual_bounds.proofs.Answers.{answer_cost}
 use Rattle.asg_dual_bounds.proofs.PlainChoices.{chooses-from_columns}
 

@@ -1,15 +1,5 @@
 -- Facts of answers: their columns are there and different, and their cells have numbers.
-use Rattle.std.proofs.Common.{◌≡◌, ℕ, ◌<◌, ◌&&◌, Bool, true, false, cond, List, length, Option, Some, None, refl, sym, ap, subst, ◌∙◌, arith, ⊎_elim}
-use Rattle.std.specs.Prelude.{IsSome, slice_index, unwrap_or}
-use Rattle.std.specs.Option.{option_map, option_map_or}
-use Rattle.std.proofs.lemmas.Bool.{false≢true}
-use Rattle.std.proofs.lemmas.Option.{slice_get_cases}
-use Rattle.asg_model.specs.declared.objectives.Objective.{Objective}
-use Rattle.asg_model.specs.declared.parts.Cost.{Cost}
-use Rattle.asg_model.specs.Live.{live_at, is_active, is_open, cost_at}
-use Rattle.asg_model.specs.Problem.{Problem}
-use Rattle.asg_monoids.specs.Entered.{sum_entered}
-use Rattle.asg_dual_bounds.specs.Numbers.{number_at, chosen_number, IsAnswer}
+use Rattle.asg_dual_bounds.proofs.Common.{◌≡◌, ℕ, ◌<◌, Bool, true, false, cond, ◌&&◌, List, length, IsSome, slice_index, Some, None, Option, option_map, unwrap_or, sym, refl, ap, ◌∙◌, subst, ⊎_elim, arith, false≢true, option_map_or, slice_get_cases, number_at, chosen_number, IsAnswer, live_at, is_active, is_open, cost_at, Problem, Objective, Cost, sum_entered}
 
 -- what a number belongs to
 live-from_number : (enter : Cost → ℕ) (o : Option Cost) → IsSome (option_map enter o) → (cost : Cost) × (o ≡ Some cost) × (option_map enter o ≡ Some (enter cost))

@@ -1,14 +1,5 @@
 -- From looks over rows and cells to dual variables that are above.
-use Rattle.std.proofs.Common.{◌≡◌, ◌≢◌, ℕ, ◌+◌, ◌<◌, ◌≤◌, cond, List, [], ◌∷◌, length, sym, subst, ◌∙◌, ⊎_elim, arith}
-use Rattle.std.specs.Prelude.{Some, ◌==◌, slice_index, Contains}
-use Rattle.std.proofs.lemmas.Bool.{cases_lt, cases_eq}
-use Rattle.std.proofs.lemmas.List.Elements.{Contains-append_left, Contains-append_right, Contains-push}
-use Rattle.asg_model.specs.declared.objectives.Objective.{Objective}
-use Rattle.asg_model.specs.Problem.{Problem}
-use Rattle.asg_dual_bounds.specs.Bounds.{Duals, AreAbove}
-use Rattle.asg_dual_bounds.specs.Parts.{Part, child_part}
-use Rattle.asg_dual_bounds.specs.RowTests.{IsCellAbove, IsRowAbove, IsRowAboveBut, IsRowKept, AreRaised}
-use Rattle.asg_dual_bounds.specs.Tables.{Table, number_in, IsTable, IsTableOf}
+use Rattle.asg_dual_bounds.proofs.Common.{◌≡◌, ℕ, ◌+◌, ◌<◌, ◌≤◌, cond, ◌≢◌, List, [], ◌∷◌, length, ◌==◌, slice_index, Some, Contains, sym, ◌∙◌, subst, ⊎_elim, arith, Contains-append_left, Contains-append_right, Contains-push, cases_eq, cases_lt, Duals, AreAbove, Part, child_part, IsCellAbove, IsRowAbove, IsRowAboveBut, IsRowKept, AreRaised, Table, number_in, IsTable, IsTableOf, Problem, Objective}
 use Rattle.asg_dual_bounds.proofs.TableLemmas.{number_in-within}
 
 pub contains_head : (x : ℕ) (xs : List ℕ) → Contains (x ∷ xs) x

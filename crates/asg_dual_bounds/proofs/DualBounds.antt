@@ -1,14 +1,5 @@
 -- Dual variables bound the sums of the answers in a part and in its children.
-use Rattle.std.proofs.Common.{◌≡◌, ℕ, ◌+◌, ◌-◌, ◌*◌, ◌<◌, ◌≤◌, List, length, sum, refl, sym, ap, subst, ◌∙◌, arith, ⊎_elim}
-use Rattle.std.specs.Prelude.{slice_index}
-use Rattle.std.proofs.lemmas.Bool.{cases_eq, cases_order}
-use Rattle.asg_model.specs.declared.objectives.Objective.{Objective}
-use Rattle.asg_model.specs.Problem.{Problem}
-use Rattle.asg_model.specs.Sums.{sum_below}
-use Rattle.asg_model.specs.laws.Counting.{sum_by-below}
-use Rattle.asg_dual_bounds.specs.Numbers.{number_at, chosen_number, sum_at, IsAnswer}
-use Rattle.asg_dual_bounds.specs.Parts.{Part, IsAllowed, IsIn, child_part}
-use Rattle.asg_dual_bounds.specs.Bounds.{Duals, AreAbove, IsDualBound, IsRowGap, IsColumnGap}
+use Rattle.asg_dual_bounds.proofs.Common.{◌≡◌, ℕ, ◌+◌, ◌-◌, ◌*◌, ◌<◌, ◌≤◌, List, length, slice_index, sum, sym, refl, ap, ◌∙◌, subst, ⊎_elim, arith, cases_eq, cases_order, Duals, AreAbove, IsDualBound, IsRowGap, IsColumnGap, number_at, chosen_number, sum_at, IsAnswer, Part, IsAllowed, IsIn, child_part, Problem, sum_below, Objective, sum_by-below}
 use Rattle.asg_dual_bounds.proofs.PlaceSums.{sums_bound, raised, raised_here, raised_else, sum_below-raised, lessened, lessened_here, lessened_else, sum_below-lessened}
 use Rattle.asg_dual_bounds.proofs.Answers.{answer_number, answer_below, answer_different}
 use Rattle.asg_dual_bounds.proofs.Splits.{allowed_later, first_banned}

@@ -1,16 +1,5 @@
 -- From looks over rows and columns of a table to gaps of children.
-use Rattle.std.proofs.Common.{◌≡◌, ◌≢◌, ◌⊎◌, ℕ, ◌+◌, ◌<◌, ◌≤◌, cond, List, [], ◌∷◌, length, set, refl, sym, ap, subst, ◌∙◌, ⊎_elim, inl, inr, arith}
-use Rattle.std.specs.Prelude.{Some, ◌==◌, slice_index, Contains}
-use Rattle.std.proofs.lemmas.Bool.{cases_eq, eq-eqb, ne_eqb}
-use Rattle.std.proofs.lemmas.List.{get_or_default, get_or-set_same, get_or-set_other}
-use Rattle.asg_model.specs.declared.objectives.Objective.{Objective}
-use Rattle.asg_model.specs.Problem.{Problem}
-use Rattle.asg_dual_bounds.specs.Bounds.{Duals, AreAbove}
-use Rattle.asg_dual_bounds.specs.GapTests.{Bars, IsGapBelow, IsRowGapIn, IsColumnGapIn, IsColumnGapAt, AreLeasts, IsGapIn}
-use Rattle.asg_dual_bounds.specs.Parts.{Part, IsAllowed}
-use Rattle.asg_dual_bounds.specs.RowTests.{AreClipped, IsRowAboveBut}
-use Rattle.asg_dual_bounds.specs.Tables.{Table, number_in, IsTable, IsTableOf}
-use Rattle.asg_dual_bounds.specs.Views.{IsChildGap}
+use Rattle.asg_dual_bounds.proofs.Common.{◌≡◌, ℕ, ◌+◌, ◌<◌, ◌≤◌, cond, ◌≢◌, ◌⊎◌, List, [], ◌∷◌, length, set, ◌==◌, slice_index, Some, Contains, sym, refl, ap, ◌∙◌, subst, inl, inr, ⊎_elim, arith, get_or-set_other, get_or-set_same, eq-eqb, ne_eqb, cases_eq, get_or_default, Duals, AreAbove, Bars, IsGapBelow, IsRowGapIn, IsColumnGapIn, IsColumnGapAt, AreLeasts, IsGapIn, Part, IsAllowed, AreClipped, IsRowAboveBut, Table, number_in, IsTable, IsTableOf, IsChildGap, Problem, Objective}
 use Rattle.asg_dual_bounds.proofs.BoundLemmas.{contains_head, contains_tail}
 use Rattle.asg_dual_bounds.proofs.TableLemmas.{number_in-within}
 

@@ -1,3 +1,4 @@
+pub mod Common
 mod PlaceSums
 mod Answers
 mod Splits

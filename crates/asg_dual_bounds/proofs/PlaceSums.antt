@@ -1,9 +1,5 @@
 -- Sums over numbers below a bound: one term apart, the terms along different numbers, a raised term.
-use Rattle.std.proofs.Common.{◌≡◌, ℕ, zero, suc, ◌+◌, ◌-◌, ◌*◌, ◌<◌, ◌≤◌, cond, eqb, refl, sym, ap, ◌∙◌, arith, ⊎_elim}
-use Rattle.std.proofs.lemmas.Bool.{cases_lt, cases_eq, eq-eqb, ne_eqb, cond-true, cond-false}
-use Rattle.asg_model.specs.Sums.{sum_below}
-use Rattle.asg_model.specs.laws.Counting.{sum_below-same, sum_below-le, sum_below-add}
-use Rattle.asg_model.specs.laws.Rows.{ones_below}
+use Rattle.asg_dual_bounds.proofs.Common.{◌≡◌, ℕ, zero, suc, ◌+◌, ◌-◌, ◌*◌, ◌<◌, ◌≤◌, cond, eqb, sym, refl, ap, ◌∙◌, ⊎_elim, arith, eq-eqb, ne_eqb, cases_eq, cases_lt, cond-false, cond-true, sum_below, sum_below-same, sum_below-le, sum_below-add, ones_below}
 
 -- the terms without that at j
 abbrev pub without : (ℕ → ℕ) → ℕ → ℕ → ℕ

@@ -1,25 +1,6 @@
 -- The answers of a plain instance are its valid choices.
-use Rattle.std.proofs.Common.{◌≡◌, ◌≢◌, ℕ, zero, suc, ◌<◌, ◌≤◌, Bool, true, cond, eqb, List, [], ◌∷◌, length, map, Option, Some, None, refl, sym, ap, subst, ◌∙◌, arith, ⊎_elim}
-use Rattle.std.specs.Prelude.{IsSome, is_some, slice_index, slice_get, get_or, unwrap_or, count_by, AllPairs}
-use Rattle.std.specs.Option.{option_map, option_map_or}
-use Rattle.std.proofs.Math.ListN.{get_or-map}
-use Rattle.std.proofs.lemmas.Bool.{false≢true, cases_lt, cases_eq, eq-eqb, ne_eqb, cond-true, cond-false}
-use Rattle.std.proofs.lemmas.List.{length-map, get_or_default}
-use Rattle.std.proofs.lemmas.List.Elements.{All-get_or}
-use Rattle.std.proofs.lemmas.List.Sums.{sum_by-cons, count_by-le-length}
-use Rattle.std.proofs.lemmas.Option.{slice_get-get_or, slice_get_past}
-use Rattle.asg_model.specs.declared.objectives.Objective.{Objective}
-use Rattle.asg_model.specs.declared.parts.Cost.{Cost}
+use Rattle.asg_dual_bounds.proofs.Common.{◌≡◌, ℕ, zero, suc, ◌<◌, ◌≤◌, Bool, true, cond, eqb, ◌≢◌, List, [], ◌∷◌, map, length, get_or, is_some, IsSome, slice_get, slice_index, Some, None, count_by, Option, option_map, AllPairs, unwrap_or, sym, refl, ap, ◌∙◌, subst, ⊎_elim, arith, eq-eqb, ne_eqb, All-get_or, cases_eq, cases_lt, cond-false, cond-true, count_by-le-length, false≢true, get_or_default, length-map, option_map_or, slice_get-get_or, slice_get_past, sum_by-cons, choice_of, IsAnswer, IsPlain, live_at, Problem, sum_below, IsValid, Chooses, takes, Objective, Cost, sum_below-same, sum_by-below, term-le-sum_below, no_row, no_column, ones_below, sum_entered, get_or-map}
 use Rattle.asg_model.specs.Counts.{capacity_at, active_count, placed, placed_by}
-use Rattle.asg_model.specs.Live.{live_at}
-use Rattle.asg_model.specs.Problem.{Problem}
-use Rattle.asg_model.specs.Sums.{sum_below}
-use Rattle.asg_model.specs.ValidChoice.{IsValid, Chooses, takes}
-use Rattle.asg_model.specs.laws.Counting.{sum_below-same, sum_by-below, term-le-sum_below}
-use Rattle.asg_model.specs.laws.Rows.{no_row, no_column, ones_below}
-use Rattle.asg_monoids.specs.Entered.{sum_entered}
-use Rattle.asg_dual_bounds.specs.Plain.{IsPlain}
-use Rattle.asg_dual_bounds.specs.Numbers.{choice_of, IsAnswer}
 use Rattle.asg_dual_bounds.proofs.Answers.{answer_cost, answer_below, answer_different}
 use Rattle.asg_dual_bounds.proofs.PlaceSums.{without, without_else, sum_below-apart, sum_chosen-le}
 

@@ -1,9 +1,5 @@
 -- The children of a part by one of its lists of columns split the others.
-use Rattle.std.proofs.Common.{◌≡◌, ◌≢◌, ◌⊎◌, ℕ, zero, suc, ◌<◌, ◌≤◌, cond, eqb, List, [], ◌∷◌, length, refl, sym, ap, subst, ◌∙◌, arith, ⊎_elim, inl, inr}
-use Rattle.std.specs.Prelude.{slice_index, Contains}
-use Rattle.std.proofs.lemmas.Bool.{cases_lt, cases_eq, cases_order, eq-eqb, ne_eqb, cond-true, cond-false}
-use Rattle.std.proofs.lemmas.Map.Made.{Contains-tail}
-use Rattle.asg_dual_bounds.specs.Parts.{Part, whole_part, IsAllowed, IsIn, child_part}
+use Rattle.asg_dual_bounds.proofs.Common.{◌≡◌, ℕ, zero, suc, ◌<◌, ◌≤◌, cond, eqb, ◌≢◌, ◌⊎◌, List, [], ◌∷◌, length, slice_index, Contains, sym, refl, ap, ◌∙◌, subst, inl, inr, ⊎_elim, arith, eq-eqb, ne_eqb, Contains-tail, cases_eq, cases_lt, cases_order, cond-false, cond-true, Part, whole_part, IsAllowed, IsIn, child_part}
 
 -- a later row is free
 pub allowed_later : (part : Part) (r c : ℕ) → part.row < r → IsAllowed part r c

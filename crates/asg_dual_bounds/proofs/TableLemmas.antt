@@ -1,18 +1,5 @@
 -- What stands at the places of a table.
-use Rattle.std.proofs.Common.{◌≡◌, ◌≢◌, ℕ, ◌+◌, ◌*◌, ◌<◌, ◌≤◌, Bool, true, false, cond, List, length, get_or, refl, sym, ap, subst, ◌∙◌, ⊎_elim, arith}
-use Rattle.std.specs.Prelude.{Option, Some, None, ◌==◌, nat_lt, slice_index}
-use Rattle.std.specs.Option.{option_map, option_map_or}
-use Rattle.std.proofs.Math.Nat.{mul-le-mul_right}
-use Rattle.std.proofs.lemmas.Bool.{cases_lt, cases_eq, ltb-true, lt-ltb, le-ltb, eqb-false, and_left, and_right}
-use Rattle.std.proofs.lemmas.List.{get_or_past, get_or_default}
-use Rattle.std.proofs.lemmas.Nat.{row_fits}
-use Rattle.std.proofs.lemmas.Option.{none-some, same_Some, slice_get_past}
-use Rattle.asg_model.specs.declared.objectives.Objective.{Objective}
-use Rattle.asg_model.specs.Live.{is_active, is_open, cost_at}
-use Rattle.asg_model.specs.Problem.{Problem}
-use Rattle.asg_monoids.specs.Entered.{sum_entered}
-use Rattle.asg_dual_bounds.specs.Numbers.{number_at}
-use Rattle.asg_dual_bounds.specs.Tables.{Table, absent, number_of, number_in, IsTable, IsTableOf}
+use Rattle.asg_dual_bounds.proofs.Common.{◌≡◌, ℕ, ◌+◌, ◌*◌, ◌<◌, ◌≤◌, Bool, true, false, cond, ◌≢◌, List, length, get_or, nat_lt, ◌==◌, slice_index, Some, None, Option, option_map, sym, refl, ap, ◌∙◌, subst, ⊎_elim, mul-le-mul_right, arith, ltb-true, le-ltb, lt-ltb, and_left, and_right, cases_eq, cases_lt, eqb-false, get_or_default, get_or_past, none-some, option_map_or, row_fits, same_Some, slice_get_past, number_at, Table, absent, number_of, number_in, IsTable, IsTableOf, is_active, is_open, cost_at, Problem, Objective, sum_entered}
 
 inside_is : (b : Bool) (o : Option ℕ) (x : ℕ) → cond b o None ≡ Some x → (b ≡ true) × (o ≡ Some x)
 inside_is true o x e = (refl, e)

@@ -1,22 +1,13 @@
 -- Dual variables for the costs `4 1 3 / 2 0 5 / 3 2 2`, each entered with 1000000000 added; the least
 -- sum is that of 5, and 6 without the first row's second column. And for the first two rows alone,
 -- where one column stays free and the floor counts.
-use Rattle.std.proofs.Common.{◌≡◌, ◌≢◌, ℕ, zero, suc, ◌+◌, ◌<◌, ◌≤◌, List, [], ◌∷◌, Some, refl, subst, arith}
-use Rattle.std.specs.Prelude.{AllPairs, Contains, IsTrue, IsSome, slice_index}
-use Rattle.std.proofs.lemmas.List.Elements.{All-nil, All-cons}
-use Rattle.std.proofs.lemmas.Option.{none-some, same_Some}
-use Rattle.asg_model.specs.declared.objectives.Objective.TheVariants.{Sum, SumMax}
+use Rattle.asg_dual_bounds.proofs.Common.{◌≡◌, ℕ, zero, suc, ◌+◌, ◌<◌, ◌≤◌, ◌≢◌, List, [], ◌∷◌, IsSome, IsTrue, slice_index, Some, Contains, AllPairs, refl, subst, arith, All-cons, All-nil, none-some, same_Some, Duals, AreAbove, IsDualBound, IsRowGap, IsColumnGap, number_at, sum_at, IsAnswer, Part, whole_part, IsIn, child_part, IsPlain, Problem, Sum, SumMax}
 use Rattle.asg_model.specs.declared.parts.Column.{Column}
-use Rattle.asg_model.specs.declared.parts.Place.TheVariants.{All as PlaceAll}
 use Rattle.asg_model.specs.declared.parts.Row.{Row}
-use Rattle.asg_model.specs.Problem.{Problem}
 use Rattle.asg_proof.proofs.WorkedPhase.{worked, row, column, cost}
-use Rattle.asg_dual_bounds.specs.Plain.{IsPlain}
-use Rattle.asg_dual_bounds.specs.Numbers.{number_at, sum_at, IsAnswer}
-use Rattle.asg_dual_bounds.specs.Parts.{Part, whole_part, IsIn, child_part}
-use Rattle.asg_dual_bounds.specs.Bounds.{Duals, AreAbove, IsDualBound, IsRowGap, IsColumnGap}
 use Rattle.asg_dual_bounds.proofs.DualBounds.{dual_bound, child_bound}
 use Rattle.asg_dual_bounds.proofs.Splits.{in_whole, not_in_child}
+use Rattle.asg_model.specs.declared.parts.Place.TheVariants.{All as PlaceAll}
 
 abbrev best : List ℕ
 best = 1 ∷ 0 ∷ 2 ∷ []

@@ -5,7 +5,7 @@ ghost use Rattle.asg_model.specs.Instances.{IsInstance};
 ghost use Rattle.asg_model.specs.Problem.{Problem};
 ghost use Rattle.asg_model.specs.ValidChoice.{IsValid};
 ghost use Rattle.asg_model.specs.declared.objectives.Objective.{Objective};
-ghost use Rattle.asg_proof.specs.Ranked.{IsBetterChoice, IsRanking};
+ghost use Rattle.asg_rankings.specs.Ranked.{IsBetterChoice, IsRanking};
 ghost use Rattle.asg_dual_bounds.specs.Plain.{IsPlain};
 ghost use Rattle.asg_monoids.specs.NarrowObjectives.{is_narrow_objective};
 ghost use Rattle.asg_dual_bounds.specs.Numbers.{choice_of, sum_at, IsAnswer};

@@ -1,12 +1,5 @@
 -- A table before and after one of its records changed.
-use Rattle.std.proofs.Common.{◌≡◌, ◌≢◌, inl, inr, ℕ, ◌+◌, List, Option, Some, None, IfSome, is_some, refl, sym, ap, subst, ◌∙◌}
-use Rattle.std.specs.Prelude.{unwrap_or, option_map}
-use Rattle.std.proofs.lemmas.Bool.{cases_eq}
-use Rattle.asg_proof.specs.Phases.{PhaseOf}
-use Rattle.asg_pool.specs.declared.links.Link.{Link}
-use Rattle.asg_pool.specs.Forest.{Branch, Forest, trail_at, Changes}
-use Rattle.asg_pool.specs.Links.{Table, link_at}
-use Rattle.asg_pool.specs.Paths.{path, parent_at, depth_at, branch_at, forest_of, IsRooted, AreRooted}
+use Rattle.asg_pool.proofs.Common.{◌≡◌, ℕ, ◌+◌, ◌≢◌, List, is_some, IfSome, Some, None, Option, unwrap_or, sym, refl, ap, ◌∙◌, subst, inl, inr, cases_eq, option_map, Branch, Forest, trail_at, Changes, Table, link_at, path, parent_at, depth_at, branch_at, forest_of, IsRooted, AreRooted, Link, PhaseOf}
 use Rattle.asg_pool.proofs.PathLemmas.{some_there, if_some, if_some_at, parent_is, IsThere, rooted_at, closed, path_same}
 use Rattle.asg_pool.proofs.ForestLemmas.{trail_shown}
 

@@ -1,17 +1,5 @@
 -- What a region's table shows of its trails.
-use Rattle.std.proofs.Common.{◌≡◌, inl, inr, ℕ, ◌-◌, [], ◌∷◌, ◌++◌, length, get_or, Option, Some, None, IfSome, is_some, refl, sym, ap, subst, ◌∙◌, arith, length-append}
-use Rattle.std.specs.Prelude.{unwrap_or, option_map, option_and_then, map}
-use Rattle.std.specs.List.{range_with_len}
-use Rattle.std.proofs.lemmas.Bool.{cases_lt}
-use Rattle.std.proofs.Math.Seq.{get_or-append_seam}
-use Rattle.std.proofs.lemmas.List.{get_or_past}
-use Rattle.std.proofs.lemmas.List.FromFn.{get_or-map-range_with_len, length-map-range_with_len}
-use Rattle.asg_proof.specs.Phases.{PhaseOf, phase_of}
-use Rattle.asg_pool.specs.declared.links.Link.{Link}
-use Rattle.asg_pool.specs.Forest.{Branch, Forest, trail_at, IsLive, parent_of, phases_of, phases_to, last_phase, IsGrown, IsForest}
-use Rattle.asg_proof.specs.PromisedProofs.{IsPhaseOver}
-use Rattle.asg_pool.specs.Links.{Table, link_at}
-use Rattle.asg_pool.specs.Paths.{path, parent_at, depth_at, branch_at, forest_of, AreRooted}
+use Rattle.asg_pool.proofs.Common.{◌≡◌, ℕ, ◌-◌, [], ◌∷◌, ◌++◌, map, length, get_or, is_some, IfSome, Some, None, Option, option_and_then, unwrap_or, sym, refl, ap, ◌∙◌, subst, inl, inr, arith, length-append, cases_lt, get_or-append_seam, get_or-map-range_with_len, get_or_past, length-map-range_with_len, range_with_len, option_map, Branch, Forest, trail_at, IsLive, parent_of, phases_of, phases_to, last_phase, IsGrown, IsForest, Table, link_at, path, parent_at, depth_at, branch_at, forest_of, AreRooted, Link, PhaseOf, phase_of, IsPhaseOver}
 use Rattle.asg_pool.proofs.PathLemmas.{some_of, some_there, if_some, if_some_at, depth_is, IsThere, closed, parent_there, path_more, path_length}
 
 module _ {V : Type 0} (side : ℕ) (L : Table) (phase : ℕ → PhaseOf V) where

@@ -1,3 +1,4 @@
+pub mod Common
 pub mod StripLemmas
 pub mod LinkLemmas
 pub mod PathLemmas

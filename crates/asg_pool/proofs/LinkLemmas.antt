@@ -1,14 +1,5 @@
 -- Tables of records with free places.
-use Rattle.std.proofs.Common.{◌≡◌, ◌≢◌, inl, inr, ℕ, zero, suc, ◌<◌, ◌≤◌, max, List, [], ◌∷◌, ◌++◌, length, get_or, set, All, Option, None, IsSome, refl, sym, ap, ◌∙◌, arith, length-append}
-use Rattle.std.proofs.lemmas.Bool.{cases_eq, cases_lt}
-use Rattle.std.proofs.lemmas.List.{get_or-set_same, get_or-set_other, get_or_past, length-set}
-use Rattle.std.proofs.lemmas.List.Elements.{All-cons, All-nil, All-append, All-from_get_or}
-use Rattle.std.proofs.lemmas.List.Kept.{AllPairs-cons}
-use Rattle.std.proofs.lemmas.List.Quantifiers.{all_pairs_push}
-use Rattle.asg_pool.specs.declared.links.Link.{Link}
-use Rattle.asg_pool.specs.Strips.{with_row}
-use Rattle.asg_pool.specs.Links.{link_at, AreVacant}
-use Rattle.asg_model.specs.laws.Listing.{length-le_from_below}
+use Rattle.asg_pool.proofs.Common.{◌≡◌, ℕ, zero, suc, ◌<◌, ◌≤◌, max, ◌≢◌, List, [], ◌∷◌, ◌++◌, length, get_or, set, IsSome, None, All, Option, sym, refl, ap, ◌∙◌, inl, inr, arith, length-append, length-set, get_or-set_other, get_or-set_same, All-append, All-cons, All-from_get_or, All-nil, AllPairs-cons, all_pairs_push, cases_eq, cases_lt, get_or_past, length-le_from_below, link_at, AreVacant, with_row, Link}
 
 module _ {X : Type 0} where
   -- within the list, a place is written as by `set`

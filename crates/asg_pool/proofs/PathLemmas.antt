@@ -1,14 +1,6 @@
 -- The ways to the records of a table.
-use Rattle.std.proofs.Common.{◌≡◌, ◌≢◌, ℕ, zero, suc, ◌+◌, ◌<◌, ◌≤◌, List, [], ◌∷◌, ◌++◌, length, All, AllPairs, Option, Some, None, IsSome, IfSome, is_some, refl, sym, ap, subst, ◌∙◌, arith, length-append}
-use Rattle.std.specs.Prelude.{unwrap_or, option_map, option_and_then}
-use Rattle.std.proofs.lemmas.List.Elements.{All-cons, All-nil}
-use Rattle.std.proofs.lemmas.List.Kept.{AllPairs-cons}
-use Rattle.asg_proof.specs.Phases.{PhaseOf}
-use Rattle.asg_pool.specs.declared.links.Link.{Link}
-use Rattle.asg_pool.specs.Links.{link_at}
-use Rattle.asg_pool.specs.Paths.{path, parent_at, depth_at, IsRooted, AreRooted}
+use Rattle.asg_pool.proofs.Common.{◌≡◌, ℕ, zero, suc, ◌+◌, ◌<◌, ◌≤◌, ◌≢◌, List, [], ◌∷◌, ◌++◌, length, is_some, IfSome, IsSome, Some, None, All, Option, AllPairs, option_and_then, unwrap_or, sym, refl, ap, ◌∙◌, subst, arith, length-append, All-cons, All-nil, AllPairs-cons, option_map, length-le_from_below, link_at, path, parent_at, depth_at, IsRooted, AreRooted, Link, PhaseOf}
 use Rattle.asg_pool.proofs.LinkLemmas.{link_within}
-use Rattle.asg_model.specs.laws.Listing.{length-le_from_below}
 
 -- what an option has that has something
 pub some_of : {X : Type 0} (o : Option X) → IsSome o → (x : X) × (o ≡ Some x)

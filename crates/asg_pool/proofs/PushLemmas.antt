@@ -1,14 +1,5 @@
 -- A region after a phase was written into one of its free records.
-use Rattle.std.proofs.Common.{◌≡◌, ◌≢◌, inl, inr, ℕ, suc, ◌+◌, ◌≤◌, List, [], ◌∷◌, ◌++◌, length, Option, Some, None, IsSome, IfSome, is_some, refl, sym, ap, subst, ◌∙◌, arith}
-use Rattle.std.specs.Prelude.{option_map, option_and_then}
-use Rattle.std.proofs.lemmas.Bool.{cases_eq}
-use Rattle.asg_proof.specs.Phases.{PhaseOf, phase_of}
-use Rattle.asg_pool.specs.declared.links.Link.{Link}
-use Rattle.asg_pool.specs.Forest.{phases_to, grown_on, Changes}
-use Rattle.asg_proof.specs.PromisedProofs.{IsPhaseOver}
-use Rattle.asg_pool.specs.Links.{Table, link_at}
-use Rattle.asg_pool.specs.Strips.{Rows, row_at, with_row}
-use Rattle.asg_pool.specs.Paths.{path, parent_at, depth_at, phase_at, branch_at, forest_of, IsRooted, AreRooted, AreRowsFor, IsRegion}
+use Rattle.asg_pool.proofs.Common.{◌≡◌, ℕ, suc, ◌+◌, ◌≤◌, ◌≢◌, List, [], ◌∷◌, ◌++◌, length, is_some, IfSome, IsSome, Some, None, Option, option_and_then, sym, refl, ap, ◌∙◌, subst, inl, inr, arith, cases_eq, option_map, phases_to, grown_on, Changes, Table, link_at, path, parent_at, depth_at, phase_at, branch_at, forest_of, IsRooted, AreRooted, AreRowsFor, IsRegion, Rows, row_at, with_row, Link, PhaseOf, phase_of, IsPhaseOver}
 use Rattle.asg_pool.proofs.LinkLemmas.{with_row-same, with_row-other, length-with_row}
 use Rattle.asg_pool.proofs.PathLemmas.{if_some, if_some_at, IsThere, closed}
 use Rattle.asg_pool.proofs.ForestLemmas.{way_shown}

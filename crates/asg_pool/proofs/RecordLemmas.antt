@@ -1,10 +1,5 @@
 -- Phases that are copied on the way from a record to the first one.
-use Rattle.std.proofs.Common.{◌≡◌, ℕ, List, [], ◌∷◌, ◌++◌, Option, Some, IfSome, sym, ap, subst, ◌∙◌, append_assoc}
-use Rattle.std.specs.Prelude.{reverse}
-use Rattle.std.proofs.lemmas.List.{reverse-append}
-use Rattle.asg_proof.specs.Phases.{PhaseOf}
-use Rattle.asg_pool.specs.declared.links.Link.{Link}
-use Rattle.asg_pool.specs.Paths.{path, parent_at, depth_at, AreRooted}
+use Rattle.asg_pool.proofs.Common.{◌≡◌, ℕ, List, [], ◌∷◌, ◌++◌, reverse, IfSome, Some, Option, sym, ap, ◌∙◌, subst, append_assoc, reverse-append, path, parent_at, depth_at, AreRooted, Link, PhaseOf}
 use Rattle.asg_pool.proofs.PathLemmas.{IsThere, parent_there, path_more}
 
 -- the phases after the next record are out, the last one first

@@ -1,13 +1,5 @@
 -- A region after one of its records was freed.
-use Rattle.std.proofs.Common.{◌≡◌, ◌≢◌, inl, inr, ℕ, length, set, Some, None, IfSome, is_some, refl, sym, ap, subst, ◌∙◌, arith}
-use Rattle.std.specs.Prelude.{option_map}
-use Rattle.std.proofs.lemmas.Bool.{cases_eq}
-use Rattle.std.proofs.lemmas.List.{get_or-set_same, get_or-set_other, length-set}
-use Rattle.asg_proof.specs.Phases.{PhaseOf}
-use Rattle.asg_pool.specs.Forest.{Forest, parent_of, Changes, IsLeaf}
-use Rattle.asg_pool.specs.Links.{Table, link_at}
-use Rattle.asg_pool.specs.Strips.{Rows}
-use Rattle.asg_pool.specs.Paths.{path, parent_at, phase_at, forest_of, IsRooted, AreRooted, AreRowsFor, IsRegion}
+use Rattle.asg_pool.proofs.Common.{◌≡◌, ℕ, ◌≢◌, length, set, is_some, IfSome, Some, None, sym, refl, ap, ◌∙◌, subst, inl, inr, arith, length-set, get_or-set_other, get_or-set_same, cases_eq, option_map, Forest, parent_of, Changes, IsLeaf, Table, link_at, path, parent_at, phase_at, forest_of, IsRooted, AreRooted, AreRowsFor, IsRegion, Rows, PhaseOf}
 use Rattle.asg_pool.proofs.LinkLemmas.{link_within}
 use Rattle.asg_pool.proofs.PathLemmas.{IsThere}
 use Rattle.asg_pool.proofs.ForestLemmas.{parent_shown}

@@ -1,12 +1,5 @@
 -- A region after memory was taken.
-use Rattle.std.proofs.Common.{◌≡◌, ℕ, ◌+◌, ◌-◌, ◌≤◌, max, [], length, get_or, Result, Ok, Err, OnOk, OnErr, ap, sym, subst, ◌∙◌, arith}
-use Rattle.std.specs.Prelude.{IsSome}
-use Rattle.asg_pool.specs.Forest.{Forest}
-use Rattle.asg_pool.specs.Links.{Table, link_at, spare_of, most_room}
-use Rattle.asg_pool.specs.Strips.{Rows, row_at, IsWider}
-use Rattle.asg_proof.specs.Phases.{PhaseOf, phase_of}
-use Rattle.asg_proof.specs.PromisedProofs.{IsPhaseOver}
-use Rattle.asg_pool.specs.Paths.{phase_at, forest_of, AreRowsFor, IsRegion}
+use Rattle.asg_pool.proofs.Common.{◌≡◌, ℕ, ◌+◌, ◌-◌, ◌≤◌, max, [], length, get_or, OnOk, OnErr, IsSome, Ok, Err, Result, sym, ap, ◌∙◌, subst, arith, Forest, Table, link_at, spare_of, most_room, phase_at, forest_of, AreRowsFor, IsRegion, Rows, row_at, IsWider, PhaseOf, phase_of, IsPhaseOver}
 
 module _ {V : Type 0} (side : ℕ) (L : Table) (steps steps_after : Rows V) (enters enters_after leaves leaves_after : Rows ℕ)
     (same_steps : steps_after.rows ≡ steps.rows) (same_enters : enters_after.rows ≡ enters.rows) (same_leaves : leaves_after.rows ≡ leaves.rows) where

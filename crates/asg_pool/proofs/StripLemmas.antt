@@ -1,11 +1,6 @@
 -- Rows one behind another in one list: what is read and written there.
-use Rattle.std.proofs.Common.{◌≡◌, ℕ, zero, suc, ◌+◌, ◌*◌, ◌<◌, ◌≤◌, List, [], ◌∷◌, ◌++◌, length, get_or, set, take, drop, refl, sym, ap, ◌∙◌, arith}
-use Rattle.std.specs.Prelude.{All}
-use Rattle.std.proofs.lemmas.List.{length-drop, length-take-le, take_at, take-append-le, drop-append-le, drop-drop, drop-take, nil_from_length}
+use Rattle.asg_pool.proofs.Common.{◌≡◌, ℕ, zero, suc, ◌+◌, ◌*◌, ◌<◌, ◌≤◌, List, [], ◌∷◌, ◌++◌, length, get_or, take, drop, set, All, sym, refl, ap, ◌∙◌, arith, length-drop, length-take-le, drop-drop, take_at, drop-append-le, drop-take, mul-le, nil_from_length, put_mid, row_fits, take-append-le, Rows, rows_of, with_row}
 use Rattle.std.proofs.lemmas.Slice.{take-put_mid, take-put_mid_below, drop-put_mid}
-use Rattle.std.proofs.lemmas.Nat.{mul-le, row_fits}
-use borrow.Rule.Slice.PartMut.{put_mid}
-use Rattle.asg_pool.specs.Strips.{Rows, rows_of, with_row}
 use Rattle.asg_pool.proofs.LinkLemmas.{set_is_with_row}
 
 module _ (width : ℕ) where

@@ -1,13 +1,7 @@
 -- Phases of sums that are cut: the last phase loses its last steps, and the last of those left is
 -- lessened.
-use Rattle.std.proofs.Common.{◌≡◌, ℕ, zero, suc, ◌+◌, ◌<◌, ◌≤◌, Bool, List, [], ◌∷◌, ◌++◌, length, take, get_or, Option, refl, sym, ◌∙◌, ap, subst, arith, ⊎_elim}
-use Rattle.std.proofs.lemmas.Bool.{cases_lt, leb-true, le-leb}
-use Rattle.std.proofs.lemmas.List.{get_or_append_left, get_or-take, get_or-append-add, length-take}
+use Rattle.asg_proof.proofs.Common.{◌≡◌, ℕ, zero, suc, ◌+◌, ◌<◌, ◌≤◌, Bool, List, [], ◌∷◌, ◌++◌, length, get_or, take, Option, sym, refl, ap, ◌∙◌, subst, ⊎_elim, arith, length-take, get_or-take, get_or-append-add, le-leb, leb-true, cases_lt, get_or_append_left, bounded_sums, bounded_difference, PhaseOf, entered_at, staying_at, square_after, after_phases, IsAdmittedPhase, AreAdmittedPhases, cut_phase, stepped, IsAdmittedStep, AreAdmittedPhases-front, AreAdmittedPhases-back, AreAdmittedPhases-push}
 use Rattle.std.proofs.lemmas.List.{length-append}
-use Rattle.asg_monoids.specs.BoundedSums.{bounded_sums, bounded_difference}
-use Rattle.asg_proof.specs.Steps.{stepped, IsAdmittedStep}
-use Rattle.asg_proof.specs.Phases.{PhaseOf, entered_at, staying_at, square_after, after_phases, IsAdmittedPhase, AreAdmittedPhases, cut_phase}
-use Rattle.asg_proof.specs.laws.PhaseLists.{AreAdmittedPhases-front, AreAdmittedPhases-back, AreAdmittedPhases-push}
 
 module _ (top side : ℕ) (phase : PhaseOf ℕ) (n c : ℕ) (below : n < length phase.steps) (less : c ≤ get_or phase.steps n 0) (square : ℕ → ℕ → Option ℕ) where
   abbrev cut : PhaseOf ℕ

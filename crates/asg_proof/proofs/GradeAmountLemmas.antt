@@ -1,18 +1,5 @@
 -- Phases of one grade, joined to plain phases.
-use Rattle.std.proofs.Common.{◌≡◌, ℕ, zero, suc, ◌+◌, ◌-◌, ◌<◌, ◌≤◌, ◌^◌, Bool, true, false, min, List, [], ◌∷◌, length, map, Option, Some, None, refl, sym, ◌∙◌, ap, subst, arith}
-use Rattle.std.specs.Prelude.{All, slice_index_or, fold}
-use Rattle.std.specs.Option.{option_map}
-use Rattle.std.proofs.lemmas.Bool.{leb-true, le-leb}
-use Rattle.std.proofs.lemmas.Bool.Decides.{nat_tests}
-use Rattle.std.proofs.lemmas.List.{length-map}
-use Rattle.std.proofs.lemmas.Option.{none-some}
-use Rattle.asg_order.specs.Monoid.{Monoid, IsLe, fold_of}
-use Rattle.asg_monoids.specs.BoundedSums.{bounded_sums, bounded_difference}
-use Rattle.asg_monoids.specs.Grades.{graded, graded_difference}
-use Rattle.asg_monoids.specs.laws.Graded.{by_grades}
-use Rattle.asg_proof.specs.Steps.{moved, stepped, IsAdmittedStep}
-use Rattle.asg_proof.specs.Phases.{PhaseOf, entered_at, staying_at, square_after, after_phase, after_phases, AreAdmittedSteps, IsAdmittedPhase, AreAdmittedPhases, index_of}
-use Rattle.asg_proof.specs.GradeAmounts.{amount_at, cell_amount, AreAmounts, of_grade, graded_phase, rise_phase, IsRisePhase, HasPositiveSteps}
+use Rattle.asg_proof.proofs.Common.{◌≡◌, ℕ, zero, suc, ◌+◌, ◌-◌, ◌^◌, ◌<◌, ◌≤◌, min, Bool, true, false, List, [], ◌∷◌, map, length, slice_index_or, Some, None, fold, All, Option, option_map, sym, refl, ap, ◌∙◌, subst, arith, le-leb, leb-true, length-map, nat_tests, none-some, bounded_sums, bounded_difference, graded, graded_difference, by_grades, Monoid, IsLe, fold_of, amount_at, cell_amount, AreAmounts, of_grade, graded_phase, rise_phase, IsRisePhase, HasPositiveSteps, PhaseOf, entered_at, staying_at, square_after, after_phase, after_phases, AreAdmittedSteps, IsAdmittedPhase, AreAdmittedPhases, index_of, moved, stepped, IsAdmittedStep}
 
 step_lifted : (g : ℕ) (steps : List ℕ) (t : ℕ) → t < length steps → slice_index_or (map (of_grade g) steps) t (0, 0) ≡ of_grade g (slice_index_or steps t 0)
 step_lifted g [] t h = absurd (omega (arith, h))

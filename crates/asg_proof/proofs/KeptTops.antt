@@ -1,14 +1,5 @@
 -- Where nothing reaches the lesser top, phases are admitted by it exactly where they are by the greater one.
-use Rattle.std.proofs.Common.{◌≡◌, ℕ, zero, suc, ◌+◌, ◌<◌, ◌≤◌, Bool, true, false, List, [], ◌∷◌, length, take, drop, get_or, Option, Some, None, refl, sym, ◌∙◌, ap, subst, arith}
-use Rattle.std.specs.List.{sum}
-use Rattle.std.specs.Option.{option_map}
-use Rattle.std.proofs.lemmas.Bool.Decides.{nat_tests}
-use Rattle.std.proofs.lemmas.List.Sums.{sum_by-cons}
-use Rattle.asg_order.specs.Monoid.{IsValue, IsLe}
-use Rattle.asg_monoids.specs.BoundedSums.{bounded_sums, bounded_difference}
-use Rattle.asg_proof.specs.Steps.{moved, IsAdmittedStep}
-use Rattle.asg_proof.specs.Phases.{PhaseOf, entered_at, staying_at, square_after, after_phase, IsAdmittedPhase, AreAdmittedPhases}
-use Rattle.asg_proof.specs.laws.Stepped.{option_map_cases}
+use Rattle.asg_proof.proofs.Common.{◌≡◌, ℕ, zero, suc, ◌+◌, ◌<◌, ◌≤◌, Bool, true, false, List, [], ◌∷◌, length, get_or, take, drop, Some, None, Option, option_map, sym, refl, ap, ◌∙◌, subst, arith, nat_tests, sum_by-cons, bounded_sums, bounded_difference, IsValue, IsLe, PhaseOf, entered_at, staying_at, square_after, after_phase, IsAdmittedPhase, AreAdmittedPhases, moved, IsAdmittedStep, option_map_cases, sum}
 use Rattle.asg_proof.specs.KeptPhases.{AreKept}
 use Rattle.asg_proof.specs.KeptTops.{total_of, StaysBelow}
 

@@ -1,23 +1,6 @@
 -- Phases that are admitted where sums stop at a top, and whose index is at most a lesser one, are
 -- admitted where sums stop at that.
-use Rattle.std.proofs.Common.{◌≡◌, ℕ, zero, suc, ◌+◌, ◌<◌, ◌≤◌, ◌⊎◌, Bool, true, false, min, List, [], ◌∷◌, length, map, take, get_or, Option, Some, inl, inr, refl, ◌∙◌, ap, subst, arith, ⊎_elim}
-use Rattle.std.specs.Option.{option_map}
-use Rattle.std.specs.List.{sum}
-use Rattle.std.proofs.lemmas.Bool.{cases_lt, leb-true, le-leb}
-use Rattle.std.proofs.lemmas.List.Sums.{sum_by_more, sum_by_more_le}
-use Rattle.std.proofs.lemmas.List.{take_all}
-use Rattle.asg_model.specs.declared.parts.Cost.{Cost}
-use Rattle.asg_model.specs.Problem.{Problem}
-use Rattle.asg_model.specs.Shapes.{square_side}
-use Rattle.asg_order.specs.declared.words.Word.{Word}
-use Rattle.asg_order.specs.Bridge.{choice_fold}
-use Rattle.asg_monoids.specs.BoundedSums.{bounded_sums, bounded_difference}
-use Rattle.asg_monoids.specs.laws.SumFolds.{bounded_fold}
-use Rattle.asg_square.specs.Cells.{square_cell}
-use Rattle.asg_proof.specs.Steps.{moved, stepped, IsAdmittedStep}
-use Rattle.asg_proof.specs.Phases.{PhaseOf, entered_at, staying_at, square_after, after_phase, IsAdmittedPhase, AreAdmittedPhases, index_of, worded}
-use Rattle.asg_proof.specs.FoldProofs.{ProvesFold}
-use Rattle.asg_proof.specs.laws.Stepped.{option_map_cases}
+use Rattle.asg_proof.proofs.Common.{◌≡◌, ℕ, zero, suc, ◌+◌, ◌<◌, ◌≤◌, min, Bool, true, false, ◌⊎◌, List, [], ◌∷◌, map, length, get_or, take, Some, Option, option_map, refl, ap, ◌∙◌, subst, inl, inr, ⊎_elim, arith, take_all, le-leb, leb-true, cases_lt, sum_by_more, sum_by_more_le, Problem, square_side, Cost, bounded_sums, bounded_difference, bounded_fold, choice_fold, Word, ProvesFold, PhaseOf, entered_at, staying_at, square_after, after_phase, IsAdmittedPhase, AreAdmittedPhases, index_of, worded, moved, stepped, IsAdmittedStep, option_map_cases, square_cell, sum}
 
 -- the sum of all steps of phases
 abbrev total : List (PhaseOf ℕ) → ℕ

@@ -1,50 +1,13 @@
 -- A valid choice that levels prove leaves no better choice: along the levels the assignment of a
 -- better one would have to lie in what is left, down to the first cost that it has less often.
-use Rattle.std.proofs.Common.{◌≡◌, ◌↔◌, ℕ, zero, suc, ◌+◌, ◌<◌, ◌≤◌, ◌^◌, min, Bool, true, false, cond, not, ◌&&◌, List, [], ◌∷◌, length, map, get_or, Option, Some, None, refl, sym, ◌∙◌, ap, subst, arith, is_some, unwrap_or, ℤ, ◌<ℤ◌, ◌≤ℤ◌, ⊎_elim}
-use Rattle.std.specs.Prelude.{IsSome, IfSome, count_by, sum, sum_by, nat_lt, nat_le, int_lt, option_and_then, IsPermutation}
-use Rattle.std.specs.List.{range_with_len}
-use Rattle.std.specs.Option.{option_map, option_map_or}
-use Rattle.std.proofs.lemmas.Bool.{false≢true, and_parts, and_from, cases_lt}
-use Rattle.std.proofs.lemmas.Bool.Decides.{nat_tests}
-use Rattle.std.proofs.lemmas.Int.{ints, by_lt_z}
-use Rattle.std.proofs.lemmas.Option.{none-some, same_Some, slice_get_past}
-use Rattle.std.proofs.lemmas.List.{length-map}
-use Rattle.std.proofs.lemmas.List.Sums.{count_by-le-length, sum_by-cons}
-use Rattle.std.specs.Ordering.{int_eq}
-use Rattle.std.proofs.lemmas.List.FromFn.{length-range_with_len}
-use Rattle.asg_model.specs.declared.bands.Band.TheVariants.{Whole}
-use Rattle.asg_model.specs.declared.parts.Cost.{Cost}
-use Rattle.asg_model.specs.declared.objectives.Objective.TheVariants.{Lex}
-use Rattle.asg_model.specs.Best.{IsBest}
-use Rattle.asg_model.specs.Descending.{descending, IsDescending}
-use Rattle.asg_model.specs.Instances.{IsInstance}
-use Rattle.asg_model.specs.ValidChoice.{IsValid}
-use Rattle.asg_order.specs.laws.ChosenCosts.{length-costs_of}
+use Rattle.asg_proof.proofs.Common.{◌≡◌, ℕ, zero, suc, ◌+◌, ◌^◌, ◌<◌, ◌≤◌, min, Bool, true, false, cond, not, ◌&&◌, ◌↔◌, List, [], ◌∷◌, map, length, get_or, ℤ, ◌≤ℤ◌, ◌<ℤ◌, is_some, IfSome, IsSome, nat_lt, nat_le, int_lt, Some, None, sum_by, count_by, Option, option_map, IsPermutation, option_and_then, int_eq, sym, refl, ap, ◌∙◌, subst, ⊎_elim, arith, and_from, and_parts, by_lt_z, cases_lt, count_by-le-length, false≢true, ints, length-map, length-range_with_len, nat_tests, none-some, option_map_or, range_with_len, same_Some, slice_get_past, sum_by-cons, unwrap_or, IsBest, placed, descending, IsDescending, IsInstance, live_at, Problem, square_side, IsValid, chosen_cost, costs_at, costs_of, first_parts, Whole, Lex, Cost, all_there, bounded_sums, bounded_difference, bounded_laws, bounded_difference_laws, bounded_fold, costs_fold, Monoid, IsValue, IsOrderedMonoid, fold_of, length-costs_of, level_sums, counted_as, restricted, level_square, has_cost, without, is_after, is_between, left_for, numbers_of, is_zero, left_after, IsLevel, AreLevelsFrom, IsProvedLevel, AreProvedFrom, AreProvedLevels, left_last, ProvesLevels, AreLevels, IsLeftAssignment, PhaseOf, AreAdmittedPhases, after_phases, index_of, HasSide, HasValues, Level, is_some-phases, IsAssignment-phases, HasSide-square_cell, HasValues-square_cell, IsAssignment-same, square_cell, IsAssignment, assignment_values, chosen_by, choice_of, entered_or_free, IsSquareChoice}
+use Rattle.std.proofs.Common.{sum}
 use Rattle.asg_model.specs.Limits.{most_rows}
-use Rattle.asg_model.specs.Live.{live_at}
-use Rattle.asg_model.specs.Problem.{Problem}
-use Rattle.asg_model.specs.Shapes.{square_side}
-use Rattle.asg_model.specs.Values.{chosen_cost, costs_at, costs_of, first_parts}
-use Rattle.asg_order.specs.Bridge.{costs_fold}
-use Rattle.asg_order.specs.Monoid.{Monoid, IsValue, IsOrderedMonoid, fold_of}
-use Rattle.asg_monoids.specs.BoundedSums.{bounded_sums, bounded_difference}
-use Rattle.asg_monoids.specs.laws.Bounded.{bounded_laws, bounded_difference_laws}
-use Rattle.asg_monoids.specs.laws.SumFolds.{bounded_fold}
-use Rattle.asg_square.specs.Cells.{square_cell, IsAssignment, assignment_values, chosen_by, choice_of, entered_or_free, IsSquareChoice}
 use Rattle.asg_square.specs.Presence.{has_cell}
 use Rattle.asg_square.specs.laws.Rows.{rows_within}
-use Rattle.asg_proof.specs.declared.levels.Level.{Level}
-use Rattle.asg_proof.specs.Levels.{level_sums, counted_as, restricted, level_square, has_cost, without, is_after, is_between, left_for, numbers_of, is_zero, left_after, IsLevel, AreLevelsFrom, IsProvedLevel, AreProvedFrom, AreProvedLevels, left_last, ProvesLevels, AreLevels, IsLeftAssignment}
-use Rattle.asg_model.specs.Counts.{placed}
-use Rattle.asg_proof.specs.Phases.{PhaseOf, AreAdmittedPhases, after_phases, index_of}
-use Rattle.asg_proof.specs.Steps.{HasSide, HasValues}
-use Rattle.asg_proof.specs.laws.PhaseLists.{is_some-phases, IsAssignment-phases}
-use Rattle.asg_proof.specs.laws.Squares.{HasSide-square_cell, HasValues-square_cell}
-use Rattle.asg_proof.specs.laws.Stepped.{IsAssignment-same}
 use Rattle.asg_proof.proofs.LesserLists.{times, HasFewerOf, fewer_where_less}
 use Rattle.asg_proof.proofs.LevelCounts.{none_passes, split_three, length-costs_at, fold_counted, times_given, IsGiven, given_where_counted, each_zero, all_zero}
 use Rattle.asg_proof.proofs.PhasesLaw.{fold-phases, index_le_fold}
-use Rattle.asg_model.specs.laws.Listing.{all_there}
 use Rattle.asg_proof.proofs.StepLaw.{value_at, there_is, values_are}
 
 -- ---- squares with those cells alone that are left

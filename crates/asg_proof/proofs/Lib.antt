@@ -1,3 +1,4 @@
+pub mod Common
 pub mod Counts
 pub mod StepLaw
 pub mod PhasesLaw
@@ -19,10 +20,4 @@ pub mod LevelsAreBest
 pub mod StepWordLemmas
 pub mod ShortWordLemmas
 pub mod PhaseNumbers
-mod ChildRows
-mod RankingLaw
-mod Rankings
-mod TreesAreRankings
-pub mod WorkedTree
-mod TreeTops
 mod KeptTops

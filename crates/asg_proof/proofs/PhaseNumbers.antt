@@ -1,11 +1,5 @@
 -- Phases as one list of numbers.
-use Rattle.std.proofs.Common.{◌≡◌, ℕ, ◌*◌, ◌/◌, ◌%◌, ◌<◌, ◌^◌, List, ◌++◌, take, drop, length, sym, ap, subst, ◌∙◌, arith, length-append}
-use Rattle.std.specs.Prelude.{All}
-use Rattle.std.proofs.lemmas.List.Elements.{All-take, All-drop}
-use Rattle.std.proofs.Math.Seq.{take-append_seam, drop-append_seam}
-use Rattle.asg_order.specs.declared.words.Word.{Word}
-use Rattle.asg_proof.specs.Phases.{IsPhase}
-use Rattle.asg_proof.specs.StepWords.{short_words, AreTold, AreStepNumbers}
+use Rattle.asg_proof.proofs.Common.{◌≡◌, ℕ, ◌*◌, ◌/◌, ◌%◌, ◌^◌, ◌<◌, List, ◌++◌, length, take, drop, All, sym, ap, ◌∙◌, subst, arith, length-append, All-drop, All-take, drop-append_seam, take-append_seam, Word, IsPhase, short_words, AreTold, AreStepNumbers}
 use Rattle.asg_proof.specs.WrittenPhases.{step_numbers, marks, told_phase, ArePhaseNumbers}
 
 -- the numbers of steps come first

@@ -1,10 +1,5 @@
 -- Numbers as short words, two of each.
-use Rattle.std.proofs.Common.{◌≡◌, ℕ, zero, suc, ◌+◌, ◌*◌, ◌/◌, ◌%◌, ◌<◌, List, [], ◌∷◌, ◌++◌, length, slice_index, slice_index_or, refl, sym, ap, ◌∙◌, arith, length-append}
-use Rattle.std.proofs.lemmas.List.{length-map, get_or-map, map_push}
-use Rattle.std.proofs.lemmas.List.Elements.{All-push}
-use Rattle.asg_order.specs.declared.words.Word.{Word}
-use Rattle.asg_proof.specs.declared.step_words.ShortWord.{ShortWord}
-use Rattle.asg_proof.specs.StepWords.{short_words, told_word, as_words, IsTold, AreTold, AreStepNumbers}
+use Rattle.asg_proof.proofs.Common.{◌≡◌, ℕ, zero, suc, ◌+◌, ◌*◌, ◌/◌, ◌%◌, ◌<◌, List, [], ◌∷◌, ◌++◌, length, slice_index, slice_index_or, sym, refl, ap, ◌∙◌, arith, length-append, All-push, get_or-map, length-map, map_push, Word, short_words, told_word, as_words, IsTold, AreTold, AreStepNumbers, ShortWord}
 
 -- there are half as many
 pub short_words_count : (numbers : List ℕ) → length (short_words numbers) ≡ length numbers / 2

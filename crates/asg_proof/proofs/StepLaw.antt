@@ -1,21 +1,7 @@
 -- The step law: an admitted step takes its value from each perfect assignment.
-use Rattle.std.proofs.Common.{◌≡◌, ℕ, suc, ◌+◌, ◌<◌, Bool, true, false, not, ◌&&◌, List, [], ◌∷◌, map, get_or, Option, Some, None, refl, sym, ◌∙◌, ap, subst, arith, cond, unwrap_or}
-use Rattle.std.specs.Prelude.{All, IsSome, count_by}
-use Rattle.std.specs.Option.{option_map}
-use Rattle.std.specs.List.{range_with_len}
-use Rattle.std.proofs.lemmas.Bool.{false≢true}
-use Rattle.std.proofs.lemmas.List.Elements.{All-head, All-tail, All-map, All-weaker, All-replicate}
-use Rattle.std.proofs.lemmas.List.Sums.{sum_by-cons}
-use Rattle.std.proofs.lemmas.Grind.{get_or_default_zero}
-use Rattle.asg_order.specs.Monoid.{Monoid, IsValue, IsLe, IsOrderedMonoid, fold_of}
-use Rattle.asg_order.specs.Differences.{HasDifferences}
+use Rattle.asg_proof.proofs.Common.{◌≡◌, ℕ, suc, ◌+◌, ◌<◌, Bool, true, false, cond, not, ◌&&◌, List, [], ◌∷◌, map, get_or, IsSome, Some, None, All, count_by, Option, option_map, sym, refl, ap, ◌∙◌, subst, arith, All-head, All-map, All-replicate, All-tail, All-weaker, false≢true, get_or_default_zero, range_with_len, sum_by-cons, unwrap_or, all_there, HasDifferences, Monoid, IsValue, IsLe, IsOrderedMonoid, fold_of, fold_is_value, fold-cons, exchanged, moved, stepped, count_below, IsAdmittedStep, HasSide, HasValues, IsAssignment-stepped, IsAssignment, assignment_values}
 use Rattle.asg_order.specs.Powers.{power_of}
-use Rattle.asg_order.specs.laws.Products.{fold_is_value, fold-cons, exchanged}
-use Rattle.asg_square.specs.Cells.{IsAssignment, assignment_values}
-use Rattle.asg_proof.specs.Steps.{moved, stepped, count_below, IsAdmittedStep, HasSide, HasValues}
-use Rattle.asg_proof.specs.laws.Stepped.{IsAssignment-stepped}
 use Rattle.asg_proof.proofs.Counts.{All-range, count_one_more}
-use Rattle.asg_model.specs.laws.Listing.{all_there}
 
 -- the value of a row's cell
 abbrev pub value_at : {V : Type 0} → Monoid V → (ℕ → ℕ → Option V) → List ℕ → ℕ → V

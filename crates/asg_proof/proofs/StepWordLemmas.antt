@@ -1,11 +1,5 @@
 -- Short words stand for the same words where a long word is appended.
-use Rattle.std.proofs.Common.{◌≡◌, ◌==◌, if◌then◌else◌, Bool, true, false, List, [], ◌∷◌, ◌++◌, length, slice_index_or, Result, Ok, Err, IfOk, OnErr, refl, ◌∙◌, ap}
-use Rattle.std.proofs.lemmas.Bool.{eqb-true}
-use Rattle.std.proofs.lemmas.List.{get_or_append_left}
-use Rattle.std.proofs.lemmas.List.Elements.{All-head, All-tail}
-use Rattle.asg_order.specs.declared.words.Word.{Word}
-use Rattle.asg_proof.specs.declared.step_words.ShortWord.{ShortWord}
-use Rattle.asg_proof.specs.StepWords.{far_grade, whole_word, told_word, as_words, IsTold, AreTold}
+use Rattle.asg_proof.proofs.Common.{◌≡◌, Bool, true, false, List, [], ◌∷◌, ◌++◌, length, IfOk, if◌then◌else◌, OnErr, ◌==◌, slice_index_or, Ok, Err, Result, refl, ap, ◌∙◌, eqb-true, All-head, All-tail, get_or_append_left, Word, far_grade, whole_word, told_word, as_words, IsTold, AreTold, ShortWord}
 
 chosen : (b : Bool) (x y z : Word) → (b ≡ true → x ≡ y) → (if b then x else z) ≡ (if b then y else z)
 chosen true x y z same = same refl

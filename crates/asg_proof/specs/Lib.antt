@@ -20,13 +20,4 @@ pub mod FoldProofs
 pub mod Proves
 pub mod Outcomes
 pub mod PromisedProofs
-pub mod Children
-pub mod Masks
-pub mod NodeLists
-pub mod Nodes
-pub mod SearchTrees
-pub mod Ranked
-pub mod TreeProofs
-pub mod TreeFaults
-pub mod Frontiers
 pub mod laws

@@ -16,7 +16,8 @@ ghost use Rattle.asg_model.specs.ValidChoice.{IsValid};
 ghost use Rattle.asg_monoids.specs.BoundedSums.{bounded_sums, bounded_difference};
 ghost use Rattle.asg_order.specs.declared.words.Word.{Word};
 ghost use Rattle.asg_order.specs.Bridge.{choice_fold};
-ghost use Rattle.asg_order.specs.Monoid.{IsValue, IsLe, IsLess};
+ghost use Rattle.asg_order.specs.Differences.{HasDifferences};
+ghost use Rattle.asg_order.specs.Monoid.{IsLe, IsLess, IsOrderedMonoid, IsValue, Monoid};
 ghost use Rattle.asg_proof.specs.declared.outcomes.Outcome.TheVariants.{Best, Nothing};
 ghost use Rattle.asg_model.specs.declared.objectives.Objective.TheVariants.{Lex};
 ghost use Rattle.asg_proof.specs.declared.levels.Level.{Level};
@@ -33,12 +34,12 @@ ghost use Rattle.asg_square.specs.Cells.{square_cell, IsAssignment};
 mod grades;
 mod sums;
 
-use asg_model::laws::{
-    bottleneck_law, bottleneck_max_law, descending_law, hall_law, infeasible_law, spread_law,
-};
 use asg_order::DMonoid;
 use asg_order::laws::differences;
 use asg_square::laws::square_law;
+use asg_values::laws::{
+    bottleneck_law, bottleneck_max_law, descending_law, hall_law, infeasible_law, spread_law,
+};
 pub use grades::grade_law;
 pub use sums::{cut_law, kept_tops_law, lesser_tops_law};
 
@@ -138,6 +139,22 @@ pub fn phases_law<M: DMonoid>(m: &M)
         → AreAdmittedPhases monoid (M.difference m.now) side phases square
         → HasValues monoid side (after_phases monoid (M.difference m.now) phases square) }
 {}
+
+/// The index law: in each ordered monoid with differences the index that phases prove for an
+/// instance is at most the product of the entered costs of each valid choice.
+pub fn index_law<V: Copy>()
+    ensures { (M : Monoid V) (difference : V → V → V) (enter : Cost → V) (X : Problem)
+        (phases : List (PhaseOf V)) (z : V) (f : List (Option ℕ))
+        → IsOrderedMonoid M
+        → HasDifferences M difference
+        → IsInstance X
+        → EntersValues M enter X
+        → ProvesIndex M difference enter X phases z
+        → IsValid X f
+        → IsLe M z (choice_fold M enter X f) }
+{
+    square_law::<V>();
+}
 
 /// The lower-bound law: the index that phases prove for an instance is at most the product of the
 /// entered costs of each valid choice. So of a choice whose product is the index none has a lesser

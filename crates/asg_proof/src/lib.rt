@@ -10,27 +10,22 @@
 //! its value from the product of each perfect assignment, whatever d-monoid the values are of.
 #![tactic(auto)]
 
-mod children;
 mod column_lists;
 mod cuts;
 pub mod laws;
 mod levels;
-mod nodes;
 mod outcomes;
 mod phase_lists;
 mod phases;
-pub mod ranking_laws;
 mod row_ids;
 mod step_words;
 mod steps_read;
 mod windows;
 mod written_phases;
 
-pub use children::child;
 pub use column_lists::Columns;
 pub use cuts::cut_steps;
 pub use levels::{Level, Levels};
-pub use nodes::{Mark, Node, Nodes};
 pub use outcomes::{Outcome, Proof};
 pub use phase_lists::Phases;
 pub use phases::{Phase, into_words, words};

@@ -1,6 +1,4 @@
-use Rattle.std.proofs.Common.{◌≡◌, ℕ, ◌<◌}
-use Rattle.std.specs.Prelude.{IsSome, slice_index}
-use Rattle.asg_dual_bounds.specs.Tables.{number_in}
+use Rattle.asg_dual_bounds.proofs.Common.{◌≡◌, ℕ, ◌<◌, IsSome, slice_index, number_in}
 use Rattle.asg_dual_bounds.proofs.answer_tests.are_placed.Given as goal
 
 -- the rows so far have numbers and columns of their own

@@ -1,6 +1,4 @@
-use Rattle.std.proofs.Common.{◌≡◌, ◌*◌, ◌≤◌}
-use Rattle.asg_model.specs.Sums.{sum_below}
-use Rattle.asg_dual_bounds.specs.Tables.{table_number}
+use Rattle.asg_dual_bounds.proofs.Common.{◌≡◌, ◌*◌, ◌≤◌, table_number, sum_below}
 use Rattle.asg_dual_bounds.proofs.answer_tests.table_sum.Given as goal
 
 -- the sum so far

@@ -1,4 +1,4 @@
-use Rattle.std.proofs.Common.{◌≡◌, length}
+use Rattle.asg_dual_bounds.proofs.Common.{◌≡◌, length}
 use Rattle.asg_dual_bounds.proofs.answer_tests.write_rows.Given as goal
 
 -- there are as many places

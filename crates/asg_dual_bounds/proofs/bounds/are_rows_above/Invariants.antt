@@ -1,6 +1,4 @@
-use Rattle.std.proofs.Common.{ℕ, ◌<◌}
-use Rattle.std.specs.Prelude.{slice_index}
-use Rattle.asg_dual_bounds.specs.RowTests.{IsRowAbove}
+use Rattle.asg_dual_bounds.proofs.Common.{ℕ, ◌<◌, slice_index, IsRowAbove}
 use Rattle.asg_dual_bounds.proofs.bounds.are_rows_above.Given as goal
 
 -- the rows so far are at least their falls

@@ -1,7 +1,4 @@
-use Rattle.std.proofs.Common.{arith, subst}
-use Rattle.std.specs.Prelude.{slice_index}
-use Rattle.asg_dual_bounds.specs.RowTests.{IsRowAboveBut}
-use Rattle.asg_dual_bounds.specs.Views.{part_of, duals_of}
+use Rattle.asg_dual_bounds.proofs.Common.{slice_index, subst, arith, IsRowAboveBut, part_of, duals_of}
 use Rattle.asg_dual_bounds.proofs.BoundLemmas.{child_above}
 use Rattle.asg_dual_bounds.proofs.bounds.is_above_child.Goals as goal
 

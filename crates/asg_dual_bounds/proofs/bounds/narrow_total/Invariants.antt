@@ -1,5 +1,4 @@
-use Rattle.std.proofs.Common.{◌≡◌, take}
-use Rattle.std.specs.Prelude.{sum}
+use Rattle.asg_dual_bounds.proofs.Common.{◌≡◌, take, sum}
 use Rattle.asg_dual_bounds.proofs.bounds.narrow_total.Given as goal
 
 -- the total so far

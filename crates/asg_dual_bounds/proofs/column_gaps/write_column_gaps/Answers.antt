@@ -1,7 +1,4 @@
-use Rattle.std.proofs.Common.{◌≡◌, ◌+◌, ◌-◌, ◌∙◌, arith}
-use Rattle.std.proofs.lemmas.List.{length-set}
-use Rattle.asg_dual_bounds.specs.GapTests.{IsColumnGapAt}
-use Rattle.asg_dual_bounds.specs.Views.{duals_of}
+use Rattle.asg_dual_bounds.proofs.Common.{◌≡◌, ◌+◌, ◌-◌, ◌∙◌, arith, length-set, IsColumnGapAt, duals_of}
 use Rattle.asg_dual_bounds.proofs.GapLemmas.{column_gap_at, gaps_down, leasts_more}
 use Rattle.asg_dual_bounds.proofs.column_gaps.write_column_gaps.Goals as goal
 

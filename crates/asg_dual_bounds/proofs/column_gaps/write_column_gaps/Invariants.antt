@@ -1,7 +1,4 @@
-use Rattle.std.proofs.Common.{◌≡◌, ℕ, ◌+◌, ◌<◌, ◌≤◌, length}
-use Rattle.std.specs.Prelude.{slice_index}
-use Rattle.asg_dual_bounds.specs.GapTests.{AreLeasts, IsColumnGapAt}
-use Rattle.asg_dual_bounds.specs.Views.{duals_of}
+use Rattle.asg_dual_bounds.proofs.Common.{◌≡◌, ℕ, ◌+◌, ◌<◌, ◌≤◌, length, slice_index, AreLeasts, IsColumnGapAt, duals_of}
 use Rattle.asg_dual_bounds.proofs.column_gaps.write_column_gaps.Given as goal
 
 -- the leasts and the gaps of the last rows so far

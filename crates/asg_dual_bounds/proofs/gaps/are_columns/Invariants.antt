@@ -1,5 +1,4 @@
-use Rattle.std.proofs.Common.{ℕ, ◌<◌}
-use Rattle.std.specs.Prelude.{slice_index}
+use Rattle.asg_dual_bounds.proofs.Common.{ℕ, ◌<◌, slice_index}
 use Rattle.asg_dual_bounds.proofs.gaps.are_columns.Given as goal
 
 -- the columns so far are below the number

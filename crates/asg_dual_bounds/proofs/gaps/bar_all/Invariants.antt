@@ -1,7 +1,4 @@
-use Rattle.std.proofs.Common.{◌≡◌, ℕ, ◌<◌, length}
-use Rattle.std.specs.Prelude.{slice_index}
-use Rattle.asg_dual_bounds.specs.Tables.{absent}
-use Rattle.asg_dual_bounds.specs.GapTests.{Bars}
+use Rattle.asg_dual_bounds.proofs.Common.{◌≡◌, ℕ, ◌<◌, length, slice_index, Bars, absent}
 use Rattle.asg_dual_bounds.proofs.gaps.bar_all.Given as goal
 
 -- the columns so far are barred, and all else is as it was

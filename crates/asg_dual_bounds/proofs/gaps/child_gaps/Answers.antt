@@ -1,8 +1,4 @@
-use Rattle.std.proofs.Common.{sym, subst, arith}
-use Rattle.std.proofs.lemmas.List.{get_or-set_other}
-use Rattle.asg_dual_bounds.specs.GapTests.{IsColumnGapAt}
-use Rattle.asg_dual_bounds.specs.Views.{part_of, duals_of}
-use Rattle.std.specs.Prelude.{slice_index}
+use Rattle.asg_dual_bounds.proofs.Common.{slice_index, sym, subst, arith, get_or-set_other, IsColumnGapAt, part_of, duals_of}
 use Rattle.asg_dual_bounds.proofs.GapLemmas.{child_gap, pick_gap}
 use Rattle.asg_dual_bounds.proofs.gaps.child_gaps.Goals as goal
 

@@ -1,5 +1,4 @@
-use Rattle.std.proofs.Common.{◌+◌, arith}
-use Rattle.asg_dual_bounds.specs.Views.{duals_of}
+use Rattle.asg_dual_bounds.proofs.Common.{◌+◌, arith, duals_of}
 use Rattle.asg_dual_bounds.proofs.GapLemmas.{gap_in, open_twice}
 use Rattle.asg_dual_bounds.proofs.gaps.first_gap.Goals as goal
 

@@ -1,8 +1,4 @@
-use Rattle.std.proofs.Common.{◌≡◌, ◌+◌, [], refl, sym, subst, ◌∙◌, arith}
-use Rattle.std.proofs.lemmas.List.{length-set, get_or-set_other}
-use Rattle.asg_dual_bounds.specs.GapTests.{IsColumnGapIn, IsGapIn}
-use Rattle.asg_dual_bounds.specs.Views.{duals_of}
-use Rattle.std.specs.Prelude.{slice_index}
+use Rattle.asg_dual_bounds.proofs.Common.{◌≡◌, ◌+◌, [], slice_index, sym, refl, ◌∙◌, subst, arith, length-set, get_or-set_other, IsColumnGapIn, IsGapIn, duals_of}
 use Rattle.asg_dual_bounds.proofs.GapLemmas.{gap_in, gaps_more, open_more, open_once, wider}
 use Rattle.asg_dual_bounds.proofs.gaps.later_gaps.Goals as goal
 

@@ -1,8 +1,4 @@
-use Rattle.std.proofs.Common.{◌≡◌, ◌⊎◌, ℕ, ◌+◌, ◌<◌, ◌≤◌, [], length}
-use Rattle.std.specs.Prelude.{slice_index}
-use Rattle.asg_dual_bounds.specs.Tables.{absent}
-use Rattle.asg_dual_bounds.specs.GapTests.{IsGapIn}
-use Rattle.asg_dual_bounds.specs.Views.{duals_of}
+use Rattle.asg_dual_bounds.proofs.Common.{◌≡◌, ℕ, ◌+◌, ◌<◌, ◌≤◌, ◌⊎◌, [], length, slice_index, IsGapIn, absent, duals_of}
 use Rattle.asg_dual_bounds.proofs.gaps.later_gaps.Given as goal
 
 -- the gaps so far, where the room is barred in the columns so far

@@ -1,6 +1,4 @@
-use Rattle.std.proofs.Common.{◌≡◌, ℕ, ◌<◌, ◌≤◌, length}
-use Rattle.std.specs.Prelude.{slice_index}
-use Rattle.asg_dual_bounds.specs.Tables.{absent}
+use Rattle.asg_dual_bounds.proofs.Common.{◌≡◌, ℕ, ◌<◌, ◌≤◌, length, slice_index, absent}
 use Rattle.asg_dual_bounds.proofs.lanes.are_floored.Given as goal
 
 -- the columns so far rise by no less than the floor, and their rises are clipped

@@ -1,5 +1,4 @@
-use Rattle.std.proofs.Common.{ℕ, ◌<◌, ◌≤◌}
-use Rattle.std.specs.Prelude.{IsTrue, slice_index}
+use Rattle.asg_dual_bounds.proofs.Common.{ℕ, ◌<◌, ◌≤◌, IsTrue, slice_index}
 use Rattle.asg_dual_bounds.proofs.lanes.are_raised.Given as goal
 
 -- the columns so far rise by no less, where it is so

@@ -1,6 +1,5 @@
+use Rattle.asg_dual_bounds.proofs.Common.{subst, IsValid}
 use Rattle.asg_dual_bounds.proofs.PlainChoices.{columns_of, columns_from_valid, IsValid-from_answer, answer-from_valid}
-use Rattle.std.proofs.Common.{subst}
-use Rattle.asg_model.specs.ValidChoice.{IsValid}
 use Rattle.asg_dual_bounds.proofs.laws.answers_law.Goals as goal
 
 pub returns-clause-valid : goal.returns-clause-valid

@@ -1,6 +1,4 @@
-use Rattle.std.proofs.Common.{ℕ, ◌≢◌, ◌+◌, ◌<◌, ◌≤◌}
-use Rattle.std.specs.Prelude.{slice_index, Contains}
-use Rattle.asg_dual_bounds.specs.Tables.{absent}
+use Rattle.asg_dual_bounds.proofs.Common.{ℕ, ◌+◌, ◌<◌, ◌≤◌, ◌≢◌, slice_index, Contains, absent}
 use Rattle.asg_dual_bounds.proofs.own_rows.is_row_above_but.Given as goal
 
 -- the columns so far are the own one, banned, or at least the fall

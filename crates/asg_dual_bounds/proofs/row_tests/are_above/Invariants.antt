@@ -1,6 +1,4 @@
-use Rattle.std.proofs.Common.{ℕ, ◌≢◌, ◌+◌, ◌<◌, ◌≤◌}
-use Rattle.std.specs.Prelude.{slice_index}
-use Rattle.asg_dual_bounds.specs.Tables.{absent}
+use Rattle.asg_dual_bounds.proofs.Common.{ℕ, ◌+◌, ◌<◌, ◌≤◌, ◌≢◌, slice_index, absent}
 use Rattle.asg_dual_bounds.proofs.row_tests.are_above.Given as goal
 
 -- the numbers so far are at least the fall

@@ -1,6 +1,4 @@
-use Rattle.std.proofs.Common.{ℕ, ◌<◌}
-use Rattle.std.specs.Prelude.{slice_index}
-use Rattle.asg_dual_bounds.specs.RowTests.{IsCellAbove}
+use Rattle.asg_dual_bounds.proofs.Common.{ℕ, ◌<◌, slice_index, IsCellAbove}
 use Rattle.asg_dual_bounds.proofs.row_tests.are_cells_above.Given as goal
 
 -- the cells so far are at least their falls

@@ -1,5 +1,4 @@
-use Rattle.std.proofs.Common.{ℕ, ◌<◌, ◌≤◌}
-use Rattle.asg_dual_bounds.specs.RowTests.{IsRowKept}
+use Rattle.asg_dual_bounds.proofs.Common.{ℕ, ◌<◌, ◌≤◌, IsRowKept}
 use Rattle.asg_dual_bounds.proofs.row_tests.are_rows_kept.Given as goal
 
 -- the rows so far are kept

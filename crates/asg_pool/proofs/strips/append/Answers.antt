@@ -1,7 +1,6 @@
-use Rattle.std.proofs.Common.{◌+◌, ◌-◌, ◌++◌, List, cond, length, take, ap, ◌∙◌, arith}
+use Rattle.asg_pool.proofs.Common.{◌+◌, ◌-◌, cond, List, ◌++◌, length, take, vec_len, ap, ◌∙◌, arith, take_all, length-replicate}
 use Rattle.std.proofs.Math.ListN.{replicate}
-use Rattle.std.proofs.lemmas.List.{append_assoc, length-append, length-replicate, take_all}
-use Rattle.std.specs.Prelude.{vec_len}
+use Rattle.std.proofs.lemmas.List.{append_assoc, length-append}
 use Rattle.asg_pool.proofs.strips.append.Goals as goal
 
 pub returns : goal.returns

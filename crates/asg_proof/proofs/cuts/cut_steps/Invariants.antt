@@ -1,5 +1,4 @@
-use Rattle.std.proofs.Common.{◌≡◌, ◌+◌, ◌<◌, take}
-use Rattle.std.specs.List.{sum}
+use Rattle.asg_proof.proofs.Common.{◌≡◌, ◌+◌, ◌<◌, take, sum}
 use Rattle.asg_proof.proofs.cuts.cut_steps.Given as goal
 
 -- the steps so far and what is left are the sum that is wanted

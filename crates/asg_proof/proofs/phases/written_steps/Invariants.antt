@@ -1,4 +1,4 @@
-use Rattle.std.proofs.Common.{◌≡◌, map, take}
+use Rattle.asg_proof.proofs.Common.{◌≡◌, map, take}
 use Rattle.asg_proof.proofs.phases.written_steps.Given as goal
 
 -- the words so far are those of the steps so far

@@ -1,4 +1,4 @@
-use Rattle.std.proofs.Common.{sym}
+use Rattle.asg_proof.proofs.Common.{sym}
 use Rattle.asg_proof.proofs.ShortWordLemmas.{short_words_get}
 use Rattle.asg_proof.proofs.step_words.short_at.Goals as goal
 

@@ -1,6 +1,12 @@
-use Rattle.std.proofs.Common.{◌∙◌, length, ap, arith}
+use Rattle.asg_dual_bounds.proofs.Common.{length, ap, ◌∙◌, arith}
 use Rattle.asg_dual_bounds.proofs.TableLemmas.{filled_more, table_is}
 use Rattle.asg_dual_bounds.proofs.number_tables.NumberTable.of.Goals as goal
+
+pub fill_row-requires-clause-there : goal.fill_row-requires-clause-there
+fill_row-requires-clause-there c = omega (arith, c.rows-test.true, ap length c.rows-rows.ensures.rows)
+
+pub fill_row-requires-clause-columns : goal.fill_row-requires-clause-columns
+fill_row-requires-clause-columns c = ap length c.columns-columns.ensures.columns
 
 pub rows-preserved : goal.rows-preserved
 rows-preserved c = record {

@@ -1,7 +1,4 @@
-use Rattle.std.proofs.Common.{◌≡◌, ℕ, ◌+◌, ◌*◌, ◌<◌, ◌≤◌, length}
-use Rattle.std.specs.Prelude.{All, slice_index}
-use Rattle.asg_dual_bounds.specs.Numbers.{number_at}
-use Rattle.asg_dual_bounds.specs.Tables.{absent, number_of}
+use Rattle.asg_dual_bounds.proofs.Common.{◌≡◌, ℕ, ◌+◌, ◌*◌, ◌<◌, ◌≤◌, length, slice_index, All, number_at, absent, number_of}
 use Rattle.asg_dual_bounds.proofs.number_tables.NumberTable.of.Given as goal
 
 -- the rows so far have their numbers

@@ -1,7 +1,4 @@
-use Rattle.std.proofs.Common.{◌<◌, length, Some, ap, ◌∙◌, rules}
-use Rattle.asg_pool.specs.declared.links.Link.{Link}
-use Rattle.asg_pool.specs.Links.{Table}
-use Rattle.asg_pool.specs.Strips.{with_row}
+use Rattle.asg_pool.proofs.Common.{◌<◌, length, Some, ap, ◌∙◌, rules, Table, with_row, Link}
 use Rattle.asg_pool.proofs.LinkLemmas.{set_is_with_row}
 use Rattle.asg_pool.proofs.links.Links.insert.Goals as goal
 

@@ -1,7 +1,4 @@
-use Rattle.std.proofs.Common.{arith, subst, sym}
-use Rattle.std.specs.Prelude.{IsSome, All}
-use Rattle.asg_pool.specs.Links.{Table, link_at}
-use Rattle.std.proofs.lemmas.List.{length-set}
+use Rattle.asg_pool.proofs.Common.{IsSome, All, sym, subst, arith, length-set, Table, link_at}
 use Rattle.asg_pool.proofs.LinkLemmas.{vacant_fewer, AreVacant-freed}
 use Rattle.asg_pool.proofs.links.Links.remove.Goals as goal
 

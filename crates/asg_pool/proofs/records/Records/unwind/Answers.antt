@@ -1,5 +1,4 @@
-use Rattle.std.proofs.Common.{sym}
-use Rattle.asg_pool.specs.Paths.{phase_at}
+use Rattle.asg_pool.proofs.Common.{sym, phase_at}
 use Rattle.asg_pool.proofs.PathLemmas.{parent_is}
 use Rattle.asg_pool.proofs.RecordLemmas.{IsUnwound-next}
 use Rattle.asg_pool.proofs.records.Records.unwind.Goals as goal

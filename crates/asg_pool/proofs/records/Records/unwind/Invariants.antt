@@ -1,4 +1,4 @@
-use Rattle.asg_pool.specs.Paths.{depth_at, phase_at}
+use Rattle.asg_pool.proofs.Common.{depth_at, phase_at}
 use Rattle.asg_pool.proofs.RecordLemmas.{IsUnwound}
 use Rattle.asg_pool.proofs.records.Records.unwind.Given as goal
 

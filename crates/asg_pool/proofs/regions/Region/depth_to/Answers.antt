@@ -1,6 +1,4 @@
-use Rattle.std.proofs.Common.{length, IfSome, refl, sym, ap, ◌∙◌, arith}
-use Rattle.asg_pool.specs.Forest.{phases_to}
-use Rattle.asg_pool.specs.Paths.{phase_at}
+use Rattle.asg_pool.proofs.Common.{length, IfSome, sym, refl, ap, ◌∙◌, arith, phases_to, phase_at}
 use Rattle.asg_pool.proofs.PathLemmas.{IsThere, way_within}
 use Rattle.asg_pool.proofs.ForestLemmas.{way_there, depth_shown}
 use Rattle.asg_pool.proofs.regions.Region.depth_to.Given as given

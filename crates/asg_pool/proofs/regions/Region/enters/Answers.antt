@@ -1,6 +1,4 @@
-use Rattle.std.proofs.Common.{sym, ap, subst, ◌∙◌, arith}
-use Rattle.asg_pool.specs.Forest.{phases_of, last_phase, IsForest}
-use Rattle.asg_pool.specs.Paths.{phase_at}
+use Rattle.asg_pool.proofs.Common.{sym, ap, ◌∙◌, subst, arith, phases_of, last_phase, IsForest, phase_at}
 use Rattle.asg_pool.proofs.LinkLemmas.{link_within}
 use Rattle.asg_pool.proofs.ForestLemmas.{there_in, last_shown, forest_shown}
 use Rattle.asg_pool.proofs.regions.Region.enters.Goals as goal

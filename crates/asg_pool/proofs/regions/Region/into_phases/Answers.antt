@@ -1,7 +1,4 @@
-use Rattle.std.proofs.Common.{◌≡◌, sym, ap, ◌∙◌, arith}
-use Rattle.std.proofs.lemmas.Result.{IfOk-weaker}
-use Rattle.asg_pool.specs.Forest.{phases_to}
-use Rattle.asg_pool.specs.Paths.{path, depth_at, phase_at}
+use Rattle.asg_pool.proofs.Common.{◌≡◌, sym, ap, ◌∙◌, arith, IfOk-weaker, phases_to, path, depth_at, phase_at}
 use Rattle.asg_pool.proofs.ForestLemmas.{way_there, way_shown}
 use Rattle.asg_pool.proofs.regions.Region.into_phases.Goals as goal
 

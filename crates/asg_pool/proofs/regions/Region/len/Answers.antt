@@ -1,6 +1,4 @@
-use Rattle.std.proofs.Common.{length, ap, subst, ◌∙◌}
-use Rattle.asg_pool.specs.Forest.{phases_of, IsForest}
-use Rattle.asg_pool.specs.Paths.{phase_at}
+use Rattle.asg_pool.proofs.Common.{length, ap, ◌∙◌, subst, phases_of, IsForest, phase_at}
 use Rattle.asg_pool.proofs.ForestLemmas.{there_in, length_shown, forest_shown}
 use Rattle.asg_pool.proofs.regions.Region.len.Goals as goal
 

@@ -1,6 +1,4 @@
-use Rattle.std.proofs.Common.{sym, ap, subst, ◌∙◌}
-use Rattle.asg_pool.specs.Forest.{parent_of, IsForest}
-use Rattle.asg_pool.specs.Paths.{phase_at}
+use Rattle.asg_pool.proofs.Common.{sym, ap, ◌∙◌, subst, parent_of, IsForest, phase_at}
 use Rattle.asg_pool.proofs.PathLemmas.{parent_is}
 use Rattle.asg_pool.proofs.ForestLemmas.{there_in, parent_shown, forest_shown}
 use Rattle.asg_pool.proofs.regions.Region.parent.Goals as goal

@@ -1,9 +1,4 @@
-use Rattle.std.proofs.Common.{refl, ◌≡◌, ◌+◌, length, Some, IfSome, sym, ap, ◌∙◌, arith}
-use Rattle.std.specs.Prelude.{option_map}
-use Rattle.asg_proof.specs.Phases.{PhaseOf, phase_of}
-use Rattle.asg_pool.specs.Forest.{trail_at, phases_to, grown_on}
-use Rattle.asg_proof.specs.PromisedProofs.{IsPhaseOver}
-use Rattle.asg_pool.specs.Paths.{path, depth_at, phase_at}
+use Rattle.asg_pool.proofs.Common.{◌≡◌, ◌+◌, length, IfSome, Some, sym, refl, ap, ◌∙◌, arith, option_map, trail_at, phases_to, grown_on, path, depth_at, phase_at, PhaseOf, phase_of, IsPhaseOver}
 use Rattle.asg_pool.proofs.PathLemmas.{IsThere}
 use Rattle.asg_pool.proofs.ForestLemmas.{way_there, trail_shown, depth_shown}
 use Rattle.asg_pool.proofs.ChangeLemmas.{Changes-at}

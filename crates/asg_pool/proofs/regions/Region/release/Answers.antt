@@ -1,5 +1,4 @@
-use Rattle.std.proofs.Common.{refl}
-use Rattle.asg_pool.specs.Paths.{phase_at}
+use Rattle.asg_pool.proofs.Common.{refl, phase_at}
 use Rattle.asg_pool.proofs.ForestLemmas.{there_in}
 use Rattle.asg_pool.proofs.ChangeLemmas.{Changes-at}
 use Rattle.asg_pool.proofs.ReleaseLemmas.{leaf_in, IsRegion-released, trails_released}

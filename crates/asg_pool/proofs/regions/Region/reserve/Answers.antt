@@ -1,7 +1,4 @@
-use Rattle.std.proofs.Common.{◌≡◌, ◌∙◌, ap, arith, max, ◌+◌, ◌-◌}
-use Rattle.std.proofs.lemmas.Result.{on_ok_weaker, on_err_weaker}
-use Rattle.asg_pool.specs.Links.{spare_of}
-use Rattle.asg_pool.specs.Paths.{forest_of, phase_at}
+use Rattle.asg_pool.proofs.Common.{◌≡◌, ◌+◌, ◌-◌, max, ap, ◌∙◌, arith, on_err_weaker, on_ok_weaker, spare_of, forest_of, phase_at}
 use Rattle.asg_pool.proofs.ReserveLemmas.{on_err, shown_alike, shown_wider, IsRegion-wider, IsRegion-roomier}
 use Rattle.asg_pool.proofs.regions.Region.reserve.Goals as goal
 

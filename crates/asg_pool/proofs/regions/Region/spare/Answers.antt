@@ -1,6 +1,4 @@
-use Rattle.std.proofs.Common.{subst}
-use Rattle.asg_pool.specs.Forest.{IsForest}
-use Rattle.asg_pool.specs.Paths.{phase_at}
+use Rattle.asg_pool.proofs.Common.{subst, IsForest, phase_at}
 use Rattle.asg_pool.proofs.ForestLemmas.{forest_shown}
 use Rattle.asg_pool.proofs.regions.Region.spare.Goals as goal
 

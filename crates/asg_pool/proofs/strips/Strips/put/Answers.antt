@@ -1,10 +1,5 @@
-use Rattle.std.proofs.Common.{◌≡◌, ℕ, suc, ◌+◌, ◌-◌, ◌*◌, ◌<◌, ◌≤◌, ◌++◌, ◌∷◌, [], List, length, set, take, drop, sym, subst, ap, ◌∙◌, arith}
-use Rattle.std.proofs.lemmas.List.{with_items_is, length-append, length-set, length-drop, length-take-le}
-use Rattle.std.proofs.lemmas.List.Elements.{All-push, All-set}
-use Rattle.std.proofs.lemmas.Nat.{row_fits}
-use Rattle.std.specs.Prelude.{All}
-use borrow.Rule.Slice.PartMut.{put_mid, same_len_mid}
-use Rattle.asg_pool.specs.Strips.{Rows, rows_of}
+use Rattle.asg_pool.proofs.Common.{◌≡◌, ℕ, suc, ◌+◌, ◌-◌, ◌*◌, ◌<◌, ◌≤◌, List, [], ◌∷◌, ◌++◌, length, take, drop, set, All, sym, ap, ◌∙◌, subst, arith, length-drop, length-set, length-take-le, All-push, All-set, put_mid, row_fits, same_len_mid, with_items_is, Rows, rows_of}
+use Rattle.std.proofs.lemmas.List.{length-append}
 use Rattle.asg_pool.proofs.StripLemmas.{place_fits, rows_count, strip_pushed, strip_put}
 use Rattle.asg_pool.proofs.strips.Strips.put.Goals as goal
 

@@ -1,6 +1,4 @@
-use Rattle.std.proofs.Common.{◌≡◌, ◌+◌, ◌-◌, ◌*◌, length, get_or, take, drop, sym, ap, ◌∙◌, arith}
-use Rattle.std.proofs.lemmas.List.{get_or_default}
-use Rattle.asg_pool.specs.Strips.{row_at}
+use Rattle.asg_pool.proofs.Common.{◌≡◌, ◌+◌, ◌-◌, ◌*◌, length, get_or, take, drop, sym, ap, ◌∙◌, arith, get_or_default, row_at}
 use Rattle.asg_pool.proofs.StripLemmas.{row_is, place_below, place_fits}
 use Rattle.asg_pool.proofs.strips.Strips.row.Goals as goal
 

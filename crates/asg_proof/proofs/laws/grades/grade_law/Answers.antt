@@ -1,6 +1,5 @@
-use Rattle.std.proofs.Common.{◌^◌, ◌∷◌, map, ◌∙◌, refl}
+use Rattle.asg_proof.proofs.Common.{◌^◌, ◌∷◌, map, refl, ◌∙◌, graded_phase, rise_phase}
 use Rattle.asg_proof.proofs.GradeAmountLemmas.{phases_to_grade, phases_from_grade, phases_amounts, joined_admitted, joined_index}
-use Rattle.asg_proof.specs.GradeAmounts.{graded_phase, rise_phase}
 use Rattle.asg_proof.proofs.laws.grades.grade_law.Goals as goal
 
 pub returns-clause-phases : goal.returns-clause-phases

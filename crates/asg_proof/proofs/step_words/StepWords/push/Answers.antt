@@ -1,5 +1,4 @@
-use Rattle.std.proofs.Common.{◌∷◌, ◌++◌, [], ◌∙◌}
-use Rattle.asg_proof.specs.StepWords.{short_words}
+use Rattle.asg_proof.proofs.Common.{[], ◌∷◌, ◌++◌, ◌∙◌, short_words}
 use Rattle.asg_proof.proofs.ShortWordLemmas.{numbers_more, words_more}
 use Rattle.asg_proof.proofs.step_words.StepWords.push.Goals as goal
 

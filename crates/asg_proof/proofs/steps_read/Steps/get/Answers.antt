@@ -1,4 +1,4 @@
-use Rattle.std.proofs.Common.{◌≡◌, ◌/◌, ◌<◌, ap, sym, subst, ◌∙◌, length, slice_index_or, arith}
+use Rattle.asg_proof.proofs.Common.{◌≡◌, ◌/◌, ◌<◌, length, slice_index_or, sym, ap, ◌∙◌, subst, arith}
 use Rattle.asg_proof.proofs.ShortWordLemmas.{words_count, word_at}
 use Rattle.asg_proof.proofs.steps_read.Steps.get.Goals as goal
 

@@ -1,4 +1,4 @@
-use Rattle.std.proofs.Common.{ap, ◌∙◌, length}
+use Rattle.asg_proof.proofs.Common.{length, ap, ◌∙◌}
 use Rattle.asg_proof.proofs.ShortWordLemmas.{words_count}
 use Rattle.asg_proof.proofs.steps_read.Steps.len.Goals as goal
 

@@ -1,7 +1,4 @@
-use Rattle.std.proofs.Common.{◌≡◌, ◌++◌, ◌<◌, ◌/◌, ◌^◌, ◌∙◌, length, arith}
-use Rattle.std.specs.Prelude.{All}
-use Rattle.std.proofs.lemmas.Grind.{get_or_default_zero}
-use Rattle.std.proofs.lemmas.List.Elements.{All-append}
+use Rattle.asg_proof.proofs.Common.{◌≡◌, ◌/◌, ◌^◌, ◌<◌, ◌++◌, length, All, ◌∙◌, arith, All-append, get_or_default_zero}
 use Rattle.asg_proof.proofs.PhaseNumbers.{phase_numbers, marked_phase}
 use Rattle.asg_proof.proofs.written_phases.WrittenPhase.of.Goals as goal
 

@@ -1,7 +1,0 @@
-use Rattle.asg_proof.specs.laws.MaskedSquares.{after_phases-child}
-use Rattle.asg_proof.proofs.ranking_laws.mask_law.Goals as goal
-
-pub returns : goal.returns
-returns g c =
-    let m = c.args.m.now in
-    after_phases-child (g.M.Ordered.monoid_of m) (g.M.DMonoid.difference m)

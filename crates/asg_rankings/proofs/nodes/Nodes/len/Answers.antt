@@ -1,0 +1,5 @@
+use Rattle.asg_rankings.proofs.Common.{subst, AreNodeParts}
+use Rattle.asg_rankings.proofs.nodes.Nodes.len.Goals as goal
+
+pub returns-clause-nodes : goal.returns-clause-nodes
+returns-clause-nodes c = subst AreNodeParts c.self.view_is c.self.invariant

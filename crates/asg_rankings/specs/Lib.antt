@@ -1,0 +1,10 @@
+pub mod Children
+pub mod Masks
+pub mod NodeLists
+pub mod Nodes
+pub mod SearchTrees
+pub mod Ranked
+pub mod TreeProofs
+pub mod TreeFaults
+pub mod Frontiers
+pub mod laws

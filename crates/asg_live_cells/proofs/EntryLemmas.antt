@@ -1,18 +1,5 @@
 -- Entries of live cells, row by row.
-use Rattle.std.proofs.Common.{◌≡◌, ◌⊎◌, ℕ, ◌+◌, ◌*◌, ◌/◌, ◌%◌, ◌<◌, ◌≤◌, inl, inr, ⊎_elim, sym, ◌∙◌, subst, ap, arith, List, [], ◌∷◌, ◌++◌, Some, Contains, true}
-use Rattle.std.specs.Prelude.{All}
-use Rattle.std.specs.Int.{bit_at}
-use Rattle.std.proofs.lemmas.Bool.{false≢true, cases_lt, cases_eq, lt-ltb}
-use Rattle.std.proofs.lemmas.Option.{same_Some}
-use Rattle.std.proofs.lemmas.List.Elements.{All-push, Contains-append_left, Contains-push}
-use Rattle.asg_square.specs.BitTable.{is_bit_set}
-use Rattle.asg_square.specs.Grid.{Grid, cell_at}
-use Rattle.asg_square.specs.WordBits.{HasBit}
-use Rattle.asg_square.specs.laws.Bits.{without_bit, HasBit-zero, HasBit-without, HasBit-without_other}
-use Rattle.asg_square.specs.laws.Words.{bit_of, of_bit}
-use Rattle.asg_live_cells.specs.declared.live_cells.Entry.{Entry}
-use Rattle.asg_live_cells.specs.LiveCells.{entry_of, IsEntryOf, IsUnder, IsBefore, AddsEntry, AreEntriesBefore}
-use Rattle.asg_live_cells.specs.UnderWords.{is_under}
+use Rattle.asg_live_cells.proofs.Common.{◌≡◌, ℕ, ◌+◌, ◌*◌, ◌/◌, ◌%◌, ◌<◌, ◌≤◌, true, ◌⊎◌, List, [], ◌∷◌, ◌++◌, Some, All, Contains, sym, ap, ◌∙◌, subst, inl, inr, ⊎_elim, arith, lt-ltb, All-push, Contains-append_left, Contains-push, bit_at, cases_eq, cases_lt, false≢true, same_Some, is_bit_set, HasBit, without_bit, HasBit-zero, HasBit-without, HasBit-without_other, bit_of, of_bit, entry_of, IsEntryOf, IsUnder, IsBefore, AddsEntry, AreEntriesBefore, is_under, Entry, Grid, cell_at}
 use Rattle.asg_live_cells.proofs.UnderLemmas.{past_none}
 
 -- a place with a live cell of a grade under the limit, whose entry is added

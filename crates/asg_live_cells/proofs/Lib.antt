@@ -1,3 +1,4 @@
+pub mod Common
 pub mod UnderLemmas
 pub mod EntryLemmas
 pub mod MarkLemmas

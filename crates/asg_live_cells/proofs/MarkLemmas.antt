@@ -1,10 +1,5 @@
 -- Marks of more cells and of fewer.
-use Rattle.std.proofs.Common.{◌≡◌, refl, ℕ, ◌+◌, ◌<◌, ◌≤◌, ◌⊎◌, inl, inr, ⊎_elim, sym, ◌∙◌, subst, ap, arith, List, true, false}
-use Rattle.std.proofs.lemmas.Bool.{cases_lt}
-use Rattle.asg_square.specs.BitTable.{BitTable, PutsBit}
-use Rattle.asg_live_cells.specs.declared.live_cells.Entry.{Entry}
-use Rattle.asg_live_cells.specs.LiveCells.{entry_at}
-use Rattle.asg_live_cells.specs.Marks.{IsNamed, MarksMore, MarksFewer}
+use Rattle.asg_live_cells.proofs.Common.{◌≡◌, ℕ, ◌+◌, ◌<◌, ◌≤◌, true, false, ◌⊎◌, List, sym, refl, ap, ◌∙◌, subst, inl, inr, ⊎_elim, arith, cases_lt, BitTable, PutsBit, entry_at, IsNamed, MarksMore, MarksFewer, Entry}
 use Rattle.asg_live_cells.specs.laws.Puts.{put_more, put_fewer}
 
 -- the cells that are named up to the next place

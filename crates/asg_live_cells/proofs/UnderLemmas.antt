@@ -1,21 +1,6 @@
 -- Words of the cells whose grades are under a limit.
-use Rattle.std.proofs.Common.{◌≡◌, ◌↔◌, ℕ, ◌+◌, ◌*◌, ◌%◌, ◌^◌, ◌<◌, ◌≤◌, ◌&&◌, ⊎_elim, refl, sym, ◌∙◌, subst, ap, arith, w64, List, length, take, map, get_or, Option, Some, None, is_some, Bool, true, false, cond, ltb, zero-mul}
-use Rattle.std.specs.Prelude.{bit_and, bit_or, nat_lt, ◌==◌}
-use lib.Lanes.{mask_l}
-use Rattle.std.specs.Int.{bit_at}
-use mir.Val.{bool_byte}
-use Rattle.std.specs.Int.Bits.{or_zero_r}
-use Rattle.std.proofs.lemmas.Bool.{false≢true, cases_eq, cases_lt, ltb-true, lt-ltb, le-ltb}
-use Rattle.std.proofs.lemmas.List.{get_or-map, get_or-take, length-take}
-use Rattle.std.proofs.lemmas.Nat.Bits.{bit_at-zero, bit_at_set_same, bit_at_set_other}
-use Rattle.std.proofs.lemmas.Option.{none-some, get_or_from_slice_get}
-use Rattle.std.proofs.lemmas.Simd.{bit_mask_l}
-use Rattle.asg_square.specs.BitTable.{AreWordsOf, is_bit_set, word_count}
-use Rattle.asg_square.specs.CellTable.{AreValuesOf}
-use Rattle.asg_square.specs.Grid.{Grid, cell_at}
-use Rattle.asg_square.specs.WordBits.{HasBit}
-use Rattle.asg_square.specs.laws.Words.{bit_of, of_bit, same_bool, is_and, bit_in_row}
-use Rattle.asg_live_cells.specs.UnderWords.{is_under, AreBitsUnder}
+use Rattle.asg_live_cells.proofs.Common.{◌≡◌, ℕ, ◌+◌, ◌*◌, ◌%◌, ◌^◌, ◌<◌, ◌≤◌, Bool, true, false, cond, ◌&&◌, ltb, ◌↔◌, List, map, length, get_or, take, is_some, nat_lt, ◌==◌, bit_and, bit_or, Some, None, Option, sym, refl, ap, ◌∙◌, subst, ⊎_elim, zero-mul, arith, length-take, get_or-take, w64, ltb-true, le-ltb, lt-ltb, bit_at, bit_at-zero, bit_at_set_other, bit_at_set_same, bit_mask_l, bool_byte, cases_eq, cases_lt, false≢true, get_or-map, get_or_from_slice_get, mask_l, none-some, or_zero_r, AreWordsOf, is_bit_set, word_count, HasBit, bit_of, of_bit, same_bool, is_and, bit_in_row, is_under, AreBitsUnder, Grid, cell_at}
+use Rattle.asg_cell_tables.specs.CellTable.{AreValuesOf}
 
 bit_if : (n : ℕ) (b : Bool) → n ≡ cond {A = ℕ} b 1 0 → (n == 1) ≡ b
 bit_if n true e = ap (λ m. m == 1) e

@@ -1,6 +1,6 @@
 -- Marks of cells, and those of the cells that entries name.
 use Rattle.std.specs.Prelude.{◌≡◌, ◌↔◌, ◌⊎◌, ℕ, ◌<◌, ◌≤◌, List, IsTrue}
-use Rattle.asg_square.specs.BitTable.{BitTable, has_bit}
+use Rattle.asg_bit_rows.specs.BitTable.{BitTable, has_bit}
 use Rattle.asg_live_cells.specs.declared.live_cells.Entry.{Entry}
 use Rattle.asg_live_cells.specs.LiveCells.{entry_at}
 

@@ -1,7 +1,7 @@
 -- Cells whose grades are under a limit, and words of their bits.
 use Rattle.std.specs.Prelude.{◌≡◌, ℕ, ◌<◌, nat_lt, Bool, false, Option, List, slice_index}
 use Rattle.std.specs.Option.{option_map_or}
-use Rattle.asg_square.specs.BitTable.{BitTable, has_bit, is_bit_set}
+use Rattle.asg_bit_rows.specs.BitTable.{BitTable, has_bit, is_bit_set}
 use Rattle.asg_square.specs.Grid.{Grid, cell_at}
 
 -- there is a cell, and its grade is under the limit

@@ -4,7 +4,7 @@ ghost use Rattle.std.specs.Prelude.{◌+◌, ◌*◌, ◌↔◌, ◌<◌, ◌≤
 ghost use Rattle.asg_model.specs.Limits.{most_side};
 ghost use Rattle.std.specs.List.Sorted.{IsNonDecreasingBy};
 ghost use Rattle.asg_live_cells.specs.declared.live_cells.Entry.{Entry as E};
-ghost use Rattle.asg_square.specs.BitTable.{word_count};
+ghost use Rattle.asg_bit_rows.specs.BitTable.{word_count};
 ghost use Rattle.asg_live_cells.specs.LiveCells.{AddsEntry, AreEntriesBefore, AreEntriesUnder};
 ghost use Rattle.asg_live_cells.specs.LiveCells.{IsPlaceOf};
 

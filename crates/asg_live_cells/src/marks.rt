@@ -2,8 +2,8 @@
 
 ghost use Rattle.std.specs.Prelude.{◌≡◌};
 
+use asg_bit_rows::BitRows;
 use asg_match::Allowed;
-use asg_square::BitRows;
 
 /// The cells of a square that are marked by a bit each.
 #[derive(Drop)]

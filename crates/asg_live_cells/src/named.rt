@@ -4,7 +4,7 @@ ghost use Rattle.std.specs.Prelude.{◌≡◌, ◌<◌, ◌≤◌, All, length};
 ghost use Rattle.asg_live_cells.specs.Marks.{MarksMore, MarksFewer};
 
 use crate::live_cells::Entry;
-use asg_square::BitRows;
+use asg_bit_rows::BitRows;
 
 /// Marks the cells of the entries from one place to another.
 pub fn enter(bits: &mut BitRows, entries: &[Entry], from: usize, to: usize)

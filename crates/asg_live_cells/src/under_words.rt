@@ -2,7 +2,7 @@
 
 ghost use Rattle.std.specs.Prelude.{◌≡◌, ◌+◌, ◌-◌, ◌*◌, ◌<◌, ◌≤◌, ℕ, min, length, slice_index};
 ghost use Rattle.asg_model.specs.Limits.{most_side};
-ghost use Rattle.asg_square.specs.BitTable.{is_bit_set, word_count};
+ghost use Rattle.asg_bit_rows.specs.BitTable.{is_bit_set, word_count};
 ghost use Rattle.asg_square.specs.Grid.{cell_at};
 ghost use Rattle.asg_live_cells.specs.UnderWords.{is_under, AreBitsUnder};
 

@@ -1,36 +1,12 @@
 -- Rows of the square with fewer allowed columns than they are give a Hall set.
-use Rattle.std.proofs.Common.{◌≡◌, ◌≢◌, ℕ, ◌+◌, ◌-◌, ◌<◌, ◌≤◌, Bool, true, false, ◌&&◌, cond, not, eqb, ltb, List, [], ◌∷◌, length, get_or, refl, arith, sym, ap, subst, ◌∙◌, ⊎_elim, map}
-use Rattle.std.specs.Prelude.{Option, Some, None, IsTrue, nat_lt, slice_get, filter_map, All, AllPairs, Contains}
-use Rattle.std.specs.List.{enumerate_from, cons_option, list_any, position_or_len}
-use Rattle.std.specs.Option.{option_map_or, option_map, option_and_then}
-use Rattle.std.proofs.lemmas.Bool.{false≢true, cases_Bool, cases_lt, cases_order, eq-eqb, ne_eqb, lt-ltb}
-use Rattle.std.proofs.lemmas.Bool.Decides.{Decides-ltb, Decides-eqb}
-use Rattle.std.proofs.lemmas.Option.{slice_get-get_or, same_Some}
-use Rattle.std.proofs.lemmas.List.{get_or-map, length-map}
-use Rattle.std.proofs.lemmas.List.Elements.{All-head, All-tail, All-map, Contains-get_or}
-use Rattle.std.proofs.lemmas.List.Folds.{Any-from_list_any, list_any_at}
-use Rattle.std.proofs.lemmas.List.Sums.{position_or_len_is}
-use Rattle.asg_model.specs.declared.parts.Row.{Row}
+use Rattle.asg_match.proofs.Common.{◌≡◌, ℕ, ◌+◌, ◌-◌, ◌<◌, ◌≤◌, Bool, true, false, cond, not, ◌&&◌, eqb, ltb, ◌≢◌, List, [], ◌∷◌, map, length, get_or, IsTrue, nat_lt, slice_get, Some, None, All, Contains, Option, option_map, AllPairs, filter_map, sym, refl, ap, ◌∙◌, subst, ⊎_elim, arith, lt-ltb, eq-eqb, ne_eqb, All-head, All-map, All-tail, Any-from_list_any, Contains-get_or, Decides-eqb, Decides-ltb, cases_Bool, cases_lt, cases_order, cons_option, enumerate_from, false≢true, get_or-map, length-map, list_any, list_any_at, option_map_or, position_or_len, position_or_len_is, same_Some, slice_get-get_or, IsDeficient, AllowsCells, labelled_id, hall_ids, active_count, placed_by, counted_by, is_counted, is_counted_by, total_capacity, slack, row_place_of, is_live_within, reaches, is_reached, reached_capacity, is_counted_id, IsHall, IsPlaceInRange, Problem, square_side, side_by, sum_below, count_below, one, Place, Row, sum_below-same, sum_below-zero, length-le-count_below, no_row, ones_below, row_label, column_label, copies, row-from_counted, copies_within, option_and_then}
 use Rattle.asg_model.specs.declared.bands.Band.{Band}
-use Rattle.asg_model.specs.declared.parts.Place.{Place}
-use Rattle.asg_model.specs.declared.parts.Place.TheVariants.{All as PlaceAll, Exactly}
-use Rattle.asg_model.specs.Problem.{Problem}
-use Rattle.asg_model.specs.Instances.{IsPlaceInRange}
 use Rattle.asg_model.specs.Live.{is_active}
-use Rattle.asg_model.specs.Counts.{active_count, placed_by, counted_by, is_counted, is_counted_by, total_capacity, slack}
-use Rattle.asg_model.specs.HallSet.{row_place_of, is_live_within, reaches, is_reached, reached_capacity, is_counted_id, IsHall}
-use Rattle.asg_match.specs.Deficient.{IsDeficient}
-use Rattle.asg_model.specs.Shapes.{square_side, side_by}
-use Rattle.asg_square.specs.Labels.{row_label, column_label, copies}
-use Rattle.asg_square.specs.Presence.{leaves_rows, has_corner, is_labelled_within, has_cell}
-use Rattle.asg_match.specs.HallSets.{AllowsCells, labelled_id, hall_ids}
-use Rattle.asg_model.specs.Sums.{sum_below, count_below}
-use Rattle.asg_model.specs.laws.Counting.{sum_below-same, sum_below-zero, length-le-count_below}
-use Rattle.asg_model.specs.Sums.{one}
+use Rattle.asg_square.specs.Presence.{has_cell}
+use Rattle.asg_cell_tables.specs.LabelledCells.{leaves_rows, has_corner, is_labelled_within}
 use Rattle.asg_square.specs.laws.Bijections.{sum_below-split, count-le-within}
 use Rattle.asg_square.specs.laws.Copies.{length-copies, count-copies, count-labels}
-use Rattle.asg_square.specs.laws.Rows.{row-from_counted, copies_within}
-use Rattle.asg_model.specs.laws.Rows.{no_row, ones_below}
+use Rattle.asg_model.specs.declared.parts.Place.TheVariants.{All as PlaceAll, Exactly}
 
 -- the id of the row at a place, 0 past the last
 abbrev row_id_at : Problem → ℕ → ℕ

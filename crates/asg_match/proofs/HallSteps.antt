@@ -1,30 +1,7 @@
 -- How many ids there are, and ids from equal rows.
-use Rattle.std.proofs.Common.{◌≡◌, ◌≢◌, ℕ, ◌+◌, ◌<◌, ◌≤◌, Bool, true, false, cond, List, [], ◌∷◌, ◌++◌, length, take, map, get_or, Option, Some, None, refl, sym, ap, subst, ◌∙◌, arith, eqb}
-use Rattle.std.specs.Prelude.{filter, filter_map, count_by, sum_by, is_some, AllPairs, nat_lt, slice_get}
-use Rattle.std.specs.List.{range_with_len, cons_option}
-use Rattle.std.specs.Option.{option_and_then, option_map}
-use Rattle.std.proofs.lemmas.Bool.Decides.{Decides-eqb}
-use Rattle.std.proofs.lemmas.List.{take_more, length-append}
-use Rattle.std.proofs.lemmas.List.Elements.{filter_map-append, filter_passes}
-use Rattle.std.proofs.lemmas.List.Folds.{Any-from_list_any}
-use Rattle.std.proofs.lemmas.List.FromFn.{get_or-map-range_with_len}
-use Rattle.std.proofs.lemmas.List.Kept.{AllPairs-filter}
-use Rattle.std.proofs.lemmas.List.Sums.{sum_by-cons, length-filter, sum_by-take-le}
-use Rattle.std.specs.Option.{option_map_or}
-use Rattle.std.proofs.lemmas.Option.{get_or_from_slice_get}
-use Rattle.asg_model.specs.declared.parts.Row.{Row}
-use Rattle.asg_model.specs.declared.parts.Place.{Place}
+use Rattle.asg_match.proofs.Common.{◌≡◌, ℕ, ◌+◌, ◌<◌, ◌≤◌, Bool, true, false, cond, eqb, ◌≢◌, List, [], ◌∷◌, ◌++◌, map, length, get_or, take, is_some, nat_lt, slice_get, Some, None, sum_by, count_by, filter, Option, option_map, AllPairs, filter_map, sym, refl, ap, ◌∙◌, subst, arith, AllPairs-filter, Any-from_list_any, Decides-eqb, cons_option, filter_map-append, filter_passes, get_or-map-range_with_len, get_or_from_slice_get, length-filter, option_map_or, range_with_len, sum_by-cons, sum_by-take-le, take_more, labelled_id, hall_ids, is_counted, is_counted_by, total_capacity, IsPlaceInRange, Problem, square_side, side_by, one, Place, Row, length-le-count_below, ones_below, row_label, row-from_counted, option_and_then}
+use Rattle.std.proofs.lemmas.List.{length-append}
 use Rattle.asg_model.specs.declared.parts.Place.TheVariants.{All as PlaceAll, Exactly}
-use Rattle.asg_model.specs.Instances.{IsPlaceInRange}
-use Rattle.asg_model.specs.Problem.{Problem}
-use Rattle.asg_model.specs.Counts.{is_counted, is_counted_by, total_capacity}
-use Rattle.asg_model.specs.Shapes.{square_side, side_by}
-use Rattle.asg_square.specs.Labels.{row_label}
-use Rattle.asg_match.specs.HallSets.{labelled_id, hall_ids}
-use Rattle.asg_model.specs.laws.Counting.{length-le-count_below}
-use Rattle.asg_model.specs.Sums.{one}
-use Rattle.asg_model.specs.laws.Rows.{ones_below}
-use Rattle.asg_square.specs.laws.Rows.{row-from_counted}
 
 length-cons_option : {B : Type 0} (o : Option B) (ys : List B) → length (cons_option o ys) ≡ one (is_some o) + length ys
 length-cons_option None ys = omega arith

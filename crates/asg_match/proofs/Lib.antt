@@ -1,3 +1,4 @@
+pub mod Common
 pub mod PairedLemmas
 pub mod PathLemmas
 pub mod SearchLemmas

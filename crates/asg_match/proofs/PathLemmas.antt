@@ -1,13 +1,5 @@
 -- A path that is being flipped, from its free column to the root.
-use Rattle.std.proofs.Common.{◌≡◌, ℕ, ◌<◌, ◌≤◌, List, length, Option, Some, None, get_or, set, ◌⊎◌, inl, inr, ⊎_elim, sym, ◌∙◌, subst, ap, refl, arith, is_some}
-use Rattle.std.proofs.lemmas.List.{get_or-set_other, length-set}
-use Rattle.std.proofs.lemmas.Grind.{get_or-set_at}
-use Rattle.std.proofs.lemmas.Bool.{cases_lt, cases_eq}
-use Rattle.std.proofs.lemmas.Option.{none-some, same_Some}
-use Rattle.asg_match.specs.Matching.{column_at, Matches, IsMatched, IsFree, IsMatching}
-use Rattle.asg_match.specs.Alternating.{HasParent, IsTree}
-use Rattle.asg_match.specs.Flipped.{IsLink, Flips}
-use Rattle.asg_match.specs.laws.Matchings.{Matches-same, Matches-set_cases, IsMatching-set}
+use Rattle.asg_match.proofs.Common.{◌≡◌, ℕ, ◌<◌, ◌≤◌, ◌⊎◌, List, length, get_or, set, is_some, Some, None, Option, sym, refl, ap, ◌∙◌, subst, inl, inr, ⊎_elim, arith, length-set, get_or-set_other, cases_eq, cases_lt, get_or-set_at, none-some, same_Some, HasParent, IsTree, IsLink, Flips, column_at, Matches, IsMatched, IsFree, IsMatching, Matches-same, Matches-set_cases, IsMatching-set}
 
 -- the row at a place is about to get a free column; rows up to that place have what they had
 pub record IsFlipping (rows : List ℕ) (parents : ℕ → Option ℕ) (end_place end_column : ℕ) (before now : List (Option ℕ)) (place row column : ℕ) : Type 0 where

@@ -1,9 +1,6 @@
 -- A tree that grows step after step.
-use Rattle.std.proofs.Common.{◌≡◌, ℕ, ◌<◌, ◌⊎◌, ⊎_elim, List, length, Option, get_or, is_some, sym, subst, ap, ◌∙◌, arith}
+use Rattle.asg_match.proofs.Common.{◌≡◌, ℕ, ◌<◌, ◌⊎◌, List, length, get_or, is_some, Option, sym, ap, ◌∙◌, subst, ⊎_elim, arith, HasParent, IsReached, parents_in, IsGrown, IsSearch, Extends, Some-from_test}
 use Rattle.asg_match.specs.declared.alternating_tree.Branches.{Branches}
-use Rattle.asg_match.specs.Alternating.{HasParent, IsReached}
-use Rattle.asg_match.specs.Searched.{parents_in, IsGrown, IsSearch, Extends}
-use Rattle.asg_match.specs.laws.Matchings.{Some-from_test}
 
 pub Extends-join : (first second third : Branches) → Extends first second → Extends second third → Extends first third
 Extends-join first second third e f =

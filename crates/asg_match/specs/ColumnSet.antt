@@ -1,7 +1,7 @@
 -- Sets of columns as words of 64 bits, the lowest bit of the first word for column 0.
 use Rattle.std.specs.Prelude.{◌≡◌, ◌↔◌, ℕ, ◌+◌, ◌*◌, ◌/◌, ◌%◌, ◌<◌, List, length, slice_index}
-pub use Rattle.asg_square.specs.BitTable.{word_count}
-pub use Rattle.asg_square.specs.WordBits.{HasBit}
+pub use Rattle.asg_bit_rows.specs.BitTable.{word_count}
+pub use Rattle.asg_bit_rows.specs.WordBits.{HasBit}
 
 -- column c is in the set
 abbrev pub HasColumn : List ℕ → ℕ → Type 0

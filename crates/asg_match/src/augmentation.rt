@@ -20,6 +20,8 @@ pub enum Grown {
 
 /// Tries to give the root a column: it grows an alternating tree from the root, and flips the path
 /// to the first column that no row has (the augmenting step of the Hungarian method, [Kuhn 1955]).
+/// Each row is asked for such a column as the tree reaches it ([Duff 1981]), the root first, so that
+/// mostly no tree grows.
 ///
 /// `Longer`: the root and every row that had a column have one, by allowed cells, and no other row
 /// has one. `Short`: the matching is as it was, and the rows of the tree are one more than the

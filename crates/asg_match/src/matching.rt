@@ -1,11 +1,13 @@
 //! Matchings.
 
-ghost use Rattle.std.specs.Prelude.{◌≡◌, ℕ, ◌<◌, ◌↔◌, length, Some, None, List, Option, IfOk};
+ghost use Rattle.std.specs.Prelude.{◌≡◌, ℕ, ◌+◌, ◌*◌, ◌<◌, ◌↔◌, length, Some, None, List, Option, IfOk};
 ghost use Rattle.std.specs.Prelude.{IfSome, IfNone, replicate, slice_set, slice_index};
+ghost use Rattle.asg_match.specs.ColumnSet.{HasBit, word_count};
 ghost use Rattle.asg_match.specs.Matching.{column_at, Matches, IsMatched, IsMatching, IsFree};
 
 use crate::NoMemory;
-use asg_square::overwrite;
+use crate::column_set::{add, fill, remove};
+use asg_bit_rows::overwrite;
 use std::alloc::Global;
 use std::marker::Model;
 
@@ -16,17 +18,20 @@ pub struct Matching {
     side: u32,
     columns: Vec<Option<u32>>,
     rows: Vec<Option<u32>>,
+    // The columns that no row has: bit `c % 64` of word `c / 64` for column `c`.
+    free: Vec<u64>,
 }
 
 impl Model for Matching {
     ghost use Rattle.std.specs.Prelude.{ℕ, List, Option};
-    ghost use Rattle.asg_match.specs.Paired.{IsPaired};
+    ghost use Rattle.asg_match.specs.Paired.{IsPaired, AreFree};
 
     ghost Value = { List (Option ℕ) };
 
     ghost view = { λ m. m.columns.items };
 
-    ghost invariant = { λ m. IsPaired m.side m.columns.items m.rows.items };
+    ghost invariant = { λ m. IsPaired m.side m.columns.items m.rows.items
+        × AreFree m.side m.rows.items m.free.items };
 }
 
 impl Matching {
@@ -37,10 +42,13 @@ impl Matching {
     {
         let columns = vec![in alloc; None; side as usize]?;
         let rows = vec![in alloc; None; side as usize]?;
+        let mut free = vec![in alloc; 0; (side as usize).div_ceil(64)]?;
+        fill(&mut free, side as usize);
         Ok(Matching {
             side,
             columns,
             rows,
+            free,
         })
     }
 
@@ -73,6 +81,25 @@ impl Matching {
         self.rows[c as usize]
     }
 
+    // How many words hold the columns as bits.
+    #[inline]
+    pub(crate) fn words(&self) -> u32
+        ensures { result ≡ word_count (length self.now) }
+    {
+        self.side.div_ceil(64)
+    }
+
+    // Of the columns `64 * number + k` those that no row has, as bits k of a word.
+    #[inline]
+    pub(crate) fn free_columns(&self, number: u32) -> u64
+        requires { number < word_count (length self.now) }
+        ensures below { (k : ℕ) → HasBit result k → 64 * number + k < length self.now }
+        ensures free { (k : ℕ) → k < 64 → 64 * number + k < length self.now
+            → HasBit result k ↔ IsFree self.now (64 * number + k) }
+    {
+        self.free[number as usize]
+    }
+
     /// Makes the list that of the columns of the rows, each of which has one.
     pub fn copy_columns(&self, columns: &mut [u32])
         requires count { length columns.old ≡ length self.now }
@@ -92,6 +119,7 @@ impl Matching {
         self.side = other.side;
         overwrite(&mut self.columns, other.columns.as_slice());
         overwrite(&mut self.rows, other.rows.as_slice());
+        overwrite(&mut self.free, other.free.as_slice());
     }
 
     /// Takes its column from row `r`, if it has one. Every other row keeps what it has.
@@ -102,6 +130,7 @@ impl Matching {
         if let Some(c) = self.columns[r as usize] {
             self.columns[r as usize] = None;
             self.rows[c as usize] = None;
+            add(&mut self.free, self.side as usize, c as usize);
         }
     }
 
@@ -116,5 +145,6 @@ impl Matching {
     {
         self.columns[r as usize] = Some(c);
         self.rows[c as usize] = Some(r);
+        remove(&mut self.free, self.side as usize, c as usize);
     }
 }

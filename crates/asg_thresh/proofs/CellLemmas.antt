@@ -1,12 +1,8 @@
 -- Assignments and deficient rows among the cells of a square up to a limit.
-use Rattle.std.proofs.Common.{◌≡◌, ℕ, ◌<◌, ◌≤◌, arith, List, length, get_or, Option, Contains}
+use Rattle.asg_thresh.proofs.Common.{◌≡◌, ℕ, ◌<◌, ◌≤◌, List, length, get_or, Contains, Option, arith, IsDeficient, IsColumnBound, AreAllBelow, IsUpTo, IsUnder, IsAssignmentUpTo}
 use Rattle.asg_match.specs.Matching.{Matches, IsPerfect}
-use Rattle.asg_match.specs.Deficient.{IsDeficient}
 use Rattle.asg_match.specs.laws.EmptyColumns.{IsDeficient-column}
 use Rattle.asg_match.specs.laws.Matchings.{AllPairs-listed}
-use Rattle.asg_thresh.specs.Bounds.{IsColumnBound, AreAllBelow}
-use Rattle.asg_thresh.specs.Grades.{IsUpTo, IsUnder}
-use Rattle.asg_thresh.specs.Thresholds.{IsAssignmentUpTo}
 
 -- fewer cells leave deficient rows deficient: only the cells of the rows count
 pub IsDeficient-fewer : (more fewer : ℕ → ℕ → Type 0) (side : ℕ) (rows : List ℕ) → ((r c : ℕ) → Contains rows r → fewer r c → more r c) → IsDeficient more side rows → IsDeficient fewer side rows

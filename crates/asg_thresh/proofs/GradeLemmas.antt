@@ -1,14 +1,6 @@
 -- Squares whose absent cells get the grade of no cell.
-use Rattle.std.proofs.Common.{◌≡◌, ℕ, ◌+◌, ◌*◌, ◌<◌, ◌≤◌, List, length, get_or, set, cond, refl, arith, sym, ap, ◌∙◌, ⊎_elim}
-use Rattle.std.specs.Prelude.{Option, Some, None, IsSome, is_some}
-use Rattle.std.specs.Option.{unwrap_or}
-use Rattle.std.proofs.lemmas.Bool.{false≢true, cases_lt, lt-ltb, le-ltb}
-use Rattle.std.proofs.lemmas.Nat.{mul-add-lt}
-use Rattle.std.proofs.lemmas.Option.{slice_get-get_or, same_Some}
-use Rattle.std.proofs.lemmas.List.{get_or-set_same, get_or-set_other, length-set}
-use Rattle.asg_square.specs.CellTable.{AreAllValuesOf}
-use Rattle.asg_square.specs.Grid.{Grid, cell_at, IsPerm}
-use Rattle.asg_thresh.specs.Grades.{no_grade, Grades, AreGradesOf}
+use Rattle.asg_thresh.proofs.Common.{◌≡◌, ℕ, ◌+◌, ◌*◌, ◌<◌, ◌≤◌, cond, List, length, get_or, set, is_some, IsSome, Some, None, Option, sym, refl, ap, ◌∙◌, ⊎_elim, arith, length-set, get_or-set_other, get_or-set_same, le-ltb, lt-ltb, cases_lt, false≢true, mul-add-lt, same_Some, slice_get-get_or, Grid, cell_at, IsPerm, no_grade, Grades, AreGradesOf, unwrap_or}
+use Rattle.asg_cell_tables.specs.CellTable.{AreAllValuesOf}
 
 some_is : (o : Option ℕ) → IsSome o → o ≡ Some (unwrap_or o no_grade)
 some_is None h = absurd (false≢true h)

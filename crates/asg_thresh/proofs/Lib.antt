@@ -1,3 +1,4 @@
+pub mod Common
 pub mod GradeLemmas
 pub mod WordLemmas
 pub mod CellLemmas

@@ -1,32 +1,14 @@
 -- What a least threshold shows of an instance.
-use Rattle.std.proofs.Common.{◌≡◌, refl, ℕ, ◌<◌, ◌≤◌, List, length, Option, Some, None, sym, ◌∙◌, subst, ap, arith}
-use Rattle.std.specs.Prelude.{ℤ, pos, ◌-ℤ◌, ◌≤ℤ◌, ◌<ℤ◌, All, IsSome, slice_index, unsigned_abs}
-use Rattle.std.specs.Option.{option_map_or, unwrap_or}
-use Rattle.std.proofs.lemmas.Int.{ints, by_lt_z}
-use Rattle.std.proofs.lemmas.List.{length-map}
-use Rattle.std.proofs.lemmas.List.Elements.{All-map}
+use Rattle.asg_thresh.proofs.Common.{◌≡◌, ℕ, ◌<◌, ◌≤◌, List, length, ℤ, pos, ◌-ℤ◌, ◌≤ℤ◌, ◌<ℤ◌, IsSome, slice_index, unsigned_abs, Some, None, All, Option, sym, refl, ap, ◌∙◌, subst, arith, All-map, by_lt_z, ints, length-map, option_map_or, GivesHallSets, IsHall, most_cost, live_at, Problem, square_side, Objective, Cost, first_part_in_range, square_cell, entered_or_free, Grid, cell_at, IsSquareOf, IsPerm, grade_of, free_grade, no_grade, IsUnder, AreGradesOf, IsAssignmentUpTo, unwrap_or}
 use Rattle.asg_model.specs.declared.bands.Band.TheVariants.{Whole, Under, Over}
-use Rattle.asg_model.specs.declared.objectives.Objective.{Objective}
 use Rattle.asg_model.specs.declared.objectives.Objective.TheVariants.{Sum, SumMax, SumPair, Capped, Bottleneck, BottleneckMax, TimeCost, Balanced, Lex}
-use Rattle.asg_model.specs.declared.parts.Cost.{Cost}
 use Rattle.asg_model.specs.Extremes.{greatest, least}
-use Rattle.asg_model.specs.HallSet.{IsHall}
 use Rattle.asg_model.specs.Instances.{IsInstance}
-use Rattle.asg_model.specs.Limits.{most_cost}
-use Rattle.asg_model.specs.Live.{live_at}
-use Rattle.asg_model.specs.Problem.{Problem}
-use Rattle.asg_model.specs.Shapes.{square_side}
 use Rattle.asg_model.specs.ValidChoice.{IsValid}
 use Rattle.asg_model.specs.Values.{chosen_cost, costs_of, first_parts, choice_value}
-use Rattle.asg_match.specs.HallSets.{GivesHallSets}
 use Rattle.asg_proof.specs.Threshold.{ProvesBelow}
-use Rattle.asg_square.specs.Cells.{square_cell, entered_or_free}
-use Rattle.asg_square.specs.Grid.{Grid, cell_at, IsSquareOf, IsPerm}
-use Rattle.asg_thresh.specs.Grades.{grade_of, free_grade, no_grade, IsUnder, AreGradesOf}
 use Rattle.asg_model.specs.Objectives.{IsBottleneck}
-use Rattle.asg_thresh.specs.Thresholds.{IsAssignmentUpTo}
 use Rattle.asg_match.specs.laws.Choices.{costs_each, costs_some, chosen_live, greatest-le, least-ge, some_cost, if_some, from_if_some}
-use Rattle.asg_proof.specs.laws.LiveCosts.{first_part_in_range}
 use Rattle.asg_thresh.proofs.SquareGrades.{IsBandOf, AllowsCells-under}
 
 -- the costs of the cells under a limit

@@ -1,25 +1,13 @@
 -- Grades of the cells of an instance's square, against bands of costs.
-use Rattle.std.proofs.Common.{◌≡◌, ◌↔◌, refl, ℕ, ◌<◌, ◌≤◌, Option, Some, None, cond, ◌&&◌, Bool, true, false, sym, ◌∙◌, subst, ap, arith}
-use Rattle.std.specs.Prelude.{IfSome, IsTrue, nat_lt, unsigned_abs, List}
-use Rattle.std.specs.Option.{option_map, option_map_or, unwrap_or}
-use Rattle.std.proofs.lemmas.Bool.{false≢true}
+use Rattle.asg_thresh.proofs.Common.{◌≡◌, ℕ, ◌<◌, ◌≤◌, Bool, true, false, cond, ◌&&◌, ◌↔◌, List, IfSome, IsTrue, nat_lt, unsigned_abs, Some, None, Option, option_map, sym, refl, ap, ◌∙◌, subst, arith, false≢true, option_map_or, AllowsCells, most_cost, live_at, Problem, square_side, Objective, Cost, square_cell, Grid, IsSquareOf, grade_of, free_grade, no_grade, grade_at, IsUnder, AreGradesOf, unwrap_or}
 use Rattle.asg_model.specs.declared.bands.Band.{Band}
-use Rattle.asg_model.specs.declared.objectives.Objective.{Objective}
-use Rattle.asg_model.specs.declared.parts.Cost.{Cost}
 use Rattle.asg_model.specs.declared.parts.Place.{Place}
-use Rattle.asg_model.specs.declared.parts.Place.TheVariants.{All as PlaceAll, Exactly}
 use Rattle.asg_model.specs.Bands.{in_band}
-use Rattle.asg_model.specs.Limits.{most_cost}
-use Rattle.asg_model.specs.Live.{live_at}
-use Rattle.asg_model.specs.Problem.{Problem}
-use Rattle.asg_match.specs.HallSets.{AllowsCells}
 use Rattle.asg_match.specs.laws.Cells.{has_cell-within}
-use Rattle.asg_square.specs.Cells.{extra_column_cell, corner_cell, labelled_cell, square_cell}
-use Rattle.asg_square.specs.Grid.{Grid, IsSquareOf}
-use Rattle.asg_model.specs.Shapes.{square_side}
+use Rattle.asg_cell_tables.specs.LabelledCells.{extra_column_cell, corner_cell, labelled_cell, leaves_rows, has_corner, is_labelled_within}
 use Rattle.asg_square.specs.Labels.{row_label, column_label}
-use Rattle.asg_square.specs.Presence.{leaves_rows, has_corner, is_labelled_within, has_cell}
-use Rattle.asg_thresh.specs.Grades.{grade_of, free_grade, no_grade, grade_at, IsUnder, AreGradesOf}
+use Rattle.asg_square.specs.Presence.{has_cell}
+use Rattle.asg_model.specs.declared.parts.Place.TheVariants.{All as PlaceAll, Exactly}
 
 -- a cost has a grade under the limit exactly where it lies in the band
 abbrev pub IsBandOf : Objective → Band → ℕ → Type 0

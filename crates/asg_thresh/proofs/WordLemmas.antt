@@ -1,16 +1,5 @@
 -- Words of the bits of a square, up to a limit.
-use Rattle.std.proofs.Common.{◌≡◌, ◌↔◌, ℕ, ◌+◌, ◌-◌, ◌*◌, ◌/◌, ◌%◌, ◌^◌, ◌<◌, ◌≤◌, ⊎_elim, sym, ◌∙◌, subst, ap, arith, w64, List, length, get_or, min, Bool, true, false, leb, zero-mul}
-use Rattle.std.specs.Prelude.{bit_or}
-use Rattle.std.specs.Int.{bit_at}
-use Rattle.std.proofs.Math.Nat.{mul_comm}
-use mir.Val.{bool_byte}
-use Rattle.std.specs.Int.Bits.{or_zero_r}
-use Rattle.std.proofs.lemmas.Bool.{cases_eq, leb-true, leb-false}
-use Rattle.std.proofs.lemmas.Nat.{div-mul-add, mod-mul-add, mul-add-lt}
-use Rattle.std.proofs.lemmas.Nat.Bits.{bit_at_set_same, bit_at_set_other}
-use Rattle.asg_match.specs.ColumnSet.{HasBit, word_count}
-use Rattle.asg_thresh.specs.Grades.{grade_at}
-use Rattle.asg_thresh.specs.Words.{IsMarked, AreBitsUpTo, IsWordUpTo, MarksUpTo}
+use Rattle.asg_thresh.proofs.Common.{◌≡◌, ℕ, ◌+◌, ◌-◌, ◌*◌, ◌/◌, ◌%◌, ◌^◌, ◌<◌, ◌≤◌, min, Bool, true, false, leb, ◌↔◌, List, length, get_or, bit_or, sym, ap, ◌∙◌, subst, ⊎_elim, mul_comm, zero-mul, arith, w64, leb-false, leb-true, bit_at, bit_at_set_other, bit_at_set_same, bool_byte, cases_eq, div-mul-add, mod-mul-add, mul-add-lt, or_zero_r, HasBit, word_count, grade_at, IsMarked, AreBitsUpTo, IsWordUpTo, MarksUpTo}
 
 -- one more grade, whose bit is set exactly where it is at most the limit
 pub bits_more_set : (grades : List ℕ) (place limit word : ℕ) → place < 64 → get_or grades place 0 ≤ limit → AreBitsUpTo grades place limit word → AreBitsUpTo grades (place + 1) limit (bit_or word (1 * 2 ^ place % 2 ^ 64))

@@ -3,7 +3,7 @@
 ghost use Rattle.std.specs.Prelude.{◌≡◌, ℕ, ◌+◌, ◌*◌, ◌<◌, ◌≤◌, min, length};
 ghost use Rattle.std.specs.Prelude.{slice_index, IsTrue, IsSome, unsigned_abs};
 ghost use Rattle.asg_model.specs.Limits.{most_cost, most_side};
-ghost use Rattle.asg_square.specs.BitTable.{word_count};
+ghost use Rattle.asg_bit_rows.specs.BitTable.{word_count};
 ghost use Rattle.asg_square.specs.Grid.{IsGrid, cell_at};
 ghost use Rattle.asg_thresh.specs.Grades.{grade_of, grade_at, Grades};
 

@@ -4,7 +4,7 @@ ghost use Rattle.std.specs.Prelude.{◌≡◌, ◌*◌, ◌≤◌, IfOk, length,
 ghost use Rattle.asg_match.specs.HallSets.{GivesHallSets};
 ghost use Rattle.asg_model.specs.Limits.{most_cost, most_side};
 ghost use Rattle.asg_proof.specs.Outcomes.{IsOutcome};
-ghost use Rattle.asg_square.specs.CellTable.{AreAllValuesOf};
+ghost use Rattle.asg_cell_tables.specs.CellTable.{AreAllValuesOf};
 ghost use Rattle.asg_square.specs.Grid.{HasLabelsOf};
 ghost use Rattle.asg_model.specs.Shapes.{square_side};
 ghost use Rattle.asg_thresh.specs.Grades.{grade_of, no_grade, IsGradedSquareOf, IsUnder};
@@ -17,11 +17,11 @@ use crate::cells_under::CellsUnder;
 use crate::grades::{FREE_GRADE, NO_GRADE, grade, grade_absent};
 use crate::thresholds::{Threshold, least_threshold};
 use asg_match::hall_list;
-use asg_model::laws::{bottleneck_law, bottleneck_max_law};
 use asg_model::{Cost, Instance, Objective};
 use asg_proof::{Ids, Outcome, Proof};
 use asg_square::Square;
 use asg_square::laws::{grid_law, square_law};
+use asg_values::laws::{bottleneck_law, bottleneck_max_law};
 use std::alloc::Global;
 
 // The ids of a Hall set of each instance of these rows, columns and place rule whose square has

@@ -1,13 +1,6 @@
 -- Perfect assignments by marks and within bands.
-use Rattle.std.proofs.Common.{◌≡◌, ℕ, ◌<◌, sym, ◌∙◌, subst, ap, arith, List, length, get_or, Option}
-use Rattle.std.specs.Prelude.{is_some}
-use Rattle.asg_match.specs.Matching.{Matches, IsPerfect}
+use Rattle.asg_window.proofs.Common.{◌≡◌, ℕ, ◌<◌, List, length, get_or, is_some, Option, sym, ap, ◌∙◌, subst, arith, BitTable, IsMarked, Matches, IsPerfect, Grid, IsPerm, IsAssignmentWithin, IsMarkedAssignment, MarksWithin}
 use Rattle.asg_match.specs.laws.Matchings.{AllPairs-listed}
-use Rattle.asg_square.specs.BitTable.{BitTable}
-use Rattle.asg_square.specs.Grid.{Grid, IsPerm}
-use Rattle.asg_window.specs.Assignments.{IsAssignmentWithin, IsMarkedAssignment}
-use Rattle.asg_window.specs.Bands.{MarksWithin}
-use Rattle.asg_live_cells.specs.Marks.{IsMarked}
 
 -- a perfect matching by marked cells is one of a list of columns
 pub IsMarkedAssignment-perfect : (B : BitTable) (side : ℕ) (matching : List (Option ℕ)) (perm : List ℕ) → IsPerfect (IsMarked B side) side matching → length perm ≡ side → ((r : ℕ) → r < side → Matches matching r (get_or perm r 0)) → IsMarkedAssignment B side perm

@@ -1,14 +1,5 @@
 -- The marks of a band whose ends move.
-use Rattle.std.proofs.Common.{◌≡◌, ℕ, ◌<◌, ◌≤◌, inl, inr, ⊎_elim, sym, ◌∙◌, subst, ap, arith, List, length, Some}
-use Rattle.std.proofs.lemmas.Bool.{cases_eq, cases_lt}
-use Rattle.std.proofs.lemmas.Option.{same_Some}
-use Rattle.asg_square.specs.BitTable.{BitTable}
-use Rattle.asg_square.specs.Grid.{Grid, cell_at}
-use Rattle.asg_live_cells.specs.declared.live_cells.Entry.{Entry}
-use Rattle.asg_live_cells.specs.Marks.{IsNamed, MarksMore, MarksFewer}
-use Rattle.asg_window.specs.Bands.{IsWithin, MarksWithin}
-use Rattle.asg_live_cells.specs.LiveCells.{entry_of, entry_at, AreEntries, IsPlaceOf}
-use Rattle.asg_live_cells.specs.laws.Entries.{place_of_entry, below_place, from_place}
+use Rattle.asg_window.proofs.Common.{◌≡◌, ℕ, ◌<◌, ◌≤◌, List, length, Some, sym, ap, ◌∙◌, subst, inl, inr, ⊎_elim, arith, cases_eq, cases_lt, same_Some, BitTable, entry_of, entry_at, AreEntries, IsPlaceOf, IsNamed, MarksMore, MarksFewer, Entry, place_of_entry, below_place, from_place, Grid, cell_at, IsWithin, MarksWithin}
 
 module _ (Q : Grid ℕ) (entries : List Entry) (e : AreEntries Q entries) where
   -- what is known of a named cell

@@ -1,26 +1,6 @@
 -- The different costs of live cells, from the grades of entries.
-use Rattle.std.proofs.Common.{◌≡◌, ℕ, zero, suc, ◌+◌, ◌-◌, ◌<◌, ◌≤◌, ⊎_elim, sym, ◌∙◌, subst, ap, arith, List, length, get_or, map, Some, All, Contains}
-use Rattle.std.specs.Prelude.{unsigned_abs, slice_index}
-use Rattle.std.proofs.lemmas.Bool.{cases_lt}
-use Rattle.std.proofs.lemmas.Int.{ints}
-use Rattle.std.proofs.lemmas.List.{get_or_default, get_or-map, length-map}
-use Rattle.asg_model.specs.declared.parts.Cost.{Cost}
-use Rattle.asg_model.specs.Instances.{IsInstance}
-use Rattle.asg_model.specs.Limits.{most_cost}
-use Rattle.asg_model.specs.Live.{live_at}
-use Rattle.asg_model.specs.Problem.{Problem}
-use Rattle.asg_square.specs.Grid.{Grid, IsSquareOf}
-use Rattle.asg_live_cells.specs.declared.live_cells.Entry.{Entry}
-use Rattle.asg_window.specs.Assignments.{IsSpread}
-use Rattle.asg_model.specs.DifferentCosts.{HasCosts}
-use Rattle.asg_live_cells.specs.Grades.{grade_of, free_grade, cost_of}
-use Rattle.asg_live_cells.specs.LiveCells.{entry_of, entry_at, AreEntries}
-use Rattle.asg_window.specs.DistinctGrades.{AreGradesOf}
-use Rattle.asg_match.specs.laws.Choices.{from_if_some}
-use Rattle.asg_live_cells.specs.laws.Entries.{place_of_entry}
-use Rattle.asg_live_cells.specs.laws.Grades.{cost_back, grade_upto}
+use Rattle.asg_window.proofs.Common.{◌≡◌, ℕ, zero, suc, ◌+◌, ◌-◌, ◌<◌, ◌≤◌, List, map, length, get_or, slice_index, unsigned_abs, Some, All, Contains, sym, ap, ◌∙◌, subst, ⊎_elim, arith, cases_lt, get_or-map, get_or_default, ints, length-map, grade_of, free_grade, cost_of, entry_of, entry_at, AreEntries, Entry, place_of_entry, cost_back, grade_upto, from_if_some, HasCosts, IsInstance, most_cost, live_at, Problem, Cost, first_part_in_range, Grid, IsSquareOf, IsSpread, AreGradesOf}
 use Rattle.asg_window.proofs.SquareCells.{live_from_cell, cell_from_live}
-use Rattle.asg_proof.specs.laws.LiveCosts.{first_part_in_range}
 
 cost_apart : (i j : ℕ) → i < j → cost_of i ≡ cost_of j → ⊥
 cost_apart i j h e = grind (arith, ints)

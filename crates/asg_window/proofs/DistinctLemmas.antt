@@ -1,12 +1,5 @@
 -- The different grades of entries in order.
-use Rattle.std.proofs.Common.{◌≡◌, refl, ℕ, ◌+◌, ◌<◌, ◌≤◌, ⊎_elim, subst, arith, List, [], ◌∷◌, ◌++◌, length, All, Contains}
-use Rattle.std.specs.List.Sorted.{IsNonDecreasingBy}
-use Rattle.std.proofs.lemmas.Bool.{cases_lt}
-use Rattle.std.proofs.lemmas.List.{get_or_append_left, get_or_push, length_push}
-use Rattle.std.proofs.lemmas.List.Elements.{All-nil, All-push, All-weaker, Contains-append_left, Contains-push}
-use Rattle.asg_live_cells.specs.declared.live_cells.Entry.{Entry}
-use Rattle.asg_live_cells.specs.LiveCells.{entry_of, entry_at}
-use Rattle.asg_window.specs.DistinctGrades.{IsAscending}
+use Rattle.asg_window.proofs.Common.{◌≡◌, ℕ, ◌+◌, ◌<◌, ◌≤◌, List, [], ◌∷◌, ◌++◌, length, All, Contains, refl, subst, ⊎_elim, arith, All-nil, All-push, All-weaker, Contains-append_left, Contains-push, IsNonDecreasingBy, cases_lt, get_or_append_left, get_or_push, length_push, entry_of, entry_at, Entry, IsAscending}
 
 -- some entry has the grade
 abbrev pub IsGradeOf : List Entry → ℕ → Type 0

@@ -1,11 +1,5 @@
 -- Marks for free cells, row by row.
-use Rattle.std.proofs.Common.{◌≡◌, ℕ, ◌+◌, ◌<◌, ◌≤◌, inl, inr, ⊎_elim, sym, ◌∙◌, subst, arith, Some, true, false}
-use Rattle.std.proofs.lemmas.Bool.{cases_eq, cases_lt, false≢true}
-use Rattle.asg_square.specs.BitTable.{BitTable, has_bit, PutsBit}
-use Rattle.asg_square.specs.Grid.{Grid, cell_at}
-use Rattle.asg_window.specs.Bands.{MarksWithin, MarksFreeBefore}
-use Rattle.asg_live_cells.specs.LiveCells.{IsBefore}
-use Rattle.asg_live_cells.specs.laws.Entries.{before_next}
+use Rattle.asg_window.proofs.Common.{◌≡◌, ℕ, ◌+◌, ◌<◌, ◌≤◌, true, false, Some, sym, ◌∙◌, subst, inl, inr, ⊎_elim, arith, cases_eq, cases_lt, false≢true, BitTable, has_bit, PutsBit, IsBefore, before_next, Grid, cell_at, MarksWithin, MarksFreeBefore}
 use Rattle.asg_live_cells.specs.laws.Puts.{put_more}
 
 -- no mark, before the first place

@@ -1,9 +1,5 @@
 -- Chains of gaps.
-use Rattle.std.proofs.Common.{◌≡◌, ℕ, ◌+◌, ◌<◌, ◌≤◌, ⊎_elim, sym, ◌∙◌, ap, arith, List, [], ◌∷◌, ◌++◌, length, get_or, map}
-use Rattle.std.proofs.lemmas.Bool.{cases_lt}
-use Rattle.std.proofs.lemmas.List.{get_or_append_left, get_or_past, get_or_push, get_or-map, length-map, map_push, length_push}
-use Rattle.asg_window.specs.declared.gaps.Gap.{Gap}
-use Rattle.asg_window.specs.Gaps.{low_at, AreChained}
+use Rattle.asg_window.proofs.Common.{◌≡◌, ℕ, ◌+◌, ◌<◌, ◌≤◌, List, [], ◌∷◌, ◌++◌, map, length, get_or, sym, ap, ◌∙◌, ⊎_elim, arith, cases_lt, get_or-map, get_or_append_left, get_or_past, get_or_push, length-map, length_push, map_push, low_at, AreChained, Gap}
 
 -- a less spread
 pub chained_less : (gaps : List Gap) (low spread less : ℕ) → less ≤ spread → AreChained gaps low spread → AreChained gaps low less

@@ -1,3 +1,4 @@
+pub mod Common
 pub mod BandLemmas
 pub mod FreeLemmas
 pub mod ReachLemmas

@@ -1,23 +1,8 @@
 -- Windows of bands prove a spread.
-use Rattle.std.proofs.Common.{refl, ℕ, ◌<◌, ◌≤◌, sym, subst, arith, List, All}
-use Rattle.std.specs.Prelude.{pos, IsTrue}
-use Rattle.std.proofs.lemmas.List.Elements.{All-weaker, All-contains}
-use Rattle.asg_model.specs.declared.bands.Band.TheVariants.{Between}
-use Rattle.asg_model.specs.Instances.{IsInstance}
-use Rattle.asg_model.specs.Problem.{Problem}
-use Rattle.asg_proof.specs.declared.windows.Window.{Window}
-use Rattle.asg_proof.specs.Windows.{is_held, IsHallWindow, ProvesSpread}
-use Rattle.asg_square.specs.Grid.{Grid, IsSquareOf}
+use Rattle.asg_window.proofs.Common.{ℕ, ◌<◌, ◌≤◌, List, pos, IsTrue, All, sym, refl, subst, arith, All-contains, All-weaker, grade_of, free_grade, cost_of, AreEntries, Entry, IsInstance, Problem, Between, is_held, IsHallWindow, ProvesSpread, Window, first_part_in_range, Grid, IsSquareOf, IsBandWindow, AreGradesOf, IsLeast}
 use Rattle.asg_window.specs.declared.gaps.Least.{Least}
-use Rattle.asg_live_cells.specs.declared.live_cells.Entry.{Entry}
-use Rattle.asg_window.specs.CostWindows.{IsBandWindow}
-use Rattle.asg_window.specs.Gaps.{IsLeast}
-use Rattle.asg_live_cells.specs.Grades.{grade_of, free_grade, cost_of}
-use Rattle.asg_live_cells.specs.LiveCells.{AreEntries}
-use Rattle.asg_window.specs.DistinctGrades.{AreGradesOf}
 use Rattle.asg_window.proofs.CostLemmas.{grade_listed, grades_fit, spread_fits}
 use Rattle.asg_window.proofs.SquareBands.{IsBandOf, IsBandOf-between, AllowsCells-within}
-use Rattle.asg_proof.specs.laws.LiveCosts.{first_part_in_range}
 
 module _ (X : Problem) (Q : Grid ℕ) (i : IsInstance X) (square : IsSquareOf X free_grade grade_of Q) where
   -- the rows of a window of a band are a Hall set of its costs

@@ -1,19 +1,6 @@
 -- Deficient rows of a band, and the next grade that helps them.
-use Rattle.std.proofs.Common.{◌≡◌, ℕ, ◌<◌, ◌≤◌, ⊎_elim, sym, subst, ap, arith, List, All}
-use Rattle.std.specs.Prelude.{IsTrue}
-use Rattle.std.proofs.lemmas.Bool.{cases_eq, cases_lt}
-use Rattle.std.proofs.lemmas.List.Elements.{All-contains}
-use Rattle.asg_match.specs.ColumnSet.{HasColumn}
-use Rattle.asg_match.specs.Deficient.{IsColumnOf, IsDeficient}
-use Rattle.asg_square.specs.BitTable.{BitTable, has_bit}
-use Rattle.asg_square.specs.Grid.{Grid}
-use Rattle.asg_live_cells.specs.declared.live_cells.Entry.{Entry}
+use Rattle.asg_window.proofs.Common.{◌≡◌, ℕ, ◌<◌, ◌≤◌, List, IsTrue, All, sym, ap, subst, ⊎_elim, arith, All-contains, cases_eq, cases_lt, BitTable, has_bit, entry_of, entry_at, AreEntries, IsPlaceOf, IsMarked, Entry, place_of_entry, HasColumn, IsColumnOf, IsDeficient, Grid, IsWithin, MarksWithin, IsRowMarked, Reaches, AreReachedBelow, GetNoColumn}
 use Rattle.asg_window.specs.declared.next_grades.Reached.{Reached}
-use Rattle.asg_window.specs.Bands.{IsWithin, MarksWithin}
-use Rattle.asg_live_cells.specs.Marks.{IsMarked}
-use Rattle.asg_live_cells.specs.LiveCells.{entry_of, entry_at, AreEntries, IsPlaceOf}
-use Rattle.asg_window.specs.Reaching.{IsRowMarked, Reaches, AreReachedBelow, GetNoColumn}
-use Rattle.asg_live_cells.specs.laws.Entries.{place_of_entry}
 
 -- columns of rows by marks are columns of theirs within the band
 column_within : (Q : Grid ℕ) (low high : ℕ) (B : BitTable) (rows : List ℕ) (c : ℕ) → MarksWithin Q low high B → IsColumnOf (λ r c. IsTrue (has_bit B r c)) rows c → IsColumnOf (IsWithin Q low high) rows c

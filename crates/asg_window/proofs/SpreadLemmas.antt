@@ -1,13 +1,6 @@
 -- Extremes of grades, and spreads.
-use Rattle.std.proofs.Common.{◌≡◌, refl, ℕ, ◌+◌, ◌-◌, ◌*◌, ◌<◌, ◌≤◌, ⊎_elim, sym, ◌∙◌, subst, ap, arith, List, get_or, cond, Option, Some, None}
-use Rattle.std.specs.Prelude.{IsSome, is_some, slice_index}
-use Rattle.std.proofs.lemmas.Bool.{cases_lt, false≢true, le-ltb}
-use Rattle.std.proofs.lemmas.Option.{same_Some}
-use Rattle.asg_square.specs.Grid.{Grid, cell_at, IsPerm}
+use Rattle.asg_window.proofs.Common.{◌≡◌, ℕ, ◌+◌, ◌-◌, ◌*◌, ◌<◌, ◌≤◌, cond, List, get_or, is_some, IsSome, slice_index, Some, None, Option, sym, refl, ap, ◌∙◌, subst, ⊎_elim, arith, le-ltb, cases_lt, false≢true, same_Some, Grid, cell_at, IsPerm, IsAssignmentWithin, IsSpread, AreExtremes, IsOneMore, no_bound}
 use Rattle.asg_window.specs.declared.spreads.Extremes.{Extremes}
-use Rattle.asg_window.specs.Assignments.{IsAssignmentWithin, IsSpread}
-use Rattle.asg_window.specs.Extremes.{AreExtremes, IsOneMore}
-use Rattle.asg_window.specs.Grades.{no_bound}
 
 -- what stands in a cell that is there
 pub cell_there : (Q : Grid ℕ) (r c : ℕ) → IsSome (cell_at Q r c) → (g : ℕ) × (cell_at Q r c ≡ Some g)

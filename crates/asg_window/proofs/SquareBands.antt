@@ -1,31 +1,11 @@
 -- The cells of an instance's square within a band of grades, against bands of costs.
-use Rattle.std.proofs.Common.{◌≡◌, ◌↔◌, refl, ℕ, ◌<◌, ◌≤◌, Option, Some, None, cond, ◌&&◌, Bool, true, false, sym, ◌∙◌, subst, arith}
-use Rattle.std.specs.Prelude.{pos, ◌-ℤ◌, IfSome, IsTrue, nat_lt, int_le, unsigned_abs}
-use Rattle.std.specs.Option.{option_map, option_map_or}
-use Rattle.std.proofs.lemmas.Bool.{false≢true}
-use Rattle.std.proofs.lemmas.Int.{ints}
-use Rattle.std.proofs.lemmas.Option.{same_Some, none-some}
+use Rattle.asg_window.proofs.Common.{◌≡◌, ℕ, ◌<◌, ◌≤◌, Bool, true, false, cond, ◌&&◌, ◌↔◌, pos, ◌-ℤ◌, IfSome, IsTrue, nat_lt, unsigned_abs, int_le, Some, None, Option, option_map, sym, refl, ◌∙◌, subst, arith, false≢true, ints, none-some, option_map_or, same_Some, extra_column_cell, corner_cell, labelled_cell, leaves_rows, has_corner, is_labelled_within, grade_of, free_grade, cost_of, grade_above, grade_upto, most_cost, live_at, Problem, square_side, Whole, Between, Cost, Place, both_tests, square_cell, Grid, IsSquareOf, row_label, column_label, IsWithin, no_bound}
 use Rattle.asg_model.specs.declared.bands.Band.{Band}
-use Rattle.asg_model.specs.declared.bands.Band.TheVariants.{Whole, Between}
-use Rattle.asg_model.specs.declared.parts.Cost.{Cost}
-use Rattle.asg_model.specs.declared.parts.Place.{Place}
-use Rattle.asg_model.specs.declared.parts.Place.TheVariants.{All as PlaceAll, Exactly}
 use Rattle.asg_model.specs.Bands.{in_band}
-use Rattle.asg_model.specs.Limits.{most_cost}
-use Rattle.asg_model.specs.Live.{live_at}
-use Rattle.asg_model.specs.Problem.{Problem}
-use Rattle.asg_model.specs.Shapes.{square_side}
 use Rattle.asg_match.specs.HallSets.{AllowsCells}
 use Rattle.asg_match.specs.laws.Cells.{has_cell-within}
-use Rattle.asg_square.specs.Cells.{extra_column_cell, corner_cell, labelled_cell, square_cell}
-use Rattle.asg_square.specs.Grid.{Grid, IsSquareOf}
-use Rattle.asg_square.specs.Labels.{row_label, column_label}
-use Rattle.asg_square.specs.Presence.{leaves_rows, has_corner, is_labelled_within, has_cell}
-use Rattle.asg_window.specs.Bands.{IsWithin}
-use Rattle.asg_live_cells.specs.Grades.{grade_of, free_grade, cost_of}
-use Rattle.asg_window.specs.Grades.{no_bound}
-use Rattle.asg_live_cells.specs.laws.Grades.{grade_above, grade_upto}
-use Rattle.asg_model.specs.laws.Tests.{both_tests}
+use Rattle.asg_square.specs.Presence.{has_cell}
+use Rattle.asg_model.specs.declared.parts.Place.TheVariants.{All as PlaceAll, Exactly}
 
 -- the costs of the band are those with a grade from `low` on and below `high`
 abbrev pub IsBandOf : Band → ℕ → ℕ → Type 0

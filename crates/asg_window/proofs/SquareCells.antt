@@ -1,31 +1,10 @@
 -- The live cells of an instance in its square.
-use Rattle.std.proofs.Common.{◌≡◌, refl, ℕ, ◌+◌, ◌<◌, ◌≤◌, Option, Some, None, cond, ◌&&◌, Bool, true, false, sym, ◌∙◌, subst, ap, arith, ⊎_elim, length}
-use Rattle.std.specs.Prelude.{IsSome, is_some, nat_lt, unsigned_abs}
-use Rattle.std.specs.Option.{option_map, option_map_or}
-use Rattle.std.proofs.lemmas.Bool.{cases_lt, lt-ltb, false≢true}
-use Rattle.std.proofs.lemmas.List.Elements.{All-get_or}
-use Rattle.std.proofs.lemmas.Option.{same_Some, none-some, slice_get_past}
+use Rattle.asg_window.proofs.Common.{◌≡◌, ℕ, ◌+◌, ◌<◌, ◌≤◌, Bool, true, false, cond, ◌&&◌, length, is_some, IsSome, nat_lt, unsigned_abs, Some, None, Option, option_map, sym, refl, ap, ◌∙◌, subst, ⊎_elim, arith, lt-ltb, All-get_or, cases_lt, false≢true, none-some, option_map_or, same_Some, slice_get_past, extra_column_cell, corner_cell, labelled_cell, grade_of, free_grade, grade_upto, from_if_some, IsInstance, most_cost, cost_at, is_active, is_open, live_at, Problem, square_side, Cost, Place, first_part_in_range, square_cell, Grid, cell_at, IsSquareOf, row_label, column_label, first_copy, rows_within, copies_within, no_bound}
 use Rattle.asg_model.specs.declared.parts.Column.{Column}
-use Rattle.asg_model.specs.declared.parts.Cost.{Cost}
-use Rattle.asg_model.specs.declared.parts.Place.{Place}
-use Rattle.asg_model.specs.declared.parts.Place.TheVariants.{All as PlaceAll, Exactly}
 use Rattle.asg_model.specs.Counts.{capacity_at}
-use Rattle.asg_model.specs.Instances.{IsInstance}
-use Rattle.asg_model.specs.Live.{cost_at, is_active, is_open, live_at}
-use Rattle.asg_model.specs.Problem.{Problem}
-use Rattle.asg_model.specs.Shapes.{square_side}
-use Rattle.asg_square.specs.Cells.{extra_column_cell, corner_cell, labelled_cell, square_cell}
-use Rattle.asg_square.specs.Grid.{Grid, cell_at, IsSquareOf}
-use Rattle.asg_square.specs.Labels.{row_label, column_label, first_copy}
 use Rattle.asg_square.specs.laws.Copies.{label_at, copy_below, capacity_is}
-use Rattle.asg_square.specs.laws.Rows.{rows_within, copies_within}
 use Rattle.asg_model.specs.laws.Rows.{is_active-from_live, row-from_active, counted-from_active, no_column}
-use Rattle.asg_live_cells.specs.Grades.{grade_of, free_grade}
-use Rattle.asg_live_cells.specs.laws.Grades.{grade_upto}
-use Rattle.asg_match.specs.laws.Choices.{from_if_some}
-use Rattle.asg_model.specs.Limits.{most_cost}
-use Rattle.asg_proof.specs.laws.LiveCosts.{first_part_in_range}
-use Rattle.asg_window.specs.Grades.{no_bound}
+use Rattle.asg_model.specs.declared.parts.Place.TheVariants.{All as PlaceAll, Exactly}
 
 -- a live cell of the instance with this grade
 abbrev pub HasLive : Problem → ℕ → Type 0

@@ -1,31 +1,8 @@
 -- The spread of a choice from that of its assignment.
-use Rattle.std.proofs.Common.{◌≡◌, refl, ℕ, ◌+◌, ◌<◌, ◌≤◌, ⊎_elim, sym, ◌∙◌, subst, ap, arith, List, [], ◌∷◌, length, Option, Some, None, All}
-use Rattle.std.specs.Prelude.{ℤ, pos, negsuc, ◌+ℤ◌, ◌-ℤ◌, ◌≤ℤ◌, unsigned_abs, slice_index, option_and_then, fold}
-use Rattle.std.specs.Int.{int_max, int_min}
-use Rattle.std.specs.Option.{option_map_or}
-use Rattle.std.proofs.lemmas.Bool.{cases_lt}
-use Rattle.std.proofs.lemmas.Int.{ints, fold-int_max_bounds, fold-int_min_bounds}
-use Rattle.std.proofs.lemmas.List.{length-map, get_or-map}
-use Rattle.std.proofs.lemmas.List.Elements.{All-map, All-cons, All-weaker}
-use Rattle.std.proofs.lemmas.Option.{same_Some, none-some, slice_get_past}
-use Rattle.asg_model.specs.declared.objectives.Objective.TheVariants.{Balanced}
+use Rattle.asg_window.proofs.Common.{◌≡◌, ℕ, ◌+◌, ◌<◌, ◌≤◌, List, [], ◌∷◌, length, ℤ, pos, negsuc, ◌+ℤ◌, ◌-ℤ◌, ◌≤ℤ◌, slice_index, unsigned_abs, Some, None, fold, All, Option, option_and_then, sym, refl, ap, ◌∙◌, subst, ⊎_elim, arith, All-cons, All-map, All-weaker, cases_lt, fold-int_max_bounds, fold-int_min_bounds, get_or-map, int_max, int_min, ints, length-map, none-some, option_map_or, same_Some, slice_get_past, grade_of, free_grade, cost_of, grade_above, costs_each, costs_some, costs_at_row, chosen_live, greatest-le, least-ge, if_some, from_if_some, IsInstance, most_cost, live_at, Problem, square_side, chosen_cost, costs_of, first_parts, choice_value, Balanced, Cost, first_part_in_range, square_cell, entered_or_free, Grid, cell_at, IsSquareOf, IsAssignmentWithin, IsSpread}
 use Rattle.asg_model.specs.declared.objectives.Value.TheVariants.{One}
-use Rattle.asg_model.specs.declared.parts.Cost.{Cost}
 use Rattle.asg_model.specs.Extremes.{greatest, least}
-use Rattle.asg_model.specs.Instances.{IsInstance}
-use Rattle.asg_model.specs.Limits.{most_cost}
-use Rattle.asg_model.specs.Live.{live_at}
-use Rattle.asg_model.specs.Problem.{Problem}
-use Rattle.asg_model.specs.Shapes.{square_side}
 use Rattle.asg_model.specs.ValidChoice.{IsValid}
-use Rattle.asg_model.specs.Values.{chosen_cost, costs_of, first_parts, choice_value}
-use Rattle.asg_square.specs.Cells.{square_cell, entered_or_free}
-use Rattle.asg_square.specs.Grid.{Grid, cell_at, IsSquareOf}
-use Rattle.asg_window.specs.Assignments.{IsAssignmentWithin, IsSpread}
-use Rattle.asg_live_cells.specs.Grades.{grade_of, free_grade, cost_of}
-use Rattle.asg_match.specs.laws.Choices.{costs_each, costs_some, costs_at_row, chosen_live, greatest-le, least-ge, if_some, from_if_some}
-use Rattle.asg_proof.specs.laws.LiveCosts.{first_part_in_range}
-use Rattle.asg_live_cells.specs.laws.Grades.{grade_above}
 
 -- no number of a list is past its extremes
 greatest-upper : (xs : List ℤ) → All (λ x. x ≤ℤ greatest xs) xs

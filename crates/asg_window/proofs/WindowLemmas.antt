@@ -1,18 +1,5 @@
 -- Windows of costs that hold grades.
-use Rattle.std.proofs.Common.{◌≡◌, refl, ℕ, ◌+◌, ◌≤◌, sym, ◌∙◌, subst, arith, List, [], ◌∷◌, ◌++◌, length, ◌||◌, Bool, true, false}
-use Rattle.std.specs.Prelude.{ℤ, pos, ◌+ℤ◌, ◌-ℤ◌, IsTrue, int_le}
-use Rattle.std.specs.List.{list_any}
-use Rattle.std.proofs.lemmas.Bool.{false≢true}
-use Rattle.std.proofs.lemmas.Int.{ints}
-use Rattle.std.proofs.lemmas.List.{get_or_push, length_push}
-use Rattle.std.proofs.lemmas.List.Folds.{list_any-append, list_any_at}
-use Rattle.asg_model.specs.Problem.{Problem}
-use Rattle.asg_proof.specs.declared.windows.Window.{Window}
-use Rattle.asg_proof.specs.Windows.{holds_from, is_held}
-use Rattle.asg_square.specs.Grid.{Grid}
-use Rattle.asg_window.specs.CostWindows.{IsWindowBy}
-use Rattle.asg_live_cells.specs.Grades.{cost_of}
-use Rattle.asg_model.specs.laws.Tests.{both_tests}
+use Rattle.asg_window.proofs.Common.{◌≡◌, ℕ, ◌+◌, ◌≤◌, Bool, true, false, ◌||◌, List, [], ◌∷◌, ◌++◌, length, ℤ, pos, ◌+ℤ◌, ◌-ℤ◌, IsTrue, int_le, sym, refl, ◌∙◌, subst, arith, false≢true, get_or_push, ints, length_push, list_any, list_any-append, list_any_at, cost_of, Problem, both_tests, holds_from, is_held, Window, Grid, IsWindowBy}
 
 or_left : (a b : Bool) → IsTrue a → IsTrue (a || b)
 or_left true b h = refl

@@ -1,17 +1,5 @@
 -- Windows that hold the grades of a list one after the other.
-use Rattle.std.proofs.Common.{◌≡◌, ℕ, ◌+◌, ◌-◌, ◌<◌, ◌≤◌, ⊎_elim, sym, subst, arith, List, [], ◌∷◌, ◌++◌, length, get_or, All}
-use Rattle.std.specs.Prelude.{pos, IsTrue}
-use Rattle.std.proofs.lemmas.Bool.{cases_lt}
-use Rattle.std.proofs.lemmas.List.Elements.{All-nil, All-push}
-use Rattle.asg_model.specs.Problem.{Problem}
-use Rattle.asg_proof.specs.declared.windows.Window.{Window}
-use Rattle.asg_proof.specs.Windows.{is_held}
-use Rattle.asg_square.specs.Grid.{Grid}
-use Rattle.asg_window.specs.declared.gaps.Gap.{Gap}
-use Rattle.asg_window.specs.CostWindows.{IsWindowBy, IsBandWindow, AddsWindow}
-use Rattle.asg_window.specs.Gaps.{ShowLeast}
-use Rattle.asg_live_cells.specs.Grades.{cost_of}
-use Rattle.asg_window.specs.DistinctGrades.{IsAscending}
+use Rattle.asg_window.proofs.Common.{◌≡◌, ℕ, ◌+◌, ◌-◌, ◌<◌, ◌≤◌, List, [], ◌∷◌, ◌++◌, length, get_or, pos, IsTrue, All, sym, subst, ⊎_elim, arith, All-nil, All-push, cases_lt, cost_of, Problem, is_held, Window, Grid, IsWindowBy, IsBandWindow, AddsWindow, IsAscending, ShowLeast, Gap}
 use Rattle.asg_window.proofs.GapLemmas.{chained_holds, chained_some, chained_first}
 use Rattle.asg_window.proofs.WindowLemmas.{window_holds, held_last, held_more}
 

@@ -1,11 +1,6 @@
 -- Words of bits that are joined.
-use Rattle.std.proofs.Common.{◌≡◌, ◌↔◌, ℕ, ◌+◌, ◌<◌, ◌⊎◌, inl, inr, ⊎_elim, ◌≤◌, sym, ◌∙◌, ap, arith, List, length, get_or, set}
-use Rattle.std.specs.Prelude.{bit_or}
-use Rattle.std.specs.Int.{bit_at}
-use Rattle.std.proofs.lemmas.Bool.{cases_lt}
-use Rattle.std.proofs.lemmas.List.{get_or-set_same, get_or-set_other}
-use Rattle.asg_match.specs.ColumnSet.{HasBit}
-use Rattle.asg_square.specs.laws.Bits.{HasBit-or}
+use Rattle.asg_window.proofs.Common.{◌≡◌, ℕ, ◌+◌, ◌<◌, ◌≤◌, ◌⊎◌, ◌↔◌, List, length, get_or, set, bit_or, sym, ap, ◌∙◌, inl, inr, ⊎_elim, arith, get_or-set_other, get_or-set_same, bit_at, cases_lt, HasBit}
+use Rattle.asg_bit_rows.specs.laws.Bits.{HasBit-or}
 
 -- the first words are joined with others, the rest are as they were
 pub record AreJoined (before words now : List ℕ) (number : ℕ) : Type 0 where

@@ -1,6 +1,6 @@
 -- Perfect assignments within bands, and their spreads.
 use Rattle.std.specs.Prelude.{◌≡◌, ◌≢◌, ℕ, ◌+◌, ◌<◌, List, length, AllPairs, IsTrue, slice_index}
-use Rattle.asg_square.specs.BitTable.{BitTable, has_bit}
+use Rattle.asg_bit_rows.specs.BitTable.{BitTable, has_bit}
 use Rattle.asg_square.specs.Grid.{Grid}
 use Rattle.asg_window.specs.Bands.{IsWithin}
 

@@ -1,6 +1,6 @@
 -- The cells of a square within a band of grades, and marks for them.
 use Rattle.std.specs.Prelude.{◌≡◌, ◌↔◌, ℕ, ◌<◌, ◌≤◌, Some, List, IsTrue}
-use Rattle.asg_square.specs.BitTable.{BitTable, has_bit}
+use Rattle.asg_bit_rows.specs.BitTable.{BitTable, has_bit}
 use Rattle.asg_square.specs.Grid.{Grid, cell_at}
 use Rattle.asg_window.specs.declared.band_cells.BandCells.{BandCells}
 use Rattle.asg_live_cells.specs.declared.live_cells.Entry.{Entry}

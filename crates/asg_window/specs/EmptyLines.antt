@@ -1,6 +1,6 @@
 -- Rows and columns without a marked cell.
 use Rattle.std.specs.Prelude.{ℕ, ◌<◌, IsTrue}
-use Rattle.asg_square.specs.BitTable.{BitTable, has_bit}
+use Rattle.asg_bit_rows.specs.BitTable.{BitTable, has_bit}
 
 -- no cell of the row is marked
 pub record IsEmptyRow (bits : BitTable) (side r : ℕ) : Type 0 where

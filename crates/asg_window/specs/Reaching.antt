@@ -2,7 +2,7 @@
 use Rattle.std.specs.Prelude.{◌≡◌, ℕ, ◌<◌, ◌≤◌, true, false, List, length, All, Contains, IsTrue, slice_index_or}
 use Rattle.asg_match.specs.ColumnSet.{HasColumn, word_count}
 use Rattle.asg_match.specs.Deficient.{IsColumnOf}
-use Rattle.asg_square.specs.BitTable.{BitTable, has_bit}
+use Rattle.asg_bit_rows.specs.BitTable.{BitTable, has_bit}
 use Rattle.asg_square.specs.Grid.{Grid}
 use Rattle.asg_live_cells.specs.declared.live_cells.Entry.{Entry}
 use Rattle.asg_window.specs.declared.next_grades.Reached.{Reached}

@@ -7,8 +7,9 @@ ghost use Rattle.asg_live_cells.specs.LiveCells.{AreEntries};
 
 use crate::NoMemory;
 use crate::band_cells::BandCells;
+use asg_bit_rows::BitRows;
 use asg_live_cells::{Entry, LiveCells, Marks, enter, leave};
-use asg_square::{BitRows, Square};
+use asg_square::Square;
 use std::alloc::Global;
 
 // Marks the cells from one place on up to another, or takes the marks from those from the other

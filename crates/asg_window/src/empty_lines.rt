@@ -3,14 +3,14 @@
 ghost use Rattle.std.specs.Prelude.{◌≡◌, ℕ, ◌<◌, ◌≤◌, IfOk, IfSome, IsTrue, length};
 ghost use Rattle.asg_match.specs.ColumnSet.{HasColumn, word_count};
 ghost use Rattle.asg_match.specs.Deficient.{IsDeficient};
-ghost use Rattle.asg_square.specs.BitTable.{has_bit};
+ghost use Rattle.asg_bit_rows.specs.BitTable.{has_bit};
 ghost use Rattle.asg_window.specs.EmptyLines.{IsEmptyRow, IsEmptyColumn};
 ghost use Rattle.asg_live_cells.specs.Marks.{IsMarked};
 
 use crate::NoMemory;
 use crate::band_cells::BandCells;
 use crate::words::{add_words, clear_words, has_any, has_column};
-use asg_square::BitRows;
+use asg_bit_rows::BitRows;
 
 /// The first row without a marked cell.
 pub(crate) fn empty_row(band: &BandCells) -> Option<u32>

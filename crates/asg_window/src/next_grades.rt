@@ -3,7 +3,7 @@
 ghost use Rattle.std.specs.Prelude.{◌≡◌, ◌⊎◌, ℕ, ◌<◌, ◌≤◌, ◌/◌, false, All, IfOk, IsTrue, length};
 ghost use Rattle.std.specs.List.Sorted.{IsNonDecreasingBy};
 ghost use Rattle.asg_match.specs.ColumnSet.{HasColumn};
-ghost use Rattle.asg_square.specs.BitTable.{has_bit};
+ghost use Rattle.asg_bit_rows.specs.BitTable.{has_bit};
 ghost use Rattle.asg_live_cells.specs.declared.live_cells.Entry.{Entry as E};
 ghost use Rattle.asg_window.specs.Bands.{MarksBand};
 ghost use Rattle.asg_live_cells.specs.LiveCells.{entry_at};

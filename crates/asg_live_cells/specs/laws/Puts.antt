@@ -2,8 +2,8 @@
 use Rattle.std.proofs.Common.{◌≡◌, ◌↔◌, ℕ, ◌⊎◌, inl, inr, ⊎_elim, sym, ◌∙◌, Bool, true, false}
 use Rattle.std.specs.Prelude.{IsTrue}
 use Rattle.std.proofs.lemmas.Bool.{cases_eq, false≢true}
-use Rattle.asg_square.specs.BitTable.{BitTable, has_bit, PutsBit}
-use Rattle.asg_square.specs.laws.Places.{place_hit, place_missed}
+use Rattle.asg_bit_rows.specs.BitTable.{BitTable, has_bit, PutsBit}
+use Rattle.asg_bit_rows.specs.laws.Places.{place_hit, place_missed}
 
 -- the place or any other one
 here_or_not : (s r d c : ℕ) → ((s ≡ r) × (d ≡ c)) ⊎ ((s ≡ r) → (d ≡ c) → ⊥)

@@ -4,7 +4,7 @@ use Rattle.std.specs.Prelude.{IsTrue}
 use Rattle.std.specs.Int.{bit_at}
 use Rattle.std.proofs.lemmas.Bool.Decides.{Decides-eqb}
 use Rattle.asg_match.specs.ColumnSet.{HasBit}
-use Rattle.asg_square.specs.BitTable.{BitTable, has_bit, is_bit_set, AreWordsOf}
+use Rattle.asg_bit_rows.specs.BitTable.{BitTable, has_bit, is_bit_set, AreWordsOf}
 
 -- a bit of a word of a row
 pub word_bit : (B : BitTable) (r columns n k : ℕ) (words : List ℕ) → AreWordsOf (has_bit B r) columns words → n < length words → k < 64 → HasBit (get_or words n 0) k ↔ IsTrue (has_bit B r (64 * n + k))

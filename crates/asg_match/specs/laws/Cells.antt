@@ -6,7 +6,8 @@ use Rattle.asg_model.specs.declared.bands.Band.{Band}
 use Rattle.asg_model.specs.Problem.{Problem}
 use Rattle.asg_model.specs.Shapes.{square_side}
 use Rattle.asg_square.specs.Labels.{row_label, column_label}
-use Rattle.asg_square.specs.Presence.{has_cell, is_labelled_within}
+use Rattle.asg_square.specs.Presence.{has_cell}
+use Rattle.asg_cell_tables.specs.LabelledCells.{is_labelled_within}
 
 -- a cell of the square lies in it
 pub has_cell-within : (X : Problem) (band : Band) (r c : ℕ) → IsTrue (has_cell X band r c) → (r < square_side X) × (c < square_side X)

@@ -7,7 +7,7 @@ use Rattle.std.proofs.lemmas.List.{get_or_past, get_or-set_other, get_or-set_sam
 use Rattle.std.proofs.lemmas.Nat.Bits.{bit_at-lt}
 use Rattle.asg_match.specs.Alternating.{parent_of, IsReached}
 use Rattle.asg_match.specs.ColumnSet.{HasBit, HasColumn, word_count, IsColumnSet}
-use Rattle.asg_square.specs.laws.Bits.{HasBit-zero, HasBit-without, HasBit-without_other, without_bit}
+use Rattle.asg_bit_rows.specs.laws.Bits.{HasBit-zero, HasBit-without, HasBit-without_other, without_bit, HasBit-with, HasBit-with_same, HasBit-with_kept, with_bit}
 
 -- word i of the set has exactly the bits of the columns below the side
 abbrev pub IsFull : ℕ → List ℕ → ℕ → Type 0
@@ -34,6 +34,61 @@ HasColumn-at words i k h has =
     let bit : (64 * i + k) % 64 ≡ k = omega arith in
     ap (λ j. bit_at (get_or words j 0) ((64 * i + k) % 64)) word ∙ (ap (bit_at (get_or words i 0)) bit ∙ has)
 
+-- and a column's word and bit
+pub HasBit-of : (words : List ℕ) (i k : ℕ) → k < 64 → HasColumn words (64 * i + k) → HasBit (get_or words i 0) k
+HasBit-of words i k h has =
+    let word : (64 * i + k) / 64 ≡ i = omega arith in
+    let bit : (64 * i + k) % 64 ≡ k = omega arith in
+    sym (ap (λ j. bit_at (get_or words j 0) ((64 * i + k) % 64)) word ∙ ap (bit_at (get_or words i 0)) bit) ∙ has
+
+-- the set with one more column
+module _ (words : List ℕ) (c x : ℕ) (within : c / 64 < length words) (read : x ≡ get_or words (c / 64) 0) where
+  abbrev added : List ℕ
+  added = set words (c / 64) (with_bit x (c % 64))
+
+  bit_added : (i k : ℕ) → HasBit (get_or added i 0) k → HasBit (get_or words i 0) k ⊎ ((i ≡ c / 64) × (k ≡ c % 64))
+  bit_added i k has =
+      ⊎_elim
+      (λ same.
+      let at = get_or-set_at words (c / 64) i (with_bit x (c % 64)) 0 same within in
+      ⊎_elim
+      (λ had. inl (ap (λ n. bit_at n k) (ap (λ j. get_or words j 0) same ∙ sym read) ∙ had))
+      (λ new. inr (same, new))
+      (HasBit-with x (c % 64) k (omega arith) (sym (ap (λ n. bit_at n k) at) ∙ has)))
+      (λ other. inl (sym (ap (λ n. bit_at n k) (get_or-set_other words (c / 64) i (with_bit x (c % 64)) 0 other)) ∙ has))
+      (cases_eq i (c / 64))
+
+  pub IsColumnSet-added : (side : ℕ) → c < side → IsColumnSet side words → IsColumnSet side added
+  IsColumnSet-added side h s =
+      record {
+        count = length-set words (c / 64) (with_bit x (c % 64)) ∙ s.count;
+        below = λ i k has. ⊎_elim (s.below i k) (λ new. omega (arith, h, new.0, new.1)) (bit_added i k has);
+      }
+
+  kept_or_new : (i : ℕ) → HasBit x i ⊎ (i ≡ c % 64) → HasBit (with_bit x (c % 64)) i
+  kept_or_new i either =
+      ⊎_elim
+      (HasBit-with_kept x (c % 64) i (omega arith))
+      (λ e. ap (bit_at (with_bit x (c % 64))) e ∙ HasBit-with_same x (c % 64) (omega arith))
+      either
+
+  pub HasColumn-added : (d : ℕ) → HasColumn added d ↔ (HasColumn words d ⊎ (d ≡ c))
+  HasColumn-added d = (
+    λ has. ⊎_elim inl (λ new. inr (omega (arith, new.0, new.1))) (bit_added (d / 64) (d % 64) has),
+    λ either.
+        ⊎_elim
+        (λ same.
+        let at = get_or-set_at words (c / 64) (d / 64) (with_bit x (c % 64)) 0 same within in
+        let here = ap (λ n. bit_at n (d % 64)) (read ∙ sym (ap (λ j. get_or words j 0) same)) in
+        ap (λ n. bit_at n (d % 64)) at
+        ∙ kept_or_new (d % 64) (⊎_elim (λ had. inl (here ∙ had)) (λ e. inr (ap (λ n. n % 64) e)) either))
+        (λ other.
+        ap (λ n. bit_at n (d % 64)) (get_or-set_other words (c / 64) (d / 64) (with_bit x (c % 64)) 0 other)
+        ∙ ⊎_elim (λ had. had) (λ e. absurd (other (ap (λ n. n / 64) e))) either)
+        (cases_eq (d / 64) (c / 64)),
+  )
+
+-- the set without a column
 module _ (words : List ℕ) (c x : ℕ) (within : c / 64 < length words) (read : x ≡ get_or words (c / 64) 0) where
   abbrev removed : List ℕ
   removed = set words (c / 64) (without_bit x (c % 64))

@@ -1,7 +1,5 @@
-use Rattle.std.proofs.Common.{◌≡◌}
-use Rattle.std.proofs.lemmas.Result.{IfOk-weaker}
+use Rattle.asg_live_cells.proofs.Common.{◌≡◌, IfOk-weaker, IsSquareBy, IsSquareOf}
 use Rattle.asg_model.specs.declared.parts.Cost.{Cost}
-use Rattle.asg_square.specs.Grid.{IsSquareBy, IsSquareOf}
 use Rattle.asg_live_cells.specs.Grades.{free_grade, grade_of}
 use Rattle.asg_proof.specs.laws.LiveCosts.{first_part_in_range}
 use Rattle.asg_live_cells.proofs.grades.graded_square.Goals as goal

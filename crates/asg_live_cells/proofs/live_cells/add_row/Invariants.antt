@@ -1,6 +1,4 @@
-use Rattle.std.proofs.Common.{◌≡◌, ◌*◌}
-use Rattle.asg_square.specs.BitTable.{word_count}
-use Rattle.asg_live_cells.specs.LiveCells.{AreEntriesBefore}
+use Rattle.asg_live_cells.proofs.Common.{◌≡◌, ◌*◌, word_count, AreEntriesBefore}
 use Rattle.asg_live_cells.proofs.live_cells.add_row.Given as goal
 
 -- the live cells so far

@@ -1,7 +1,4 @@
-use Rattle.std.proofs.Common.{ℕ, ◌<◌, w64, arith, subst}
-use Rattle.std.specs.Int.{trailing_zeros}
-use Rattle.std.proofs.Math.Facts.{Fits-lt-pow}
-use Rattle.asg_square.specs.laws.Bits.{bit_below, HasBit-trailing_zeros, without_bit-lt}
+use Rattle.asg_live_cells.proofs.Common.{ℕ, ◌<◌, subst, arith, w64, Fits-lt-pow, trailing_zeros, bit_below, HasBit-trailing_zeros, without_bit-lt}
 use Rattle.asg_live_cells.proofs.EntryLemmas.{but_first, but_more, but_none}
 use Rattle.asg_live_cells.proofs.live_cells.add_word.Goals as goal
 

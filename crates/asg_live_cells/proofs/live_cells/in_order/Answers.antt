@@ -1,7 +1,4 @@
-use Rattle.std.proofs.Common.{inl, rules}
-use Rattle.std.proofs.lemmas.List.Sorted.{All-permutation, Contains-permutation, IsNonDecreasingBy-from_sort_by_key}
-use Rattle.asg_live_cells.specs.declared.live_cells.Entry.{Entry}
-use Rattle.asg_live_cells.specs.LiveCells.{IsEntryOf, IsUnder}
+use Rattle.asg_live_cells.proofs.Common.{inl, rules, All-permutation, Contains-permutation, IsNonDecreasingBy-from_sort_by_key, IsEntryOf, IsUnder, Entry}
 use Rattle.asg_live_cells.proofs.live_cells.in_order.Goals as goal
 
 pub returns : goal.returns

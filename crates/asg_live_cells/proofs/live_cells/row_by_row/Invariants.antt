@@ -1,4 +1,4 @@
-use Rattle.asg_live_cells.specs.LiveCells.{AreEntriesBefore}
+use Rattle.asg_live_cells.proofs.Common.{AreEntriesBefore}
 use Rattle.asg_live_cells.proofs.live_cells.row_by_row.Given as goal
 
 -- the live cells of the rows so far

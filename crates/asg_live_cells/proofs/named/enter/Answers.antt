@@ -1,6 +1,4 @@
-use Rattle.std.proofs.Common.{◌∙◌, subst, arith, true}
-use Rattle.asg_square.specs.BitTable.{PutsBit}
-use Rattle.asg_live_cells.specs.LiveCells.{entry_at}
+use Rattle.asg_live_cells.proofs.Common.{true, ◌∙◌, subst, arith, PutsBit, entry_at}
 use Rattle.asg_live_cells.proofs.MarkLemmas.{more_next}
 use Rattle.asg_live_cells.proofs.named.enter.Goals as goal
 

@@ -1,5 +1,4 @@
-use Rattle.std.proofs.Common.{◌≡◌, ◌≤◌}
-use Rattle.asg_live_cells.specs.Marks.{MarksMore}
+use Rattle.asg_live_cells.proofs.Common.{◌≡◌, ◌≤◌, MarksMore}
 use Rattle.asg_live_cells.proofs.named.enter.Given as goal
 
 -- the marks after the places so far

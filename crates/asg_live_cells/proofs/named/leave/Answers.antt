@@ -1,6 +1,4 @@
-use Rattle.std.proofs.Common.{◌∙◌, subst, arith, false}
-use Rattle.asg_square.specs.BitTable.{PutsBit}
-use Rattle.asg_live_cells.specs.LiveCells.{entry_at}
+use Rattle.asg_live_cells.proofs.Common.{false, ◌∙◌, subst, arith, PutsBit, entry_at}
 use Rattle.asg_live_cells.proofs.MarkLemmas.{fewer_next}
 use Rattle.asg_live_cells.proofs.named.leave.Goals as goal
 

@@ -1,5 +1,4 @@
-use Rattle.std.proofs.Common.{◌≡◌, ◌≤◌}
-use Rattle.asg_live_cells.specs.Marks.{MarksFewer}
+use Rattle.asg_live_cells.proofs.Common.{◌≡◌, ◌≤◌, MarksFewer}
 use Rattle.asg_live_cells.proofs.named.leave.Given as goal
 
 -- the marks after the places so far

@@ -1,4 +1,4 @@
-use Rattle.std.proofs.Common.{refl, arith}
+use Rattle.asg_live_cells.proofs.Common.{refl, arith}
 use Rattle.asg_live_cells.proofs.UnderLemmas.{mask_more}
 use Rattle.asg_live_cells.proofs.under_words.bits_under.Goals as goal
 

@@ -1,7 +1,4 @@
-use Rattle.std.proofs.Common.{take, sym, subst, arith, ltb, w32}
-use Rattle.std.proofs.lemmas.List.{length-take}
-use Rattle.std.proofs.lemmas.Simd.{bitmask_splat}
-use Rattle.asg_live_cells.specs.UnderWords.{AreBitsUnder}
+use Rattle.asg_live_cells.proofs.Common.{ltb, take, sym, subst, arith, length-take, w32, bitmask_splat, AreBitsUnder}
 use Rattle.asg_live_cells.proofs.UnderLemmas.{under_mask}
 use Rattle.asg_live_cells.proofs.under_words.full_bits.Goals as goal
 

@@ -1,5 +1,4 @@
-use Rattle.std.proofs.Common.{◌≡◌, ◌+◌, ◌*◌, ◌<◌, ◌-◌, ◌∙◌, min, length, get_or, subst, sym, ap, arith}
-use Rattle.asg_square.specs.Grid.{cell_at}
+use Rattle.asg_live_cells.proofs.Common.{◌≡◌, ◌+◌, ◌-◌, ◌*◌, ◌<◌, min, length, get_or, sym, ap, ◌∙◌, subst, arith, cell_at}
 use Rattle.asg_live_cells.proofs.UnderLemmas.{past_none, under_bits}
 use Rattle.asg_live_cells.proofs.under_words.under_word.Goals as goal
 

@@ -1,10 +1,5 @@
-use Rattle.std.proofs.Common.{ℕ, ◌<◌, List, Option, ⊎_elim, length, get_or, sym, ◌∙◌, subst, ap, arith}
+use Rattle.asg_match.proofs.Common.{ℕ, ◌<◌, List, length, get_or, Option, sym, ap, ◌∙◌, subst, ⊎_elim, arith, AllParentsAllowed, Flips, AllAllowed, parents_in, IsStuck-from_tree, IsDeficient-from_tree}
 use Rattle.asg_match.specs.Augmentation.{IsLonger, IsStuck}
-use Rattle.asg_match.specs.Matching.{AllAllowed}
-use Rattle.asg_match.specs.Alternating.{AllParentsAllowed}
-use Rattle.asg_match.specs.Flipped.{Flips}
-use Rattle.asg_match.specs.Searched.{parents_in}
-use Rattle.asg_match.specs.laws.Deficiency.{IsStuck-from_tree, IsDeficient-from_tree}
 use Rattle.asg_match.proofs.augmentation.augment.Goals as goal
 use Rattle.asg_match.proofs.augmentation.augment.Goals.{in-Some, in-None}
 

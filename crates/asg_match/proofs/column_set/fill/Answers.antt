@@ -1,5 +1,4 @@
-use Rattle.std.proofs.Common.{arith}
-use Rattle.asg_match.specs.laws.Columns.{IsColumnSet-full, HasColumn-full}
+use Rattle.asg_match.proofs.Common.{arith, IsColumnSet-full, HasColumn-full}
 use Rattle.asg_match.proofs.column_set.fill.Goals as goal
 
 pub returns-clause-set : goal.returns-clause-set

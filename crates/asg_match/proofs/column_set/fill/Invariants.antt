@@ -1,6 +1,4 @@
-use Rattle.std.proofs.Common.{◌≡◌, ℕ, ◌<◌, length}
-use Rattle.asg_match.specs.ColumnSet.{word_count}
-use Rattle.asg_match.specs.laws.Columns.{IsFull}
+use Rattle.asg_match.proofs.Common.{◌≡◌, ℕ, ◌<◌, length, word_count, IsFull}
 use Rattle.asg_match.proofs.column_set.fill.Given as goal
 
 -- the words so far are full

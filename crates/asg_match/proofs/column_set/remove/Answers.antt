@@ -1,6 +1,4 @@
-use Rattle.std.proofs.Common.{◌/◌, ◌<◌, length, arith}
-use Rattle.std.proofs.lemmas.List.{get_or_read}
-use Rattle.asg_match.specs.laws.Columns.{IsColumnSet-removed, HasColumn-removed}
+use Rattle.asg_match.proofs.Common.{◌/◌, ◌<◌, length, arith, get_or_read, IsColumnSet-removed, HasColumn-removed}
 use Rattle.asg_match.proofs.column_set.remove.Goals as goal
 
 pub returns-clause-set : goal.returns-clause-set

@@ -1,7 +1,4 @@
-use Rattle.std.proofs.Common.{length, ◌≤◌, arith, sym, ap, subst}
-use Rattle.std.proofs.lemmas.List.{length-take}
-use Rattle.std.proofs.lemmas.Result.{IfOk-weaker}
-use Rattle.asg_match.specs.HallSets.{GivesHallSets}
+use Rattle.asg_match.proofs.Common.{◌≤◌, length, sym, ap, subst, arith, length-take, IfOk-weaker, GivesHallSets}
 use Rattle.asg_match.proofs.hall_set.hall_list.Goals as goal
 
 pub slice_bounds-ids-end : goal.slice_bounds-ids-end

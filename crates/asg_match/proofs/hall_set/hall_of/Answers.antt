@@ -1,7 +1,4 @@
-use Rattle.std.proofs.Common.{sym, subst, ◌∙◌}
-use Rattle.std.specs.Prelude.{AllPairs, ◌≢◌}
-use Rattle.asg_model.specs.HallSet.{IsHall}
-use Rattle.asg_match.specs.Deficient.{IsDeficient}
+use Rattle.asg_match.proofs.Common.{◌≢◌, AllPairs, sym, ◌∙◌, subst, IsDeficient, IsHall}
 use Rattle.asg_match.proofs.HallIds.{hall_from_short}
 use Rattle.asg_match.proofs.HallSteps.{same_ids, same_side, same_range}
 use Rattle.asg_match.proofs.hall_set.hall_of.Goals as goal

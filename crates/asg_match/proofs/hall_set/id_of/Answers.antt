@@ -1,8 +1,5 @@
-use Rattle.std.proofs.Common.{None, Some, sym, ap, subst, ◌∙◌, ◌<◌}
-use Rattle.std.specs.Prelude.{slice_get}
-use Rattle.std.specs.Option.{option_and_then, option_map}
+use Rattle.asg_match.proofs.Common.{◌<◌, slice_get, Some, None, option_map, sym, ap, ◌∙◌, subst, square_side, option_and_then}
 use Rattle.asg_match.proofs.HallSteps.{label_read}
-use Rattle.asg_model.specs.Shapes.{square_side}
 use Rattle.asg_match.proofs.hall_set.id_of.Goals as goal
 
 pub returns-in-Some : goal.returns-in-Some

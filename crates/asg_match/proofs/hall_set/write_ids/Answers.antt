@@ -1,8 +1,4 @@
-use Rattle.std.proofs.Common.{◌+◌, ◌++◌, [], length, take, sym, ap, ◌∙◌, arith}
-use Rattle.std.specs.Prelude.{is_some}
-use Rattle.std.specs.List.{cons_option}
-use Rattle.asg_match.specs.HallSets.{hall_ids}
-use Rattle.asg_model.specs.Sums.{one}
+use Rattle.asg_match.proofs.Common.{◌+◌, [], ◌++◌, length, take, is_some, sym, ap, ◌∙◌, arith, cons_option, hall_ids, one}
 use Rattle.asg_match.proofs.HallSteps.{few_ids, hall_ids_more, length_more}
 use Rattle.asg_match.proofs.hall_set.write_ids.Goals as goal
 

@@ -1,5 +1,4 @@
-use Rattle.std.proofs.Common.{◌≡◌, length, take}
-use Rattle.asg_match.specs.HallSets.{hall_ids}
+use Rattle.asg_match.proofs.Common.{◌≡◌, length, take, hall_ids}
 use Rattle.asg_match.proofs.hall_set.write_ids.Given as goal
 
 abbrev pub invariant-loop-i : goal.invariant-loop-i

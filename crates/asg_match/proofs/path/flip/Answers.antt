@@ -1,10 +1,4 @@
-use Rattle.std.proofs.Common.{ℕ, ◌<◌, List, length, Option, Some, None, set, is_some, sym, ◌∙◌, subst, ap, refl, inl, ⊎_elim, arith}
-use Rattle.std.proofs.lemmas.List.{get_or_read, set-set, length-set}
-use Rattle.std.proofs.lemmas.Option.{same_Some, none-some}
-use Rattle.asg_match.specs.Matching.{IsFree}
-use Rattle.asg_match.specs.Flipped.{Flips}
-use Rattle.asg_match.specs.Searched.{parents_in}
-use Rattle.asg_match.specs.laws.Matchings.{Matches-set_cases}
+use Rattle.asg_match.proofs.Common.{ℕ, ◌<◌, List, length, set, is_some, Some, None, Option, sym, refl, ap, ◌∙◌, subst, inl, ⊎_elim, arith, length-set, set-set, get_or_read, none-some, same_Some, Flips, IsFree, parents_in, Matches-set_cases}
 use Rattle.asg_match.proofs.PathLemmas.{IsFlipping, row_below, parent_of, IsFlipping-step, Flips-done}
 use Rattle.asg_match.proofs.path.flip.Goals as goal
 

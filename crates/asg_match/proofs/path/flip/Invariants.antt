@@ -1,4 +1,4 @@
-use Rattle.asg_match.specs.Searched.{parents_in}
+use Rattle.asg_match.proofs.Common.{parents_in}
 use Rattle.asg_match.proofs.PathLemmas.{IsFlipping}
 use Rattle.asg_match.proofs.path.flip.Given as goal
 

@@ -1,6 +1,4 @@
-use Rattle.std.proofs.Common.{Some, ap, sym, ◌∙◌, arith}
-use Rattle.std.proofs.lemmas.List.{get_or_read}
-use Rattle.asg_match.specs.laws.Columns.{parent-listed}
+use Rattle.asg_match.proofs.Common.{Some, sym, ap, ◌∙◌, arith, get_or_read, parent-listed}
 use Rattle.asg_match.proofs.path.parent.Goals as goal
 
 pub index-requires : goal.index-requires

@@ -1,5 +1,4 @@
-use Rattle.std.proofs.Common.{◌≡◌, ℕ, ◌<◌, length}
-use Rattle.asg_match.specs.Matching.{IsMatched, AllAllowed}
+use Rattle.asg_match.proofs.Common.{◌≡◌, ℕ, ◌<◌, length, IsMatched, AllAllowed}
 use Rattle.asg_match.proofs.perfect.complete.Given as goal
 
 -- the rows so far have columns

@@ -1,10 +1,4 @@
-use Rattle.std.proofs.Common.{None, length, ap, sym, ◌∙◌, subst}
-use Rattle.std.proofs.lemmas.Bool.{OnFalse_at, OnTrue_at}
-use Rattle.std.proofs.lemmas.List.{length-replicate}
-use Rattle.asg_match.specs.Matching.{Matches, IsPerfect}
-use Rattle.asg_match.specs.Deficient.{IsDeficient}
-use Rattle.asg_match.specs.laws.Deficiency.{IsDeficient-refutes}
-use Rattle.asg_match.specs.laws.Matchings.{Matches-empty}
+use Rattle.asg_match.proofs.Common.{length, None, sym, ap, ◌∙◌, subst, OnFalse_at, OnTrue_at, length-replicate, IsDeficient, Matches, IsPerfect, IsDeficient-refutes, Matches-empty}
 use Rattle.asg_match.proofs.perfect.perfect_or_hall.Goals as goal
 
 pub complete-requires-clause-cells : goal.complete-requires-clause-cells

@@ -1,4 +1,4 @@
-use Rattle.asg_match.specs.laws.Deficiency.{IsDeficient-refutes}
+use Rattle.asg_match.proofs.Common.{IsDeficient-refutes}
 use Rattle.asg_match.proofs.perfect.short_or_perfect.Goals as goal
 
 pub returns : goal.returns

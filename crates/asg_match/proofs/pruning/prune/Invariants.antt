@@ -1,5 +1,4 @@
-use Rattle.std.proofs.Common.{◌≡◌, ℕ, ◌<◌, length}
-use Rattle.asg_match.specs.Matching.{Matches}
+use Rattle.asg_match.proofs.Common.{◌≡◌, ℕ, ◌<◌, length, Matches}
 use Rattle.asg_match.proofs.pruning.prune.Given as goal
 
 abbrev pub invariant-loop-row : goal.invariant-loop-row

@@ -1,9 +1,4 @@
-use Rattle.std.proofs.Common.{arith, subst, w64}
-use Rattle.std.specs.Int.{trailing_zeros}
-use Rattle.std.proofs.lemmas.List.{get_or_read}
-use Rattle.asg_match.specs.ColumnSet.{HasBit}
-use Rattle.asg_square.specs.laws.Bits.{bit_below, HasBit-trailing_zeros}
-use Rattle.asg_match.specs.laws.Columns.{HasColumn-at}
+use Rattle.asg_match.proofs.Common.{subst, arith, w64, get_or_read, trailing_zeros, bit_below, HasBit-trailing_zeros, HasBit, HasColumn-at}
 use Rattle.asg_match.proofs.search.next_column.Goals as goal
 
 pub returns-clause-there : goal.returns-clause-there

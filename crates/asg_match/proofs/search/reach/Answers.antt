@@ -1,9 +1,4 @@
-use Rattle.std.proofs.Common.{ℕ, ◌<◌, length, List, subst, sym, ◌∙◌, arith, set}
-use Rattle.std.proofs.lemmas.List.{length_push, length-set}
-use Rattle.asg_match.specs.Alternating.{IsTree, parent_of}
-use Rattle.asg_match.specs.ColumnSet.{IsColumnSet}
-use Rattle.asg_match.specs.laws.Columns.{parent-unseen, parent-here, parent-others}
-use Rattle.asg_model.specs.laws.Listing.{length-le_from_below}
+use Rattle.asg_match.proofs.Common.{ℕ, ◌<◌, List, length, set, sym, ◌∙◌, subst, arith, length-set, length_push, IsTree, parent_of, IsColumnSet, parent-unseen, parent-here, parent-others, length-le_from_below}
 use Rattle.asg_match.specs.laws.Trees.{IsTree-push}
 use Rattle.asg_match.proofs.search.reach.Goals as goal
 

@@ -1,5 +1,4 @@
-use Rattle.std.proofs.Common.{◌/◌, ⊎_elim, subst, sym, arith}
-use Rattle.std.proofs.lemmas.Bool.{cases_lt}
+use Rattle.asg_match.proofs.Common.{◌/◌, sym, subst, ⊎_elim, arith, cases_lt}
 use Rattle.asg_match.proofs.SearchLemmas.{Extends-join, IsReached-later}
 use Rattle.asg_match.proofs.search.scan.Goals as goal
 

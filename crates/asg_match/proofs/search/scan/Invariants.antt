@@ -1,6 +1,4 @@
-use Rattle.std.proofs.Common.{◌≡◌, ℕ, ◌/◌, ◌<◌, length, get_or}
-use Rattle.asg_match.specs.Alternating.{IsReached}
-use Rattle.asg_match.specs.Searched.{parents_in, IsSearch, Extends}
+use Rattle.asg_match.proofs.Common.{◌≡◌, ℕ, ◌/◌, ◌<◌, length, get_or, IsReached, parents_in, IsSearch, Extends}
 use Rattle.asg_match.proofs.search.scan.Given as goal
 
 -- the columns of the words so far that are allowed to the row are reached

@@ -1,5 +1,4 @@
-use Rattle.std.proofs.Common.{◌-◌, length}
-use Rattle.asg_match.specs.Searched.{IsSearch, Extends}
+use Rattle.asg_match.proofs.Common.{◌-◌, length, IsSearch, Extends}
 use Rattle.asg_match.proofs.search.scan_word.Given as goal
 
 -- the tree so far

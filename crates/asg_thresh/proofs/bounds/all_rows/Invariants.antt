@@ -1,4 +1,4 @@
-use Rattle.std.proofs.Common.{◌≡◌, ℕ, ◌<◌, length, get_or}
+use Rattle.asg_thresh.proofs.Common.{◌≡◌, ℕ, ◌<◌, length, get_or}
 use Rattle.asg_thresh.proofs.bounds.all_rows.Given as goal
 
 -- the rows so far

@@ -1,5 +1,4 @@
-use Rattle.std.proofs.Common.{◌≡◌, ℕ, ◌<◌, ◌≤◌, length, get_or}
-use Rattle.asg_thresh.specs.Grades.{grade_at}
+use Rattle.asg_thresh.proofs.Common.{◌≡◌, ℕ, ◌<◌, ◌≤◌, length, get_or, grade_at}
 use Rattle.asg_thresh.proofs.bounds.column_leasts.Given as goal
 
 -- no grade of the rows so far is less

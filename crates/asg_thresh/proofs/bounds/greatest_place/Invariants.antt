@@ -1,4 +1,4 @@
-use Rattle.std.proofs.Common.{◌<◌, length}
+use Rattle.asg_thresh.proofs.Common.{◌<◌, length}
 use Rattle.asg_thresh.proofs.bounds.greatest_place.Given as goal
 
 abbrev pub invariant-loop-place : goal.invariant-loop-place

@@ -1,4 +1,4 @@
-use Rattle.std.proofs.Common.{ℕ, ◌<◌, ◌≤◌, get_or}
+use Rattle.asg_thresh.proofs.Common.{ℕ, ◌<◌, ◌≤◌, get_or}
 use Rattle.asg_thresh.proofs.bounds.least_of.Given as goal
 
 -- no grade so far is less

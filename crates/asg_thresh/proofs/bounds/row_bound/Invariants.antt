@@ -1,4 +1,4 @@
-use Rattle.asg_thresh.specs.Bounds.{IsRowBound}
+use Rattle.asg_thresh.proofs.Common.{IsRowBound}
 use Rattle.asg_thresh.proofs.bounds.row_bound.Given as goal
 
 -- a row and its least grade

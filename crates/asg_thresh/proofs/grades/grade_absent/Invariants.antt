@@ -1,5 +1,4 @@
-use Rattle.std.proofs.Common.{◌≡◌, ◌*◌}
-use Rattle.asg_thresh.specs.Grades.{Grades}
+use Rattle.asg_thresh.proofs.Common.{◌≡◌, ◌*◌, Grades}
 use Rattle.asg_thresh.proofs.grades.grade_absent.Given as goal
 
 -- the cells so far

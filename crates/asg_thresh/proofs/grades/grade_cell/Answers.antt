@@ -1,9 +1,4 @@
-use Rattle.std.proofs.Common.{◌≡◌, ◌∙◌, ◌+◌, ◌*◌, ℕ, None, get_or, cond, sym, ap, subst, arith}
-use Rattle.std.specs.Prelude.{is_some}
-use Rattle.std.proofs.lemmas.Bool.{lt-ltb}
-use Rattle.std.proofs.lemmas.Nat.{mul-add-lt}
-use Rattle.asg_square.specs.Grid.{Grid, cell_at}
-use Rattle.asg_thresh.specs.Grades.{Grades}
+use Rattle.asg_thresh.proofs.Common.{◌≡◌, ℕ, ◌+◌, ◌*◌, cond, get_or, is_some, None, sym, ap, ◌∙◌, subst, arith, lt-ltb, mul-add-lt, Grid, cell_at, Grades}
 use Rattle.asg_thresh.proofs.GradeLemmas.{grades_full, grades_one}
 use Rattle.asg_thresh.proofs.grades.grade_cell.Goals as goal
 

@@ -1,5 +1,4 @@
-use Rattle.std.proofs.Common.{◌≡◌, ◌+◌, ◌*◌, min}
-use Rattle.asg_thresh.specs.Grades.{Grades}
+use Rattle.asg_thresh.proofs.Common.{◌≡◌, ◌+◌, ◌*◌, min, Grades}
 use Rattle.asg_thresh.proofs.grades.grade_row.Given as goal
 
 -- the cells so far

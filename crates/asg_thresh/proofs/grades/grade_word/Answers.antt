@@ -1,6 +1,4 @@
-use Rattle.std.proofs.Common.{◌≡◌, ◌∙◌, ◌+◌, ◌-◌, ◌*◌, ◌<◌, None, min, get_or, cond, sym, ap, arith}
-use Rattle.std.specs.Prelude.{is_some}
-use Rattle.std.proofs.lemmas.Bool.{lt-ltb}
+use Rattle.asg_thresh.proofs.Common.{◌≡◌, ◌+◌, ◌-◌, ◌*◌, ◌<◌, min, cond, get_or, is_some, None, sym, ap, ◌∙◌, arith, lt-ltb}
 use Rattle.asg_thresh.proofs.GradeLemmas.{grades_full}
 use Rattle.asg_thresh.proofs.grades.grade_word.Goals as goal
 

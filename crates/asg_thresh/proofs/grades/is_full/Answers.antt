@@ -1,7 +1,5 @@
-use Rattle.std.proofs.Common.{◌≡◌, ◌∙◌, ◌+◌, ◌*◌, ◌/◌, ◌%◌, get_or, eqb, sym, ap, arith}
-use Rattle.std.proofs.lemmas.Bool.Decides.{Decides-eqb}
-use Rattle.std.proofs.lemmas.Nat.Bits.{bit_at_ones}
-use Rattle.asg_square.specs.BitTable.{is_bit_set}
+use Rattle.asg_thresh.proofs.Common.{◌≡◌, ◌+◌, ◌*◌, ◌/◌, ◌%◌, eqb, get_or, sym, ap, ◌∙◌, arith, Decides-eqb, bit_at_ones}
+use Rattle.asg_bit_rows.specs.BitTable.{is_bit_set}
 use Rattle.asg_thresh.proofs.grades.is_full.Goals as goal
 
 pub returns : goal.returns

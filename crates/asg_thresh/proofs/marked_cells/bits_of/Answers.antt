@@ -1,4 +1,4 @@
-use Rattle.std.proofs.Common.{refl, arith}
+use Rattle.asg_thresh.proofs.Common.{refl, arith}
 use Rattle.asg_thresh.proofs.WordLemmas.{bits_more}
 use Rattle.asg_thresh.proofs.marked_cells.bits_of.Goals as goal
 

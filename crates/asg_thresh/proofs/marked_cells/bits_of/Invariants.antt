@@ -1,4 +1,4 @@
-use Rattle.asg_thresh.specs.Words.{AreBitsUpTo}
+use Rattle.asg_thresh.proofs.Common.{AreBitsUpTo}
 use Rattle.asg_thresh.proofs.marked_cells.bits_of.Given as goal
 
 -- the bits of the grades so far

@@ -1,10 +1,4 @@
-use Rattle.std.proofs.Common.{◌≡◌, ℕ, ◌<◌, ◌≤◌, List, length, get_or, take, map, Bool, true, false, leb, cond, sym, ◌∙◌, ap, subst, arith, ⊎_elim, w32}
-use lib.Lanes.{mask_l}
-use Rattle.std.specs.Int.{bit_at}
-use Rattle.std.proofs.lemmas.Bool.{cases_lt, cases_Bool, leb-true, le-leb}
-use Rattle.std.proofs.lemmas.List.{get_or-map, get_or-take, get_or_past, length-map, length-take}
-use Rattle.std.proofs.lemmas.Simd.{bitmask_splat, bit_mask_l}
-use Rattle.asg_thresh.specs.Words.{AreBitsUpTo}
+use Rattle.asg_thresh.proofs.Common.{◌≡◌, ℕ, ◌<◌, ◌≤◌, Bool, true, false, cond, leb, List, map, length, get_or, take, sym, ap, ◌∙◌, subst, ⊎_elim, arith, length-take, get_or-take, w32, le-leb, leb-true, bit_at, bit_mask_l, bitmask_splat, cases_Bool, cases_lt, get_or-map, get_or_past, length-map, mask_l, AreBitsUpTo}
 use Rattle.asg_thresh.proofs.marked_cells.full_bits.Goals as goal
 
 module _ (grades : List ℕ) (limit : ℕ) (long : length grades ≡ 64) where

@@ -1,4 +1,4 @@
-use Rattle.std.proofs.Common.{arith}
+use Rattle.asg_thresh.proofs.Common.{arith}
 use Rattle.asg_thresh.proofs.WordLemmas.{MarksUpTo-words}
 use Rattle.asg_thresh.proofs.marked_cells.mark_words.Goals as goal
 

@@ -1,6 +1,4 @@
-use Rattle.std.proofs.Common.{◌≡◌, ℕ, ◌*◌, ◌<◌, length, get_or}
-use Rattle.asg_match.specs.ColumnSet.{word_count}
-use Rattle.asg_thresh.specs.Words.{IsWordUpTo}
+use Rattle.asg_thresh.proofs.Common.{◌≡◌, ℕ, ◌*◌, ◌<◌, length, get_or, word_count, IsWordUpTo}
 use Rattle.asg_thresh.proofs.marked_cells.mark_words.Given as goal
 
 -- the words so far mark the cells up to the limit

@@ -1,4 +1,4 @@
-use Rattle.std.proofs.Common.{arith}
+use Rattle.asg_thresh.proofs.Common.{arith}
 use Rattle.asg_thresh.proofs.WordLemmas.{IsWordUpTo-piece}
 use Rattle.asg_thresh.proofs.marked_cells.word_at.Goals as goal
 

@@ -1,6 +1,4 @@
-use Rattle.std.proofs.Common.{arith, ap, sym, ◌∙◌, ◌*◌, ℕ}
-use Rattle.std.proofs.lemmas.List.Sums.{count_by-le-length}
-use Rattle.asg_square.specs.laws.Rows.{rows_within}
+use Rattle.asg_thresh.proofs.Common.{ℕ, ◌*◌, sym, ap, ◌∙◌, arith, count_by-le-length, rows_within}
 use Rattle.asg_thresh.proofs.outcomes.graded_outcome.Goals as goal
 
 pub least_threshold-requires-clause-some : goal.least_threshold-requires-clause-some

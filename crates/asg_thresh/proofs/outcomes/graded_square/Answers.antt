@@ -1,7 +1,4 @@
-use Rattle.std.proofs.Common.{subst, sym, ◌*◌, ℕ}
-use Rattle.asg_square.specs.Grid.{Grid, IsSquareOf}
-use Rattle.asg_thresh.specs.Grades.{grade_of, free_grade, Grades}
-use Rattle.asg_proof.specs.laws.LiveCosts.{first_part_in_range}
+use Rattle.asg_thresh.proofs.Common.{ℕ, ◌*◌, sym, subst, first_part_in_range, Grid, IsSquareOf, grade_of, free_grade, Grades}
 use Rattle.asg_thresh.proofs.outcomes.graded_square.Goals as goal
 
 pub of-requires-clause-enters : goal.of-requires-clause-enters

@@ -1,7 +1,4 @@
-use Rattle.std.proofs.Common.{sym, subst}
-use Rattle.asg_match.specs.HallSets.{AllowsCells}
-use Rattle.asg_model.specs.HallSet.{IsHall}
-use Rattle.asg_thresh.specs.Grades.{IsUnder}
+use Rattle.asg_thresh.proofs.Common.{sym, subst, AllowsCells, IsHall, IsUnder}
 use Rattle.asg_thresh.proofs.outcomes.hall_ids.Goals as goal
 
 pub returns : goal.returns

@@ -1,10 +1,4 @@
-use Rattle.std.proofs.Common.{ℕ, ◌≡◌, ◌<◌, ◌∙◌, arith, sym, subst, ap, Some}
-use Rattle.asg_model.specs.Shapes.{square_side}
-use Rattle.asg_match.specs.HallSets.{GivesHallSets}
-use Rattle.asg_square.specs.Cells.{choice_of, entered_or_free}
-use Rattle.asg_square.specs.Grid.{Grid, IsPerm, grid_choice}
-use Rattle.asg_square.specs.laws.Rows.{rows_within}
-use Rattle.asg_thresh.specs.Grades.{grade_of, free_grade, no_grade, IsUnder}
+use Rattle.asg_thresh.proofs.Common.{◌≡◌, ℕ, ◌<◌, Some, sym, ap, ◌∙◌, subst, arith, GivesHallSets, square_side, choice_of, entered_or_free, Grid, IsPerm, grid_choice, rows_within, grade_of, free_grade, no_grade, IsUnder}
 use Rattle.asg_thresh.proofs.GradeLemmas.{grades_are, perm_graded}
 use Rattle.asg_thresh.proofs.OutcomeLemmas.{IsHall-whole, IsPerm-upto, ProvesBelow-least}
 use Rattle.asg_thresh.proofs.outcomes.outcome.Goals as goal

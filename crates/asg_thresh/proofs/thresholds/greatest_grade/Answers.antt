@@ -1,5 +1,4 @@
-use Rattle.std.proofs.Common.{◌≤◌, get_or, below_more, arith}
-use Rattle.asg_thresh.specs.Grades.{grade_at}
+use Rattle.asg_thresh.proofs.Common.{◌≤◌, get_or, arith, below_more, grade_at}
 use Rattle.asg_thresh.proofs.thresholds.greatest_grade.Goals as goal
 use Rattle.asg_thresh.proofs.thresholds.greatest_grade.Goals.{then-grade-greatest, else-grade-greatest}
 

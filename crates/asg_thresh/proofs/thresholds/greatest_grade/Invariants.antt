@@ -1,6 +1,4 @@
-use Rattle.std.proofs.Common.{ℕ, ◌<◌, ◌≤◌, get_or}
-use Rattle.asg_thresh.specs.Grades.{grade_at}
-use Rattle.asg_thresh.specs.Thresholds.{IsAssignmentUpTo}
+use Rattle.asg_thresh.proofs.Common.{ℕ, ◌<◌, ◌≤◌, get_or, grade_at, IsAssignmentUpTo}
 use Rattle.asg_thresh.proofs.thresholds.greatest_grade.Given as goal
 
 -- the grades so far are no greater, and no limit of the assignment is less

@@ -1,4 +1,4 @@
-use Rattle.std.proofs.Common.{ℕ, ◌<◌, ◌≤◌, get_or}
+use Rattle.asg_thresh.proofs.Common.{ℕ, ◌<◌, ◌≤◌, get_or}
 use Rattle.asg_thresh.proofs.thresholds.least_above.Given as goal
 
 -- no grade so far lies between the limit and the least

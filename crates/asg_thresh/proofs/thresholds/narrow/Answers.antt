@@ -1,10 +1,4 @@
-use Rattle.std.proofs.Common.{ℕ, ◌<◌, ◌≤◌, arith, subst, sym}
-use Rattle.std.specs.Prelude.{All}
-use Rattle.std.proofs.lemmas.Bool.{OnTrue_at, OnFalse_at}
-use Rattle.std.proofs.lemmas.List.Elements.{All-contains}
-use Rattle.asg_match.specs.Deficient.{IsDeficient}
-use Rattle.asg_thresh.specs.Grades.{grade_at, IsUpTo, IsUnder}
-use Rattle.asg_thresh.specs.Thresholds.{IsAssignmentUpTo}
+use Rattle.asg_thresh.proofs.Common.{ℕ, ◌<◌, ◌≤◌, All, sym, subst, arith, All-contains, OnFalse_at, OnTrue_at, IsDeficient, grade_at, IsUpTo, IsUnder, IsAssignmentUpTo}
 use Rattle.asg_thresh.proofs.CellLemmas.{IsDeficient-fewer}
 use Rattle.asg_thresh.proofs.thresholds.narrow.Goals as goal
 

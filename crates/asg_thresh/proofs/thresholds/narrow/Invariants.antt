@@ -1,7 +1,5 @@
-use Rattle.std.proofs.Common.{◌-◌, ◌≤◌}
-use Rattle.asg_thresh.specs.Grades.{no_grade}
+use Rattle.asg_thresh.proofs.Common.{◌-◌, ◌≤◌, no_grade, IsBracket}
 use Rattle.asg_thresh.specs.Seekers.{HaveSide}
-use Rattle.asg_thresh.specs.Thresholds.{IsBracket}
 use Rattle.asg_thresh.proofs.thresholds.narrow.Given as goal
 
 abbrev pub invariant-limits : goal.invariant-limits

@@ -1,5 +1,4 @@
-use Rattle.std.proofs.Common.{ℕ, ◌<◌, ◌≤◌, get_or}
-use Rattle.asg_thresh.specs.Grades.{no_grade, grade_at}
+use Rattle.asg_thresh.proofs.Common.{ℕ, ◌<◌, ◌≤◌, get_or, no_grade, grade_at}
 use Rattle.asg_thresh.proofs.thresholds.next_grade.Given as goal
 
 -- no grade of the rows so far lies between the limit and the least

@@ -1,5 +1,4 @@
-use Rattle.std.proofs.Common.{◌≡◌, Some, arith}
-use Rattle.asg_square.specs.Grid.{cell_at}
+use Rattle.asg_window.proofs.Common.{◌≡◌, Some, arith, cell_at}
 use Rattle.asg_window.proofs.FreeLemmas.{free_put, free_skip}
 use Rattle.asg_window.proofs.band_moves.mark_free_cell.Goals as goal
 

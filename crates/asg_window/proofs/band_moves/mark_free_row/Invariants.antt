@@ -1,5 +1,4 @@
-use Rattle.std.proofs.Common.{◌≡◌}
-use Rattle.asg_window.specs.Bands.{MarksFreeBefore}
+use Rattle.asg_window.proofs.Common.{◌≡◌, MarksFreeBefore}
 use Rattle.asg_window.proofs.band_moves.mark_free_row.Given as goal
 
 -- the free cells so far

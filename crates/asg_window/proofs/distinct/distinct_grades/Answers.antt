@@ -1,5 +1,4 @@
-use Rattle.std.proofs.Common.{◌+◌, ◌<◌, ◌≤◌, refl, arith, ap, sym, subst, ◌∙◌, length}
-use Rattle.asg_live_cells.specs.LiveCells.{entry_at, entry_of}
+use Rattle.asg_window.proofs.Common.{◌+◌, ◌<◌, ◌≤◌, length, sym, refl, ap, ◌∙◌, subst, arith, entry_at, entry_of}
 use Rattle.asg_window.proofs.DistinctLemmas.{AreGradesBefore, grades_none, grades_push, grades_skip}
 use Rattle.asg_window.proofs.distinct.distinct_grades.Goals as goal
 use Rattle.asg_window.proofs.distinct.distinct_grades.Goals.{then-last-grade+in_ok-push, else-last-grade}

@@ -1,4 +1,4 @@
-use Rattle.std.proofs.Common.{◌≡◌, length}
+use Rattle.asg_window.proofs.Common.{◌≡◌, length}
 use Rattle.asg_window.proofs.DistinctLemmas.{AreGradesBefore}
 use Rattle.asg_window.proofs.distinct.distinct_grades.Given as goal
 

@@ -1,6 +1,4 @@
-use Rattle.std.proofs.Common.{◌≡◌, ℕ, ◌+◌, ◌<◌, ◌++◌, ◌∷◌, [], ◌∙◌, subst, sym, ap, arith, List, length, get_or, below_more}
-use Rattle.std.proofs.lemmas.List.{get_or_append_left, get_or_push, length_push}
-use Rattle.asg_live_cells.specs.Marks.{IsMarked}
+use Rattle.asg_window.proofs.Common.{◌≡◌, ℕ, ◌+◌, ◌<◌, List, [], ◌∷◌, ◌++◌, length, get_or, sym, ap, ◌∙◌, subst, arith, below_more, get_or_append_left, get_or_push, length_push, IsMarked}
 use Rattle.asg_match.specs.laws.EmptyColumns.{IsDeficient-column}
 use Rattle.asg_window.proofs.empty_lines.all_rows.Goals as goal
 

@@ -1,4 +1,4 @@
-use Rattle.std.proofs.Common.{◌≡◌, ℕ, ◌<◌, ◌≤◌, length, get_or}
+use Rattle.asg_window.proofs.Common.{◌≡◌, ℕ, ◌<◌, ◌≤◌, length, get_or}
 use Rattle.asg_window.proofs.empty_lines.all_rows.Given as goal
 
 -- the rows so far

@@ -1,6 +1,4 @@
-use Rattle.std.proofs.Common.{sym, ◌∙◌, subst}
-use Rattle.std.proofs.lemmas.Bool.{false≢true}
-use Rattle.asg_match.specs.ColumnSet.{HasColumn}
+use Rattle.asg_window.proofs.Common.{sym, ◌∙◌, subst, false≢true, HasColumn}
 use Rattle.asg_window.proofs.empty_lines.empty_column.Goals as goal
 
 pub returns-then-not-has_column-clause-empty : goal.returns-then-not-has_column-clause-empty

@@ -1,8 +1,4 @@
-use Rattle.std.proofs.Common.{◌≡◌, ℕ, ◌+◌, ◌*◌, ◌/◌, ◌%◌, ◌<◌, ◌≤◌, inl, inr, ⊎_elim, ◌∙◌, sym, subst, arith, List}
-use Rattle.std.specs.Prelude.{IsTrue}
-use Rattle.std.proofs.lemmas.Bool.{cases_lt}
-use Rattle.asg_match.specs.ColumnSet.{HasColumn}
-use Rattle.asg_square.specs.BitTable.{BitTable, has_bit, IsBitTable, AreWordsOf}
+use Rattle.asg_window.proofs.Common.{◌≡◌, ℕ, ◌+◌, ◌*◌, ◌/◌, ◌%◌, ◌<◌, ◌≤◌, List, IsTrue, sym, ◌∙◌, subst, inl, inr, ⊎_elim, arith, cases_lt, BitTable, has_bit, IsBitTable, AreWordsOf, HasColumn}
 use Rattle.asg_live_cells.specs.laws.Words.{word_bit}
 use Rattle.asg_window.proofs.empty_lines.join.Goals as goal
 

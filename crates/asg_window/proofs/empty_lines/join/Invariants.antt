@@ -1,7 +1,4 @@
-use Rattle.std.proofs.Common.{◌≡◌, ℕ, ◌<◌, length}
-use Rattle.std.specs.Prelude.{IsTrue}
-use Rattle.asg_match.specs.ColumnSet.{HasColumn}
-use Rattle.asg_square.specs.BitTable.{has_bit}
+use Rattle.asg_window.proofs.Common.{◌≡◌, ℕ, ◌<◌, length, IsTrue, has_bit, HasColumn}
 use Rattle.asg_window.proofs.empty_lines.join.Given as goal
 
 -- the columns have those of the rows so far

@@ -1,9 +1,4 @@
-use Rattle.std.proofs.Common.{◌+◌, ◌-◌, refl, sym, subst, arith}
-use Rattle.std.proofs.lemmas.List.Elements.{All-push}
-use Rattle.asg_match.specs.Deficient.{IsDeficient}
-use Rattle.asg_window.specs.declared.gaps.Gap.{Gap}
-use Rattle.asg_window.specs.Bands.{IsWithin}
-use Rattle.asg_window.specs.Gaps.{IsGap, ShowLeast}
+use Rattle.asg_window.proofs.Common.{◌+◌, ◌-◌, sym, refl, subst, arith, All-push, IsDeficient, IsWithin, IsGap, ShowLeast, Gap}
 use Rattle.asg_window.proofs.GapLemmas.{chained_push}
 use Rattle.asg_window.proofs.gaps.add_gap.Goals as goal
 

@@ -1,11 +1,4 @@
-use Rattle.std.proofs.Common.{◌≡◌, ℕ, ◌+◌, ◌<◌, ◌≤◌, sym, subst, arith}
-use Rattle.std.specs.Prelude.{IfNone}
-use Rattle.std.proofs.lemmas.Result.{IfOk-weaker}
-use Rattle.asg_match.specs.Deficient.{IsDeficient}
-use Rattle.asg_match.specs.laws.Choices.{from_if_some}
-use Rattle.asg_window.specs.Ascents.{IsAscent, AddsGap}
-use Rattle.asg_window.specs.Assignments.{IsAssignmentWithin, IsSpread}
-use Rattle.asg_window.specs.Bands.{IsWithin}
+use Rattle.asg_window.proofs.Common.{◌≡◌, ℕ, ◌+◌, ◌<◌, ◌≤◌, IfNone, sym, subst, arith, IfOk-weaker, IsDeficient, from_if_some, IsAscent, AddsGap, IsAssignmentWithin, IsSpread, IsWithin}
 use Rattle.asg_window.proofs.GapLemmas.{chained_less}
 use Rattle.asg_window.proofs.gaps.ascend.Goals as goal
 

@@ -1,5 +1,4 @@
-use Rattle.std.proofs.Common.{ap, sym, subst}
-use Rattle.asg_window.specs.Assignments.{IsSpread}
+use Rattle.asg_window.proofs.Common.{sym, ap, subst, IsSpread}
 use Rattle.asg_window.proofs.gaps.found.Goals as goal
 
 pub returns : goal.returns

@@ -1,4 +1,4 @@
-use Rattle.std.proofs.Common.{arith}
+use Rattle.asg_window.proofs.Common.{arith}
 use Rattle.asg_window.proofs.gaps.lessen.Goals as goal
 
 pub overflow_sub-ascent : goal.overflow_sub-ascent

@@ -1,5 +1,4 @@
-use Rattle.std.proofs.Common.{◌+◌, ◌-◌}
-use Rattle.asg_window.specs.Ascents.{IsAscent}
+use Rattle.asg_window.proofs.Common.{◌+◌, ◌-◌, IsAscent}
 use Rattle.asg_window.proofs.gaps.lessen.Given as goal
 
 abbrev pub invariant-bands : goal.invariant-bands

@@ -1,4 +1,4 @@
-use Rattle.std.proofs.Common.{◌≡◌, ◌-◌, ◌≤◌}
+use Rattle.asg_window.proofs.Common.{◌≡◌, ◌-◌, ◌≤◌}
 use Rattle.asg_window.specs.Seekers.{IsSeeker}
 use Rattle.asg_window.proofs.gaps.rise.Given as goal
 

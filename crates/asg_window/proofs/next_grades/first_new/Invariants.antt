@@ -1,7 +1,4 @@
-use Rattle.std.proofs.Common.{◌≡◌, ◌≤◌, ◌<◌, ℕ, length}
-use Rattle.asg_match.specs.ColumnSet.{HasColumn}
-use Rattle.asg_live_cells.specs.LiveCells.{entry_at}
-use Rattle.asg_window.specs.Reaching.{IsRowMarked}
+use Rattle.asg_window.proofs.Common.{◌≡◌, ℕ, ◌<◌, ◌≤◌, length, entry_at, HasColumn, IsRowMarked}
 use Rattle.asg_window.proofs.next_grades.first_new.Given as goal
 
 -- no entry so far is new

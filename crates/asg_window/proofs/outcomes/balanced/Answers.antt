@@ -1,7 +1,4 @@
-use Rattle.std.proofs.Common.{sym, subst}
-use Rattle.asg_live_cells.specs.LiveCells.{AreEntries}
-use Rattle.asg_live_cells.specs.laws.Entries.{all_under}
-use Rattle.asg_window.specs.Grades.{no_bound}
+use Rattle.asg_window.proofs.Common.{sym, subst, AreEntries, all_under, no_bound}
 use Rattle.asg_window.proofs.SquareCells.{grade_below}
 use Rattle.asg_window.proofs.outcomes.balanced.Goals as goal
 

@@ -1,12 +1,4 @@
-use Rattle.std.proofs.Common.{ℕ, ◌≡◌, ◌<◌, ◌+◌, ◌∙◌, sym, subst, ap, Some}
-use Rattle.asg_model.specs.declared.objectives.Objective.TheVariants.{Balanced}
-use Rattle.asg_model.specs.Shapes.{square_side}
-use Rattle.asg_model.specs.Values.{choice_value}
-use Rattle.asg_proof.specs.Windows.{ProvesWindows}
-use Rattle.asg_square.specs.Cells.{choice_of, entered_or_free}
-use Rattle.asg_square.specs.Grid.{grid_choice}
-use Rattle.asg_square.specs.laws.Rows.{rows_within}
-use Rattle.asg_live_cells.specs.Grades.{grade_of, free_grade}
+use Rattle.asg_window.proofs.Common.{◌≡◌, ℕ, ◌+◌, ◌<◌, Some, sym, ap, ◌∙◌, subst, grade_of, free_grade, square_side, choice_value, Balanced, ProvesWindows, choice_of, entered_or_free, grid_choice, rows_within}
 use Rattle.asg_window.proofs.AssignmentLemmas.{IsPerm-within}
 use Rattle.asg_window.proofs.ValueLemmas.{value_is}
 use Rattle.asg_window.proofs.outcomes.best.Goals as goal

@@ -1,5 +1,4 @@
-use Rattle.std.proofs.Common.{◌≡◌, subst, arith, length}
-use Rattle.asg_model.specs.DifferentCosts.{HasCosts}
+use Rattle.asg_window.proofs.Common.{◌≡◌, length, subst, arith, HasCosts}
 use Rattle.asg_window.proofs.CostLemmas.{HasCosts-grades, count_fits}
 use Rattle.asg_window.proofs.outcomes.graded_outcome.Goals as goal
 

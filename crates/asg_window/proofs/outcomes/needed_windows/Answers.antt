@@ -1,5 +1,4 @@
-use Rattle.std.proofs.Common.{sym, subst, arith}
-use Rattle.asg_window.specs.Gaps.{ShowLeast}
+use Rattle.asg_window.proofs.Common.{sym, subst, arith, ShowLeast}
 use Rattle.asg_window.proofs.ProofLemmas.{ProvesSpread-windows, grades_in_chain}
 use Rattle.asg_window.proofs.outcomes.needed_windows.Goals as goal
 

@@ -1,8 +1,5 @@
-use Rattle.std.proofs.Common.{refl}
-use Rattle.asg_model.specs.declared.bands.Band.TheVariants.{Whole}
-use Rattle.asg_window.specs.Grades.{no_bound}
+use Rattle.asg_window.proofs.Common.{refl, Whole, first_part_in_range, no_bound}
 use Rattle.asg_window.proofs.SquareBands.{AllowsCells-within, IsBandOf-whole}
-use Rattle.asg_proof.specs.laws.LiveCosts.{first_part_in_range}
 use Rattle.asg_window.proofs.outcomes.nothing.Goals as goal
 
 pub returns-clause-outcome : goal.returns-clause-outcome

@@ -1,6 +1,4 @@
-use Rattle.std.proofs.Common.{◌≡◌, arith, sym, subst}
-use Rattle.asg_window.specs.Assignments.{IsSpread}
-use Rattle.asg_window.specs.Extremes.{AreExtremes, IsOneMore}
+use Rattle.asg_window.proofs.Common.{◌≡◌, sym, subst, arith, IsSpread, AreExtremes, IsOneMore}
 use Rattle.asg_window.proofs.SpreadLemmas.{extremes_more, IsSpread-extremes}
 use Rattle.asg_window.proofs.spreads.spread_of.Goals as goal
 

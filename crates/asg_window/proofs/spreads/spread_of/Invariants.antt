@@ -1,5 +1,4 @@
-use Rattle.std.proofs.Common.{◌≡◌}
-use Rattle.asg_window.specs.Extremes.{AreExtremes}
+use Rattle.asg_window.proofs.Common.{◌≡◌, AreExtremes}
 use Rattle.asg_window.proofs.spreads.spread_of.Given as goal
 
 -- the extremes of the rows so far

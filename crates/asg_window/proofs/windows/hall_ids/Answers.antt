@@ -1,4 +1,4 @@
-use Rattle.std.proofs.Common.{sym, subst}
+use Rattle.asg_window.proofs.Common.{sym, subst}
 use Rattle.asg_model.specs.HallSet.{IsHall}
 use Rattle.asg_window.proofs.windows.hall_ids.Goals as goal
 

@@ -1,6 +1,4 @@
-use Rattle.std.proofs.Common.{◌-◌, ◌<◌, ◌≤◌, length}
-use Rattle.std.specs.Prelude.{slice_index_or}
-use Rattle.asg_window.specs.declared.gaps.Gap.{Gap}
+use Rattle.asg_window.proofs.Common.{◌-◌, ◌<◌, ◌≤◌, length, slice_index_or, Gap}
 use Rattle.asg_window.proofs.windows.last_gap.Given as goal
 
 abbrev pub invariant-gaps : goal.invariant-gaps

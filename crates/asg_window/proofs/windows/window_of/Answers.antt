@@ -1,6 +1,4 @@
-use Rattle.std.proofs.Common.{◌∙◌, sym, subst, w64}
-use Rattle.std.specs.Prelude.{FitsSigned}
-use Rattle.std.proofs.lemmas.Int.{to_z-of_z}
+use Rattle.asg_window.proofs.Common.{FitsSigned, sym, ◌∙◌, subst, to_z-of_z, w64}
 use Rattle.asg_window.proofs.windows.window_of.Goals as goal
 
 pub returns : goal.returns

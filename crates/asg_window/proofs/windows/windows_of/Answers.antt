@@ -1,9 +1,5 @@
-use Rattle.std.proofs.Common.{◌+◌, ◌<◌, ◌≤◌, refl, arith, ap, sym, subst, List, [], ◌∷◌, length}
-use Rattle.std.specs.Prelude.{pos, IsTrue}
-use Rattle.std.proofs.lemmas.List.{get_or_default, length-append}
-use Rattle.asg_proof.specs.declared.windows.Window.{Window}
-use Rattle.asg_proof.specs.Windows.{is_held}
-use Rattle.asg_live_cells.specs.Grades.{cost_of}
+use Rattle.asg_window.proofs.Common.{◌+◌, ◌<◌, ◌≤◌, List, [], ◌∷◌, length, pos, IsTrue, sym, refl, ap, subst, arith, get_or_default, cost_of, is_held, Window}
+use Rattle.std.proofs.lemmas.List.{length-append}
 use Rattle.asg_window.proofs.WindowSteps.{AreHeld, held_none, held_skip, held_add}
 use Rattle.asg_window.proofs.windows.windows_of.Goals as goal
 use Rattle.asg_window.proofs.windows.windows_of.Goals.{then-reach-grade+in_ok-place, else-reach-grade}

@@ -1,4 +1,4 @@
-use Rattle.std.proofs.Common.{◌≡◌, ◌≤◌, length}
+use Rattle.asg_window.proofs.Common.{◌≡◌, ◌≤◌, length}
 use Rattle.asg_window.proofs.WindowSteps.{AreHeld}
 use Rattle.asg_window.proofs.windows.windows_of.Given as goal
 

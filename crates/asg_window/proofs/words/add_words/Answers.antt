@@ -1,6 +1,4 @@
-use Rattle.std.proofs.Common.{◌<◌, ◌∙◌, ap, arith, length, get_or}
-use Rattle.std.specs.Prelude.{bit_or}
-use Rattle.std.proofs.lemmas.List.{get_or_read, length-set}
+use Rattle.asg_window.proofs.Common.{◌<◌, length, get_or, bit_or, ap, ◌∙◌, arith, length-set, get_or_read}
 use Rattle.asg_window.proofs.WordLemmas.{joined_next}
 use Rattle.asg_window.proofs.words.add_words.Goals as goal
 

@@ -1,5 +1,4 @@
-use Rattle.std.proofs.Common.{◌≡◌, ◌⊎◌, ◌↔◌, ℕ, ◌<◌, ◌≤◌, length, get_or}
-use Rattle.asg_match.specs.ColumnSet.{HasBit}
+use Rattle.asg_window.proofs.Common.{◌≡◌, ℕ, ◌<◌, ◌≤◌, ◌⊎◌, ◌↔◌, length, get_or, HasBit}
 use Rattle.asg_window.proofs.words.add_words.Given as goal
 
 -- the words so far have both bits, the others are as they were

@@ -1,4 +1,4 @@
-use Rattle.std.proofs.Common.{◌≡◌, ℕ, ◌<◌, get_or}
+use Rattle.asg_window.proofs.Common.{◌≡◌, ℕ, ◌<◌, get_or}
 use Rattle.asg_window.proofs.words.has_any.Given as goal
 
 -- no word so far has a bit

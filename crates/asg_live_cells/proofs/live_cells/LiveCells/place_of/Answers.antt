@@ -1,8 +1,4 @@
-use Rattle.std.proofs.Common.{ltb, arith, rules}
-use Rattle.std.proofs.lemmas.Bool.{ltb-true, ltb-false}
-use Rattle.std.proofs.lemmas.List.Sorted.{IsPartitionPoint-from_clause, IsPartitionedBy-ltb}
-use Rattle.asg_live_cells.specs.declared.live_cells.Entry.{Entry}
-use Rattle.asg_live_cells.specs.LiveCells.{entry_of}
+use Rattle.asg_live_cells.proofs.Common.{ltb, arith, rules, ltb-false, ltb-true, IsPartitionPoint-from_clause, IsPartitionedBy-ltb, entry_of, Entry}
 use Rattle.asg_live_cells.proofs.live_cells.LiveCells.place_of.Goals as goal
 
 pub returns : goal.returns

@@ -1,9 +1,4 @@
-use Rattle.std.proofs.Common.{ℕ, ◌+◌, ◌*◌, ◌<◌, ◌^◌, ◌⊎◌, inl, inr, ⊎_elim, sym, subst, arith, w64}
-use Rattle.std.specs.Int.{trailing_zeros}
-use Rattle.std.proofs.Math.Facts.{Fits-lt-pow}
-use Rattle.std.proofs.lemmas.Bool.{cases_eq}
-use Rattle.asg_match.specs.ColumnSet.{HasBit}
-use Rattle.asg_square.specs.laws.Bits.{bit_below, HasBit-trailing_zeros, HasBit-without, HasBit-without_other, without_bit, without_bit-lt, HasBit-with, HasBit-with_same, HasBit-with_kept, with_bit}
+use Rattle.asg_match.proofs.Common.{ℕ, ◌+◌, ◌*◌, ◌^◌, ◌<◌, ◌⊎◌, sym, subst, inl, inr, ⊎_elim, arith, w64, Fits-lt-pow, cases_eq, trailing_zeros, bit_below, HasBit-trailing_zeros, HasBit-without, HasBit-without_other, without_bit, without_bit-lt, HasBit-with, HasBit-with_same, HasBit-with_kept, with_bit, HasBit}
 use Rattle.asg_match.proofs.allowed.Allowed.among.Goals as goal
 use Rattle.asg_match.proofs.allowed.Allowed.among.Goals.{then-has, else-has}
 

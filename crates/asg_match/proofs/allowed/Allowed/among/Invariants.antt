@@ -1,5 +1,4 @@
-use Rattle.std.proofs.Common.{ℕ, ◌+◌, ◌*◌, ◌⊎◌}
-use Rattle.asg_match.specs.ColumnSet.{HasBit}
+use Rattle.asg_match.proofs.Common.{ℕ, ◌+◌, ◌*◌, ◌⊎◌, HasBit}
 use Rattle.asg_match.proofs.allowed.Allowed.among.Given as goal
 
 -- the bits so far are those that are no longer in the rest

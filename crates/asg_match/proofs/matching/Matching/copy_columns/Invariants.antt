@@ -1,5 +1,4 @@
-use Rattle.std.proofs.Common.{◌≡◌, ℕ, ◌<◌, length, get_or}
-use Rattle.asg_match.specs.Matching.{Matches}
+use Rattle.asg_match.proofs.Common.{◌≡◌, ℕ, ◌<◌, length, get_or, Matches}
 use Rattle.asg_match.proofs.matching.Matching.copy_columns.Given as goal
 
 -- the columns of the rows so far

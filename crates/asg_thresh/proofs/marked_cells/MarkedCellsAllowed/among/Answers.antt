@@ -1,11 +1,5 @@
-use Rattle.std.proofs.Common.{◌≡◌, ◌<◌, ◌≤◌, ◌*◌, ◌+◌, ◌∙◌, ap, subst, sym, arith, w64, get_or, length, vec_len}
-use Rattle.std.proofs.Math.Facts.{Fits-lt-pow}
-use Rattle.std.proofs.Math.Nat.{mul-le-mul, mul_comm}
-use Rattle.std.proofs.lemmas.List.{get_or_read}
-use Rattle.std.proofs.lemmas.Nat.{mul-add-lt}
-use Rattle.std.proofs.lemmas.Nat.Bits.{bit_at-trailing_zeros}
-use Rattle.asg_match.specs.ColumnSet.{HasBit, word_count}
-use Rattle.asg_square.specs.laws.Bits.{bit_below, HasBit-and}
+use Rattle.asg_thresh.proofs.Common.{◌≡◌, ◌+◌, ◌*◌, ◌<◌, ◌≤◌, length, get_or, vec_len, sym, ap, ◌∙◌, subst, mul_comm, mul-le-mul, arith, w64, Fits-lt-pow, bit_at-trailing_zeros, get_or_read, mul-add-lt, HasBit, word_count}
+use Rattle.asg_bit_rows.specs.laws.Bits.{bit_below, HasBit-and}
 use Rattle.asg_thresh.proofs.WordLemmas.{IsMarked-bit}
 use Rattle.asg_thresh.proofs.marked_cells.MarkedCellsAllowed.among.Goals as goal
 

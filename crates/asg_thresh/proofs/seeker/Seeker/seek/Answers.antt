@@ -1,5 +1,4 @@
-use Rattle.std.proofs.Common.{refl}
-use Rattle.std.proofs.lemmas.Result.{IfOk-from_err}
+use Rattle.asg_thresh.proofs.Common.{refl, IfOk-from_err}
 use Rattle.asg_thresh.proofs.seeker.Seeker.seek.Goals as goal
 
 pub returns-then-complete-clause-rows_stay : goal.returns-then-complete-clause-rows_stay

@@ -1,8 +1,4 @@
-use Rattle.std.proofs.Common.{◌≡◌, ℕ, ◌∙◌, refl, subst, arith, List}
-use Rattle.asg_square.specs.Grid.{Grid}
-use Rattle.asg_live_cells.specs.declared.live_cells.Entry.{Entry}
-use Rattle.asg_window.specs.Bands.{MarksFreeBefore}
-use Rattle.asg_live_cells.specs.LiveCells.{entry_of, AreEntries, IsPlaceOf}
+use Rattle.asg_window.proofs.Common.{◌≡◌, ℕ, List, refl, ◌∙◌, subst, arith, entry_of, AreEntries, IsPlaceOf, Entry, Grid, MarksFreeBefore}
 use Rattle.asg_window.proofs.FreeLemmas.{free_none, free_all}
 use Rattle.asg_window.proofs.band_cells.BandCells.make.Goals as goal
 

@@ -1,5 +1,4 @@
-use Rattle.std.proofs.Common.{◌≡◌}
-use Rattle.asg_window.specs.Bands.{MarksFreeBefore}
+use Rattle.asg_window.proofs.Common.{◌≡◌, MarksFreeBefore}
 use Rattle.asg_window.proofs.band_cells.BandCells.make.Given as goal
 
 -- the free cells of the rows so far

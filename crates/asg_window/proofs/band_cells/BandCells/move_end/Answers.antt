@@ -1,5 +1,4 @@
-use Rattle.std.proofs.Common.{◌<◌, ◌≤◌, ⊎_elim, arith}
-use Rattle.std.proofs.lemmas.Bool.{cases_lt}
+use Rattle.asg_window.proofs.Common.{◌<◌, ◌≤◌, ⊎_elim, arith, cases_lt}
 use Rattle.asg_window.proofs.BandLemmas.{end_up, end_down}
 use Rattle.asg_window.proofs.band_cells.BandCells.move_end.Goals as goal
 

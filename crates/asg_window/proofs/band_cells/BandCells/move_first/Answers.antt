@@ -1,5 +1,5 @@
+use Rattle.asg_window.proofs.Common.{places_ordered}
 use Rattle.asg_window.proofs.BandLemmas.{first_up}
-use Rattle.asg_live_cells.specs.laws.Entries.{places_ordered}
 use Rattle.asg_window.proofs.band_cells.BandCells.move_first.Goals as goal
 
 pub leave-requires-clause-order : goal.leave-requires-clause-order

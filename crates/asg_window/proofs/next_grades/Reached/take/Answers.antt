@@ -1,6 +1,4 @@
-use Rattle.std.proofs.Common.{below_more, get_or, refl, ⊎_elim, subst, arith}
-use Rattle.std.proofs.lemmas.List.{get_or_default}
-use Rattle.asg_window.specs.Reaching.{IsRowMarked}
+use Rattle.asg_window.proofs.Common.{get_or, refl, subst, ⊎_elim, arith, below_more, get_or_default, IsRowMarked}
 use Rattle.asg_window.proofs.next_grades.Reached.take.Goals as goal
 
 pub loop-place-init : goal.loop-place-init

@@ -1,9 +1,4 @@
-use Rattle.std.proofs.Common.{◌≡◌, ℕ, ◌<◌, length, get_or}
-use Rattle.std.specs.Prelude.{IsTrue}
-use Rattle.asg_match.specs.ColumnSet.{HasColumn}
-use Rattle.asg_match.specs.Deficient.{IsColumnOf}
-use Rattle.asg_square.specs.BitTable.{has_bit}
-use Rattle.asg_window.specs.Reaching.{HasRoom, IsRowMarked}
+use Rattle.asg_window.proofs.Common.{◌≡◌, ℕ, ◌<◌, length, get_or, IsTrue, has_bit, HasColumn, IsColumnOf, HasRoom, IsRowMarked}
 use Rattle.asg_window.proofs.next_grades.Reached.take.Given as goal
 
 -- the rows so far are marked

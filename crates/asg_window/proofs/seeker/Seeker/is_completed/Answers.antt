@@ -1,10 +1,4 @@
-use Rattle.std.proofs.Common.{◌≡◌, ◌++◌, ◌∙◌, refl, sym, subst, ap, arith, length}
-use Rattle.std.proofs.lemmas.Bool.{OnTrue_at, OnFalse_at}
-use Rattle.std.proofs.lemmas.List.{with_items_is}
-use Rattle.asg_match.specs.Deficient.{IsDeficient}
-use Rattle.asg_match.specs.Matching.{IsPerfect}
-use Rattle.asg_window.specs.Assignments.{IsMarkedAssignment}
-use Rattle.asg_live_cells.specs.Marks.{IsMarked}
+use Rattle.asg_window.proofs.Common.{◌≡◌, ◌++◌, length, sym, refl, ap, ◌∙◌, subst, arith, OnFalse_at, OnTrue_at, with_items_is, IsMarked, IsDeficient, IsPerfect, IsMarkedAssignment}
 use Rattle.asg_window.proofs.AssignmentLemmas.{IsMarkedAssignment-perfect}
 use Rattle.asg_window.proofs.seeker.Seeker.is_completed.Goals as goal
 

@@ -1,9 +1,5 @@
-use Rattle.std.proofs.Common.{subst}
-use Rattle.std.proofs.lemmas.Bool.{OnFalse_at}
-use Rattle.asg_match.specs.Deficient.{IsDeficient}
+use Rattle.asg_window.proofs.Common.{subst, OnFalse_at, IsDeficient, IsWithin, GetNoColumn}
 use Rattle.asg_window.specs.declared.band_cells.BandCells.{BandCells}
-use Rattle.asg_window.specs.Bands.{IsWithin}
-use Rattle.asg_window.specs.Reaching.{GetNoColumn}
 use Rattle.asg_window.proofs.ReachLemmas.{IsDeficient-marks, IsDeficient-next}
 use Rattle.asg_window.proofs.seeker.Seeker.test.Goals as goal
 

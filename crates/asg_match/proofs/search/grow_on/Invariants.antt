@@ -1,7 +1,5 @@
-use Rattle.std.proofs.Common.{ℕ, ◌<◌, get_or}
-use Rattle.asg_match.specs.Alternating.{IsClosed}
-use Rattle.asg_match.specs.Searched.{parents_in, IsSearch, Extends}
-use Rattle.asg_match.proofs.search.grow.Given as goal
+use Rattle.asg_match.proofs.Common.{ℕ, ◌<◌, get_or, IsClosed, parents_in, IsSearch, Extends}
+use Rattle.asg_match.proofs.search.grow_on.Given as goal
 
 -- the rows at the places so far are closed
 abbrev pub invariant-loop-place : goal.invariant-loop-place

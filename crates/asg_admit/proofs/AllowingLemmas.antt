@@ -1,11 +1,5 @@
 -- Values that allow all steps of a phase, as every greater value does then.
-use Rattle.std.proofs.Common.{◌≡◌, ℕ, ◌<◌, ◌≤◌, Bool, true, false, min, List, length, refl, sym, ◌∙◌, ap, subst, arith}
-use Rattle.std.specs.Prelude.{Option, Some, None, All, IfSome, MatchOption}
-use Rattle.asg_order.specs.Monoid.{Monoid, IsValue, IsLe, IsOrderedMonoid}
-use Rattle.asg_order.specs.Differences.{HasDifferences}
-use Rattle.asg_order.specs.laws.Differences.{difference_monotone}
-use Rattle.asg_admit.specs.Settled.{step_of, between, cell_after, AllowsSteps, AllowsAll}
-use Rattle.asg_admit.specs.laws.SettledCells.{IsTwice, between_is_value, cell_after-inside}
+use Rattle.asg_admit.proofs.Common.{◌≡◌, ℕ, ◌<◌, ◌≤◌, min, Bool, true, false, List, length, IfSome, Some, None, All, Option, MatchOption, sym, refl, ap, ◌∙◌, subst, arith, step_of, between, cell_after, AllowsSteps, AllowsAll, IsTwice, between_is_value, cell_after-inside, HasDifferences, Monoid, IsValue, IsLe, IsOrderedMonoid, difference_monotone}
 
 module _ {V : Type 0} (M : Monoid V) (laws : IsOrderedMonoid M) (difference : V → V → V) (has : HasDifferences M difference) (twice : IsTwice M difference) (steps : List V) (vs : All (IsValue M) steps) where
   abbrev step : ℕ → V

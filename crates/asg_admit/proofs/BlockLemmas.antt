@@ -1,20 +1,7 @@
 -- Steps from one mark of a phase to the next: the least cell of their rows and columns decides for
 -- all.
-use Rattle.std.proofs.Common.{◌≡◌, ℕ, ◌+◌, ◌<◌, ◌≤◌, min, length, sym, ◌∙◌, ap, subst, arith, ⊎_elim}
-use Rattle.std.specs.Prelude.{Option, Some, None, All, slice_index}
-use Rattle.std.specs.Option.{option_map}
-use Rattle.std.proofs.lemmas.Bool.{cases_lt}
-use Rattle.asg_order.specs.Monoid.{Monoid, IsValue, IsLe, IsOrderedMonoid}
-use Rattle.asg_order.specs.Differences.{HasDifferences}
-use Rattle.asg_order.specs.laws.Differences.{difference_monotone}
-use Rattle.asg_proof.specs.Phases.{PhaseOf}
-use Rattle.asg_proof.specs.Steps.{HasValues}
+use Rattle.asg_admit.proofs.Common.{◌≡◌, ℕ, ◌+◌, ◌<◌, ◌≤◌, min, length, slice_index, Some, None, All, Option, option_map, sym, ap, ◌∙◌, subst, ⊎_elim, arith, cases_lt, AllowsAt, AllowsRows, HasNoneBetween, HasAtMost, AreHeldValues, MergesRows, IsLeastStaying, HoldsLeast, step_of, between, cell_after, IsTwice, between-none, between-split, between_is_value, cell_after-inside, difference_of_unit, HasDifferences, Monoid, IsValue, IsLe, IsOrderedMonoid, difference_monotone, PhaseOf, HasValues, Grid, cell_at}
 use Rattle.asg_proof.specs.laws.Stepped.{option_map_cases}
-use Rattle.asg_square.specs.Grid.{Grid, cell_at}
-use Rattle.asg_admit.specs.Admission.{AllowsAt, AllowsRows}
-use Rattle.asg_admit.specs.LeastCells.{HasNoneBetween, HasAtMost, AreHeldValues, MergesRows, IsLeastStaying, HoldsLeast}
-use Rattle.asg_admit.specs.Settled.{step_of, between, cell_after}
-use Rattle.asg_admit.specs.laws.SettledCells.{IsTwice, between-none, between-split, between_is_value, cell_after-inside, difference_of_unit}
 use Rattle.asg_admit.proofs.LeastLemmas.{none_some}
 
 -- what was lessened is a value

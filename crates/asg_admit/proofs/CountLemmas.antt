@@ -1,11 +1,5 @@
 -- Rows that have entered and columns that stay, from step to step.
-use Rattle.std.proofs.Common.{◌≡◌, ℕ, zero, suc, ◌+◌, ◌-◌, ◌<◌, ◌≤◌, min, Bool, true, false, cond, leb, ltb, eqb, List, length, refl, sym, ◌∙◌, ap, subst, arith, ⊎_elim}
-use Rattle.std.specs.Prelude.{slice_index}
-use Rattle.std.proofs.lemmas.Bool.{cases_order, cases_lt, le-leb, lt-leb, lt-ltb, le-ltb, eq-eqb, ne_eqb}
-use Rattle.asg_proof.specs.Phases.{entered_at, staying_at}
-use Rattle.asg_proof.specs.Steps.{count_below}
-use Rattle.asg_admit.specs.Admission.{AreBalanced, AreCounted, has_mark}
-use Rattle.asg_proof.specs.laws.CountsBelow.{count_below-more}
+use Rattle.asg_admit.proofs.Common.{◌≡◌, ℕ, zero, suc, ◌+◌, ◌-◌, ◌<◌, ◌≤◌, min, Bool, true, false, cond, eqb, ltb, leb, List, length, slice_index, sym, refl, ap, ◌∙◌, subst, ⊎_elim, arith, le-ltb, lt-ltb, eq-eqb, ne_eqb, le-leb, cases_lt, cases_order, lt-leb, AreBalanced, AreCounted, has_mark, entered_at, staying_at, count_below, count_below-more}
 
 -- ---- counts
 

@@ -1,16 +1,8 @@
 -- Where columns leave at the steps at which rows enter, but for one that enters at once and one
 -- that never leaves, the counts of a phase are right.
-use Rattle.std.proofs.Common.{◌≡◌, ℕ, zero, suc, ◌+◌, ◌<◌, ◌≤◌, Bool, cond, leb, ltb, List, [], ◌∷◌, length, take, refl, sym, ◌∙◌, ap, arith, ⊎_elim}
-use Rattle.std.specs.Prelude.{slice_index}
+use Rattle.asg_admit.proofs.Common.{◌≡◌, ℕ, zero, suc, ◌+◌, ◌<◌, ◌≤◌, Bool, cond, ltb, leb, List, [], ◌∷◌, length, take, slice_index, sym, refl, ap, ◌∙◌, ⊎_elim, arith, take_all, le-ltb, lt-ltb, le-leb, cases_lt, length_permutation, lt-leb, sum_by-IsPermutation, sum_by-cons, sum_by_more, AreCounted, count_below, count_below-more}
 use Rattle.std.specs.List.{sum_by}
 use Rattle.std.specs.List.Sorted.{IsPermutation}
-use Rattle.std.proofs.lemmas.Bool.{cases_lt, le-leb, lt-leb, le-ltb, lt-ltb}
-use Rattle.std.proofs.lemmas.List.{take_all}
-use Rattle.std.proofs.lemmas.List.Sums.{sum_by-cons, sum_by_more}
-use Rattle.std.proofs.lemmas.List.Sorted.{sum_by-IsPermutation, length_permutation}
-use Rattle.asg_proof.specs.Steps.{count_below}
-use Rattle.asg_admit.specs.Admission.{AreCounted}
-use Rattle.asg_proof.specs.laws.CountsBelow.{count_below-more}
 
 -- 1 where the number passes
 abbrev one_if : (ℕ → Bool) → ℕ → ℕ

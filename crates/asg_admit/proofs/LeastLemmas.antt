@@ -1,12 +1,6 @@
 -- Least cells, as they are held and merged.
-use Rattle.std.proofs.Common.{◌≡◌, ◌≢◌, ◌⊎◌, ℕ, ◌+◌, ◌<◌, ◌≤◌, min, Bool, true, false, cond, List, length, get_or, replicate, inl, inr, refl, sym, ◌∙◌, ap, subst, arith, ⊎_elim}
-use Rattle.std.specs.Prelude.{Option, Some, None, is_some, slice_index}
-use Rattle.std.proofs.lemmas.Bool.{false≢true, cases_lt, cases_eq, lt-ltb, le-ltb}
-use Rattle.std.proofs.lemmas.List.{get_or-replicate, get_or_past, length-replicate}
-use Rattle.asg_order.specs.Monoid.{Monoid, IsValue, IsOrderedMonoid}
+use Rattle.asg_admit.proofs.Common.{◌≡◌, ℕ, ◌+◌, ◌<◌, ◌≤◌, min, Bool, true, false, cond, ◌≢◌, ◌⊎◌, List, length, get_or, replicate, is_some, slice_index, Some, None, Option, sym, refl, ap, ◌∙◌, subst, inl, inr, ⊎_elim, arith, le-ltb, lt-ltb, cases_eq, cases_lt, false≢true, get_or-replicate, get_or_past, length-replicate, place_at, place_of, held_at, lesser_of, HasAtMost, AreHeldValues, MergesRow, MergesRows, IsLeastStaying, Monoid, IsValue, IsOrderedMonoid, Grid, cell_at}
 use Rattle.asg_order.specs.laws.Orders.{reflexive, le_from_less}
-use Rattle.asg_square.specs.Grid.{Grid, cell_at}
-use Rattle.asg_admit.specs.LeastCells.{place_at, place_of, held_at, lesser_of, HasAtMost, AreHeldValues, MergesRow, MergesRows, IsLeastStaying}
 
 pub none_some : {V : Type 0} (y : V) → None ≡ Some y → ⊥
 none_some y e = false≢true (ap is_some e)

@@ -1,3 +1,4 @@
+pub mod Common
 mod SteppedLemmas
 mod RowCells
 mod AllowingLemmas

@@ -1,11 +1,5 @@
 -- Marks, as bits of the words of a row.
-use Rattle.std.proofs.Common.{◌≡◌, ℕ, ◌+◌, ◌*◌, ◌/◌, ◌%◌, ◌<◌, List, get_or, ap, arith}
-use Rattle.std.specs.Prelude.{IsTrue, eqb}
-use Rattle.std.specs.Int.{bit_at}
-use Rattle.std.proofs.lemmas.Bool.{eqb-true}
-use Rattle.asg_square.specs.BitTable.{is_bit_set}
-use Rattle.asg_admit.specs.Admission.{is_marked}
-use Rattle.asg_admit.specs.laws.WordBits.{HasBit}
+use Rattle.asg_admit.proofs.Common.{◌≡◌, ℕ, ◌+◌, ◌*◌, ◌/◌, ◌%◌, ◌<◌, eqb, List, get_or, IsTrue, ap, arith, eqb-true, bit_at, is_marked, is_bit_set, HasBit}
 
 -- the mark at a column is a bit of the word that holds the column
 pub marked_at : (words : List ℕ) (n i : ℕ) → i < 64 → is_marked words (64 * n + i) ≡ is_bit_set (get_or words n 0) i

@@ -1,16 +1,7 @@
 -- The cells of a row by its values and its words.
-use Rattle.std.proofs.Common.{◌≡◌, ℕ, ◌+◌, ◌*◌, ◌/◌, ◌%◌, ◌<◌, Bool, true, false, cond, List, length, sym, refl, ◌∙◌, ap, subst, arith}
-use Rattle.std.specs.Prelude.{IsTrue, Option, Some, None, is_some, slice_get, slice_index}
-use Rattle.std.proofs.lemmas.Bool.{false≢true}
-use Rattle.std.proofs.lemmas.Option.{slice_get_within}
-use Rattle.asg_order.specs.Monoid.{Monoid}
-use Rattle.asg_square.specs.BitTable.{is_bit_set, AreWordsOf}
-use Rattle.asg_square.specs.CellTable.{AreValuesOf}
-use Rattle.asg_square.specs.Grid.{Grid, cell_at}
-use Rattle.asg_admit.specs.Admission.{AllowsAt, AllowsRow, cell_in_row, is_marked}
-use Rattle.asg_admit.specs.laws.AdmissionLemmas.{row_read}
+use Rattle.asg_admit.proofs.Common.{◌≡◌, ℕ, ◌+◌, ◌*◌, ◌/◌, ◌%◌, ◌<◌, Bool, true, false, cond, List, length, is_some, IsTrue, slice_get, slice_index, Some, None, Option, sym, refl, ap, ◌∙◌, subst, arith, false≢true, slice_get_within, AllowsAt, AllowsRow, cell_in_row, is_marked, row_read, is_bit_set, AreWordsOf, HasBit, Monoid, Grid, cell_at}
+use Rattle.asg_cell_tables.specs.CellTable.{AreValuesOf}
 use Rattle.asg_admit.proofs.MarkLemmas.{marked_at, bit_set}
-use Rattle.asg_admit.specs.laws.WordBits.{HasBit}
 
 module _ {V : Type 0} (row : ℕ → Option V) (side : ℕ) (values : List V) (words : List ℕ) (are_values : AreValuesOf row side values) (are_words : AreWordsOf (λ k. is_some (row k)) side words) where
   -- no mark stands past the last column

@@ -1,16 +1,7 @@
 -- Squares that take the steps of a phase one after another.
-use Rattle.std.proofs.Common.{◌≡◌, ℕ, suc, ◌+◌, ◌<◌, length, get_or, refl, sym, ◌∙◌, ap, subst, arith}
-use Rattle.std.specs.Option.{option_map}
-use Rattle.asg_order.specs.Monoid.{Monoid, IsOrderedMonoid}
-use Rattle.asg_order.specs.Differences.{HasDifferences}
-use Rattle.asg_proof.specs.Phases.{PhaseOf, AreAdmittedSteps, entered_at, square_after, staying_at}
-use Rattle.asg_proof.specs.Steps.{HasValues, moved, stepped}
+use Rattle.asg_admit.proofs.Common.{◌≡◌, ℕ, suc, ◌+◌, ◌<◌, length, get_or, option_map, sym, refl, ap, ◌∙◌, subst, arith, KeepsLabels, SettlesPhase, after_phase-cell, HasDifferences, Monoid, IsOrderedMonoid, PhaseOf, AreAdmittedSteps, entered_at, square_after, staying_at, HasValues, moved, stepped, Grid, cell_at}
 use Rattle.asg_proof.specs.laws.PhaseSteps.{HasValues-after}
-use Rattle.asg_square.specs.Grid.{Grid, cell_at}
-use Rattle.asg_admit.specs.Reduced.{KeepsLabels}
-use Rattle.asg_admit.specs.Settling.{SettlesPhase}
-use Rattle.asg_admit.specs.laws.SettledCells.{after_phase-cell}
-use Rattle.asg_admit.specs.laws.SquareLemmas.{same_labels, chained_labels}
+use Rattle.asg_admit.specs.laws.KeptLabels.{same_labels, chained_labels}
 
 -- the square is that after the first so many steps
 pub record StepsTo {V : Type 0} (M : Monoid V) (difference : V → V → V) (phase : PhaseOf V) (before now : Grid V) (n : ℕ) : Type 0 where

@@ -3,7 +3,7 @@ use Rattle.std.specs.Prelude.{◌≡◌, ℕ, ◌<◌, ◌+◌, ◌/◌, ◌%◌
 use Rattle.asg_order.specs.Monoid.{Monoid, IsValue}
 use Rattle.asg_proof.specs.Phases.{PhaseOf, entered_at, staying_at}
 use Rattle.asg_proof.specs.Steps.{count_below}
-use Rattle.asg_square.specs.BitTable.{is_bit_set}
+use Rattle.asg_bit_rows.specs.BitTable.{is_bit_set}
 use Rattle.asg_square.specs.Grid.{Grid, cell_at}
 use Rattle.asg_admit.specs.Settled.{AllowsSteps}
 

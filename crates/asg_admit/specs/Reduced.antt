@@ -1,5 +1,5 @@
 -- A square that phases have reduced, with the product of their steps.
-use Rattle.std.specs.Prelude.{◌≡◌, ◌⊎◌, ℕ, ◌<◌}
+use Rattle.std.specs.Prelude.{◌≡◌, ◌⊎◌, ℕ, ◌<◌, is_some}
 use Rattle.asg_order.specs.Monoid.{Monoid, IsValue, fold_of}
 pub use Rattle.asg_proof.specs.Phases.{phase_of}
 use Rattle.asg_proof.specs.Phases.{PhaseOf, after_phase}
@@ -18,6 +18,11 @@ pub record KeepsLabels {V : Type 0} (before after : Grid V) : Type 0 where
   pub rows : after.rows ≡ before.rows
   pub row_labels : after.row_labels ≡ before.row_labels
   pub column_labels : after.column_labels ≡ before.column_labels
+
+-- the labels are the same, and so is which cells are present; their values may be others
+pub record KeepsPresence {V : Type 0} (before after : Grid V) : Type 0 where
+  pub labels : KeepsLabels before after
+  pub present : (r k : ℕ) → is_some (cell_at after r k) ≡ is_some (cell_at before r k)
 
 -- what a phase makes of a reduced square: each cell is that after the phase, the index is
 -- multiplied by all steps, the labels stay, and the cells and the index are values

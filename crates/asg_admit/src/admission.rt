@@ -7,7 +7,7 @@ ghost use Rattle.asg_admit.specs.Settling.{HasValueAt};
 ghost use Rattle.asg_order.specs.Monoid.{IsValue};
 ghost use Rattle.asg_proof.specs.Phases.{IsAdmittedPhase};
 ghost use Rattle.asg_proof.specs.Steps.{HasValues};
-ghost use Rattle.asg_square.specs.BitTable.{is_bit_set};
+ghost use Rattle.asg_bit_rows.specs.BitTable.{is_bit_set};
 ghost use Rattle.asg_square.specs.Grid.{cell_at};
 
 use crate::counting::are_counted;

@@ -29,8 +29,8 @@ pub fn are_counted(enters: &[u32], leaves: &[u32], end: usize) -> bool
     are_balanced(enters, leaves, end - 1)
 }
 
-// How many rows have entered at a step.
-fn entered(enters: &[u32], t: usize) -> usize
+/// How many rows have entered at a step.
+pub fn entered(enters: &[u32], t: usize) -> usize
     ensures few { result ≤ length enters.now }
     ensures count { result ≡ count_below (entered_at enters.now t) (length enters.now) }
 {
@@ -43,8 +43,8 @@ fn entered(enters: &[u32], t: usize) -> usize
     count
 }
 
-// How many columns stay at a step.
-fn staying(leaves: &[u32], t: usize) -> usize
+/// How many columns stay at a step.
+pub fn staying(leaves: &[u32], t: usize) -> usize
     ensures few { result ≤ length leaves.now }
     ensures count { result ≡ count_below (staying_at leaves.now t) (length leaves.now) }
 {

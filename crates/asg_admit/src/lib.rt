@@ -25,7 +25,7 @@ mod stepping;
 pub use admission::{admits, are_values, is_over};
 pub use admission_within::admits_within;
 pub use blocks::{blocks_allow, next_mark};
-pub use counting::are_counted;
+pub use counting::{are_counted, entered, staying};
 pub use products::{product_of, range, spread};
 pub use reduced::Reduced;
 pub use replayed_cells::{cut, replay_cell, settled_value};

@@ -5,7 +5,7 @@ ghost use Rattle.std.specs.Int.{bit_at};
 ghost use Rattle.asg_admit.specs.Admission.{AllowsAt, cell_in_row, is_marked};
 ghost use Rattle.asg_model.specs.Limits.{most_side};
 ghost use Rattle.asg_order.specs.Monoid.{IsValue};
-ghost use Rattle.asg_square.specs.BitTable.{word_count};
+ghost use Rattle.asg_bit_rows.specs.BitTable.{word_count};
 
 use crate::lesser_cells::{allowing, bits_to_test};
 use crate::replayed_cells::replay_cell;

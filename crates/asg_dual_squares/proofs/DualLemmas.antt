@@ -1,17 +1,5 @@
 -- The square that dual variables make.
-use Rattle.std.proofs.Common.{◌≡◌, ℕ, zero, ◌+◌, ◌-◌, ◌*◌, ◌/◌, ◌%◌, ◌<◌, ◌≤◌, cond, List, length, get_or, refl, sym, ◌∙◌, ap, subst, arith, ⊎_elim}
-use Rattle.std.specs.Prelude.{Option, Some, None, slice_index}
-use Rattle.std.specs.Option.{option_map}
-use Rattle.std.proofs.lemmas.Bool.{cases_lt, lt-ltb}
-use Rattle.std.proofs.lemmas.List.{same_lists, get_or_default}
-use Rattle.std.proofs.lemmas.List.FromFn.{length-map-range_with_len, get_or-map-range_with_len}
-use Rattle.std.proofs.lemmas.Nat.{mul-add-lt, div-mul-add, mod-mul-add, div-add-mod'}
-use Rattle.std.proofs.Math.Nat.{mod-lt, div-lt_iff_lt-mul, mod-eq_of_lt, add-mod_left}
-use Rattle.std.proofs.lemmas.Option.{none-some}
-use Rattle.asg_square.specs.Grid.{Grid, IsGrid, cell_at}
-use Rattle.asg_phase_totals.specs.Duals.{dual_value, dual_bits, dual_values, dual_cell, dual_grid}
-use Rattle.asg_admit.specs.Reduced.{KeepsLabels}
-use Rattle.asg_admit.specs.laws.SquareLemmas.{everywhere}
+use Rattle.asg_dual_squares.proofs.Common.{◌≡◌, ℕ, zero, ◌+◌, ◌-◌, ◌*◌, ◌/◌, ◌%◌, ◌<◌, ◌≤◌, cond, List, length, get_or, slice_index, Some, None, Option, option_map, sym, refl, ap, ◌∙◌, subst, ⊎_elim, mod-lt, mod-eq_of_lt, div-lt_iff_lt-mul, div-add-mod', arith, lt-ltb, add-mod_left, cases_lt, div-mul-add, get_or-map-range_with_len, get_or_default, length-map-range_with_len, mod-mul-add, mul-add-lt, none-some, same_lists, KeepsLabels, everywhere, dual_value, dual_bits, dual_values, dual_cell, dual_grid, Grid, IsGrid, cell_at}
 
 -- the cell at a place
 pub at_place : {V : Type 0} (Q : Grid V) (r k : ℕ) → k < Q.side → cell_at Q r k ≡ get_or Q.cells (r * Q.side + k) None

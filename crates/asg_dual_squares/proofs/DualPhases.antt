@@ -1,23 +1,7 @@
 -- Phases by dual variables.
-use Rattle.std.proofs.Common.{◌≡◌, ℕ, suc, ◌+◌, ◌-◌, ◌<◌, ◌≤◌, min, List, length, get_or, replicate, inl, inr, refl, sym, ◌∙◌, ap, subst, arith, ⊎_elim}
-use Rattle.std.specs.Prelude.{All, Option, Some, None, IsSome, is_some, slice_get, slice_index}
-use Rattle.std.specs.Option.{option_map}
-use Rattle.std.proofs.lemmas.Bool.{cases_lt, le-leb, leb-true, false≢true}
-use Rattle.std.proofs.lemmas.List.{get_or_past, get_or_default, get_or-replicate, length-replicate}
-use Rattle.std.proofs.lemmas.Grind.{same_number_lists}
-use Rattle.std.proofs.lemmas.Option.{slice_get-get_or, get_or_from_slice_get}
-use Rattle.asg_order.specs.Monoid.{IsValue, fold_of}
-use Rattle.asg_monoids.specs.BoundedSums.{bounded_sums, bounded_difference}
-use Rattle.asg_square.specs.BitTable.{AreWordsOf}
-use Rattle.asg_square.specs.CellTable.{AreValuesOf}
-use Rattle.asg_square.specs.Grid.{Grid, IsGrid, cell_at}
-use Rattle.asg_admit.specs.Admission.{AllowsRows}
-use Rattle.asg_phase_totals.specs.Duals.{sum_before, dual_value, dual_bits, dual_values, dual_grid, dual_reduced, AreDuals, IsGreatest, FitsDuals, FitsRows, HasRoom, IsNearTop, RaisesDuals}
-use Rattle.asg_admit.specs.Reduced.{IsReduced, IsPhaseTo, phase_of}
+use Rattle.asg_dual_squares.proofs.Common.{◌≡◌, ℕ, suc, ◌+◌, ◌-◌, ◌<◌, ◌≤◌, min, List, length, get_or, replicate, is_some, IsSome, slice_get, slice_index, Some, None, All, Option, option_map, sym, refl, ap, ◌∙◌, subst, inl, inr, ⊎_elim, arith, le-leb, leb-true, cases_lt, false≢true, get_or-replicate, get_or_default, get_or_from_slice_get, get_or_past, length-replicate, same_number_lists, slice_get-get_or, AllowsRows, IsReduced, IsPhaseTo, KeepsPresence, phase_of, present_within, AreWordsOf, AreValuesOf, bounded_sums, bounded_difference, IsValue, fold_of, sum_before, dual_value, dual_bits, dual_values, dual_grid, dual_reduced, AreDuals, IsGreatest, FitsDuals, FitsRows, HasRoom, IsNearTop, RaisesDuals, fold_is, settled_is, allowed_fits, fits_allowed, before_more, before_rises, Grid, IsGrid, cell_at}
 use Rattle.asg_admit.specs.Settled.{settled, AllowsSteps}
 use Rattle.asg_admit.specs.laws.SettledCells.{after_phase-cell}
-use Rattle.asg_phase_totals.specs.laws.SumLemmas.{fold_is, settled_is, allowed_fits, fits_allowed, before_more, before_rises}
-use Rattle.asg_admit.specs.laws.SquareLemmas.{present_within}
 use Rattle.asg_dual_squares.proofs.DualLemmas.{same_cells, dual_is_grid, dual_cell_at, mapped_from, mapped_twice, bits_kept, dual_values_at, length_of_values}
 
 module _ {bound : ℕ} (Q : Grid ℕ) (rows columns : List ℕ) (index greatest : ℕ) (duals : AreDuals bound Q rows columns index greatest) where
@@ -200,6 +184,13 @@ module _ {bound : ℕ} (Q : Grid ℕ) (rows columns : List ℕ) (index greatest 
   mapped_some : (f : ℕ → ℕ) (o : Option ℕ) → is_some (option_map f o) ≡ is_some o
   mapped_some f None = refl
   mapped_some f (Some x) = refl
+
+  -- the same cells are present as in the square as it was made
+  pub dual_presence : KeepsPresence now Q
+  dual_presence = record {
+    labels = record { side = refl; rows = refl; row_labels = refl; column_labels = refl };
+    present = λ r k. sym (ap is_some (dual_cell_at Q duals.grid rows columns r k) ∙ mapped_some (dual_value (slice_index rows r) (slice_index columns k)) (cell_at Q r k));
+  }
 
   pub dual_words : (r : ℕ) (words : List ℕ) → AreWordsOf (λ c. is_some (cell_at Q r c)) Q.side words → AreWordsOf (λ c. is_some (cell_at now r c)) Q.side words
   dual_words r words are = record {

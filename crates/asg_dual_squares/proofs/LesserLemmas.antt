@@ -1,17 +1,7 @@
 -- Bits of the columns at which sums are less than keys.
-use Rattle.std.proofs.Common.{◌≡◌, ℕ, ◌+◌, ◌-◌, ◌*◌, ◌%◌, ◌^◌, ◌<◌, ◌≤◌, ⊎_elim, cond, sym, ◌∙◌, subst, ap, arith, w64, List, get_or, length, map, replicate, Bool, true, false, ltb}
-use lib.Lanes.{zip2, chunk, mask_l, top}
-use Rattle.std.specs.Prelude.{bit_or}
-use Rattle.std.specs.Int.{bit_at}
-use Rattle.std.proofs.Math.Nat.{mod-eq_of_lt, mul-lt-mul_of_pos_right}
+use Rattle.asg_dual_squares.proofs.Common.{◌≡◌, ℕ, ◌+◌, ◌-◌, ◌*◌, ◌%◌, ◌^◌, ◌<◌, ◌≤◌, Bool, true, false, cond, ltb, List, map, length, get_or, replicate, bit_or, sym, ap, ◌∙◌, subst, ⊎_elim, mod-eq_of_lt, mul-lt-mul_of_pos_right, arith, pow_pos, pow-add, w64, ltb-true, lt-ltb, bit_at, bit_at-lt, bit_at-zero, bit_at_cat_high, bit_at_cat_low, bit_at_or, bit_mask_l, cases_Bool, cases_eq, cases_lt, chunk, get_or-chunk, get_or-zip2, get_or_past, length-chunk, length-zip2, mask_l, mask_l-lt, mask_l-mod, top, tops_compared, zip2, AreLesserBits, dual_bits}
 use Rattle.std.proofs.Math.Pow.{pow_mono}
-use Rattle.std.proofs.lemmas.Bool.{cases_eq, cases_lt, cases_Bool, ltb-true, lt-ltb}
-use Rattle.std.proofs.lemmas.List.{get_or_past}
-use Rattle.std.proofs.lemmas.Nat.{pow_pos, pow-add}
-use Rattle.std.proofs.lemmas.Nat.Bits.{bit_at-lt, bit_at-zero, bit_at_or, bit_at_cat_low, bit_at_cat_high}
-use Rattle.std.proofs.lemmas.Simd.{length-zip2, length-chunk, length-replicate, get_or-zip2, get_or-chunk, get_or-replicate, tops_compared, mask_l-lt, mask_l-mod, bit_mask_l}
-use Rattle.asg_phase_totals.specs.Duals.{dual_bits}
-use Rattle.asg_dual_squares.specs.NarrowRows.{AreLesserBits}
+use Rattle.std.proofs.lemmas.Simd.{length-replicate, get_or-replicate}
 
 -- a sum in 64 bits may be taken in either order
 pub sum_turned : (sum row column x : ℕ) → dual_bits (2 ^ 64) ((sum + row) % 2 ^ 64) column x ≡ (sum + dual_bits (2 ^ 64) row column x) % 2 ^ 64

@@ -1,3 +1,4 @@
+pub mod Common
 mod DualLemmas
 mod LesserLemmas
 mod DualPhases

@@ -1,11 +1,5 @@
 -- Dual variables and room below one top, seen below a greater one.
-use Rattle.std.proofs.Common.{ℕ, ◌≤◌, List, arith}
-use Rattle.asg_order.specs.Monoid.{fold_of}
-use Rattle.asg_monoids.specs.BoundedSums.{bounded_sums}
-use Rattle.asg_square.specs.Grid.{Grid}
-use Rattle.asg_phase_totals.specs.Duals.{AreDuals, HasRoom}
-use Rattle.asg_admit.specs.declared.reduced.Reduced.{Reduced}
-use Rattle.asg_phase_totals.specs.laws.SumLemmas.{fold_is}
+use Rattle.asg_dual_squares.proofs.Common.{ℕ, ◌≤◌, List, arith, Reduced, bounded_sums, fold_of, AreDuals, HasRoom, fold_is, Grid}
 
 -- dual variables within a bound are within a greater one
 pub duals_wider : {bound : ℕ} (top : ℕ) → bound ≤ top → (Q : Grid ℕ) (rows columns : List ℕ) (index greatest : ℕ) → AreDuals bound Q rows columns index greatest → AreDuals top Q rows columns index greatest

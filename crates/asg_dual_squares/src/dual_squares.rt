@@ -3,13 +3,13 @@
 ghost use Rattle.std.specs.Prelude.{◌≡◌, ◌≢◌, ◌↔◌, ◌<◌, ◌≤◌, ℕ, IfOk, IsTrue, false, is_some, length};
 ghost use Rattle.asg_phase_totals.specs.Duals.{HasRoom, IsNearTop};
 ghost use Rattle.asg_dual_squares.specs.declared.dual_squares.Replayed.TheVariants.{Applied, Full};
-ghost use Rattle.asg_admit.specs.Reduced.{IsReduced, IsPhaseTo, phase_of};
-ghost use Rattle.asg_phase_totals.specs.SumNumbers.{numbered_square};
+ghost use Rattle.asg_admit.specs.Reduced.{IsReduced, IsPhaseTo, KeepsPresence, phase_of};
+ghost use Rattle.asg_phase_totals.specs.SumNumbers.{numbered_grid, numbered_square};
 ghost use Rattle.asg_monoids.specs.BoundedSums.{bounded_sums, bounded_difference};
 ghost use Rattle.asg_order.specs.Monoid.{fold_of};
 ghost use Rattle.asg_proof.specs.Phases.{IsAdmittedPhase};
-ghost use Rattle.asg_square.specs.BitTable.{AreWordsOf};
-ghost use Rattle.asg_square.specs.CellTable.{AreValuesOf};
+ghost use Rattle.asg_bit_rows.specs.BitTable.{AreWordsOf};
+ghost use Rattle.asg_cell_tables.specs.CellTable.{AreValuesOf};
 ghost use Rattle.asg_square.specs.Grid.{IsGrid, cell_at};
 
 use crate::dual_cells::write_cells;
@@ -254,5 +254,13 @@ impl<N: SumNumber> DualSquare<N> {
             now,
             index: self.index,
         }
+    }
+
+    /// The square that it was made of, with the labels and the present cells of the reduced one,
+    /// but not with their values: for where those are no longer asked for. Nothing is written.
+    pub fn into_base(self) -> Square<N>
+        ensures { KeepsPresence self.now (numbered_grid N.cells result) }
+    {
+        self.base
     }
 }

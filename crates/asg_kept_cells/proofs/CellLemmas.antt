@@ -1,55 +1,11 @@
 -- Cells taken out of a square, one after another.
-use Rattle.std.proofs.Common.{◌≡◌, ◌≢◌, ◌⊎◌, ℕ, ◌+◌, ◌-◌, ◌*◌, ◌<◌, ◌≤◌, Bool, true, false, ◌&&◌, not, cond, eqb, Option, Some, None, inl, inr, refl, sym, ap, subst, ◌∙◌, arith, ⊎_elim}
-use Rattle.std.specs.Int.{bit_at}
-use Rattle.std.specs.Prelude.{is_some, slice_set}
-use Rattle.std.proofs.lemmas.Bool.{and_parts, cases_Bool, cases_lt, cases_eq, false≢true, not-true}
-use Rattle.asg_proof.specs.Steps.{HasSide}
-use Rattle.asg_square.specs.BitTable.{BitTable, has_bit, is_bit_set}
-use Rattle.asg_square.specs.Grid.{Grid, IsGrid, cell_at}
-use Rattle.asg_square.specs.Masked.{keeps, masked_grid}
-use Rattle.asg_square.specs.laws.Masks.{cell_at-masked}
-use Rattle.asg_square.specs.laws.Places.{entry_at-set, place_hit, place_missed}
-use Rattle.asg_square.specs.laws.Words.{bit_of, of_bit}
-use Rattle.asg_square.specs.WordBits.{HasBit}
-use Rattle.asg_proof.specs.laws.Squares.{HasSide-cell_at}
-use Rattle.asg_admit.specs.Reduced.{KeepsLabels}
-use Rattle.asg_admit.specs.Settling.{IsWritten}
-use Rattle.asg_kept_cells.specs.Kept.{HasSize, TakesOutBits, TakesOutRow, TakesOutRows}
-use Rattle.asg_kept_cells.specs.laws.KeptSquares.{keeps-bit, none_kept, outside}
-
-module _ {V : Type 0} (Q : Grid V) where
-  labels_same : KeepsLabels Q Q
-  labels_same = record { side = refl; rows = refl; row_labels = refl; column_labels = refl }
-
-  -- a cell that is set
-  pub written : (row column : ℕ) (cell : Option V) (after : Grid V) → IsGrid Q → row < Q.side → column < Q.side → after ≡ record Q { cells = slice_set Q.cells (row * Q.side + column) cell } → IsWritten Q after row column cell
-  written row column cell after grid hr hk is =
-      subst (λ (A : Grid V). IsWritten Q A row column cell) (sym is)
-      (record {
-        labels = record { side = refl; rows = refl; row_labels = refl; column_labels = refl };
-        here = at row column ∙ place_hit row row column column cell (cell_at Q row column) refl refl;
-        others = λ r k apart.
-            at r k
-            ∙ place_missed r row k column cell (cell_at Q r k)
-            (λ e f. ⊎_elim (λ (n : r ≢ row). n e) (λ (n : k ≢ column). n f) apart);
-      })
-    where
-      at : (r k : ℕ) → cell_at (record Q { cells = slice_set Q.cells (row * Q.side + column) cell }) r k ≡ cond (eqb r row && eqb k column) cell (cell_at Q r k)
-      at r k = entry_at-set Q.side Q.cells row column cell r k grid.table.count hr hk
-
-pub labels_chained : {V : Type 0} (A B C : Grid V) → KeepsLabels A B → KeepsLabels B C → KeepsLabels A C
-labels_chained A B C k l = record {
-  side = l.side ∙ k.side;
-  rows = l.rows ∙ k.rows;
-  row_labels = l.row_labels ∙ k.row_labels;
-  column_labels = l.column_labels ∙ k.column_labels;
-}
+use Rattle.asg_kept_cells.proofs.Common.{◌≡◌, ℕ, ◌+◌, ◌-◌, ◌*◌, ◌<◌, ◌≤◌, Bool, true, false, cond, not, ◌&&◌, ◌≢◌, ◌⊎◌, is_some, Some, None, Option, sym, refl, ap, ◌∙◌, subst, inl, inr, ⊎_elim, arith, and_parts, bit_at, cases_Bool, cases_eq, cases_lt, false≢true, not-true, same_labels, chained_labels, BitTable, has_bit, is_bit_set, HasBit, bit_of, of_bit, HasSize, TakesOutBits, TakesOutRow, TakesOutRows, keeps-bit, none_kept, outside, HasSide, HasSide-cell_at, Grid, IsGrid, cell_at, keeps, masked_grid, cell_at-masked}
 
 -- ---- a row
 
 module _ {V : Type 0} (bits : BitTable) (row : ℕ) (before : Grid V) where
   pub row_none : TakesOutRow bits row 0 before before
-  row_none = record { labels = labels_same before; taken = λ k below. absurd (omega (arith, below)); others = λ r k apart. refl }
+  row_none = record { labels = same_labels before; taken = λ k below. absurd (omega (arith, below)); others = λ r k apart. refl }
 
   -- so many columns that all are among them
   pub row_whole : (columns side : ℕ) (after : Grid V) → HasSide side (cell_at before) → side ≤ columns → TakesOutRow bits row columns before after → TakesOutRow bits row side before after
@@ -110,7 +66,7 @@ module _ {V : Type 0} (bits : BitTable) (row : ℕ) (before : Grid V) where
 
       pub row_more : TakesOutRow bits row (64 * (n + 1)) before after
       row_more = record {
-        labels = labels_chained before so_far after t.labels w.labels;
+        labels = chained_labels before so_far after t.labels w.labels;
         taken = λ k below.
             ⊎_elim
             (λ (old : k < 64 * n). w.others row k (inr (λ j low set e. omega (arith, e, old))) ∙ t.taken k old)
@@ -131,11 +87,11 @@ module _ {V : Type 0} (bits : BitTable) (row : ℕ) (before : Grid V) where
 
 module _ {V : Type 0} (bits : BitTable) (before : Grid V) where
   pub rows_none : TakesOutRows bits 0 before before
-  rows_none = record { labels = labels_same before; taken = λ r k below. absurd (omega (arith, below)); others = λ r k apart. refl }
+  rows_none = record { labels = same_labels before; taken = λ r k below. absurd (omega (arith, below)); others = λ r k apart. refl }
 
   pub rows_more : (row : ℕ) (so_far after : Grid V) → TakesOutRows bits row before so_far → TakesOutRow bits row before.side so_far after → TakesOutRows bits (row + 1) before after
   rows_more row so_far after t one = record {
-    labels = labels_chained before so_far after t.labels one.labels;
+    labels = chained_labels before so_far after t.labels one.labels;
     taken = λ r k below hk.
         ⊎_elim
         (λ (same : r ≡ row).

@@ -1,23 +1,7 @@
 -- The columns of a square in the order of their labels.
-use Rattle.std.proofs.Common.{◌≡◌, ℕ, ◌+◌, ◌<◌, ◌≤◌, true, false, List, length, get_or, take, Option, Some, None, refl, sym, ap, subst, ◌∙◌, arith, ⊎_elim}
-use Rattle.std.specs.Prelude.{is_some, nat_lt, sum_by}
-use Rattle.std.specs.Option.{option_map_or}
-use Rattle.std.proofs.lemmas.Bool.{cases_lt, eq-eqb, eqb-true, false_from_ne_true, false≢true, le-ltb, lt-ltb, ltb-false, ltb-true}
-use Rattle.std.proofs.lemmas.List.{get_or_past, take-take}
-use Rattle.std.proofs.lemmas.List.FromFn.{get_or-map-range_with_len, length-map-range_with_len}
-use Rattle.std.proofs.lemmas.List.Sums.{sum_by-take-le, sum_by_more}
-use Rattle.std.proofs.lemmas.Option.{none-some, slice_get-get_or, slice_get_past}
-use Rattle.asg_model.specs.Counts.{capacity_at}
-use Rattle.asg_model.specs.Problem.{Problem}
-use Rattle.asg_model.specs.Shapes.{square_side}
-use Rattle.asg_model.specs.declared.parts.Column.{Column}
-use Rattle.asg_square.specs.BitTable.{is_from_to}
-use Rattle.asg_square.specs.Grid.{Grid, HasLabelsOf}
-use Rattle.asg_square.specs.Labels.{column_label, copies, first_copy}
+use Rattle.asg_kept_cells.proofs.Common.{◌≡◌, ℕ, ◌+◌, ◌<◌, ◌≤◌, true, false, List, length, get_or, take, is_some, nat_lt, Some, None, sum_by, Option, sym, refl, ap, ◌∙◌, subst, ⊎_elim, arith, take-take, ltb-false, ltb-true, le-ltb, lt-ltb, eq-eqb, eqb-true, cases_lt, false_from_ne_true, false≢true, get_or-map-range_with_len, get_or_past, length-map-range_with_len, none-some, option_map_or, slice_get-get_or, slice_get_past, sum_by-take-le, sum_by_more, is_from_to, in_run, run_parts, same_bool, AreCopies, StandInOrder, is_before, is_copy, capacity_at, Problem, square_side, Column, Grid, HasLabelsOf, column_label, copies, first_copy}
 use Rattle.asg_square.specs.laws.Copies.{capacity_is, length-copies}
 use Rattle.asg_square.specs.laws.CopyRuns.{copy_within}
-use Rattle.asg_square.specs.laws.Words.{in_run, run_parts, same_bool}
-use Rattle.asg_kept_cells.specs.Copies.{AreCopies, StandInOrder, is_before, is_copy}
 
 -- ---- where copies begin
 

@@ -1,20 +1,6 @@
 -- Rows by id as places, one after another, and the columns in which they have cells.
-use Rattle.std.proofs.Common.{◌≡◌, ◌≢◌, ℕ, ◌+◌, ◌<◌, Bool, true, false, ◌||◌, cond, List, [], ◌∷◌, ◌++◌, length, map, take, get_or, Option, Some, None, refl, sym, ap, subst, ◌∙◌, arith}
-use Rattle.std.specs.Prelude.{All, AllPairs, IsTrue, option_and_then}
-use Rattle.std.specs.List.{list_any}
-use Rattle.std.specs.Option.{option_map_or}
-use Rattle.std.proofs.Math.Path.{fun_ext}
-use Rattle.std.proofs.lemmas.List.{map-append, take_more, length-map, get_or-take, length-take-le, get_or_default}
-use Rattle.std.proofs.lemmas.List.Elements.{All-nil, All-push}
-use Rattle.std.proofs.lemmas.List.Quantifiers.{all_pairs_push}
-use Rattle.std.proofs.lemmas.Option.{same_Some}
-use Rattle.asg_model.specs.Counts.{is_counted}
-use Rattle.asg_model.specs.HallSet.{is_counted_id, row_place_of}
-use Rattle.asg_model.specs.Problem.{Problem}
-use Rattle.asg_model.specs.Shapes.{square_side}
-use Rattle.asg_model.specs.Sums.{count_below}
+use Rattle.asg_kept_cells.proofs.Common.{◌≡◌, ℕ, ◌+◌, ◌<◌, Bool, true, false, cond, ◌||◌, ◌≢◌, List, [], ◌∷◌, ◌++◌, map, length, get_or, take, IsTrue, Some, None, All, Option, AllPairs, option_and_then, sym, refl, ap, ◌∙◌, subst, arith, length-take-le, get_or-take, All-nil, All-push, all_pairs_push, fun_ext, get_or_default, length-map, list_any, map-append, option_map_or, same_Some, take_more, AreRowsOf, counted_place, is_counted, is_counted_id, row_place_of, Problem, square_side, count_below}
 use Rattle.asg_square.specs.HallColumns.{OutnumberColumns, is_met, met_count}
-use Rattle.asg_kept_cells.specs.Halls.{AreRowsOf, counted_place}
 
 -- the place of a counted row is that of its id
 pub counted_row : (X : Problem) (o : Option ℕ) (row : ℕ) → option_and_then (λ r. cond (is_counted X r) (Some r) None) o ≡ Some row → (o ≡ Some row) × (is_counted X row ≡ true)

@@ -1,13 +1,6 @@
 -- Rows of bits that keep all cells, the copies of a column alone, or all but these.
-use Rattle.std.proofs.Common.{◌≡◌, ◌≢◌, ℕ, ◌<◌, ◌≤◌, Bool, true, false, ◌&&◌, not, cond, eqb, List, get_or, Option, Some, None, refl, sym, ap, ◌∙◌, arith}
-use Rattle.std.specs.Prelude.{is_some, nat_lt}
-use Rattle.std.proofs.lemmas.Bool.{cond-false, cond-true, eq-eqb, le-ltb, lt-ltb, ltb-false, ltb-true, ne_eqb}
-use Rattle.asg_model.specs.ValidChoice.{takes}
-use Rattle.asg_square.specs.BitTable.{BitTable, PutsColumns, PutsOnly, has_bit, is_from_to}
-use Rattle.asg_square.specs.laws.Words.{in_run, out_of_run}
+use Rattle.asg_kept_cells.proofs.Common.{◌≡◌, ℕ, ◌<◌, ◌≤◌, Bool, true, false, cond, not, ◌&&◌, eqb, ◌≢◌, List, get_or, is_some, nat_lt, Some, None, Option, sym, refl, ap, ◌∙◌, arith, ltb-false, ltb-true, le-ltb, lt-ltb, eq-eqb, ne_eqb, cond-false, cond-true, BitTable, PutsColumns, PutsOnly, has_bit, is_from_to, in_run, out_of_run, AreCopies, is_copy, keeps_alone, keeps_others, HasSize, MarksRow, keeps_label, takes}
 use Rattle.asg_kept_cells.specs.declared.copies.Run.{Run}
-use Rattle.asg_kept_cells.specs.Copies.{AreCopies, is_copy, keeps_alone, keeps_others}
-use Rattle.asg_kept_cells.specs.Kept.{HasSize, MarksRow, keeps_label}
 
 same_row : (row : ℕ) → eqb row row ≡ true
 same_row row = eq-eqb row row refl

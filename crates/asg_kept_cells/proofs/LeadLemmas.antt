@@ -1,18 +1,6 @@
 -- Phases that are known to be admitted.
-use Rattle.std.proofs.Common.{◌≡◌, ◌≢◌, ℕ, zero, suc, ◌<◌, Bool, true, false, List, [], ◌∷◌, length, take, drop, map, get_or, Option, None, Some, refl, sym, ap, subst, ◌∙◌, arith}
-use Rattle.std.specs.Prelude.{All, IfSome}
-use Rattle.std.proofs.lemmas.List.{length-map, take-append-drop, take-map}
-use Rattle.asg_order.specs.declared.words.Word.{Word}
-use Rattle.asg_order.specs.Monoid.{Monoid, IsValue, IsOrderedMonoid}
+use Rattle.asg_kept_cells.proofs.Common.{◌≡◌, ℕ, zero, suc, ◌<◌, Bool, true, false, ◌≢◌, List, [], ◌∷◌, map, length, get_or, take, drop, IfSome, Some, None, All, Option, sym, refl, ap, ◌∙◌, subst, arith, take-append-drop, length-map, take-map, IsReduced, Reduced, Monoid, IsValue, IsOrderedMonoid, Word, PhaseOf, phase_of, worded, after_phase, after_phases, AreAdmittedPhases, IsAdmittedPhase, AreAdmittedPhases-front, AreAdmittedFrom, AreReplayed, IsAdmittedFrom, IsBadFrom, LeadOn, admitted-take, phase-once, phases-once, phase-words, replayed-none, unread-words, cell_at}
 use Rattle.asg_order.specs.Words.{HasWords}
-use Rattle.asg_square.specs.Grid.{cell_at}
-use Rattle.asg_proof.specs.Phases.{PhaseOf, phase_of, worded, after_phase, after_phases, AreAdmittedPhases, IsAdmittedPhase}
-use Rattle.asg_proof.specs.laws.PhaseLists.{AreAdmittedPhases-front}
-use Rattle.asg_admit.specs.declared.reduced.Reduced.{Reduced}
-use Rattle.asg_admit.specs.Reduced.{IsReduced}
-use Rattle.asg_replays.specs.Replays.{AreAdmittedFrom, AreReplayed, IsAdmittedFrom, IsBadFrom, LeadOn}
-use Rattle.asg_replays.specs.laws.PhaseWords.{admitted-take, phase-once, phases-once}
-use Rattle.asg_replays.specs.laws.Replaying.{phase-words, replayed-none, unread-words}
 
 module _ {V : Type 0} (M : Monoid V) (difference : V → V → V) (word_of : V → Word) (value_of : Word → Option V) (spelled : HasWords M word_of value_of) where
   module _ (side : ℕ) (square : ℕ → ℕ → Option V) (words : PhaseOf Word) (a : IsAdmittedFrom M difference word_of side square words) where

@@ -1,3 +1,4 @@
+pub mod Common
 pub mod CellLemmas
 pub mod CopyLemmas
 pub mod KeptRows

@@ -1,26 +1,12 @@
 -- Rows of bits of a branch, row by row.
-use Rattle.std.proofs.Common.{◌≡◌, ◌≢◌, ◌⊎◌, ℕ, zero, suc, ◌+◌, ◌-◌, ◌<◌, ◌≤◌, min, max, Bool, true, false, not, cond, eqb, List, length, get_or, Option, Some, None, inl, inr, refl, sym, ap, subst, ◌∙◌, arith, ⊎_elim}
-use Rattle.std.specs.Prelude.{nat_lt}
-use Rattle.std.proofs.lemmas.Bool.{false≢true, cases_Bool, cases_lt, cases_eq, lt-ltb, le-ltb, ne_eqb, cond-true, cond-false}
-use Rattle.std.proofs.lemmas.List.{get_or_default}
-use Rattle.std.proofs.lemmas.List.FromFn.{get_or-map-range_with_len}
-use Rattle.asg_model.specs.declared.parts.Place.TheVariants.{All as PlaceAll}
-use Rattle.asg_model.specs.Counts.{is_counted_by}
-use Rattle.asg_model.specs.Live.{is_active}
-use Rattle.asg_model.specs.Problem.{Problem}
-use Rattle.asg_model.specs.Shapes.{square_side}
-use Rattle.asg_model.specs.Sums.{count_below}
-use Rattle.asg_model.specs.ValidChoice.{takes}
+use Rattle.asg_kept_cells.proofs.Common.{◌≡◌, ℕ, zero, suc, ◌+◌, ◌-◌, ◌<◌, ◌≤◌, min, max, Bool, true, false, cond, not, eqb, ◌≢◌, ◌⊎◌, List, length, get_or, nat_lt, Some, None, Option, sym, refl, ap, ◌∙◌, subst, inl, inr, ⊎_elim, arith, le-ltb, lt-ltb, ne_eqb, cases_Bool, cases_eq, cases_lt, cond-false, cond-true, false≢true, get_or-map-range_with_len, get_or_default, BitTable, has_bit, HasSize, IsFront, IsMaskOf, IsNumbered, KeepsOtherRows, MarksNumbered, MarksRow, MarksRows, keeps_label, is_counted_by, is_active, Problem, square_side, count_below, takes, HasLabelsOf, Grid, column_label, row_label}
 use Rattle.asg_model.specs.declared.parts.Row.{Row}
 use Rattle.asg_model.specs.laws.Rows.{active_below, no_row, row-from_active}
-use Rattle.asg_square.specs.BitTable.{BitTable, has_bit}
-use Rattle.asg_square.specs.Grid.{HasLabelsOf, Grid}
-use Rattle.asg_square.specs.Labels.{column_label, row_label}
 use Rattle.asg_square.specs.laws.Bijections.{sum_below-split}
-use Rattle.asg_proof.specs.Children.{is_chosen, is_kept_at, row_number}
-use Rattle.asg_proof.specs.Masks.{keeps_cell, keeps_labelled}
+use Rattle.asg_rankings.specs.Children.{is_chosen, is_kept_at, row_number}
+use Rattle.asg_rankings.specs.Masks.{keeps_cell, keeps_labelled}
 use Rattle.asg_kept_cells.specs.declared.masks.Front.{Front}
-use Rattle.asg_kept_cells.specs.Kept.{HasSize, IsFront, IsMaskOf, IsNumbered, KeepsOtherRows, MarksNumbered, MarksRow, MarksRows, keeps_label}
+use Rattle.asg_model.specs.declared.parts.Place.TheVariants.{All as PlaceAll}
 
 -- ---- rows by their numbers
 

@@ -1,17 +1,5 @@
 -- The columns in which rows have cells, word by word.
-use Rattle.std.proofs.Common.{◌≡◌, ◌≢◌, ℕ, suc, ◌+◌, ◌*◌, ◌/◌, ◌%◌, ◌<◌, Bool, true, false, ◌&&◌, ◌||◌, cond, List, [], ◌∷◌, length, get_or, take, Option, Some, None, is_some, refl, sym, ap, subst, ◌∙◌, arith}
-use Rattle.std.specs.List.{list_any}
-use Rattle.std.specs.Prelude.{bit_or}
-use Rattle.std.proofs.lemmas.List.{take_more}
-use Rattle.std.proofs.lemmas.List.Folds.{list_any-append}
-use Rattle.asg_model.specs.Sums.{count_below, one}
-use Rattle.asg_square.specs.BitTable.{BitTable, has_bit, is_bit_set}
-use Rattle.asg_square.specs.Grid.{Grid, cell_at}
-use Rattle.asg_square.specs.laws.Masks.{cell_at-masked}
-use Rattle.asg_square.specs.laws.Words.{is_with}
-use Rattle.asg_kept_cells.specs.Halls.{AreMetIn}
-use Rattle.asg_kept_cells.specs.Kept.{HasSize, kept_cells}
-use Rattle.asg_kept_cells.specs.laws.KeptSquares.{keeps-bit}
+use Rattle.asg_kept_cells.proofs.Common.{◌≡◌, ℕ, suc, ◌+◌, ◌*◌, ◌/◌, ◌%◌, ◌<◌, Bool, true, false, cond, ◌&&◌, ◌||◌, ◌≢◌, List, [], ◌∷◌, length, get_or, take, is_some, bit_or, Some, None, Option, sym, refl, ap, ◌∙◌, subst, arith, list_any, list_any-append, take_more, BitTable, has_bit, is_bit_set, is_with, AreMetIn, HasSize, kept_cells, keeps-bit, count_below, one, Grid, cell_at, cell_at-masked}
 
 -- a cell is there and its bit is set where it is kept
 pub kept_cell : {V : Type 0} (Q : Grid V) (kept : BitTable) → HasSize Q.side kept → (r k : ℕ) → (is_some (cell_at Q r k) && has_bit kept r k) ≡ kept_cells Q kept r k

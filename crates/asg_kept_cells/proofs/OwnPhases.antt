@@ -1,23 +1,6 @@
 -- The index of phases after another, from the kept cells of a square.
-use Rattle.std.proofs.Common.{◌≡◌, ℕ, suc, ◌<◌, List, [], ◌∷◌, map, take, refl, sym, ap, subst, ◌∙◌}
-use Rattle.std.proofs.Math.Path.{fun_ext}
-use Rattle.asg_order.specs.declared.words.Word.{Word}
-use Rattle.asg_order.specs.Monoid.{Monoid, IsValue, IsOrderedMonoid, fold_of}
+use Rattle.asg_kept_cells.proofs.Common.{◌≡◌, ℕ, suc, ◌<◌, List, [], ◌∷◌, map, take, sym, refl, ap, ◌∙◌, subst, fun_ext, IsReduced, KeepsLabels, Reduced, BitTable, AreAdmittedWithin, HaveIndexAfter, from_kept, Monoid, IsValue, IsOrderedMonoid, fold_of, Word, PhaseOf, worded, IsAdmittedPhase, AreAdmittedPhases, HasValues, steps_value, AreAdmittedFrom, IsAdmittedFrom, IsBadFrom, LeadOn, admitted-take, replayed-none, Grid, cell_at, keeps, masked_grid, cell_at-masked}
 use Rattle.asg_order.specs.laws.Products.{neutral_right}
-use Rattle.asg_square.specs.BitTable.{BitTable}
-use Rattle.asg_square.specs.Grid.{Grid, cell_at}
-use Rattle.asg_square.specs.Masked.{keeps, masked_grid}
-use Rattle.asg_square.specs.laws.Masks.{cell_at-masked}
-use Rattle.asg_proof.specs.Phases.{PhaseOf, worded, IsAdmittedPhase, AreAdmittedPhases}
-use Rattle.asg_proof.specs.laws.PhaseLists.{steps_value}
-use Rattle.asg_proof.specs.Steps.{HasValues}
-use Rattle.asg_admit.specs.declared.reduced.Reduced.{Reduced}
-use Rattle.asg_admit.specs.Reduced.{IsReduced, KeepsLabels}
-use Rattle.asg_replays.specs.Replays.{AreAdmittedFrom, IsAdmittedFrom, IsBadFrom, LeadOn}
-use Rattle.asg_replays.specs.laws.PhaseWords.{admitted-take}
-use Rattle.asg_replays.specs.laws.Replaying.{replayed-none}
-use Rattle.asg_kept_cells.specs.MaskedPhases.{AreAdmittedWithin, HaveIndexAfter}
-use Rattle.asg_kept_cells.specs.laws.KeptSquares.{from_kept}
 
 module _ {V : Type 0} (M : Monoid V) (laws : IsOrderedMonoid M) (difference : V → V → V) (word_of : V → Word) (Q : Grid V) (kept : BitTable) (before : V) (is_value : IsValue M before) where
   -- no phases have the index itself

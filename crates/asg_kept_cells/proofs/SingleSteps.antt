@@ -1,14 +1,6 @@
 -- Phases of one step, told by counts and by the cells of the columns that stay.
-use Rattle.std.proofs.Common.{◌≡◌, ℕ, zero, suc, ◌+◌, List, [], ◌∷◌, length, sym, ◌∙◌, ap, arith}
-use Rattle.std.specs.Prelude.{All, slice_index, slice_index_or}
-use Rattle.std.proofs.lemmas.Bool.{leb-true, ltb-true, le-leb, lt-ltb}
-use Rattle.asg_admit.specs.declared.reduced.Reduced.{Reduced}
-use Rattle.asg_admit.specs.Reduced.{IsPhaseTo, IsReduced, KeepsLabels}
-use Rattle.asg_order.specs.Monoid.{Monoid, IsOrderedMonoid, IsValue}
-use Rattle.asg_proof.specs.Phases.{phase_of, entered_at, staying_at, IsAdmittedPhase, AreAdmittedSteps}
-use Rattle.asg_proof.specs.Steps.{IsAdmittedStep, count_below, stepped}
-use Rattle.asg_square.specs.Grid.{Grid, cell_at}
-use Rattle.asg_kept_cells.specs.SingleSteps.{AllowsColumns}
+use Rattle.asg_kept_cells.proofs.Common.{◌≡◌, ℕ, zero, suc, ◌+◌, List, [], ◌∷◌, length, slice_index, slice_index_or, All, sym, ap, ◌∙◌, arith, ltb-true, lt-ltb, le-leb, leb-true, IsPhaseTo, IsReduced, KeepsLabels, Reduced, AllowsColumns, Monoid, IsOrderedMonoid, IsValue, phase_of, entered_at, staying_at, IsAdmittedPhase, AreAdmittedSteps, IsAdmittedStep, stepped, Grid, cell_at}
+use Rattle.asg_proof.specs.Steps.{count_below}
 
 module _ {V : Type 0} (M : Monoid V) (difference : V → V → V) (steps : List V) (enters leaves : List ℕ) (Q : Grid V) (one : length steps ≡ 1) where
   abbrev counted : Type 0

@@ -1,7 +1,7 @@
 -- The columns of a square in the order of their labels, and the copies of a chosen column.
 use Rattle.std.specs.Prelude.{◌≡◌, ℕ, ◌≤◌, Bool, true, false, IsTrue, not, nat_lt, Option, Some, None, List, slice_index_or}
 use Rattle.asg_model.specs.ValidChoice.{takes}
-use Rattle.asg_square.specs.BitTable.{is_from_to}
+use Rattle.asg_bit_rows.specs.BitTable.{is_from_to}
 use Rattle.asg_kept_cells.specs.declared.copies.Run.{Run}
 
 -- a label is that of a column before a place

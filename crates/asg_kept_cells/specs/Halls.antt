@@ -4,7 +4,7 @@ use Rattle.std.specs.Prelude.{◌≡◌, ◌≢◌, ℕ, ◌+◌, ◌*◌, ◌<�
 use Rattle.asg_model.specs.Counts.{is_counted}
 use Rattle.asg_model.specs.HallSet.{is_counted_id, row_place_of}
 use Rattle.asg_model.specs.Problem.{Problem}
-use Rattle.asg_square.specs.BitTable.{is_bit_set}
+use Rattle.asg_bit_rows.specs.BitTable.{is_bit_set}
 
 -- the place of the counted row that has the id
 abbrev pub counted_place : Problem → ℕ → Option ℕ

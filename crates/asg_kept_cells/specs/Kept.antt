@@ -5,13 +5,13 @@ use Rattle.asg_model.specs.Problem.{Problem}
 use Rattle.asg_model.specs.Shapes.{square_side}
 use Rattle.asg_model.specs.Sums.{count_below}
 use Rattle.asg_model.specs.ValidChoice.{Chooses, takes}
-use Rattle.asg_square.specs.BitTable.{BitTable, has_bit}
+use Rattle.asg_bit_rows.specs.BitTable.{BitTable, has_bit}
 use Rattle.asg_square.specs.Grid.{Grid, cell_at}
 use Rattle.asg_square.specs.Masked.{masked_grid}
-use Rattle.asg_square.specs.WordBits.{HasBit}
+use Rattle.asg_bit_rows.specs.WordBits.{HasBit}
 use Rattle.asg_admit.specs.Reduced.{KeepsLabels}
-use Rattle.asg_proof.specs.Children.{is_kept_at, row_number}
-use Rattle.asg_proof.specs.Masks.{keeps_cell}
+use Rattle.asg_rankings.specs.Children.{is_kept_at, row_number}
+use Rattle.asg_rankings.specs.Masks.{keeps_cell}
 use Rattle.asg_kept_cells.specs.declared.masks.Front.{Front}
 
 -- a branch keeps the cell of an active row, by its number and by what the choice gives it, in a

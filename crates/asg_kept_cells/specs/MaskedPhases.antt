@@ -2,7 +2,7 @@
 use Rattle.std.specs.Prelude.{◌≡◌, List}
 use Rattle.asg_order.specs.declared.words.Word.{Word}
 use Rattle.asg_order.specs.Monoid.{Monoid, IsValue}
-use Rattle.asg_square.specs.BitTable.{BitTable}
+use Rattle.asg_bit_rows.specs.BitTable.{BitTable}
 use Rattle.asg_square.specs.Grid.{Grid, cell_at}
 use Rattle.asg_square.specs.Masked.{masked_grid}
 use Rattle.asg_proof.specs.Phases.{PhaseOf, index_of}

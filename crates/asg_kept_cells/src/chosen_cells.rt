@@ -5,8 +5,9 @@ ghost use Rattle.asg_square.specs.Grid.{cell_at};
 ghost use Rattle.asg_square.specs.Masked.{masked_grid};
 ghost use Rattle.asg_kept_cells.specs.Kept.{ChoosesKept, HasKept, HasSize};
 
+use asg_bit_rows::BitRows;
 use asg_model::Choice;
-use asg_square::{BitRows, Square};
+use asg_square::Square;
 
 /// The cell, if it is kept.
 #[inline]

@@ -6,14 +6,15 @@ ghost use Rattle.asg_model.specs.declared.parts.Place.TheVariants.{All as PlaceA
 ghost use Rattle.asg_model.specs.HallSet.{is_counted_id};
 ghost use Rattle.asg_model.specs.Shapes.{square_side};
 ghost use Rattle.asg_model.specs.Sums.{count_below, one};
-ghost use Rattle.asg_square.specs.BitTable.{is_bit_set, word_count};
+ghost use Rattle.asg_bit_rows.specs.BitTable.{is_bit_set, word_count};
 ghost use Rattle.asg_square.specs.HallColumns.{OutnumberColumns};
 ghost use Rattle.asg_kept_cells.specs.Kept.{HasSize, kept_cells};
 ghost use Rattle.asg_kept_cells.specs.Halls.{AreMetIn, AreRowsOf, counted_place};
 
 use crate::NoMemory;
+use asg_bit_rows::BitRows;
 use asg_model::Instance;
-use asg_square::{BitRows, Square};
+use asg_square::Square;
 use std::alloc::Global;
 
 // The place of the active row that has the id.

@@ -14,8 +14,9 @@ ghost use Rattle.asg_kept_cells.specs.Kept.{HasSize, IsMaskOf, KeepsAll, KeepsOt
 
 use crate::NoMemory;
 use crate::copies::{copies_of, copy_count};
+use asg_bit_rows::BitRows;
 use asg_model::{Choice, Instance};
-use asg_square::{BitRows, Square};
+use asg_square::Square;
 use std::alloc::Global;
 
 /// A row, and the number of active rows before it.

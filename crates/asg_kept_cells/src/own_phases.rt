@@ -11,10 +11,11 @@ use crate::NoMemory;
 use crate::single_steps::admits_kept;
 use crate::taking_out::take_out;
 use asg_admit::Reduced;
+use asg_bit_rows::BitRows;
 use asg_order::{Written, fold};
 use asg_proof::WrittenPhase;
 use asg_replays::{first_bad, read_steps};
-use asg_square::{BitRows, Square};
+use asg_square::Square;
 use std::alloc::Global;
 
 // Up to so many times the side are tested cell by cell; more take longer than a copy of the square.

@@ -6,8 +6,7 @@ ghost use Rattle.asg_admit.specs.Reduced.{IsPhaseTo, IsReduced};
 ghost use Rattle.asg_proof.specs.Phases.{IsAdmittedPhase, phase_of};
 ghost use Rattle.asg_square.specs.Grid.{cell_at};
 
-use crate::single_steps::staying;
-use asg_admit::{Reduced, step};
+use asg_admit::{Reduced, staying, step};
 use asg_order::DMonoid;
 use asg_settling::settle;
 
@@ -56,7 +55,7 @@ pub(crate) fn settle_one<M: DMonoid>(
         settle(m, reduced, steps, enters, leaves, room);
         return;
     }
-    if staying(leaves) > leaves.len() / SPARSE {
+    if staying(leaves, 0) > leaves.len() / SPARSE {
         settle(m, reduced, steps, enters, leaves, room);
         return;
     }

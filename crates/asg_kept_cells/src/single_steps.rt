@@ -1,50 +1,23 @@
 //! Whether a phase is admitted from the kept cells of a square. Where it has one step, at which few
 //! columns stay, only the cells of these are visited.
 
-ghost use Rattle.std.specs.Prelude.{◌≡◌, ◌↔◌, ◌<◌, ◌≤◌, All, IsTrue, length};
+ghost use Rattle.std.specs.Prelude.{◌≡◌, ◌↔◌, ◌<◌, All, IsTrue, length};
 ghost use Rattle.asg_order.specs.Monoid.{IsValue};
-ghost use Rattle.asg_proof.specs.Phases.{IsAdmittedPhase, entered_at, phase_of, staying_at};
-ghost use Rattle.asg_proof.specs.Steps.{HasValues, count_below};
+ghost use Rattle.asg_proof.specs.Phases.{IsAdmittedPhase, phase_of};
+ghost use Rattle.asg_proof.specs.Steps.{HasValues};
 ghost use Rattle.asg_square.specs.Grid.{cell_at};
 ghost use Rattle.asg_square.specs.Masked.{masked_grid};
 ghost use Rattle.asg_kept_cells.specs.Kept.{HasSize};
 ghost use Rattle.asg_kept_cells.specs.SingleSteps.{AllowsColumn, AllowsColumns, IsAtMostCell};
 
 use crate::chosen_cells::kept_cell;
-use asg_admit::admits_within;
+use asg_admit::{admits_within, entered, staying};
+use asg_bit_rows::BitRows;
 use asg_order::DMonoid;
-use asg_square::{BitRows, Square};
+use asg_square::Square;
 
 // Of so many columns one may stay for the cells to be visited by columns.
 const SPARSE: usize = 4;
-
-// How many rows enter at the first step.
-fn entering(enters: &[u32]) -> usize
-    ensures few { result ≤ length enters.now }
-    ensures count { result ≡ count_below (entered_at enters.now 0) (length enters.now) }
-{
-    let mut count = 0;
-    for r in 0..enters.len() {
-        if enters[r] == 0 {
-            count += 1;
-        }
-    }
-    count
-}
-
-/// How many columns stay at the first step.
-pub(crate) fn staying(leaves: &[u32]) -> usize
-    ensures few { result ≤ length leaves.now }
-    ensures count { result ≡ count_below (staying_at leaves.now 0) (length leaves.now) }
-{
-    let mut count = 0;
-    for k in 0..leaves.len() {
-        if 0 < leaves[k] {
-            count += 1;
-        }
-    }
-    count
-}
 
 // Whether a step is at most a kept cell, where its row enters at the first step.
 #[inline]
@@ -158,7 +131,7 @@ fn admits_step<M: DMonoid>(
     if leaves.len() != side {
         return false;
     }
-    if entering(enters) + staying(leaves) != side + 1 {
+    if entered(enters, 0) + staying(leaves, 0) != side + 1 {
         return false;
     }
     columns_allow(m, square, kept, steps[0], enters, leaves)
@@ -203,7 +176,7 @@ pub(crate) fn admits_kept<M: DMonoid>(
     if steps.len() != 1 {
         return admits_rows(m, square, kept, steps, enters, leaves);
     }
-    if staying(leaves) > leaves.len() / SPARSE {
+    if staying(leaves, 0) > leaves.len() / SPARSE {
         return admits_rows(m, square, kept, steps, enters, leaves);
     }
     admits_step(m, square, kept, steps, enters, leaves)

@@ -3,13 +3,14 @@
 ghost use Rattle.std.specs.Prelude.{◌≡◌, ◌<◌, ◌≤◌, ◌+◌, ◌*◌, ◌&&◌, ℕ, None, is_some, not};
 ghost use Rattle.asg_admit.specs.Reduced.{KeepsLabels};
 ghost use Rattle.asg_admit.specs.Settling.{IsWritten};
-ghost use Rattle.asg_square.specs.BitTable.{has_bit, is_bit_set, word_count};
+ghost use Rattle.asg_bit_rows.specs.BitTable.{has_bit, is_bit_set, word_count};
 ghost use Rattle.asg_square.specs.Grid.{cell_at};
 ghost use Rattle.asg_square.specs.Masked.{masked_grid};
-ghost use Rattle.asg_square.specs.WordBits.{HasBit};
+ghost use Rattle.asg_bit_rows.specs.WordBits.{HasBit};
 ghost use Rattle.asg_kept_cells.specs.Kept.{HasSize, TakesOutBits, TakesOutRow};
 
-use asg_square::{BitRows, Square};
+use asg_bit_rows::BitRows;
+use asg_square::Square;
 
 // The bits of a word that another lacks.
 #[inline]

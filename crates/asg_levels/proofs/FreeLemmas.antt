@@ -1,11 +1,5 @@
 -- Cells that are 0 and columns that stay, word by word.
-use Rattle.std.proofs.Common.{◌≡◌, ℕ, ◌+◌, ◌*◌, ◌%◌, ◌<◌, ◌≤◌, true, List, sym, ◌∙◌, ap, arith, ⊎_elim}
-use Rattle.std.specs.Prelude.{bit_and, ◌==◌}
-use Rattle.std.proofs.lemmas.Bool.{false≢true, and_from, cases_lt}
-use Rattle.std.proofs.lemmas.Nat.Bits.{bit_at-zero}
-use Rattle.asg_square.specs.BitTable.{BitTable, has_bit, is_bit_set}
-use Rattle.asg_levels.specs.Tight.{tight_bit}
-use Rattle.asg_square.specs.laws.Words.{is_and}
+use Rattle.asg_levels.proofs.Common.{◌≡◌, ℕ, ◌+◌, ◌*◌, ◌%◌, ◌<◌, ◌≤◌, true, List, ◌==◌, bit_and, sym, ap, ◌∙◌, ⊎_elim, arith, and_from, bit_at-zero, cases_lt, false≢true, BitTable, has_bit, is_bit_set, is_and, tight_bit}
 
 -- words without a common bit
 no_common : (a b k : ℕ) → bit_and a b ≡ 0 → is_bit_set a k ≡ true → is_bit_set b k ≡ true → ⊥

@@ -1,12 +1,7 @@
 -- A step by 1 that meets no cell which is 0 is admitted.
-use Rattle.std.proofs.Common.{◌≡◌, ℕ, zero, suc, ◌<◌, true, List, Option, Some, refl, arith}
-use Rattle.std.specs.Prelude.{nat_le}
-use Rattle.std.proofs.lemmas.Bool.Decides.{nat_tests}
-use Rattle.asg_square.specs.BitTable.{BitTable}
+use Rattle.asg_levels.proofs.Common.{◌≡◌, ℕ, zero, suc, ◌<◌, true, List, nat_le, Some, Option, refl, arith, nat_tests, BitTable, AreDuals, AreFree, CountsRight, unit_phase, entered_at, staying_at, AreAdmittedSteps, IsAdmittedPhase}
 use Rattle.asg_monoids.specs.BoundedSums.{bounded_difference}
 use Rattle.asg_proof.specs.Levels.{level_sums}
-use Rattle.asg_proof.specs.Phases.{entered_at, staying_at, AreAdmittedSteps, IsAdmittedPhase}
-use Rattle.asg_levels.specs.UnitSteps.{AreDuals, AreFree, CountsRight, unit_phase}
 use Rattle.asg_levels.specs.laws.UnitSteps.{tight_where}
 
 module _ (side count : ℕ) (zeros ones : BitTable) (ins outs : List ℕ) (square : ℕ → ℕ → Option ℕ) (duals : AreDuals side count zeros ones ins outs square)

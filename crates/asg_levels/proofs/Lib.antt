@@ -1,3 +1,4 @@
+pub mod Common
 pub mod TightWords
 pub mod MarkWordLemmas
 pub mod FreeLemmas

@@ -1,7 +1,5 @@
 -- Rows of bits as squares, and rows without a cell that is 0, by equal lists.
-use Rattle.std.proofs.Common.{◌≡◌, ◌<◌, ℕ, List, length, subst}
-use Rattle.asg_square.specs.BitTable.{BitTable, IsBitTable}
-use Rattle.asg_levels.specs.UnitSteps.{AreFree, IsBitSquare}
+use Rattle.asg_levels.proofs.Common.{◌≡◌, ℕ, ◌<◌, List, length, subst, BitTable, IsBitTable, AreFree, IsBitSquare}
 
 -- rows of bits of a square
 pub bits_square : (side : ℕ) (bits : BitTable) → IsBitTable bits → bits.rows ≡ side → bits.columns ≡ side → IsBitSquare side bits

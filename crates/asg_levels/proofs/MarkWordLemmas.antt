@@ -1,11 +1,5 @@
 -- Words of marks, one after the other.
-use Rattle.std.proofs.Common.{◌≡◌, ℕ, ◌+◌, ◌-◌, ◌*◌, ◌/◌, ◌%◌, ◌<◌, ◌≤◌, List, [], ◌∷◌, ◌++◌, length, get_or, ◌∙◌, ap, arith, ⊎_elim}
-use Rattle.std.specs.Prelude.{◌==◌}
-use Rattle.std.proofs.lemmas.Bool.{cases_lt}
-use Rattle.std.proofs.lemmas.List.{length_push, get_or_append_left, get_or_push}
-use Rattle.std.proofs.lemmas.Nat.{div-mul-add, mod-mul-add, mul-add-lt}
-use Rattle.asg_square.specs.BitTable.{is_bit_set}
-use Rattle.asg_levels.specs.MarkWords.{words_each, AreMarkWords}
+use Rattle.asg_levels.proofs.Common.{◌≡◌, ℕ, ◌+◌, ◌-◌, ◌*◌, ◌/◌, ◌%◌, ◌<◌, ◌≤◌, List, [], ◌∷◌, ◌++◌, length, get_or, ◌==◌, ap, ◌∙◌, ⊎_elim, arith, cases_lt, div-mul-add, get_or_append_left, get_or_push, length_push, mod-mul-add, mul-add-lt, is_bit_set, words_each, AreMarkWords}
 
 -- no words yet
 pub words_none : (outs : List ℕ) → AreMarkWords outs []

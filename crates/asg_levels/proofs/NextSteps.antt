@@ -1,13 +1,5 @@
 -- Marks of the cells that are 0, from before a step by 1 to after it.
-use Rattle.std.proofs.Common.{◌≡◌, ℕ, ◌+◌, ◌*◌, ◌/◌, ◌%◌, ◌<◌, ◌≤◌, Bool, true, false, ◌||◌, ◌&&◌, not, cond, List, length, get_or, is_some, Option, Some, None, refl, sym, ◌∙◌, ap, subst, arith, ⊎_elim}
-use Rattle.std.specs.Prelude.{◌==◌}
-use Rattle.std.proofs.lemmas.Bool.{false≢true, and_parts, cases_eq, cases_lt, cases_Bool, eqb-true, ne_eqb, eq-eqb, false_from_ne_true}
-use Rattle.asg_square.specs.BitTable.{BitTable, word_count, is_bit_set, has_bit, IsBitTable, AreWordsOf, PutsWord}
-use Rattle.asg_square.specs.laws.Places.{place_hit, place_missed}
-use Rattle.asg_square.specs.laws.Words.{bit_in_row}
-use Rattle.asg_levels.specs.NextStep.{ClearsColumns, ClearsWord, RenewsRows}
-use Rattle.asg_levels.specs.Tight.{TightensWords, Tightens, is_tight}
-use Rattle.asg_levels.specs.UnitSteps.{AreDuals, CountsStep}
+use Rattle.asg_levels.proofs.Common.{◌≡◌, ℕ, ◌+◌, ◌*◌, ◌/◌, ◌%◌, ◌<◌, ◌≤◌, Bool, true, false, cond, not, ◌&&◌, ◌||◌, List, length, get_or, is_some, ◌==◌, Some, None, Option, sym, refl, ap, ◌∙◌, subst, ⊎_elim, arith, eq-eqb, ne_eqb, eqb-true, and_parts, cases_Bool, cases_eq, cases_lt, false_from_ne_true, false≢true, BitTable, word_count, is_bit_set, has_bit, IsBitTable, AreWordsOf, PutsWord, place_hit, place_missed, bit_in_row, ClearsColumns, ClearsWord, RenewsRows, TightensWords, Tightens, is_tight, AreDuals, CountsStep}
 use Rattle.asg_levels.proofs.TightWords.{two_parts, past_words, first_false}
 
 and_true : (b : Bool) → (b && true) ≡ b

@@ -1,18 +1,6 @@
 -- Bits of words as tests.
-use Rattle.std.proofs.Common.{◌≡◌, ◌⊎◌, inl, inr, ℕ, ◌+◌, ◌*◌, ◌/◌, ◌%◌, ◌<◌, ◌≤◌, Bool, true, false, ◌||◌, ◌&&◌, cond, not, ◌≢◌, ◌-◌, ◌^◌, w64, List, length, get_or, take, map, refl, sym, ◌∙◌, ap, subst, arith, eqb, ⊎_elim}
-use Rattle.std.specs.Prelude.{bit_or, ◌==◌}
-use lib.Lanes.{mask_l}
-use Rattle.std.specs.Int.{bit_at, bit_not}
-use Rattle.std.proofs.lemmas.Nat.Bits.{bit_at_not, bit_at-lt}
-use Rattle.std.proofs.lemmas.Bool.{false≢true, and_parts, eqb-true, cases_eq, cases_lt, le-ltb}
-use Rattle.std.proofs.lemmas.Bool.Decides.{Decides-eqb}
-use Rattle.std.proofs.lemmas.List.{get_or-map, get_or-take, length-take}
-use Rattle.std.proofs.lemmas.Simd.{bit_mask_l}
-use Rattle.asg_square.specs.BitTable.{BitTable, word_count, is_bit_set, has_bit, IsBitTable, AreWordsOf, PutsWord}
-use Rattle.asg_square.specs.laws.Places.{place_hit, place_missed}
-use Rattle.asg_levels.specs.Tight.{TightensWords, Tightens, is_tight}
-use Rattle.asg_square.specs.laws.Bits.{HasBit-or}
-use Rattle.asg_square.specs.laws.Words.{bit_in_row, bit_of, of_bit, same_bool}
+use Rattle.asg_levels.proofs.Common.{◌≡◌, ℕ, ◌+◌, ◌-◌, ◌*◌, ◌/◌, ◌%◌, ◌^◌, ◌<◌, ◌≤◌, Bool, true, false, cond, not, ◌&&◌, ◌||◌, eqb, ◌≢◌, ◌⊎◌, List, map, length, get_or, take, ◌==◌, bit_or, sym, refl, ap, ◌∙◌, subst, inl, inr, ⊎_elim, arith, length-take, get_or-take, w64, le-ltb, eqb-true, Decides-eqb, and_parts, bit_at, bit_at-lt, bit_at_not, bit_mask_l, bit_not, cases_eq, cases_lt, false≢true, get_or-map, mask_l, BitTable, word_count, is_bit_set, has_bit, IsBitTable, AreWordsOf, PutsWord, place_hit, place_missed, bit_in_row, bit_of, of_bit, same_bool, TightensWords, Tightens, is_tight}
+use Rattle.asg_bit_rows.specs.laws.Bits.{HasBit-or}
 
 or_cases : (b d : Bool) → (b || d) ≡ true → (b ≡ true) ⊎ (d ≡ true)
 or_cases true d e = inl refl

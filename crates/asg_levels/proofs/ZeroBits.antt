@@ -1,15 +1,6 @@
 -- Words of bits for the numbers that are 0.
-use Rattle.std.proofs.Common.{◌≡◌, ◌↔◌, ℕ, ◌+◌, ◌*◌, ◌%◌, ◌^◌, ◌<◌, ⊎_elim, sym, ◌∙◌, subst, ap, arith, w64, List, get_or, Bool, true, false, zero-mul}
-use Rattle.std.specs.Prelude.{bit_or, ◌==◌}
-use Rattle.std.specs.Int.{bit_at}
-use mir.Val.{bool_byte}
-use Rattle.std.specs.Int.Bits.{or_zero_r}
-use Rattle.std.proofs.lemmas.Bool.{false≢true, cases_eq, eqb-true}
-use Rattle.std.proofs.lemmas.Bool.Decides.{Decides-eqb}
-use Rattle.std.proofs.lemmas.Nat.Bits.{bit_at-zero, bit_at_set_same, bit_at_set_other}
-use Rattle.asg_square.specs.WordBits.{HasBit}
-use Rattle.asg_square.specs.laws.Words.{bit_of, of_bit, same_bool}
-use Rattle.asg_levels.specs.NextStep.{AreZeroBits}
+use Rattle.asg_levels.proofs.Common.{◌≡◌, ℕ, ◌+◌, ◌*◌, ◌%◌, ◌^◌, ◌<◌, Bool, true, false, ◌↔◌, List, get_or, ◌==◌, bit_or, sym, ap, ◌∙◌, subst, ⊎_elim, zero-mul, arith, w64, eqb-true, Decides-eqb, bit_at, bit_at-zero, bit_at_set_other, bit_at_set_same, bool_byte, cases_eq, false≢true, or_zero_r, bit_of, of_bit, same_bool, AreZeroBits}
+use Rattle.asg_bit_rows.specs.WordBits.{HasBit}
 
 -- the bits of a word are those of the first so many numbers that are 0, and no others
 abbrev pub IsZeroMask : List ℕ → ℕ → ℕ → Type 0

@@ -1,6 +1,6 @@
 -- Words of the columns that are out of one step less than a mark says.
 use Rattle.std.specs.Prelude.{◌≡◌, ℕ, ◌+◌, ◌*◌, ◌/◌, ◌%◌, ◌<◌, ◌==◌, List, length, slice_index}
-use Rattle.asg_square.specs.BitTable.{is_bit_set}
+use Rattle.asg_bit_rows.specs.BitTable.{is_bit_set}
 
 -- how many words a mark has: one for each 64 columns
 abbrev pub words_each : List ℕ → ℕ

@@ -1,6 +1,6 @@
 -- Marks of the cells that are 0, from before a step by 1 to after it.
 use Rattle.std.specs.Prelude.{◌≡◌, ℕ, ◌*◌, ◌/◌, ◌%◌, ◌<◌, ◌≤◌, ◌&&◌, ◌==◌, not, List, slice_index}
-use Rattle.asg_square.specs.BitTable.{BitTable, has_bit, is_bit_set}
+use Rattle.asg_bit_rows.specs.BitTable.{BitTable, has_bit, is_bit_set}
 use Rattle.asg_levels.specs.Tight.{is_tight}
 
 -- the bits of a word are set where one of the first so many numbers is 0

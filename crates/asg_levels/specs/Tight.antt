@@ -1,6 +1,6 @@
 -- The cells that are 0 after steps by 1, by bits and by counts.
 use Rattle.std.specs.Prelude.{◌≡◌, ℕ, ◌+◌, ◌*◌, ◌<◌, ◌≤◌, ◌&&◌, ◌||◌, ◌==◌, Bool, not, List, slice_index}
-use Rattle.asg_square.specs.BitTable.{BitTable, has_bit}
+use Rattle.asg_bit_rows.specs.BitTable.{BitTable, has_bit}
 
 -- a cell is 0 after steps: it was 0 and its column is out of as many of them as its row is in, or
 -- it was 1 and its column is out of one less

@@ -4,7 +4,7 @@ use Rattle.asg_monoids.specs.BoundedSums.{bounded_difference, plain_word}
 use Rattle.asg_order.specs.declared.words.Word.{Word}
 use Rattle.asg_proof.specs.Levels.{is_zero, level_sums, numbers_of}
 use Rattle.asg_proof.specs.Phases.{PhaseOf, worded, AreAdmittedPhases, after_phases, index_of}
-use Rattle.asg_square.specs.BitTable.{BitTable, has_bit}
+use Rattle.asg_bit_rows.specs.BitTable.{BitTable, has_bit}
 use Rattle.asg_levels.specs.UnitSteps.{AreDuals, bit_square}
 
 -- the square of the bits after phases

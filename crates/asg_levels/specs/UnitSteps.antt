@@ -3,7 +3,7 @@
 use Rattle.std.specs.Prelude.{◌≡◌, ℕ, ◌+◌, ◌<◌, ◌≤◌, ◌||◌, ◌==◌, true, if◌then◌else◌, List, [], ◌∷◌, length, Option, Some, None, is_some, slice_index}
 use Rattle.asg_proof.specs.Phases.{PhaseOf, phase_of, entered_at, staying_at}
 use Rattle.asg_proof.specs.Steps.{count_below}
-use Rattle.asg_square.specs.BitTable.{BitTable, has_bit}
+use Rattle.asg_bit_rows.specs.BitTable.{BitTable, has_bit}
 use Rattle.asg_levels.specs.Tight.{is_tight}
 
 -- the square of these bits: 0 at those of the one, 1 at those of the other

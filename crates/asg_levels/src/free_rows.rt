@@ -4,13 +4,13 @@ ghost use Rattle.std.specs.Prelude.{◌≡◌, ◌+◌, ◌*◌, ◌<◌, ◌≤
 ghost use Rattle.std.specs.Prelude.{length, slice_index, List};
 ghost use Rattle.asg_model.specs.Limits.{most_side};
 ghost use Rattle.asg_proof.specs.Phases.{staying_at};
-ghost use Rattle.asg_square.specs.BitTable.{has_bit, is_bit_set, word_count};
+ghost use Rattle.asg_bit_rows.specs.BitTable.{has_bit, is_bit_set, word_count};
 ghost use Rattle.asg_levels.specs.MarkWords.{AreMarkWords, words_each};
 ghost use Rattle.asg_levels.specs.UnitSteps.{AreFree};
 ghost use Rattle.asg_levels.specs.Tight.{tight_bit};
 
 use crate::tight::word_at;
-use asg_square::BitRows;
+use asg_bit_rows::BitRows;
 
 /// Marks the columns that stay at the first step.
 pub(crate) fn mark_staying(leaves: &[u32], stay: &mut BitRows)

@@ -3,7 +3,7 @@
 ghost use Rattle.std.specs.Prelude.{◌≡◌, ◌==◌, ◌+◌, ◌*◌, ◌<◌, ◌≤◌, ℕ, IfOk, length};
 ghost use Rattle.std.specs.Prelude.{slice_index};
 ghost use Rattle.asg_model.specs.Limits.{most_side};
-ghost use Rattle.asg_square.specs.BitTable.{is_bit_set};
+ghost use Rattle.asg_bit_rows.specs.BitTable.{is_bit_set};
 ghost use Rattle.asg_levels.specs.MarkWords.{words_each, AreMarkWords};
 
 use crate::NoMemory;

@@ -3,14 +3,14 @@
 ghost use Rattle.std.specs.Prelude.{◌≡◌, ◌==◌, ◌+◌, ◌*◌, ◌<◌, ◌≤◌, ◌&&◌, ◌||◌, not, ℕ, List, Option, length};
 ghost use Rattle.std.specs.Prelude.{slice_index};
 ghost use Rattle.asg_model.specs.Limits.{most_side};
-ghost use Rattle.asg_square.specs.BitTable.{has_bit, is_bit_set, word_count};
+ghost use Rattle.asg_bit_rows.specs.BitTable.{has_bit, is_bit_set, word_count};
 ghost use Rattle.asg_levels.specs.NextStep.{AreZeroBits, ClearsColumns, ClearsWord, RenewsRows};
 ghost use Rattle.asg_levels.specs.Tight.{TightensWords, Tightens};
 ghost use Rattle.asg_levels.specs.UnitSteps.{AreDuals, CountsStep};
 
 use crate::mark_words::{equal_bits, lesser_bits};
 use crate::tight::tight_word;
-use asg_square::BitRows;
+use asg_bit_rows::BitRows;
 
 // The bits of at most 64 numbers, the first one lowest: 1 for those that are 0.
 #[inline]

@@ -3,13 +3,13 @@
 ghost use Rattle.std.specs.Prelude.{◌≡◌, ◌==◌, ◌+◌, ◌*◌, ◌<◌, ◌≤◌, ◌&&◌, ◌||◌, not, ℕ, IfOk, length};
 ghost use Rattle.std.specs.Prelude.{slice_index};
 ghost use Rattle.asg_model.specs.Limits.{most_side};
-ghost use Rattle.asg_square.specs.BitTable.{is_bit_set, word_count};
+ghost use Rattle.asg_bit_rows.specs.BitTable.{is_bit_set, word_count};
 ghost use Rattle.asg_levels.specs.MarkWords.{words_each, AreMarkWords};
 ghost use Rattle.asg_levels.specs.Tight.{TightensWords, Tightens};
 
 use crate::NoMemory;
 use crate::mark_words::{mark_words, word_of};
-use asg_square::BitRows;
+use asg_bit_rows::BitRows;
 use std::alloc::Global;
 
 // The bits of the cells that are 0, of 64 columns of a row: of those that were 0 and of those that

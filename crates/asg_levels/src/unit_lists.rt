@@ -5,7 +5,7 @@ ghost use Rattle.std.specs.Prelude.{slice_index};
 ghost use Rattle.asg_model.specs.Limits.{most_side};
 ghost use Rattle.asg_order.specs.declared.words.Word.{Word as W};
 ghost use Rattle.asg_proof.specs.Phases.{PhaseOf};
-ghost use Rattle.asg_square.specs.BitTable.{word_count};
+ghost use Rattle.asg_bit_rows.specs.BitTable.{word_count};
 ghost use Rattle.asg_levels.specs.UnitLists.{AreCountedUnits, AreUnits, MarkZeros};
 
 use crate::NoMemory;
@@ -13,9 +13,9 @@ use crate::free_rows::{are_free, mark_staying};
 use crate::mark_words::mark_words;
 use crate::tight::tighten;
 use crate::unit_phases::{count_zeros, is_unit};
+use asg_bit_rows::BitRows;
 use asg_model::limits::MOST_SIDE;
 use asg_proof::WrittenPhase;
-use asg_square::BitRows;
 use std::alloc::Global;
 
 // Counts the step of a phase, where it is one by 1 that is admitted after so many others, and tells

@@ -2,10 +2,9 @@
 
 ghost use Rattle.std.specs.Prelude.{◌≡◌, ◌==◌, ◌+◌, ◌≤◌, ◌<◌, ◌∷◌, [], ℕ, IsTrue, length, slice_index, if◌then◌else◌};
 ghost use Rattle.asg_model.specs.Limits.{most_side};
-ghost use Rattle.asg_proof.specs.Phases.{entered_at, staying_at};
-ghost use Rattle.asg_proof.specs.Steps.{count_below};
 ghost use Rattle.asg_levels.specs.UnitSteps.{CountsRight};
 
+use asg_admit::{entered, staying};
 use asg_proof::WrittenPhase;
 
 // Whether a phase has one step, by 1.
@@ -20,34 +19,6 @@ fn is_unit_step(phase: &WrittenPhase) -> bool
     step.grade == 0 && step.amount == 1
 }
 
-// How many rows have entered at the first step.
-fn entered(enters: &[u32]) -> usize
-    ensures few { result ≤ length enters.now }
-    ensures count { result ≡ count_below (entered_at enters.now 0) (length enters.now) }
-{
-    let mut count = 0;
-    for r in 0..enters.len() {
-        if enters[r] == 0 {
-            count += 1;
-        }
-    }
-    count
-}
-
-// How many columns stay at the first step.
-fn staying(leaves: &[u32]) -> usize
-    ensures few { result ≤ length leaves.now }
-    ensures count { result ≡ count_below (staying_at leaves.now 0) (length leaves.now) }
-{
-    let mut count = 0;
-    for k in 0..leaves.len() {
-        if leaves[k] > 0 {
-            count += 1;
-        }
-    }
-    count
-}
-
 // Whether lists are over the rows and the columns of a square of this side, and the rows that have
 // entered at the first step and the columns that stay are one more than it.
 fn counts_right(enters: &[u32], leaves: &[u32], side: usize) -> bool
@@ -60,7 +31,7 @@ fn counts_right(enters: &[u32], leaves: &[u32], side: usize) -> bool
     if leaves.len() != side {
         return false;
     }
-    entered(enters) + staying(leaves) == side + 1
+    entered(enters, 0) + staying(leaves, 0) == side + 1
 }
 
 /// Whether a phase has one step, by 1, and its lists are over the rows and the columns of a square

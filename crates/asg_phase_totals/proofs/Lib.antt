@@ -1,3 +1,4 @@
+pub mod Common
 mod GreatestLemmas
 mod RowWords
 pub mod TotalsLemmas

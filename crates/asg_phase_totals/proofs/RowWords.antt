@@ -1,12 +1,6 @@
 -- The present cells of a row of sums, by the words that say which they are.
-use Rattle.std.proofs.Common.{◌≡◌, ℕ, ◌+◌, ◌*◌, ◌/◌, ◌%◌, ◌<◌, List, length, get_or, refl, sym, ◌∙◌, ap, arith}
-use Rattle.std.specs.Prelude.{Option, Some, None, IsSome, is_some, eqb, true}
-use Rattle.std.specs.Int.{bit_at}
-use Rattle.std.proofs.lemmas.Bool.{false≢true, eqb-true}
-use Rattle.std.proofs.lemmas.Option.{slice_get_within, get_or_from_slice_get}
-use Rattle.asg_square.specs.BitTable.{is_bit_set, AreWordsOf}
-use Rattle.asg_square.specs.CellTable.{AreValuesOf}
-use Rattle.asg_admit.specs.laws.WordBits.{HasBit}
+use Rattle.asg_phase_totals.proofs.Common.{◌≡◌, ℕ, ◌+◌, ◌*◌, ◌/◌, ◌%◌, ◌<◌, true, eqb, List, length, get_or, is_some, IsSome, Some, None, Option, sym, refl, ap, ◌∙◌, arith, eqb-true, bit_at, false≢true, get_or_from_slice_get, slice_get_within, HasBit, AreValuesOf}
+use Rattle.asg_bit_rows.specs.BitTable.{is_bit_set, AreWordsOf}
 
 some_of : {V : Type 0} (o : Option V) → IsSome o → (x : V) × (o ≡ Some x)
 some_of None h = absurd (false≢true h)

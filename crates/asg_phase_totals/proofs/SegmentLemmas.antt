@@ -1,20 +1,6 @@
 -- Segments of lists of phases of sums: what admitted phases make of cells, and a segment after
 -- others.
-use Rattle.std.proofs.Common.{◌≡◌, ℕ, ◌+◌, ◌<◌, ◌≤◌, List, [], ◌∷◌, ◌++◌, length, take, drop, get_or, Option, Some, refl, sym, ◌∙◌, ap, subst, arith, ⊎_elim}
-use Rattle.std.specs.Prelude.{All, slice_index}
-use Rattle.std.specs.List.{sum}
-use Rattle.std.specs.Option.{option_map}
-use Rattle.std.proofs.lemmas.Bool.{cases_lt, le-leb, lt-ltb}
-use Rattle.std.proofs.lemmas.List.{take_more, take-append-drop}
-use Rattle.std.proofs.lemmas.List.Elements.{All-cons}
-use Rattle.asg_monoids.specs.BoundedSums.{bounded_sums, bounded_difference}
-use Rattle.asg_proof.specs.Phases.{PhaseOf, entered_at, staying_at, after_phase, after_phases, IsAdmittedPhase, AreAdmittedPhases}
-use Rattle.asg_proof.specs.Steps.{count_below}
-use Rattle.asg_proof.specs.laws.PhaseLists.{AreAdmittedPhases-append}
-use Rattle.asg_phase_totals.specs.PhaseTotals.{sum_to, row_raise, column_raise, sum_of_steps, Totals, AreTotals, CountsRight, CountAndRaise, EndAtLeast0, StayBelow}
-use Rattle.asg_admit.specs.Settled.{AllowsSteps}
-use Rattle.asg_admit.specs.laws.SettledCells.{square_after-cell, after_phase-cell}
-use Rattle.asg_phase_totals.specs.laws.SumLemmas.{allowed_fits}
+use Rattle.asg_phase_totals.proofs.Common.{◌≡◌, ℕ, ◌+◌, ◌<◌, ◌≤◌, List, [], ◌∷◌, ◌++◌, length, get_or, take, drop, slice_index, Some, All, Option, option_map, sym, refl, ap, ◌∙◌, subst, ⊎_elim, arith, take-append-drop, lt-ltb, le-leb, All-cons, cases_lt, take_more, AllowsSteps, square_after-cell, after_phase-cell, bounded_sums, bounded_difference, sum_to, row_raise, column_raise, sum_of_steps, Totals, AreTotals, CountsRight, CountAndRaise, EndAtLeast0, StayBelow, allowed_fits, PhaseOf, entered_at, staying_at, after_phase, after_phases, IsAdmittedPhase, AreAdmittedPhases, count_below, AreAdmittedPhases-append, sum}
 use Rattle.asg_phase_totals.proofs.TotalsLemmas.{sum_all, part_of_all, after, made, next, came, stay_below_after, cell_after_phase, admitted_phases}
 
 -- ---- two lists, one after the other

@@ -1,22 +1,8 @@
 -- Lists of phases of sums that are admitted in turn, told in one pass.
-use Rattle.std.proofs.Common.{◌≡◌, ℕ, ◌+◌, ◌-◌, ◌<◌, ◌≤◌, min, List, [], ◌∷◌, length, Option, Some, None, refl, sym, ◌∙◌, ap, subst, arith}
-use Rattle.std.specs.Prelude.{slice_index}
-use Rattle.std.specs.List.{sum}
-use Rattle.std.specs.Option.{option_map}
-use Rattle.std.proofs.lemmas.Bool.{leb-true, ltb-true, le-leb}
-use Rattle.std.proofs.lemmas.List.{take_all}
-use Rattle.std.proofs.lemmas.List.Sums.{sum_by_more_le}
+use Rattle.asg_phase_totals.proofs.Common.{◌≡◌, ℕ, ◌+◌, ◌-◌, ◌<◌, ◌≤◌, min, List, [], ◌∷◌, length, slice_index, Some, None, Option, option_map, sym, refl, ap, ◌∙◌, subst, arith, take_all, ltb-true, le-leb, leb-true, sum_by_more_le, step_of, cell_after, settled, square_after-cell, after_phase-cell, bounded_sums, bounded_difference, sum_before, sum_to, sum_of_steps, Totals, AreTotals, KeepsTotals, CountsRight, CountAndRaise, EndAtLeast0, StayBelow, cell_after_all, settled_is, fits_allowed, before_rises, PhaseOf, entered_at, staying_at, after_phase, after_phases, IsAdmittedPhase, AreAdmittedPhases, index_of, count_below, sum}
 use Rattle.asg_order.specs.Monoid.{IsLe}
-use Rattle.asg_monoids.specs.BoundedSums.{bounded_sums, bounded_difference}
 use Rattle.asg_monoids.specs.laws.SumFolds.{bounded_fold}
-use Rattle.asg_proof.specs.Phases.{PhaseOf, entered_at, staying_at, after_phase, after_phases, IsAdmittedPhase, AreAdmittedPhases, index_of}
-use Rattle.asg_proof.specs.Steps.{count_below}
 use Rattle.asg_proof.specs.laws.Stepped.{option_map_cases}
-use Rattle.asg_phase_totals.specs.Duals.{sum_before}
-use Rattle.asg_phase_totals.specs.PhaseTotals.{sum_to, sum_of_steps, Totals, AreTotals, KeepsTotals, CountsRight, CountAndRaise, EndAtLeast0, StayBelow, cell_after_all}
-use Rattle.asg_admit.specs.Settled.{step_of, cell_after, settled}
-use Rattle.asg_admit.specs.laws.SettledCells.{square_after-cell, after_phase-cell}
-use Rattle.asg_phase_totals.specs.laws.SumLemmas.{settled_is, fits_allowed, before_rises}
 
 -- ---- one phase
 

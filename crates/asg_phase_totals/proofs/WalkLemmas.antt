@@ -1,12 +1,6 @@
 -- A list of phases, walked from the last one back by segments.
-use Rattle.std.proofs.Common.{◌≡◌, ℕ, ◌+◌, ◌<◌, ◌≤◌, List, [], ◌∷◌, ◌++◌, length, take, drop, get_or, Option, sym, ◌∙◌, ap, subst, arith, ⊎_elim}
-use Rattle.std.specs.Prelude.{slice_index}
-use Rattle.std.specs.List.{sum}
-use Rattle.std.proofs.lemmas.List.{append_assoc, append-nil, take_all, drop_all, take_more, drop_more, take-append-drop}
-use Rattle.asg_monoids.specs.BoundedSums.{bounded_sums, bounded_difference}
-use Rattle.asg_proof.specs.Phases.{PhaseOf, AreAdmittedPhases}
-use Rattle.asg_proof.specs.laws.PhaseLists.{AreAdmittedPhases-front}
-use Rattle.asg_phase_totals.specs.PhaseTotals.{row_raise, column_raise, sum_of_steps, Totals, AreTotals, AreOrdered, StayBelow, EndsSegment, IsClosed, IsKeptOrClosed}
+use Rattle.asg_phase_totals.proofs.Common.{◌≡◌, ℕ, ◌+◌, ◌<◌, ◌≤◌, List, [], ◌∷◌, ◌++◌, length, get_or, take, drop, slice_index, Option, sym, ap, ◌∙◌, subst, ⊎_elim, append-nil, arith, take-append-drop, take_all, drop_all, drop_more, take_more, bounded_sums, bounded_difference, row_raise, column_raise, sum_of_steps, Totals, AreTotals, AreOrdered, StayBelow, EndsSegment, IsClosed, IsKeptOrClosed, PhaseOf, AreAdmittedPhases, AreAdmittedPhases-front, sum}
+use Rattle.std.proofs.lemmas.List.{append_assoc}
 use Rattle.asg_phase_totals.proofs.SegmentLemmas.{row_raise-append, column_raise-append, sum_of_steps-append, row_raise-few, sum_of_steps-more, admitted_end, segment_admitted}
 
 -- the dual variables are those after the first so many phases and a segment behind them, which has

@@ -31,10 +31,12 @@ pub record IsGreatest (n : ℕ) (square : ℕ → ℕ → Option ℕ) (greatest 
   pub above : (r k x : ℕ) → r < n → square r k ≡ Some x → x ≤ greatest
   pub reached : (greatest ≡ 0) ⊎ ((r : ℕ) × (k : ℕ) × (square r k ≡ Some greatest))
 
--- no present cell of a row in the first so many columns is greater, and it is one of the row's or 0
-pub record IsGreatestOf (n : ℕ) (row : ℕ → Option ℕ) (greatest : ℕ) : Type 0 where
-  pub above : (k x : ℕ) → k < n → row k ≡ Some x → x ≤ greatest
-  pub reached : (greatest ≡ 0) ⊎ ((k : ℕ) × (row k ≡ Some greatest))
+-- no present cell of a row from one column on and before another is greater, nor is another number,
+-- and it is that one or one of the row's
+pub record IsGreaterOf (from to : ℕ) (row : ℕ → Option ℕ) (other greatest : ℕ) : Type 0 where
+  pub above : (k x : ℕ) → from ≤ k → k < to → row k ≡ Some x → x ≤ greatest
+  pub grows : other ≤ greatest
+  pub reached : (greatest ≡ other) ⊎ ((k : ℕ) × (row k ≡ Some greatest))
 
 -- what dual variables keep: there is one for each row and column, none is greater than the index,
 -- that of a column is at most each present cell with that of the row more, and no number passes the

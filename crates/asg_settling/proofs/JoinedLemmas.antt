@@ -1,19 +1,10 @@
 -- Joined steps: what they make of a cell is what the steps make of it.
-use Rattle.std.proofs.Common.{◌≡◌, ℕ, zero, suc, ◌+◌, ◌<◌, ◌≤◌, min, cond, leb, List, length, get_or, set, refl, sym, ◌∙◌, ap, subst, arith, ⊎_elim}
-use Rattle.std.specs.Prelude.{All, slice_index}
-use Rattle.std.proofs.lemmas.Bool.{cases_lt, le-leb, lt-leb}
-use Rattle.std.proofs.lemmas.List.{get_or-set_same, get_or-set_other, get_or_default}
-use Rattle.asg_order.specs.Monoid.{Monoid, IsValue, IsOrderedMonoid}
+use Rattle.asg_settling.proofs.Common.{◌≡◌, ℕ, zero, suc, ◌+◌, ◌<◌, ◌≤◌, min, cond, leb, List, length, get_or, set, slice_index, All, sym, refl, ap, ◌∙◌, subst, ⊎_elim, arith, get_or-set_other, get_or-set_same, le-leb, cases_lt, get_or_default, lt-leb, step_of, between, settled, SettlesPhase, map_alike, Monoid, IsValue, IsOrderedMonoid, IsJoined, PlacesFrom, Grid, cell_at}
 use Rattle.asg_order.specs.Differences.{HasDifferences}
 use Rattle.asg_proof.specs.Phases.{phase_of}
 use Rattle.asg_proof.specs.Steps.{HasValues}
-use Rattle.asg_square.specs.Grid.{Grid, cell_at}
-use Rattle.asg_settling.specs.JoinedSteps.{IsJoined, PlacesFrom}
 use Rattle.asg_admit.specs.LeastCells.{HasNoneBetween}
-use Rattle.asg_admit.specs.Settled.{step_of, between, settled}
-use Rattle.asg_admit.specs.Settling.{SettlesPhase}
 use Rattle.asg_admit.specs.laws.SettledCells.{IsTwice, between-none, between-more, between-split, between_is_value, cell_after-inside, cell_after-outside, cell_after-cut}
-use Rattle.asg_admit.specs.laws.SettleLemmas.{map_alike}
 
 module _ {V : Type 0} (M : Monoid V) (steps : List V) (enters leaves : List ℕ) where
   abbrev product_of : ℕ → ℕ → V

@@ -1,8 +1,5 @@
 -- Columns that leave before the end of a phase.
-use Rattle.std.proofs.Common.{◌≡◌, ℕ, ◌+◌, ◌<◌, ◌≤◌, cond, ltb, List, length, ◌∙◌, ap, subst, arith, ⊎_elim}
-use Rattle.std.specs.Prelude.{slice_index}
-use Rattle.std.proofs.lemmas.Bool.{cases_lt, lt-ltb, le-ltb}
-use Rattle.asg_settling.specs.LeftColumns.{IsPassed}
+use Rattle.asg_settling.proofs.Common.{◌≡◌, ℕ, ◌+◌, ◌<◌, ◌≤◌, cond, ltb, List, length, slice_index, ap, ◌∙◌, subst, ⊎_elim, arith, le-ltb, lt-ltb, cases_lt, IsPassed}
 
 -- a place by itself
 pub passed_none : (leaves : List ℕ) (end k next : ℕ) → k ≤ length leaves → next ≡ k → IsPassed leaves end k next

@@ -1,3 +1,4 @@
+pub mod Common
 mod SettledRows
 mod JoinedLemmas
 mod LeftLemmas

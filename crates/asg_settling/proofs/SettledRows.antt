@@ -1,14 +1,6 @@
 -- Squares whose rows that enter are settled one after another.
-use Rattle.std.proofs.Common.{◌≡◌, ℕ, ◌+◌, ◌<◌, ◌≤◌, length, refl, sym, ◌∙◌, ap, subst, arith, inl, inr, ⊎_elim, below_more}
-use Rattle.std.specs.Prelude.{slice_index}
-use Rattle.std.specs.Option.{option_map}
-use Rattle.asg_order.specs.Monoid.{Monoid}
+use Rattle.asg_settling.proofs.Common.{◌≡◌, ℕ, ◌+◌, ◌<◌, ◌≤◌, length, slice_index, option_map, sym, refl, ap, ◌∙◌, subst, inl, inr, ⊎_elim, arith, below_more, KeepsLabels, settled, settled_at, SettlesEntered, SettlesEnteredRow, SettlesRow, same_labels, chained_labels, Monoid, Grid, cell_at}
 use Rattle.asg_proof.specs.Phases.{PhaseOf}
-use Rattle.asg_square.specs.Grid.{Grid, cell_at}
-use Rattle.asg_admit.specs.Reduced.{KeepsLabels}
-use Rattle.asg_admit.specs.Settled.{settled, settled_at}
-use Rattle.asg_admit.specs.Settling.{SettlesEntered, SettlesEnteredRow, SettlesRow}
-use Rattle.asg_admit.specs.laws.SquareLemmas.{same_labels, chained_labels}
 
 -- the rows so far that enter are settled, and the others stand
 pub record SettlesEnteredTo {V : Type 0} (M : Monoid V) (difference : V → V → V) (phase : PhaseOf V) (before now : Grid V) (row : ℕ) : Type 0 where

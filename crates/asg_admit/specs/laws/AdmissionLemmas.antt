@@ -8,8 +8,8 @@ use Rattle.asg_proof.specs.Phases.{PhaseOf, entered_at, staying_at, IsAdmittedPh
 use Rattle.asg_proof.specs.Steps.{count_below}
 use Rattle.asg_proof.specs.laws.PhaseSteps.{phase_has_values}
 use Rattle.asg_proof.specs.laws.Stepped.{option_map_cases}
-use Rattle.asg_square.specs.BitTable.{is_bit_set, AreWordsOf}
-use Rattle.asg_square.specs.CellTable.{AreValuesOf}
+use Rattle.asg_bit_rows.specs.BitTable.{is_bit_set, AreWordsOf}
+use Rattle.asg_cell_tables.specs.CellTable.{AreValuesOf}
 use Rattle.asg_square.specs.Grid.{Grid, cell_at}
 use Rattle.asg_admit.specs.Admission.{AllowsRows, AreCounted, IsPhaseOver, cell_in_row}
 use Rattle.asg_admit.specs.Settled.{step_of, cell_after}

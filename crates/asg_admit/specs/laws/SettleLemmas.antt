@@ -14,7 +14,8 @@ use Rattle.asg_admit.specs.Settled.{step_of, settled}
 use Rattle.asg_admit.specs.Settling.{SettlesWaiting, SettlesEntered, SettlesPhase}
 use Rattle.asg_admit.specs.laws.SettledCells.{IsTwice, cell_after-cut, after_phase-cell}
 use Rattle.asg_admit.specs.laws.ProductLemmas.{settled_equal}
-use Rattle.asg_admit.specs.laws.SquareLemmas.{same_labels, chained_labels, everywhere}
+use Rattle.asg_admit.specs.laws.KeptLabels.{same_labels, chained_labels}
+use Rattle.asg_admit.specs.laws.SquareLemmas.{everywhere}
 
 map_same : {V : Type 0} (f : V → V) (o : Option V) → ((x : V) → o ≡ Some x → f x ≡ x) → option_map f o ≡ o
 map_same f None same = refl

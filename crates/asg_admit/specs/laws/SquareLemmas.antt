@@ -1,26 +1,15 @@
 -- One cell of a square is written.
-use Rattle.std.proofs.Common.{◌≡◌, ◌≢◌, ◌⊎◌, ℕ, ◌+◌, ◌*◌, ◌<◌, ◌≤◌, cond, Option, Some, None, get_or, set, refl, sym, ◌∙◌, ap, subst, arith, ⊎_elim}
-use Rattle.std.specs.Prelude.{nat_lt}
+use Rattle.std.proofs.Common.{◌≡◌, ◌≢◌, ◌⊎◌, ℕ, ◌+◌, ◌*◌, ◌<◌, ◌≤◌, ◌&&◌, cond, eqb, Option, Some, None, get_or, set, refl, sym, ◌∙◌, ap, subst, arith, ⊎_elim}
 use Rattle.std.specs.Option.{option_map}
 use Rattle.std.proofs.lemmas.Bool.{cases_lt, lt-ltb, le-ltb}
-use Rattle.std.proofs.lemmas.List.{get_or-set_same, get_or-set_other, get_or_past}
-use Rattle.std.proofs.lemmas.Nat.{mul-add-lt, same_from_place}
+use Rattle.std.proofs.lemmas.List.{get_or_past}
 use Rattle.std.proofs.lemmas.Option.{none-some}
 use Rattle.std.proofs.Math.Nat.{mul-le-mul_right}
+use Rattle.asg_bit_rows.specs.laws.Places.{place_hit, place_missed}
+use Rattle.asg_cell_tables.specs.laws.Entries.{entry_at-set}
 use Rattle.asg_square.specs.Grid.{Grid, IsGrid, cell_at}
-use Rattle.asg_admit.specs.Reduced.{KeepsLabels}
+use Rattle.asg_admit.specs.laws.KeptLabels.{same_labels}
 use Rattle.asg_admit.specs.Settling.{IsWritten}
-
-pub same_labels : {V : Type 0} (Q : Grid V) → KeepsLabels Q Q
-same_labels Q = record { side = refl; rows = refl; row_labels = refl; column_labels = refl }
-
-pub chained_labels : {V : Type 0} (A B C : Grid V) → KeepsLabels A B → KeepsLabels B C → KeepsLabels A C
-chained_labels A B C k l = record {
-  side = l.side ∙ k.side;
-  rows = l.rows ∙ k.rows;
-  row_labels = l.row_labels ∙ k.row_labels;
-  column_labels = l.column_labels ∙ k.column_labels;
-}
 
 module _ {V : Type 0} (Q : Grid V) where
   abbrev place : ℕ → ℕ → Option V
@@ -52,24 +41,17 @@ module _ {V : Type 0} (Q : Grid V) where
   pub written : (row column : ℕ) (cell : Option V) (after : Grid V) → IsGrid Q → row < Q.side → column < Q.side → after ≡ record Q { cells = set Q.cells (row * Q.side + column) cell } → IsWritten Q after row column cell
   written row column cell after grid hr hk is =
       subst (λ (A : Grid V). IsWritten Q A row column cell) (sym is)
-      (record { labels = record { side = refl; rows = refl; row_labels = refl; column_labels = refl }; here = here; others = others })
+      (record {
+        labels = record { side = refl; rows = refl; row_labels = refl; column_labels = refl };
+        here = at row column ∙ place_hit row row column column cell (cell_at Q row column) refl refl;
+        others = λ r k apart.
+            at r k
+            ∙ place_missed r row k column cell (cell_at Q r k)
+            (λ e f. ⊎_elim (λ (n : r ≢ row). n e) (λ (n : k ≢ column). n f) apart);
+      })
     where
-      here : cell_at (record Q { cells = set Q.cells (row * Q.side + column) cell }) row column ≡ cell
-      here =
-          ap (λ b. cond b (get_or (set Q.cells (row * Q.side + column) cell) (row * Q.side + column) None) None) (lt-ltb column Q.side hk)
-          ∙ get_or-set_same Q.cells (row * Q.side + column) cell None (omega (arith, mul-add-lt row Q.side column Q.side hr hk, grid.table.count))
-
-      others : (r k : ℕ) → (r ≢ row) ⊎ (k ≢ column) → cell_at (record Q { cells = set Q.cells (row * Q.side + column) cell }) r k ≡ cell_at Q r k
-      others r k apart =
-          ⊎_elim
-          (λ (below : k < Q.side).
-          ap (λ o. cond (nat_lt k Q.side) o None)
-          (get_or-set_other Q.cells (row * Q.side + column) (r * Q.side + k) cell None
-          (λ e. let same = same_from_place r k row column Q.side below hk e in ⊎_elim (λ n. n same.0) (λ n. n same.1) apart)))
-          (λ (past : Q.side ≤ k).
-          ap (λ b. cond b (get_or (set Q.cells (row * Q.side + column) cell) (r * Q.side + k) None) None) (le-ltb k Q.side past)
-          ∙ sym (cell_past_column r k past))
-          (cases_lt k Q.side)
+      at : (r k : ℕ) → cell_at (record Q { cells = set Q.cells (row * Q.side + column) cell }) r k ≡ cond (eqb r row && eqb k column) cell (cell_at Q r k)
+      at r k = entry_at-set Q.side Q.cells row column cell r k grid.table.count hr hk
 
 -- what holds of each cell within the side holds everywhere
 pub everywhere : {V : Type 0} (before after : Grid V) → IsGrid before → IsGrid after → after.side ≡ before.side → (f : ℕ → ℕ → V → V) → ((r k : ℕ) → r < before.side → k < before.side → cell_at after r k ≡ option_map (f r k) (cell_at before r k)) → (r k : ℕ) → cell_at after r k ≡ option_map (f r k) (cell_at before r k)

@@ -3,11 +3,11 @@ use Rattle.std.proofs.Common.{◌≡◌, ◌⊎◌, ℕ, ◌+◌, ◌*◌, ◌/�
 use Rattle.std.specs.Prelude.{nat_lt}
 use Rattle.std.proofs.Math.Path.{fun_ext}
 use Rattle.std.proofs.lemmas.Bool.{cases_lt}
-use Rattle.asg_square.specs.BitTable.{BitTable, has_bit, is_bit_set, word_count}
+use Rattle.asg_bit_rows.specs.BitTable.{BitTable, has_bit, is_bit_set, word_count}
 use Rattle.asg_square.specs.Grid.{Grid, cell_at}
 use Rattle.asg_square.specs.Masked.{keeps, masked_grid}
 use Rattle.asg_square.specs.laws.Masks.{cell_at-masked}
-use Rattle.asg_proof.specs.Masks.{masked}
+use Rattle.asg_rankings.specs.Masks.{masked}
 use Rattle.asg_proof.specs.Steps.{HasSide}
 use Rattle.asg_kept_cells.specs.Kept.{HasSize}
 

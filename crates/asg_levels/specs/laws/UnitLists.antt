@@ -7,7 +7,7 @@ use Rattle.asg_model.specs.Limits.{most_side}
 use Rattle.asg_order.specs.declared.words.Word.{Word}
 use Rattle.asg_monoids.specs.BoundedSums.{bounded_difference, plain_word}
 use Rattle.asg_monoids.specs.laws.Bounded.{bounded_laws}
-use Rattle.asg_square.specs.BitTable.{BitTable, has_bit}
+use Rattle.asg_bit_rows.specs.BitTable.{BitTable, has_bit}
 use Rattle.asg_proof.specs.Levels.{is_zero, level_sums, numbers_of}
 use Rattle.asg_proof.specs.Phases.{PhaseOf, phase_of, worded, after_phase, after_phases, IsAdmittedPhase, AreAdmittedPhases, index_of}
 use Rattle.asg_proof.specs.Steps.{HasSide}

@@ -4,7 +4,7 @@ use Rattle.std.proofs.Common.{◌≡◌, ℕ, zero, suc, ◌+◌, ◌<◌, ◌�
 use Rattle.std.specs.Prelude.{nat_le, ◌==◌}
 use Rattle.std.proofs.lemmas.Bool.{false≢true, cases_lt, cases_Bool, not-true, not_from_false, and_parts, and_from, eqb-true}
 use Rattle.std.proofs.lemmas.Bool.Decides.{nat_tests, Decides-eqb}
-use Rattle.asg_square.specs.BitTable.{BitTable, has_bit}
+use Rattle.asg_bit_rows.specs.BitTable.{BitTable, has_bit}
 use Rattle.asg_monoids.specs.BoundedSums.{bounded_difference}
 use Rattle.asg_proof.specs.Levels.{level_sums}
 use Rattle.asg_proof.specs.Phases.{entered_at, staying_at, after_phase, IsAdmittedPhase}

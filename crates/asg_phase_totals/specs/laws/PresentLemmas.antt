@@ -9,8 +9,8 @@ use Rattle.std.proofs.lemmas.Option.{none-some}
 use Rattle.std.specs.Prelude.{is_some, slice_get}
 use Rattle.std.proofs.lemmas.List.{length-map}
 use Rattle.std.proofs.lemmas.Option.{slice_get-map}
-use Rattle.asg_square.specs.BitTable.{AreWordsOf}
-use Rattle.asg_square.specs.CellTable.{AreValuesOf}
+use Rattle.asg_bit_rows.specs.BitTable.{AreWordsOf}
+use Rattle.asg_cell_tables.specs.CellTable.{AreValuesOf}
 use Rattle.asg_square.specs.Grid.{Grid, IsGrid, cell_at}
 use Rattle.asg_phase_totals.specs.SumNumbers.{numbered_grid}
 use Rattle.asg_phase_totals.specs.laws.NumberLemmas.{count_is}

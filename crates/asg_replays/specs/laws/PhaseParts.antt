@@ -15,11 +15,12 @@ use Rattle.asg_proof.specs.Steps.{IsAdmittedStep, stepped}
 use Rattle.asg_proof.specs.laws.PhaseSteps.{phase_has_values}
 use Rattle.asg_square.specs.Grid.{Grid, cell_at}
 use Rattle.asg_admit.specs.declared.reduced.Reduced.{Reduced}
-use Rattle.asg_admit.specs.Reduced.{IsReduced, KeepsLabels}
+use Rattle.asg_admit.specs.Reduced.{IsReduced}
 use Rattle.asg_replays.specs.PhaseParts.{counted_from, first_part, part_of, steps_between}
 use Rattle.asg_replays.specs.Replays.{IsAdmittedFrom, IsReplayed}
 use Rattle.asg_replays.specs.laws.PhaseWords.{phase-once, take-take}
 use Rattle.asg_replays.specs.laws.Replaying.{none_at, phase-words}
+use Rattle.asg_admit.specs.laws.KeptLabels.{chained_labels}
 
 -- ---- marks that are counted from a place on
 
@@ -209,15 +210,6 @@ module _ {V : Type 0} (M : Monoid V) (word_of : V → Word) (value_of : Word →
       let count : i - from < length (steps_between from to words) = omega (arith, length-drop from (take to words), length-take-le to words within, order, below) in
       none_at M word_of value_of spelled (steps_between from to words) (i - from) d count (ap value_of at ∙ none) values vs same
 
--- what keeps the labels twice keeps them
-labels-twice : {V : Type 0} (start before after : Grid V) → KeepsLabels start before → KeepsLabels before after → KeepsLabels start after
-labels-twice start before after one two = record {
-  side = two.side ∙ one.side;
-  rows = two.rows ∙ one.rows;
-  row_labels = two.row_labels ∙ one.row_labels;
-  column_labels = two.column_labels ∙ one.column_labels;
-}
-
 module _ {V : Type 0} (M : Monoid V) (laws : IsOrderedMonoid M) (difference : V → V → V) (word_of : V → Word) (words : PhaseOf Word) (from to : ℕ) (order : from ≤ to) (within : to ≤ length words.steps) (start before after : Reduced V) where
   -- where the first steps are applied and then those up to another place, the steps up to it are
   pub replayed-part : IsReduced M start → IsReplayed M difference word_of (first_part from words) start before
@@ -262,7 +254,7 @@ module _ {V : Type 0} (M : Monoid V) (laws : IsOrderedMonoid M) (difference : V 
               ∙ ap (λ z. M.product z (fold_of M q.steps)) one.leads.index
               ∙ laws.associative start.index (fold_of M p.steps) (fold_of M q.steps) is.index (fold_is_value M laws p.steps p_values) (fold_is_value M laws q.steps q_values)
               ∙ ap (M.product start.index) (sym (fold_of-append M laws p.steps q.steps p_values q_values));
-          labels = labels-twice start.now before.now after.now one.leads.labels two.leads.labels;
+          labels = chained_labels start.now before.now after.now one.leads.labels two.leads.labels;
           reduced = two.leads.reduced;
         };
       }

@@ -17,6 +17,7 @@ use Rattle.asg_admit.specs.Reduced.{IsReduced}
 use Rattle.asg_replays.specs.Replays.{AreAdmittedFrom}
 use Rattle.asg_replays.specs.Replays.{AreReplayed, IsAdmittedFrom, IsFirstBad, IsReplayed}
 use Rattle.asg_replays.specs.laws.PhaseWords.{phase-once, phases-once}
+use Rattle.asg_admit.specs.laws.KeptLabels.{chained_labels}
 
 module _ {V : Type 0} (M : Monoid V) (word_of : V → Word) (value_of : Word → Option V) (spelled : HasWords M word_of value_of) where
   -- where a word has no value, the words are those of no values
@@ -68,12 +69,7 @@ module _ {V : Type 0} (M : Monoid V) (laws : IsOrderedMonoid M) (difference : V 
             ∙ ap (λ w. take i words ++ w ∷ []) one.first.written
             ∙ sym (take_more words i d below);
         admitted = AreAdmittedPhases-push M difference start.now.side a.phases phase (cell_at start.now) a.admitted admitted;
-        labels = record {
-          side = one.leads.labels.side ∙ a.labels.side;
-          rows = one.leads.labels.rows ∙ a.labels.rows;
-          row_labels = one.leads.labels.row_labels ∙ a.labels.row_labels;
-          column_labels = one.leads.labels.column_labels ∙ a.labels.column_labels;
-        };
+        labels = chained_labels start.now before.now after.now a.labels one.leads.labels;
         cells = fun_ext (λ r. fun_ext (λ k. one.leads.cells r k))
             ∙ ap (after_phase M difference phase) a.cells
             ∙ sym (after_phases-push M difference a.phases phase (cell_at start.now));

@@ -1,5 +1,4 @@
-use Rattle.asg_admit.specs.Reduced.{phase_of}
-use Rattle.asg_admit.specs.laws.AdmissionLemmas.{not_both, never, over_from, allows_from, over_admitted}
+use Rattle.asg_admit.proofs.Common.{phase_of, not_both, never, over_from, allows_from, over_admitted}
 use Rattle.asg_admit.proofs.admission.admits.Goals as goal
 
 pub returns-then-not-is_over : goal.returns-then-not-is_over

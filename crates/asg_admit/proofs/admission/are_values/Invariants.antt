@@ -1,6 +1,4 @@
-use Rattle.std.proofs.Common.{ℕ, ◌<◌}
-use Rattle.asg_order.specs.Monoid.{IsValue}
-use Rattle.asg_admit.specs.Settled.{step_of}
+use Rattle.asg_admit.proofs.Common.{ℕ, ◌<◌, step_of, IsValue}
 use Rattle.asg_admit.proofs.admission.are_values.Given as goal
 
 -- the steps so far are values

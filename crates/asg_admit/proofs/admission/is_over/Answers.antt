@@ -1,4 +1,4 @@
-use Rattle.std.proofs.Common.{arith}
+use Rattle.asg_admit.proofs.Common.{arith}
 use Rattle.asg_admit.proofs.admission.is_over.Goals as goal
 
 pub returns : goal.returns

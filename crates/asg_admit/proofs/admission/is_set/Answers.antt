@@ -1,5 +1,4 @@
-use Rattle.std.proofs.Common.{eqb, ap}
-use Rattle.std.proofs.lemmas.Nat.Bits.{shr_and_one}
+use Rattle.asg_admit.proofs.Common.{eqb, ap, shr_and_one}
 use Rattle.asg_admit.proofs.admission.is_set.Goals as goal
 
 pub returns : goal.returns

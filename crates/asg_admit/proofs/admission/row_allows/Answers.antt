@@ -1,5 +1,4 @@
-use Rattle.std.proofs.Common.{arith}
-use Rattle.asg_square.specs.Grid.{cell_at}
+use Rattle.asg_admit.proofs.Common.{arith, cell_at}
 use Rattle.asg_admit.proofs.RowCells.{marks_inside, read_cell, row_from_cells, cells_from_row}
 use Rattle.asg_admit.proofs.admission.row_allows.Goals as goal
 

@@ -1,6 +1,4 @@
-use Rattle.std.proofs.Common.{ℕ, ◌<◌}
-use Rattle.std.specs.Prelude.{slice_index}
-use Rattle.asg_admit.specs.Admission.{AllowsRow}
+use Rattle.asg_admit.proofs.Common.{ℕ, ◌<◌, slice_index, AllowsRow}
 use Rattle.asg_admit.proofs.admission.rows_allow.Given as goal
 
 -- the rows so far allow the steps

@@ -1,6 +1,4 @@
-use Rattle.std.proofs.Common.{arith}
-use Rattle.asg_square.specs.Grid.{cell_at}
-use Rattle.asg_square.specs.Masked.{masked_grid}
+use Rattle.asg_admit.proofs.Common.{arith, cell_at, masked_grid}
 use Rattle.asg_square.specs.laws.Masks.{AreValuesOf-masked}
 use Rattle.asg_admit.proofs.RowCells.{marks_inside, read_cell, row_from_cells, cells_from_row}
 use Rattle.asg_admit.proofs.admission_within.kept_row_allows.Goals as goal

@@ -1,7 +1,4 @@
-use Rattle.std.proofs.Common.{ℕ, ◌<◌}
-use Rattle.std.specs.Prelude.{slice_index}
-use Rattle.asg_square.specs.Masked.{masked_grid}
-use Rattle.asg_admit.specs.Admission.{AllowsRow}
+use Rattle.asg_admit.proofs.Common.{ℕ, ◌<◌, slice_index, AllowsRow, masked_grid}
 use Rattle.asg_admit.proofs.admission_within.kept_rows_allow.Given as goal
 
 -- the rows so far allow the steps

@@ -1,9 +1,4 @@
-use Rattle.std.proofs.Common.{length, ◌∙◌, ap, arith}
-use Rattle.std.specs.Prelude.{slice_index}
-use Rattle.std.specs.Option.{option_map}
-use Rattle.asg_admit.specs.LeastCells.{held_at, place_of}
-use Rattle.asg_admit.specs.Reduced.{phase_of}
-use Rattle.asg_admit.specs.laws.AdmissionLemmas.{not_both}
+use Rattle.asg_admit.proofs.Common.{length, slice_index, option_map, ap, ◌∙◌, arith, held_at, place_of, phase_of, not_both}
 use Rattle.asg_admit.proofs.LeastLemmas.{same_leave}
 use Rattle.asg_admit.proofs.BlockLemmas.{holds_merged, block_awaits, holds_lessened, lessened_values}
 use Rattle.asg_admit.proofs.blocks.block_allows.Goals as goal

@@ -1,9 +1,5 @@
-use Rattle.std.proofs.Common.{false, length, refl, ◌∙◌, ap, arith}
-use Rattle.std.proofs.lemmas.List.{length-replicate}
-use Rattle.asg_admit.specs.LeastCells.{held_at, place_of}
-use Rattle.asg_admit.specs.Reduced.{phase_of}
+use Rattle.asg_admit.proofs.Common.{false, length, refl, ap, ◌∙◌, arith, length-replicate, held_at, place_of, phase_of, never}
 use Rattle.asg_model.specs.Limits.{most_side}
-use Rattle.asg_admit.specs.laws.AdmissionLemmas.{never}
 use Rattle.asg_admit.proofs.BlockLemmas.{holds_none, holds_all}
 use Rattle.asg_admit.proofs.LeastLemmas.{none_held}
 use Rattle.asg_admit.proofs.blocks.blocks_allow.Goals as goal

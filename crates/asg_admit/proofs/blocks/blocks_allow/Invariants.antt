@@ -1,6 +1,4 @@
-use Rattle.std.proofs.Common.{◌≡◌, ◌-◌, ◌≤◌, length}
-use Rattle.asg_admit.specs.LeastCells.{HoldsLeast, held_at, place_of}
-use Rattle.asg_admit.specs.Reduced.{phase_of}
+use Rattle.asg_admit.proofs.Common.{◌≡◌, ◌-◌, ◌≤◌, length, HoldsLeast, held_at, place_of, phase_of}
 use Rattle.asg_admit.proofs.blocks.blocks_allow.Given as goal
 
 -- the steps so far are allowed, and the least cells are held

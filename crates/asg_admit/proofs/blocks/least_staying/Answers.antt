@@ -1,7 +1,4 @@
-use Rattle.std.proofs.Common.{◌≡◌, ℕ, ◌<◌, ◌≤◌, length, sym, ◌∙◌, ap, subst, arith, ⊎_elim}
-use Rattle.std.specs.Prelude.{Some, slice_index}
-use Rattle.std.proofs.lemmas.Bool.{cases_lt}
-use Rattle.asg_admit.specs.LeastCells.{IsLeastStaying, held_at, lesser_of, place_of}
+use Rattle.asg_admit.proofs.Common.{◌≡◌, ℕ, ◌<◌, ◌≤◌, length, slice_index, Some, sym, ap, ◌∙◌, subst, ⊎_elim, arith, cases_lt, IsLeastStaying, held_at, lesser_of, place_of}
 use Rattle.asg_admit.proofs.LeastLemmas.{place_few, staying_none, staying_value, staying_more, staying_skip}
 use Rattle.asg_admit.proofs.blocks.least_staying.Goals as goal
 

@@ -1,4 +1,4 @@
-use Rattle.asg_admit.specs.LeastCells.{IsLeastStaying, held_at, place_of}
+use Rattle.asg_admit.proofs.Common.{IsLeastStaying, held_at, place_of}
 use Rattle.asg_admit.proofs.blocks.least_staying.Given as goal
 
 -- the least of the columns so far

@@ -1,5 +1,4 @@
-use Rattle.std.proofs.Common.{◌≡◌, ◌≤◌, ◌+◌, Bool, List, length, refl, sym, ◌∙◌, ap, subst, arith}
-use Rattle.asg_admit.specs.LeastCells.{MergesRows, held_at, place_of}
+use Rattle.asg_admit.proofs.Common.{◌≡◌, ◌+◌, ◌≤◌, Bool, List, length, sym, refl, ap, ◌∙◌, subst, arith, MergesRows, held_at, place_of}
 use Rattle.asg_admit.proofs.LeastLemmas.{rows_none, rows_values, rows_skip, rows_more}
 use Rattle.asg_admit.proofs.blocks.merge_entering.Goals as goal
 use Rattle.asg_admit.proofs.blocks.merge_entering.Goals.{then-enters-row, else-enters-row}

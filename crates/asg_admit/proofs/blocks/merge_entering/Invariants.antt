@@ -1,5 +1,4 @@
-use Rattle.std.proofs.Common.{◌≡◌, length}
-use Rattle.asg_admit.specs.LeastCells.{MergesRows, held_at, place_of}
+use Rattle.asg_admit.proofs.Common.{◌≡◌, length, MergesRows, held_at, place_of}
 use Rattle.asg_admit.proofs.blocks.merge_entering.Given as goal
 
 -- the rows so far that enter at the step were merged

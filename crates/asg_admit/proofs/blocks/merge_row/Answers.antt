@@ -1,8 +1,4 @@
-use Rattle.std.proofs.Common.{◌≡◌, ◌<◌, length, refl, sym, ◌∙◌, subst, arith}
-use Rattle.std.specs.Prelude.{slice_index}
-use Rattle.asg_square.specs.Grid.{cell_at}
-use Rattle.asg_admit.specs.LeastCells.{MergesRow, held_at, lesser_of, place_of}
-use Rattle.asg_admit.specs.laws.AdmissionLemmas.{row_read}
+use Rattle.asg_admit.proofs.Common.{◌≡◌, ◌<◌, length, slice_index, sym, refl, ◌∙◌, subst, arith, MergesRow, held_at, lesser_of, place_of, row_read, cell_at}
 use Rattle.asg_admit.proofs.LeastLemmas.{place_few, merges_none, merged_values, merges_more}
 use Rattle.asg_admit.proofs.blocks.merge_row.Goals as goal
 

@@ -1,6 +1,4 @@
-use Rattle.std.proofs.Common.{◌≡◌, length}
-use Rattle.asg_square.specs.Grid.{cell_at}
-use Rattle.asg_admit.specs.LeastCells.{MergesRow, held_at, place_of}
+use Rattle.asg_admit.proofs.Common.{◌≡◌, length, MergesRow, held_at, place_of, cell_at}
 use Rattle.asg_admit.proofs.blocks.merge_row.Given as goal
 
 -- the cells so far were merged

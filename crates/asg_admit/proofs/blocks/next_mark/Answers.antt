@@ -1,5 +1,4 @@
-use Rattle.std.proofs.Common.{◌⊎◌, ℕ, ◌≤◌, inl, inr, arith, ⊎_elim, below_more}
-use Rattle.std.specs.Prelude.{slice_index}
+use Rattle.asg_admit.proofs.Common.{ℕ, ◌≤◌, ◌⊎◌, slice_index, inl, inr, ⊎_elim, arith, below_more}
 use Rattle.asg_admit.proofs.blocks.next_mark.Goals as goal
 
 pub loop-i-preserved : goal.loop-i-preserved

@@ -1,5 +1,4 @@
-use Rattle.std.proofs.Common.{◌⊎◌, ℕ, ◌≤◌, ◌<◌}
-use Rattle.std.specs.Prelude.{slice_index}
+use Rattle.asg_admit.proofs.Common.{ℕ, ◌<◌, ◌≤◌, ◌⊎◌, slice_index}
 use Rattle.asg_admit.proofs.blocks.next_mark.Given as goal
 
 -- none of the marks so far stands before the least

@@ -1,5 +1,4 @@
-use Rattle.std.proofs.Common.{◌*◌, arith}
-use Rattle.asg_admit.specs.laws.AdmissionLemmas.{not_both, never}
+use Rattle.asg_admit.proofs.Common.{◌*◌, arith, not_both, never}
 use Rattle.asg_admit.proofs.CountLemmas.{balance_more, balance_part}
 use Rattle.asg_admit.proofs.counting.are_balanced.Goals as goal
 

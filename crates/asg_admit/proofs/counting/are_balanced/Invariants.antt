@@ -1,6 +1,4 @@
-use Rattle.std.proofs.Common.{◌≡◌, ℕ, ◌+◌, ◌*◌, ◌<◌, length}
-use Rattle.asg_proof.specs.Steps.{count_below}
-use Rattle.asg_admit.specs.Admission.{has_mark}
+use Rattle.asg_admit.proofs.Common.{◌≡◌, ℕ, ◌+◌, ◌*◌, ◌<◌, length, has_mark, count_below}
 use Rattle.asg_admit.proofs.counting.are_balanced.Given as goal
 
 -- the steps of the windows so far are balanced

@@ -1,7 +1,4 @@
-use Rattle.std.proofs.Common.{◌≡◌, ◌+◌, ◌<◌, length, arith}
-use Rattle.asg_proof.specs.Phases.{entered_at, staying_at}
-use Rattle.asg_proof.specs.Steps.{count_below}
-use Rattle.asg_admit.specs.laws.AdmissionLemmas.{never}
+use Rattle.asg_admit.proofs.Common.{◌≡◌, ◌+◌, ◌<◌, length, arith, never, entered_at, staying_at, count_below}
 use Rattle.asg_admit.proofs.CountLemmas.{counted_by_balance, balance_by_counts}
 use Rattle.asg_admit.proofs.counting.are_counted.Goals as goal
 

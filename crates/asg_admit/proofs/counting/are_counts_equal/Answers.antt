@@ -1,7 +1,4 @@
-use Rattle.std.proofs.Common.{◌≡◌, ℕ, ◌+◌, ◌<◌, length, sym, ◌∙◌, arith, below_more}
-use Rattle.asg_proof.specs.Steps.{count_below}
-use Rattle.asg_admit.specs.Admission.{has_mark}
-use Rattle.asg_admit.specs.laws.AdmissionLemmas.{never}
+use Rattle.asg_admit.proofs.Common.{◌≡◌, ℕ, ◌+◌, ◌<◌, length, sym, ◌∙◌, arith, below_more, has_mark, never, count_below}
 use Rattle.asg_admit.proofs.counting.are_counts_equal.Goals as goal
 
 pub loop-i-preserved : goal.loop-i-preserved

@@ -1,4 +1,4 @@
-use Rattle.asg_admit.specs.Admission.{AreBalanced}
+use Rattle.asg_admit.proofs.Common.{AreBalanced}
 use Rattle.asg_admit.proofs.counting.are_counts_equal.Given as goal
 
 -- the steps so far are balanced

@@ -1,4 +1,4 @@
-use Rattle.std.proofs.lemmas.List.{get_or-replicate}
+use Rattle.asg_admit.proofs.Common.{get_or-replicate}
 use Rattle.asg_admit.proofs.counting.are_few_balanced.Goals as goal
 
 pub are_counts_equal-requires-clause-clear_rows : goal.are_counts_equal-requires-clause-clear_rows

@@ -1,7 +1,4 @@
-use Rattle.std.proofs.Common.{◌+◌, cond, eqb, sym, ◌∙◌, ap, refl, arith}
-use Rattle.std.specs.Prelude.{slice_index}
-use Rattle.asg_admit.specs.Admission.{has_mark}
-use Rattle.asg_proof.specs.laws.CountsBelow.{count_below-more}
+use Rattle.asg_admit.proofs.Common.{◌+◌, cond, eqb, slice_index, sym, refl, ap, ◌∙◌, arith, has_mark, count_below-more}
 use Rattle.asg_admit.proofs.CountLemmas.{count_few}
 use Rattle.asg_admit.proofs.counting.count_marks.Goals as goal
 

@@ -1,7 +1,4 @@
-use Rattle.std.proofs.Common.{◌≡◌, ℕ, ◌+◌, ◌<◌, length}
-use Rattle.std.specs.Prelude.{slice_index}
-use Rattle.asg_proof.specs.Steps.{count_below}
-use Rattle.asg_admit.specs.Admission.{has_mark}
+use Rattle.asg_admit.proofs.Common.{◌≡◌, ℕ, ◌+◌, ◌<◌, length, slice_index, has_mark, count_below}
 use Rattle.asg_admit.proofs.counting.count_marks.Given as goal
 
 -- the marks so far are counted

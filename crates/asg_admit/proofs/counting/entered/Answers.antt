@@ -1,8 +1,4 @@
-use Rattle.std.proofs.Common.{◌∙◌, arith}
-use Rattle.std.proofs.lemmas.Bool.{le-leb, lt-leb}
-use Rattle.std.specs.Prelude.{slice_index}
-use Rattle.asg_proof.specs.Phases.{entered_at}
-use Rattle.asg_proof.specs.laws.CountsBelow.{count_below-yes, count_below-no}
+use Rattle.asg_admit.proofs.Common.{slice_index, ◌∙◌, arith, le-leb, lt-leb, entered_at, count_below-yes, count_below-no}
 use Rattle.asg_admit.proofs.counting.entered.Goals as goal
 use Rattle.asg_admit.proofs.counting.entered.Goals.{then-enters-r, else-enters-r}
 

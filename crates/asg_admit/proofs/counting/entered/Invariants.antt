@@ -1,6 +1,4 @@
-use Rattle.std.proofs.Common.{◌≡◌, ◌≤◌}
-use Rattle.asg_proof.specs.Phases.{entered_at}
-use Rattle.asg_proof.specs.Steps.{count_below}
+use Rattle.asg_admit.proofs.Common.{◌≡◌, ◌≤◌, entered_at, count_below}
 use Rattle.asg_admit.proofs.counting.entered.Given as goal
 
 -- the rows so far are counted

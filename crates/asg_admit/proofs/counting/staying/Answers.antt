@@ -1,8 +1,4 @@
-use Rattle.std.proofs.Common.{◌∙◌, arith}
-use Rattle.std.proofs.lemmas.Bool.{lt-ltb, le-ltb}
-use Rattle.std.specs.Prelude.{slice_index}
-use Rattle.asg_proof.specs.Phases.{staying_at}
-use Rattle.asg_proof.specs.laws.CountsBelow.{count_below-yes, count_below-no}
+use Rattle.asg_admit.proofs.Common.{slice_index, ◌∙◌, arith, le-ltb, lt-ltb, staying_at, count_below-yes, count_below-no}
 use Rattle.asg_admit.proofs.counting.staying.Goals as goal
 use Rattle.asg_admit.proofs.counting.staying.Goals.{then-t-leaves, else-t-leaves}
 

@@ -1,6 +1,4 @@
-use Rattle.std.proofs.Common.{◌≡◌, ◌≤◌}
-use Rattle.asg_proof.specs.Phases.{staying_at}
-use Rattle.asg_proof.specs.Steps.{count_below}
+use Rattle.asg_admit.proofs.Common.{◌≡◌, ◌≤◌, staying_at, count_below}
 use Rattle.asg_admit.proofs.counting.staying.Given as goal
 
 -- the columns so far are counted

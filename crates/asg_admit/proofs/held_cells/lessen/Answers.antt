@@ -1,7 +1,4 @@
-use Rattle.std.proofs.Common.{◌≡◌, ◌<◌, refl, sym, ◌∙◌, ap, subst, arith, ⊎_elim}
-use Rattle.std.specs.Option.{option_map}
-use Rattle.std.proofs.lemmas.Bool.{cases_lt}
-use Rattle.asg_admit.specs.LeastCells.{held_at}
+use Rattle.asg_admit.proofs.Common.{◌≡◌, ◌<◌, option_map, sym, refl, ap, ◌∙◌, subst, ⊎_elim, arith, cases_lt, held_at}
 use Rattle.asg_admit.proofs.held_cells.lessen.Goals as goal
 
 pub loop-place-init : goal.loop-place-init

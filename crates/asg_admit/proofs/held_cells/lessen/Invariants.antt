@@ -1,6 +1,4 @@
-use Rattle.std.proofs.Common.{◌≡◌, ℕ, ◌≤◌, ◌<◌, length}
-use Rattle.std.specs.Option.{option_map}
-use Rattle.asg_admit.specs.LeastCells.{held_at}
+use Rattle.asg_admit.proofs.Common.{◌≡◌, ℕ, ◌<◌, ◌≤◌, length, option_map, held_at}
 use Rattle.asg_admit.proofs.held_cells.lessen.Given as goal
 
 -- what is held at the places so far was lessened

@@ -1,4 +1,4 @@
-use Rattle.std.proofs.Common.{refl}
+use Rattle.asg_admit.proofs.Common.{refl}
 use Rattle.asg_admit.proofs.AllowingLemmas.{allows_all}
 use Rattle.asg_admit.proofs.lesser_cells.allowing.Goals as goal
 

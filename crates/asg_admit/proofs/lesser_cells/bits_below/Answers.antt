@@ -1,11 +1,5 @@
-use Rattle.std.proofs.Common.{◌≡◌, ◌+◌, ◌<◌, ⊎_elim, not, get_or, sym, ap, ◌∙◌, arith}
-use Rattle.std.specs.Prelude.{Some}
-use Rattle.std.specs.Int.{bit_at}
-use Rattle.std.proofs.Math.Facts.{Fits-lt-pow}
-use Rattle.std.proofs.lemmas.Bool.{cases_eq}
-use Rattle.std.proofs.lemmas.Option.{slice_get-get_or, get_or_from_slice_get}
+use Rattle.asg_admit.proofs.Common.{◌≡◌, ◌+◌, ◌<◌, not, get_or, Some, sym, ap, ◌∙◌, ⊎_elim, arith, Fits-lt-pow, bit_at, cases_eq, get_or_from_slice_get, slice_get-get_or, next_bit, next_has, next_kept, next_smaller}
 use Rattle.asg_admit.proofs.AllowingLemmas.{not_false}
-use Rattle.asg_admit.specs.laws.WordBits.{next_bit, next_has, next_kept, next_smaller}
 use Rattle.asg_admit.proofs.lesser_cells.bits_below.Goals as goal
 
 pub offset_bounds-values-column : goal.offset_bounds-values-column

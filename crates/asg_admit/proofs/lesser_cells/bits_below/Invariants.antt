@@ -1,7 +1,4 @@
-use Rattle.std.proofs.Common.{◌≡◌, ℕ, ◌+◌}
-use Rattle.std.specs.Prelude.{Some, slice_get}
-use Rattle.asg_order.specs.Monoid.{IsLe}
-use Rattle.asg_admit.specs.laws.WordBits.{HasBit}
+use Rattle.asg_admit.proofs.Common.{◌≡◌, ℕ, ◌+◌, slice_get, Some, HasBit, IsLe}
 use Rattle.asg_admit.proofs.lesser_cells.bits_below.Given as goal
 
 -- the bits that are left are the word's, and of its bits none whose value is less is gone

@@ -1,8 +1,4 @@
-use Rattle.std.proofs.Common.{⊎_elim, ◌∙◌, w64}
-use Rattle.std.proofs.lemmas.Bool.{cases_eq}
-use Rattle.std.proofs.lemmas.Nat.Bits.{bit_at_clear_other}
-use Rattle.asg_admit.specs.laws.AdmissionLemmas.{not_both}
-use Rattle.asg_admit.specs.laws.WordBits.{HasBit-without, bit_below}
+use Rattle.asg_admit.proofs.Common.{◌∙◌, ⊎_elim, w64, bit_at_clear_other, cases_eq, not_both, HasBit-without, bit_below}
 use Rattle.asg_admit.proofs.lesser_cells.kept.Goals as goal
 
 pub returns-else-is_kept-clause-inside : goal.returns-else-is_kept-clause-inside

@@ -1,6 +1,4 @@
-use Rattle.std.proofs.Common.{sym, ◌∙◌, arith}
-use Rattle.asg_admit.specs.Settled.{step_of}
-use Rattle.asg_admit.specs.laws.SettledCells.{between-none}
+use Rattle.asg_admit.proofs.Common.{sym, ◌∙◌, arith, step_of, between-none}
 use Rattle.asg_admit.proofs.products.product_of.Goals as goal
 
 pub loop-t-init : goal.loop-t-init

@@ -1,6 +1,4 @@
-use Rattle.std.proofs.Common.{◌≡◌}
-use Rattle.asg_order.specs.Monoid.{IsValue}
-use Rattle.asg_admit.specs.Settled.{between, step_of}
+use Rattle.asg_admit.proofs.Common.{◌≡◌, between, step_of, IsValue}
 use Rattle.asg_admit.proofs.products.product_of.Given as goal
 
 -- the product of the steps so far

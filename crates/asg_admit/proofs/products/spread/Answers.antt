@@ -1,7 +1,4 @@
-use Rattle.std.proofs.Common.{◌+◌, ◌-◌, sym, ◌∙◌, subst, arith}
-use Rattle.std.proofs.lemmas.List.{length-set, get_or_read, get_or-set_other}
-use Rattle.asg_order.specs.Monoid.{IsValue}
-use Rattle.asg_admit.specs.laws.ProductLemmas.{range_value, products_start, products_ahead, products_behind}
+use Rattle.asg_admit.proofs.Common.{◌+◌, ◌-◌, sym, ◌∙◌, subst, arith, length-set, get_or-set_other, get_or_read, range_value, products_start, products_ahead, products_behind, IsValue}
 use Rattle.asg_admit.proofs.products.spread.Goals as goal
 
 pub loop-ahead-init : goal.loop-ahead-init

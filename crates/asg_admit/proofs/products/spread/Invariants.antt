@@ -1,6 +1,4 @@
-use Rattle.std.proofs.Common.{◌≡◌, ℕ, ◌+◌, ◌≤◌, length}
-use Rattle.std.specs.Prelude.{slice_index_or}
-use Rattle.asg_admit.specs.Settled.{between, step_of}
+use Rattle.asg_admit.proofs.Common.{◌≡◌, ℕ, ◌+◌, ◌≤◌, length, slice_index_or, between, step_of}
 use Rattle.asg_admit.proofs.products.spread.Given as goal
 
 -- the products ahead so far

@@ -1,6 +1,4 @@
-use Rattle.std.proofs.Common.{◌≡◌, sym, ◌∙◌, ap, arith}
-use Rattle.asg_admit.specs.Settled.{step_of, cell_after}
-use Rattle.asg_admit.specs.laws.SettledCells.{cell_after-before, cell_after-late}
+use Rattle.asg_admit.proofs.Common.{◌≡◌, sym, ap, ◌∙◌, arith, step_of, cell_after, cell_after-before, cell_after-late}
 use Rattle.asg_admit.proofs.replayed_cells.lessened.Goals as goal
 
 pub loop-t-init : goal.loop-t-init

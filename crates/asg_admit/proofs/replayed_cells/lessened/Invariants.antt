@@ -1,6 +1,4 @@
-use Rattle.std.proofs.Common.{◌≡◌, ℕ, ◌≤◌, ◌<◌}
-use Rattle.asg_order.specs.Monoid.{IsValue, IsLe}
-use Rattle.asg_admit.specs.Settled.{cell_after, step_of}
+use Rattle.asg_admit.proofs.Common.{◌≡◌, ℕ, ◌<◌, ◌≤◌, cell_after, step_of, IsValue, IsLe}
 use Rattle.asg_admit.proofs.replayed_cells.lessened.Given as goal
 
 -- the cell after the steps so far, each of which it allowed

@@ -1,4 +1,4 @@
-use Rattle.std.proofs.Common.{◌∙◌}
+use Rattle.asg_admit.proofs.Common.{◌∙◌}
 use Rattle.asg_admit.specs.laws.ReplayLemmas.{if_some, cut_settled, allows_cut, refuses_cut}
 use Rattle.asg_admit.proofs.replayed_cells.replay_cell.Goals as goal
 

@@ -1,5 +1,4 @@
-use Rattle.std.proofs.Common.{arith}
-use Rattle.asg_admit.specs.laws.ProductLemmas.{across_value, settled_inside, settled_outside}
+use Rattle.asg_admit.proofs.Common.{arith, across_value, settled_inside, settled_outside}
 use Rattle.asg_admit.proofs.replayed_cells.settled_value.Goals as goal
 
 pub diff-requires-clause-from : goal.diff-requires-clause-from

@@ -1,5 +1,4 @@
-use Rattle.std.proofs.Common.{◌∙◌, ap}
-use Rattle.asg_admit.specs.Reduced.{phase_of}
+use Rattle.asg_admit.proofs.Common.{ap, ◌∙◌, phase_of}
 use Rattle.asg_admit.specs.laws.SettleLemmas.{phase_by}
 use Rattle.asg_admit.proofs.replaying.apply.Goals as goal
 

@@ -1,7 +1,4 @@
-use Rattle.std.proofs.Common.{◌≡◌, length, sym, ◌∙◌, subst, arith}
-use Rattle.std.proofs.lemmas.List.{get_or_read}
-use Rattle.asg_order.specs.Monoid.{IsValue}
-use Rattle.asg_admit.specs.Reduced.{phase_of}
+use Rattle.asg_admit.proofs.Common.{◌≡◌, length, sym, ◌∙◌, subst, arith, get_or_read, phase_of, IsValue}
 use Rattle.asg_admit.proofs.SteppedLemmas.{no_steps, one_step, stepped_values, all_steps}
 use Rattle.asg_admit.proofs.replaying.take_steps.Goals as goal
 

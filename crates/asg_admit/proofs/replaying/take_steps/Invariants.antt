@@ -1,4 +1,4 @@
-use Rattle.asg_admit.specs.Reduced.{phase_of}
+use Rattle.asg_admit.proofs.Common.{phase_of}
 use Rattle.asg_admit.proofs.SteppedLemmas.{StepsTo}
 use Rattle.asg_admit.proofs.replaying.take_steps.Given as goal
 

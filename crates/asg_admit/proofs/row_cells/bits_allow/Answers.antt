@@ -1,12 +1,4 @@
-use Rattle.std.proofs.Common.{◌≡◌, ◌+◌, ◌<◌, ⊎_elim, sym, ap, ◌∙◌, subst, arith}
-use Rattle.std.specs.Prelude.{Some, slice_get, slice_index}
-use Rattle.std.proofs.Math.Facts.{Fits-lt-pow}
-use Rattle.std.proofs.lemmas.Bool.{cases_eq}
-use Rattle.std.proofs.lemmas.Option.{slice_get-get_or}
-use Rattle.std.specs.Int.{bit_at}
-use Rattle.asg_admit.specs.Admission.{AllowsAt}
-use Rattle.asg_admit.specs.laws.AdmissionLemmas.{not_both, never}
-use Rattle.asg_admit.specs.laws.WordBits.{next_bit, next_has, next_below, next_kept, next_gone, next_smaller}
+use Rattle.asg_admit.proofs.Common.{◌≡◌, ◌+◌, ◌<◌, slice_get, slice_index, Some, sym, ap, ◌∙◌, subst, ⊎_elim, arith, Fits-lt-pow, bit_at, cases_eq, slice_get-get_or, AllowsAt, not_both, never, next_bit, next_has, next_below, next_kept, next_gone, next_smaller}
 use Rattle.asg_admit.proofs.row_cells.bits_allow.Goals as goal
 
 pub offset_bounds-values-column : goal.offset_bounds-values-column

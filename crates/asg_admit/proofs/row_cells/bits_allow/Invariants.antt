@@ -1,7 +1,4 @@
-use Rattle.std.proofs.Common.{ℕ, ◌+◌}
-use Rattle.std.specs.Prelude.{slice_get, slice_index}
-use Rattle.asg_admit.specs.Admission.{AllowsAt}
-use Rattle.asg_admit.specs.laws.WordBits.{HasBit}
+use Rattle.asg_admit.proofs.Common.{ℕ, ◌+◌, slice_get, slice_index, AllowsAt, HasBit}
 use Rattle.asg_admit.proofs.row_cells.bits_allow.Given as goal
 
 -- the bits that are left are the word's, and the cells of those that are left no more allow the

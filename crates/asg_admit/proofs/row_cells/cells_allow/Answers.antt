@@ -1,14 +1,7 @@
-use Rattle.std.proofs.Common.{◌≡◌, ℕ, ◌+◌, ◌*◌, ◌/◌, ◌%◌, ◌<◌, ◌≤◌, ⊎_elim, length, refl, sym, ◌∙◌, subst, arith}
-use Rattle.std.specs.Prelude.{slice_get, slice_index}
-use Rattle.std.specs.Int.{bit_at}
-use Rattle.std.proofs.lemmas.Bool.{cases_eq, cases_lt}
-use Rattle.std.proofs.Math.Facts.{Fits-lt-pow}
-use Rattle.asg_admit.specs.Admission.{AllowsAt, cell_in_row}
-use Rattle.asg_admit.specs.laws.AdmissionLemmas.{not_both, never}
+use Rattle.asg_admit.proofs.Common.{◌≡◌, ℕ, ◌+◌, ◌*◌, ◌/◌, ◌%◌, ◌<◌, ◌≤◌, length, slice_get, slice_index, sym, refl, ◌∙◌, subst, ⊎_elim, arith, Fits-lt-pow, bit_at, cases_eq, cases_lt, AllowsAt, cell_in_row, not_both, never, HasBit, bit_below}
 use Rattle.asg_admit.proofs.AllowingLemmas.{least_allows}
 use Rattle.asg_admit.proofs.MarkLemmas.{marked_at, bit_set, set_bit}
 use Rattle.asg_admit.proofs.RowCells.{cell_of_bit, bit_of_cell}
-use Rattle.asg_admit.specs.laws.WordBits.{HasBit, bit_below}
 use Rattle.asg_admit.proofs.row_cells.cells_allow.Goals as goal
 
 pub bits_to_test-word-requires-clause-first : goal.bits_to_test-word-requires-clause-first

@@ -1,7 +1,4 @@
-use Rattle.std.proofs.Common.{ℕ, ◌+◌, ◌*◌, ◌<◌}
-use Rattle.std.specs.Prelude.{slice_get, slice_index}
-use Rattle.asg_admit.specs.Admission.{AllowsAt}
-use Rattle.asg_admit.specs.laws.WordBits.{HasBit}
+use Rattle.asg_admit.proofs.Common.{ℕ, ◌+◌, ◌*◌, ◌<◌, slice_get, slice_index, AllowsAt, HasBit}
 use Rattle.asg_admit.proofs.row_cells.cells_allow.Given as goal
 
 -- the cells of the words so far allow the steps

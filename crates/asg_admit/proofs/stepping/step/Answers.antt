@@ -1,9 +1,5 @@
-use Rattle.std.proofs.Common.{◌≡◌, ◌<◌, sym, ◌∙◌, ap, subst}
-use Rattle.asg_proof.specs.Phases.{entered_at, staying_at}
-use Rattle.asg_proof.specs.Steps.{moved, stepped, assignment_fold}
+use Rattle.asg_admit.proofs.Common.{◌≡◌, ◌<◌, sym, ap, ◌∙◌, subst, everywhere, entered_at, staying_at, moved, stepped, assignment_fold, cell_at}
 use Rattle.asg_proof.specs.laws.Squares.{HasSide-cell_at}
-use Rattle.asg_square.specs.Grid.{cell_at}
-use Rattle.asg_admit.specs.laws.SquareLemmas.{everywhere}
 use Rattle.asg_admit.proofs.stepping.step.Goals as goal
 
 pub returns-clause-cells : goal.returns-clause-cells

@@ -1,12 +1,4 @@
-use Rattle.std.proofs.Common.{◌≡◌, Bool, true, false, not, refl, sym, ◌∙◌, ap, subst}
-use Rattle.std.specs.Prelude.{Some}
-use Rattle.std.specs.Option.{option_map}
-use Rattle.std.specs.Cmp.{booleans_Decides}
-use Rattle.std.proofs.Math.Bool.{beq}
-use Rattle.asg_proof.specs.Steps.{moved}
-use Rattle.asg_square.specs.Grid.{cell_at}
-use Rattle.asg_admit.specs.Settling.{IsWritten}
-use Rattle.asg_admit.specs.laws.SquareLemmas.{written}
+use Rattle.asg_admit.proofs.Common.{◌≡◌, Bool, true, false, not, Some, option_map, sym, refl, ap, ◌∙◌, subst, beq, booleans_Decides, IsWritten, written, moved, cell_at}
 use Rattle.asg_admit.proofs.stepping.step_cell.Goals as goal
 
 not_false : (b : Bool) → not b ≡ false → b ≡ true

@@ -1,9 +1,4 @@
-use Rattle.std.proofs.Common.{◌≡◌, ◌≢◌, ℕ, ◌≤◌, ◌<◌}
-use Rattle.std.specs.Option.{option_map}
-use Rattle.asg_proof.specs.Phases.{staying_at}
-use Rattle.asg_proof.specs.Steps.{moved}
-use Rattle.asg_square.specs.Grid.{cell_at}
-use Rattle.asg_admit.specs.Reduced.{KeepsLabels}
+use Rattle.asg_admit.proofs.Common.{◌≡◌, ℕ, ◌<◌, ◌≤◌, ◌≢◌, option_map, KeepsLabels, staying_at, moved, cell_at}
 use Rattle.asg_admit.proofs.stepping.step_row.Given as goal
 
 -- the cells so far are stepped, and the others stand

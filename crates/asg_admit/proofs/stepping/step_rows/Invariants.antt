@@ -1,8 +1,4 @@
-use Rattle.std.proofs.Common.{◌≡◌, ℕ, ◌≤◌, ◌<◌}
-use Rattle.asg_proof.specs.Phases.{entered_at, staying_at}
-use Rattle.asg_proof.specs.Steps.{stepped}
-use Rattle.asg_square.specs.Grid.{cell_at}
-use Rattle.asg_admit.specs.Reduced.{KeepsLabels}
+use Rattle.asg_admit.proofs.Common.{◌≡◌, ℕ, ◌<◌, ◌≤◌, KeepsLabels, entered_at, staying_at, stepped, cell_at}
 use Rattle.asg_admit.proofs.stepping.step_rows.Given as goal
 
 -- the rows so far are stepped, and the others stand

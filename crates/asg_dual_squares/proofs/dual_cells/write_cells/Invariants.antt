@@ -1,9 +1,4 @@
-use Rattle.std.proofs.Common.{◌≡◌, ℕ, ◌≤◌, ◌<◌}
-use Rattle.std.specs.Prelude.{slice_index}
-use Rattle.std.specs.Option.{option_map}
-use Rattle.asg_square.specs.Grid.{cell_at}
-use Rattle.asg_phase_totals.specs.Duals.{dual_value}
-use Rattle.asg_admit.specs.Reduced.{KeepsLabels}
+use Rattle.asg_dual_squares.proofs.Common.{◌≡◌, ℕ, ◌<◌, ◌≤◌, slice_index, option_map, KeepsLabels, dual_value, cell_at}
 use Rattle.asg_dual_squares.proofs.dual_cells.write_cells.Given as goal
 
 -- the rows so far are written, and the others stand

@@ -1,6 +1,4 @@
-use Rattle.std.proofs.Common.{arith}
-use Rattle.asg_square.specs.Grid.{cell_at}
-use Rattle.asg_phase_totals.specs.laws.PresentLemmas.{present_is, column_within}
+use Rattle.asg_dual_squares.proofs.Common.{arith, present_is, column_within, cell_at}
 use Rattle.asg_dual_squares.proofs.dual_cells.write_row.Goals as goal
 
 pub map_row-requires-clause-changes : goal.map_row-requires-clause-changes

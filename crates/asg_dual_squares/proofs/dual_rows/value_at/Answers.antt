@@ -1,6 +1,4 @@
-use Rattle.std.proofs.Common.{◌+◌, ◌-◌, ◌%◌, sym, ◌∙◌, ap, arith}
-use Rattle.std.specs.Prelude.{slice_index}
-use Rattle.asg_phase_totals.specs.laws.NumberLemmas.{read_is}
+use Rattle.asg_dual_squares.proofs.Common.{◌+◌, ◌-◌, ◌%◌, slice_index, sym, ap, ◌∙◌, arith, read_is}
 use Rattle.asg_dual_squares.proofs.dual_rows.value_at.Goals as goal
 
 pub returns : goal.returns

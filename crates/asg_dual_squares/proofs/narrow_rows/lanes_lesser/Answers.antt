@@ -1,5 +1,4 @@
-use Rattle.std.proofs.Common.{◌<◌, ◌^◌, sym, subst}
-use Rattle.asg_dual_squares.specs.NarrowRows.{AreLesserBits}
+use Rattle.asg_dual_squares.proofs.Common.{◌^◌, ◌<◌, sym, subst, AreLesserBits}
 use Rattle.asg_dual_squares.proofs.LesserLemmas.{word_is, lanes_bits, lanes_few}
 use Rattle.asg_dual_squares.proofs.narrow_rows.lanes_lesser.Goals as goal
 

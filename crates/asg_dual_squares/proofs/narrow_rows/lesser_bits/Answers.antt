@@ -1,4 +1,4 @@
-use Rattle.std.proofs.Common.{arith}
+use Rattle.asg_dual_squares.proofs.Common.{arith}
 use Rattle.asg_dual_squares.proofs.LesserLemmas.{joined}
 use Rattle.asg_dual_squares.proofs.narrow_rows.lesser_bits.Goals as goal
 

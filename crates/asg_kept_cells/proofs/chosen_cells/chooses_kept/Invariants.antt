@@ -1,6 +1,4 @@
-use Rattle.std.proofs.Common.{ℕ, ◌<◌}
-use Rattle.asg_model.specs.ValidChoice.{Chooses}
-use Rattle.asg_kept_cells.specs.Kept.{HasKept}
+use Rattle.asg_kept_cells.proofs.Common.{ℕ, ◌<◌, HasKept, Chooses}
 use Rattle.asg_kept_cells.proofs.chosen_cells.chooses_kept.Given as goal
 
 -- each row so far has a kept cell in its column

@@ -1,6 +1,4 @@
-use Rattle.std.proofs.Common.{◌≡◌, ℕ, ◌<◌, true, Some, None, is_some, get_or}
-use Rattle.asg_square.specs.Grid.{cell_at}
-use Rattle.asg_square.specs.Masked.{masked_grid}
+use Rattle.asg_kept_cells.proofs.Common.{◌≡◌, ℕ, ◌<◌, true, get_or, is_some, Some, None, cell_at, masked_grid}
 use Rattle.asg_kept_cells.proofs.chosen_cells.has_kept.Given as goal
 
 -- no column so far is a copy with a kept cell

@@ -1,8 +1,4 @@
-use Rattle.std.proofs.Common.{◌≡◌, true, false, cond, None, sym, ap, ◌∙◌}
-use Rattle.asg_square.specs.Grid.{cell_at}
-use Rattle.asg_square.specs.Masked.{keeps}
-use Rattle.asg_square.specs.laws.Masks.{cell_at-masked, kept_some}
-use Rattle.asg_kept_cells.specs.laws.KeptSquares.{keeps-bit}
+use Rattle.asg_kept_cells.proofs.Common.{◌≡◌, true, false, cond, None, sym, ap, ◌∙◌, keeps-bit, cell_at, keeps, cell_at-masked, kept_some}
 use Rattle.asg_kept_cells.proofs.chosen_cells.kept_cell.Goals as goal
 
 pub returns-then-not-has : goal.returns-then-not-has

@@ -1,5 +1,4 @@
-use Rattle.std.proofs.Common.{sym, subst}
-use Rattle.asg_kept_cells.specs.Copies.{AreCopies}
+use Rattle.asg_kept_cells.proofs.Common.{sym, subst, AreCopies}
 use Rattle.asg_kept_cells.proofs.CopyLemmas.{copies_none}
 use Rattle.asg_kept_cells.proofs.copies.copies_of.Goals as goal
 

@@ -1,6 +1,4 @@
-use Rattle.std.proofs.Common.{List, length, None, get_or, sym, ap, ◌∙◌}
-use Rattle.asg_model.specs.declared.parts.Column.{Column}
-use Rattle.asg_kept_cells.specs.Copies.{is_before}
+use Rattle.asg_kept_cells.proofs.Common.{List, length, get_or, None, sym, ap, ◌∙◌, is_before, Column}
 use Rattle.asg_kept_cells.proofs.CopyLemmas.{in_order, labels_before_all}
 use Rattle.asg_kept_cells.proofs.copies.copy_count.Goals as goal
 

@@ -1,8 +1,4 @@
-use Rattle.std.proofs.Common.{◌+◌, ◌-◌, ◌/◌, ◌<◌, ◌≤◌, None, sym, ap, ◌∙◌, arith, ⊎_elim}
-use Rattle.std.proofs.lemmas.Bool.{cases_lt, le-ltb, lt-ltb}
-use Rattle.std.proofs.lemmas.List.{get_or_past}
-use Rattle.std.proofs.lemmas.Option.{get_or_from_slice_get}
-use Rattle.asg_kept_cells.specs.Copies.{is_before}
+use Rattle.asg_kept_cells.proofs.Common.{◌+◌, ◌-◌, ◌/◌, ◌<◌, ◌≤◌, None, sym, ap, ◌∙◌, ⊎_elim, arith, le-ltb, lt-ltb, cases_lt, get_or_from_slice_get, get_or_past, is_before}
 use Rattle.asg_kept_cells.proofs.CopyLemmas.{all_before, none_after}
 use Rattle.asg_kept_cells.proofs.copies.labels_before.Goals as goal
 

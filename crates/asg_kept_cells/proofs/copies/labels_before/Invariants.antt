@@ -1,5 +1,4 @@
-use Rattle.std.proofs.Common.{◌≡◌, ℕ, ◌-◌, ◌<◌, ◌≤◌, true, false, None, get_or}
-use Rattle.asg_kept_cells.specs.Copies.{is_before}
+use Rattle.asg_kept_cells.proofs.Common.{◌≡◌, ℕ, ◌-◌, ◌<◌, ◌≤◌, true, false, get_or, None, is_before}
 use Rattle.asg_kept_cells.proofs.copies.labels_before.Given as goal
 
 -- the columns before the lower bound have a label before the place, and those from the upper one on

@@ -1,4 +1,4 @@
-use Rattle.std.proofs.Common.{◌≢◌, ℕ, ◌<◌, get_or}
+use Rattle.asg_kept_cells.proofs.Common.{ℕ, ◌<◌, ◌≢◌, get_or}
 use Rattle.asg_kept_cells.proofs.hall_tests.is_fresh.Given as goal
 
 -- none so far is that at the place

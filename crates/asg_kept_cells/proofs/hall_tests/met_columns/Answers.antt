@@ -1,7 +1,4 @@
-use Rattle.std.proofs.Common.{◌≡◌, ℕ, ◌≤◌, ◌%◌, Bool, true, false, arith}
-use Rattle.asg_model.specs.Sums.{one}
-use Rattle.asg_square.specs.BitTable.{is_bit_set}
-use Rattle.asg_kept_cells.specs.Kept.{kept_cells}
+use Rattle.asg_kept_cells.proofs.Common.{◌≡◌, ℕ, ◌%◌, ◌≤◌, Bool, true, false, arith, is_bit_set, kept_cells, one}
 use Rattle.asg_kept_cells.proofs.MetColumns.{met_counted, met_next}
 use Rattle.asg_kept_cells.proofs.hall_tests.met_columns.Goals as goal
 

@@ -1,8 +1,4 @@
-use Rattle.std.proofs.Common.{◌≡◌, ◌≢◌, ◌≤◌, ◌/◌, ◌%◌}
-use Rattle.std.specs.List.{list_any}
-use Rattle.asg_model.specs.Sums.{count_below}
-use Rattle.asg_kept_cells.specs.Halls.{AreMetIn}
-use Rattle.asg_kept_cells.specs.Kept.{kept_cells}
+use Rattle.asg_kept_cells.proofs.Common.{◌≡◌, ◌/◌, ◌%◌, ◌≤◌, ◌≢◌, list_any, AreMetIn, kept_cells, count_below}
 use Rattle.asg_kept_cells.proofs.hall_tests.met_columns.Given as goal
 
 -- the columns so far are counted, and the word of the last one is known

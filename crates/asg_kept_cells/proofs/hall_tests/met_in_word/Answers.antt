@@ -1,7 +1,4 @@
-use Rattle.std.proofs.Common.{get_or, ap, refl}
-use Rattle.std.proofs.lemmas.Nat.Bits.{bit_at-zero}
-use Rattle.std.specs.Prelude.{◌==◌}
-use Rattle.asg_kept_cells.specs.Kept.{kept_cells}
+use Rattle.asg_kept_cells.proofs.Common.{get_or, ◌==◌, refl, ap, bit_at-zero, kept_cells}
 use Rattle.asg_kept_cells.proofs.MetColumns.{met_more}
 use Rattle.asg_kept_cells.proofs.hall_tests.met_in_word.Goals as goal
 

@@ -1,6 +1,4 @@
-use Rattle.std.proofs.Common.{take}
-use Rattle.asg_kept_cells.specs.Halls.{AreMetIn}
-use Rattle.asg_kept_cells.specs.Kept.{kept_cells}
+use Rattle.asg_kept_cells.proofs.Common.{take, AreMetIn, kept_cells}
 use Rattle.asg_kept_cells.proofs.hall_tests.met_in_word.Given as goal
 
 -- the columns that the rows so far meet

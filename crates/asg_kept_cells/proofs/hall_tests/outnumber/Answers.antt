@@ -1,8 +1,4 @@
-use Rattle.std.proofs.Common.{List, ℕ, ap, ◌∙◌, arith}
-use Rattle.std.specs.List.{list_any}
-use Rattle.std.proofs.lemmas.Bool.{lt-ltb, ltb-true}
-use Rattle.asg_model.specs.Sums.{count_below}
-use Rattle.asg_kept_cells.specs.Kept.{kept_cells}
+use Rattle.asg_kept_cells.proofs.Common.{ℕ, List, ap, ◌∙◌, arith, ltb-true, lt-ltb, list_any, kept_cells, count_below}
 use Rattle.asg_kept_cells.proofs.HallLemmas.{outnumber_from, outnumber_to}
 use Rattle.asg_kept_cells.proofs.hall_tests.outnumber.Goals as goal
 

@@ -1,9 +1,4 @@
-use Rattle.std.proofs.Common.{◌+◌, get_or, take, sym, subst, ◌∙◌}
-use Rattle.std.specs.Prelude.{IsTrue}
-use Rattle.std.proofs.lemmas.Bool.{false≢true}
-use Rattle.std.proofs.lemmas.List.Elements.{All-get_or}
-use Rattle.asg_model.specs.HallSet.{is_counted_id, row_place_of}
-use Rattle.asg_kept_cells.specs.Halls.{AreRowsOf}
+use Rattle.asg_kept_cells.proofs.Common.{◌+◌, get_or, take, IsTrue, sym, ◌∙◌, subst, All-get_or, false≢true, AreRowsOf, is_counted_id, row_place_of}
 use Rattle.asg_kept_cells.proofs.HallLemmas.{rows_more, uncounted_id}
 use Rattle.asg_kept_cells.proofs.hall_tests.rows_of.Goals as goal
 

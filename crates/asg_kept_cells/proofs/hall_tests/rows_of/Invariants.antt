@@ -1,5 +1,4 @@
-use Rattle.std.proofs.Common.{take}
-use Rattle.asg_kept_cells.specs.Halls.{AreRowsOf}
+use Rattle.asg_kept_cells.proofs.Common.{take, AreRowsOf}
 use Rattle.asg_kept_cells.proofs.hall_tests.rows_of.Given as goal
 
 -- the rows so far

@@ -1,9 +1,4 @@
-use Rattle.std.proofs.Common.{◌≡◌, ◌≢◌, false, List, map, sym, subst, ap, ◌∙◌}
-use Rattle.std.specs.Prelude.{All}
-use Rattle.asg_order.specs.Monoid.{IsValue}
-use Rattle.asg_proof.specs.Phases.{phase_of}
-use Rattle.asg_square.specs.Grid.{cell_at}
-use Rattle.asg_replays.specs.laws.Replaying.{phase-words}
+use Rattle.asg_kept_cells.proofs.Common.{◌≡◌, false, ◌≢◌, List, map, All, sym, ap, ◌∙◌, subst, IsValue, phase_of, phase-words, cell_at}
 use Rattle.asg_kept_cells.proofs.LeadLemmas.{is_read, read_phase}
 use Rattle.asg_kept_cells.proofs.leading.settle_phase.Goals as goal
 

@@ -1,8 +1,4 @@
-use Rattle.std.proofs.Common.{◌≡◌, take, sym, subst, arith}
-use Rattle.std.proofs.lemmas.List.{take_all}
-use Rattle.asg_square.specs.Grid.{cell_at}
-use Rattle.asg_replays.specs.Replays.{AreReplayed, IsAdmittedFrom, IsReplayed}
-use Rattle.asg_replays.specs.laws.Replaying.{replayed-none, replayed-push}
+use Rattle.asg_kept_cells.proofs.Common.{◌≡◌, take, sym, subst, arith, take_all, AreReplayed, IsAdmittedFrom, IsReplayed, replayed-none, replayed-push, cell_at}
 use Rattle.asg_kept_cells.proofs.LeadLemmas.{next_admitted}
 use Rattle.asg_kept_cells.proofs.leading.settle_phases.Goals as goal
 

@@ -1,5 +1,4 @@
-use Rattle.std.proofs.Common.{take}
-use Rattle.asg_replays.specs.Replays.{AreReplayed}
+use Rattle.asg_kept_cells.proofs.Common.{take, AreReplayed}
 use Rattle.asg_kept_cells.proofs.leading.settle_phases.Given as goal
 
 -- the phases so far lead to the square as it is

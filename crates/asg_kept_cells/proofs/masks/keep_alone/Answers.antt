@@ -1,5 +1,4 @@
-use Rattle.std.proofs.Common.{true, subst}
-use Rattle.asg_square.specs.BitTable.{PutsColumns}
+use Rattle.asg_kept_cells.proofs.Common.{true, subst, PutsColumns}
 use Rattle.asg_kept_cells.proofs.CopyLemmas.{in_order}
 use Rattle.asg_kept_cells.proofs.KeptRows.{alone_kept}
 use Rattle.asg_kept_cells.proofs.masks.keep_alone.Goals as goal

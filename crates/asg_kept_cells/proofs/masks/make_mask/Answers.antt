@@ -1,4 +1,4 @@
-use Rattle.std.proofs.Common.{arith}
+use Rattle.asg_kept_cells.proofs.Common.{arith}
 use Rattle.asg_kept_cells.proofs.MaskLemmas.{mask_made}
 use Rattle.asg_kept_cells.proofs.masks.make_mask.Goals as goal
 

@@ -1,7 +1,4 @@
-use Rattle.std.proofs.Common.{◌+◌, None, sym, ap, arith}
-use Rattle.std.proofs.lemmas.Option.{get_or_from_slice_get}
-use Rattle.asg_model.specs.Live.{is_active}
-use Rattle.asg_kept_cells.specs.Kept.{IsNumbered}
+use Rattle.asg_kept_cells.proofs.Common.{◌+◌, None, sym, ap, arith, get_or_from_slice_get, IsNumbered, is_active}
 use Rattle.asg_kept_cells.proofs.MaskLemmas.{active_read, count_few, count_up, marked_row}
 use Rattle.asg_kept_cells.proofs.masks.mark_active.Goals as goal
 

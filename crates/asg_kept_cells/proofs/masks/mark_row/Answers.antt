@@ -1,6 +1,4 @@
-use Rattle.std.proofs.Common.{true}
-use Rattle.asg_kept_cells.specs.Copies.{keeps_alone, keeps_others}
-use Rattle.asg_kept_cells.specs.Kept.{keeps_label}
+use Rattle.asg_kept_cells.proofs.Common.{true, keeps_alone, keeps_others, keeps_label}
 use Rattle.asg_kept_cells.proofs.CopyLemmas.{in_order}
 use Rattle.asg_kept_cells.proofs.KeptRows.{label_after, label_alone, label_lost, marks_alike}
 use Rattle.asg_kept_cells.proofs.masks.mark_row.Goals as goal

@@ -1,4 +1,4 @@
-use Rattle.std.proofs.Common.{arith}
+use Rattle.asg_kept_cells.proofs.Common.{arith}
 use Rattle.asg_kept_cells.proofs.MaskLemmas.{rows_apart, rows_done, rows_more}
 use Rattle.asg_kept_cells.proofs.masks.mark_rows.Goals as goal
 

@@ -1,7 +1,4 @@
-use Rattle.std.proofs.Common.{◌≡◌}
-use Rattle.asg_model.specs.Live.{is_active}
-use Rattle.asg_model.specs.Sums.{count_below}
-use Rattle.asg_kept_cells.specs.Kept.{IsFront, MarksRows}
+use Rattle.asg_kept_cells.proofs.Common.{◌≡◌, IsFront, MarksRows, is_active, count_below}
 use Rattle.asg_kept_cells.proofs.masks.mark_rows.Given as goal
 
 -- the rows so far are marked

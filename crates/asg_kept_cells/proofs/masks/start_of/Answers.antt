@@ -1,4 +1,4 @@
-use Rattle.std.proofs.Common.{arith}
+use Rattle.asg_kept_cells.proofs.Common.{arith}
 use Rattle.asg_kept_cells.proofs.MaskLemmas.{front_apart}
 use Rattle.asg_kept_cells.proofs.masks.start_of.Goals as goal
 

@@ -1,7 +1,4 @@
-use Rattle.std.proofs.Common.{◌≡◌, ℕ, subst}
-use Rattle.asg_square.specs.Grid.{cell_at}
-use Rattle.asg_square.specs.Masked.{masked_grid}
-use Rattle.asg_admit.specs.Reduced.{KeepsLabels}
+use Rattle.asg_kept_cells.proofs.Common.{◌≡◌, ℕ, subst, KeepsLabels, cell_at, masked_grid}
 use Rattle.asg_kept_cells.proofs.OwnPhases.{index_bad, index_led, taken_reduced}
 use Rattle.asg_kept_cells.proofs.own_phases.index_of_all.Goals as goal
 

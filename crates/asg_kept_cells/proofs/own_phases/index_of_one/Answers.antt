@@ -1,11 +1,4 @@
-use Rattle.std.proofs.Common.{◌≡◌, List, map, refl, sym, subst, ap, ◌∙◌}
-use Rattle.std.specs.Prelude.{All}
-use Rattle.std.proofs.lemmas.Bool.{false≢true}
-use Rattle.asg_order.specs.Monoid.{IsValue}
-use Rattle.asg_proof.specs.Phases.{phase_of, IsAdmittedPhase}
-use Rattle.asg_square.specs.Grid.{cell_at}
-use Rattle.asg_square.specs.Masked.{masked_grid}
-use Rattle.asg_replays.specs.laws.Replaying.{phase-words, refused-words, unread-words}
+use Rattle.asg_kept_cells.proofs.Common.{◌≡◌, List, map, All, sym, refl, ap, ◌∙◌, subst, false≢true, IsValue, phase_of, IsAdmittedPhase, phase-words, refused-words, unread-words, cell_at, masked_grid}
 use Rattle.asg_kept_cells.proofs.OwnPhases.{kept_values, one_from, one_some}
 use Rattle.asg_kept_cells.proofs.own_phases.index_of_one.Goals as goal
 

@@ -1,8 +1,4 @@
-use Rattle.std.proofs.Common.{◌≡◌, List, [], ◌∷◌, length, refl, sym, subst, ◌∙◌, arith}
-use Rattle.std.proofs.lemmas.Bool.{eqb-true}
-use Rattle.asg_order.specs.declared.words.Word.{Word}
-use Rattle.asg_proof.specs.Phases.{PhaseOf}
-use Rattle.asg_kept_cells.specs.MaskedPhases.{HaveIndexAfter}
+use Rattle.asg_kept_cells.proofs.Common.{◌≡◌, List, [], ◌∷◌, length, sym, refl, ◌∙◌, subst, arith, eqb-true, HaveIndexAfter, Word, PhaseOf}
 use Rattle.asg_kept_cells.proofs.OwnPhases.{index_none}
 use Rattle.asg_kept_cells.proofs.own_phases.own_index.Goals as goal
 

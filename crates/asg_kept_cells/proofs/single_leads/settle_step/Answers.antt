@@ -1,9 +1,4 @@
-use Rattle.std.proofs.Common.{◌≡◌, ◌∙◌, sym, subst, ap, arith}
-use Rattle.std.proofs.lemmas.List.{get_or_read}
-use Rattle.std.specs.Prelude.{slice_index_or}
-use Rattle.asg_proof.specs.Phases.{entered_at, staying_at}
-use Rattle.asg_proof.specs.Steps.{IsAdmittedStep, stepped}
-use Rattle.asg_square.specs.Grid.{cell_at}
+use Rattle.asg_kept_cells.proofs.Common.{◌≡◌, slice_index_or, sym, ap, ◌∙◌, subst, arith, get_or_read, entered_at, staying_at, IsAdmittedStep, stepped, cell_at}
 use Rattle.asg_kept_cells.proofs.SingleSteps.{one_step, one_applied}
 use Rattle.asg_kept_cells.proofs.single_leads.settle_step.Goals as goal
 

@@ -1,8 +1,4 @@
-use Rattle.std.proofs.Common.{ℕ, List, sym, subst}
-use Rattle.asg_proof.specs.Phases.{phase_of, IsAdmittedPhase}
-use Rattle.asg_proof.specs.Steps.{HasValues}
-use Rattle.asg_square.specs.Grid.{cell_at}
-use Rattle.asg_square.specs.Masked.{masked_grid}
+use Rattle.asg_kept_cells.proofs.Common.{ℕ, List, sym, subst, phase_of, IsAdmittedPhase, HasValues, cell_at, masked_grid}
 use Rattle.asg_kept_cells.proofs.single_steps.admits_rows.Goals as goal
 
 pub admits_within-requires : goal.admits_within-requires

@@ -1,22 +1,16 @@
-use Rattle.std.proofs.Common.{◌≡◌, ◌+◌, length, sym, subst, arith}
-use Rattle.std.specs.Prelude.{slice_index_or}
-use Rattle.std.proofs.lemmas.Bool.{false≢true}
-use Rattle.asg_proof.specs.Phases.{entered_at, staying_at}
+use Rattle.asg_kept_cells.proofs.Common.{◌≡◌, ◌+◌, length, slice_index_or, sym, subst, arith, false≢true, get_or_read, AllowsColumns, entered_at, staying_at, masked_grid}
 use Rattle.asg_proof.specs.Steps.{count_below}
-use Rattle.asg_square.specs.Masked.{masked_grid}
-use Rattle.std.proofs.lemmas.List.{get_or_read}
-use Rattle.asg_kept_cells.specs.SingleSteps.{AllowsColumns}
 use Rattle.asg_kept_cells.proofs.SingleSteps.{one_admitted, one_counted, one_allows}
 use Rattle.asg_kept_cells.proofs.single_steps.admits_step.Goals as goal
 
-pub returns-then-entering-staying : goal.returns-then-entering-staying
-returns-then-entering-staying g c =
+pub returns-then-entered-staying : goal.returns-then-entered-staying
+returns-then-entered-staying g c =
     let m = c.args.m.now in
     let Q = masked_grid c.args.square.now c.args.kept.now.words in (
       λ no. absurd (false≢true no),
       λ is.
           let count = one_counted (g.M.Ordered.monoid_of m) (g.M.DMonoid.difference m) c.args.steps.now c.args.enters.now c.args.leaves.now Q c.requires.one is in
-          absurd (c.if-entering-staying.true (omega (arith, count, c.entering.ensures.count, c.staying.ensures.count, c.side-side.ensures.side))),
+          absurd (c.if-entered-staying.true (omega (arith, count, c.entered.ensures.count, c.staying.ensures.count, c.side-side.ensures.side))),
     )
 
 pub returns : goal.returns
@@ -30,7 +24,7 @@ returns g c =
     let Q = masked_grid c.args.square.now c.args.kept.now.words in
     let rows : length enters ≡ Q.side = omega (arith, c.if-enters-side.false, c.side-side.ensures.side) in
     let columns : length leaves ≡ Q.side = omega (arith, c.if-leaves-side.false, c.side-side.ensures.side) in
-    let count : count_below (entered_at enters 0) (length enters) + count_below (staying_at leaves 0) (length leaves) ≡ Q.side + 1 = omega (arith, c.if-entering-staying.false, c.entering.ensures.count, c.staying.ensures.count, c.side-side.ensures.side) in
+    let count : count_below (entered_at enters 0) (length enters) + count_below (staying_at leaves 0) (length leaves) ≡ Q.side + 1 = omega (arith, c.if-entered-staying.false, c.entered.ensures.count, c.staying.ensures.count, c.side-side.ensures.side) in
     let first : slice_index_or steps 0 M.unit ≡ c.index-steps-0.result = sym (get_or_read steps 0 c.index-steps-0.result (omega (arith, c.requires.one)) c.index-steps-0.is M.unit) in (
       λ ok. one_admitted M d steps enters leaves Q c.requires.one rows columns c.requires.steps count
           (subst (λ s. AllowsColumns M s enters leaves Q) (sym first) (c.columns_allow.ensures.0 ok)),

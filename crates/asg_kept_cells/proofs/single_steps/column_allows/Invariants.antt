@@ -1,8 +1,4 @@
-use Rattle.std.proofs.Common.{◌≡◌, ℕ, ◌<◌}
-use Rattle.std.specs.Prelude.{slice_index}
-use Rattle.asg_square.specs.Grid.{cell_at}
-use Rattle.asg_square.specs.Masked.{masked_grid}
-use Rattle.asg_kept_cells.specs.SingleSteps.{IsAtMostCell}
+use Rattle.asg_kept_cells.proofs.Common.{◌≡◌, ℕ, ◌<◌, slice_index, IsAtMostCell, cell_at, masked_grid}
 use Rattle.asg_kept_cells.proofs.single_steps.column_allows.Given as goal
 
 -- the cells of the rows so far allow the step

@@ -1,7 +1,4 @@
-use Rattle.std.proofs.Common.{ℕ, ◌<◌}
-use Rattle.std.specs.Prelude.{slice_index}
-use Rattle.asg_square.specs.Masked.{masked_grid}
-use Rattle.asg_kept_cells.specs.SingleSteps.{AllowsColumn}
+use Rattle.asg_kept_cells.proofs.Common.{ℕ, ◌<◌, slice_index, AllowsColumn, masked_grid}
 use Rattle.asg_kept_cells.proofs.single_steps.columns_allow.Given as goal
 
 -- the columns so far allow the step

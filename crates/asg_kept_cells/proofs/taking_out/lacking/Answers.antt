@@ -1,5 +1,4 @@
-use Rattle.std.proofs.Math.Facts.{Fits-lt-pow}
-use Rattle.asg_square.specs.laws.Words.{is_without}
+use Rattle.asg_kept_cells.proofs.Common.{Fits-lt-pow, is_without}
 use Rattle.asg_kept_cells.proofs.taking_out.lacking.Goals as goal
 
 pub returns : goal.returns

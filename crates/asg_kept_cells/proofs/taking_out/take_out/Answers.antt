@@ -1,5 +1,4 @@
-use Rattle.std.proofs.Common.{◌≡◌, sym, subst, ◌∙◌, arith}
-use Rattle.asg_kept_cells.specs.Kept.{TakesOutRow, TakesOutRows}
+use Rattle.asg_kept_cells.proofs.Common.{◌≡◌, sym, ◌∙◌, subst, arith, TakesOutRow, TakesOutRows}
 use Rattle.asg_kept_cells.proofs.CellLemmas.{rows_more, rows_none, taken_out}
 use Rattle.asg_kept_cells.proofs.taking_out.take_out.Goals as goal
 

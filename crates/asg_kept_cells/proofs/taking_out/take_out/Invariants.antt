@@ -1,4 +1,4 @@
-use Rattle.asg_kept_cells.specs.Kept.{TakesOutRows}
+use Rattle.asg_kept_cells.proofs.Common.{TakesOutRows}
 use Rattle.asg_kept_cells.proofs.taking_out.take_out.Given as goal
 
 -- the rows so far

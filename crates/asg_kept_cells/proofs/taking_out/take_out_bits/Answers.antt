@@ -1,11 +1,5 @@
-use Rattle.std.proofs.Common.{◌≡◌, ◌≢◌, ◌+◌, None, inl, inr, sym, subst, ◌∙◌, arith, ⊎_elim, w64}
-use Rattle.std.specs.Int.{trailing_zeros}
-use Rattle.std.proofs.Math.Facts.{Fits-lt-pow}
-use Rattle.std.proofs.lemmas.Bool.{cases_eq}
-use Rattle.asg_square.specs.Grid.{cell_at}
-use Rattle.asg_square.specs.WordBits.{HasBit}
-use Rattle.asg_square.specs.laws.Bits.{HasBit-trailing_zeros, HasBit-without, HasBit-without_other, HasBit-zero, bit_below, without_bit-lt}
-use Rattle.asg_kept_cells.proofs.CellLemmas.{labels_chained}
+use Rattle.asg_kept_cells.proofs.Common.{◌≡◌, ◌+◌, ◌≢◌, None, sym, ◌∙◌, subst, inl, inr, ⊎_elim, arith, w64, Fits-lt-pow, cases_eq, trailing_zeros, chained_labels, HasBit, cell_at}
+use Rattle.asg_bit_rows.specs.laws.Bits.{HasBit-trailing_zeros, HasBit-without, HasBit-without_other, HasBit-zero, bit_below, without_bit-lt}
 use Rattle.asg_kept_cells.proofs.taking_out.take_out_bits.Goals as goal
 
 pub take_out_cell-requires-clause-column : goal.take_out_cell-requires-clause-column
@@ -38,7 +32,7 @@ bits-preserved g c =
     let has = HasBit-trailing_zeros rest (omega (arith, c.bits-test.true)) fits in
     let below = bit_below rest bit fits has in
     record {
-      labels = labels_chained c.args.square.now l.square new inv.labels w.labels;
+      labels = chained_labels c.args.square.now l.square new inv.labels w.labels;
       left = λ k is. let was = HasBit-without rest bit k below is in inv.left k was.0;
       taken = λ k is none.
           ⊎_elim

@@ -1,7 +1,4 @@
-use Rattle.std.proofs.Common.{◌≡◌, ◌≢◌, ◌⊎◌, ℕ, ◌+◌, ◌<◌, None}
-use Rattle.asg_admit.specs.Reduced.{KeepsLabels}
-use Rattle.asg_square.specs.Grid.{cell_at}
-use Rattle.asg_square.specs.WordBits.{HasBit}
+use Rattle.asg_kept_cells.proofs.Common.{◌≡◌, ℕ, ◌+◌, ◌<◌, ◌≢◌, ◌⊎◌, None, KeepsLabels, HasBit, cell_at}
 use Rattle.asg_kept_cells.proofs.taking_out.take_out_bits.Given as goal
 
 -- the bits that are left are the word's, the cells of those that are left no more are taken out,

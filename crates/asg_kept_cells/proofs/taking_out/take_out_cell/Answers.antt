@@ -1,5 +1,5 @@
-use Rattle.std.proofs.Common.{None}
-use Rattle.asg_kept_cells.proofs.CellLemmas.{written}
+use Rattle.asg_kept_cells.proofs.Common.{None}
+use Rattle.asg_admit.specs.laws.SquareLemmas.{written}
 use Rattle.asg_kept_cells.proofs.taking_out.take_out_cell.Goals as goal
 
 pub returns : goal.returns

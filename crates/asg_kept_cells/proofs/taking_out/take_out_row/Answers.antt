@@ -1,5 +1,4 @@
-use Rattle.std.proofs.Common.{◌*◌, sym, ◌∙◌, arith}
-use Rattle.asg_proof.specs.laws.Squares.{HasSide-cell_at}
+use Rattle.asg_kept_cells.proofs.Common.{◌*◌, sym, ◌∙◌, arith, HasSide-cell_at}
 use Rattle.asg_kept_cells.proofs.CellLemmas.{inside, row_more, row_none, row_whole}
 use Rattle.asg_kept_cells.proofs.taking_out.take_out_row.Goals as goal
 

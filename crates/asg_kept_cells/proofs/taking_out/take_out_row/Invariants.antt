@@ -1,5 +1,4 @@
-use Rattle.std.proofs.Common.{◌*◌}
-use Rattle.asg_kept_cells.specs.Kept.{TakesOutRow}
+use Rattle.asg_kept_cells.proofs.Common.{◌*◌, TakesOutRow}
 use Rattle.asg_kept_cells.proofs.taking_out.take_out_row.Given as goal
 
 -- the cells of the words so far

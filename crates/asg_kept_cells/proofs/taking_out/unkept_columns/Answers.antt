@@ -1,7 +1,4 @@
-use Rattle.std.proofs.Common.{◌+◌, ◌*◌, ◌<◌, ◌&&◌, not, get_or, is_some, sym, ap, subst, ◌∙◌}
-use Rattle.asg_square.specs.BitTable.{has_bit, is_bit_set, word_count}
-use Rattle.asg_square.specs.Grid.{cell_at}
-use Rattle.asg_square.specs.laws.Words.{bit_in_row}
+use Rattle.asg_kept_cells.proofs.Common.{◌+◌, ◌*◌, ◌<◌, not, ◌&&◌, get_or, is_some, sym, ap, ◌∙◌, subst, has_bit, is_bit_set, word_count, bit_in_row, cell_at}
 use Rattle.asg_kept_cells.proofs.taking_out.unkept_columns.Goals as goal
 
 pub returns : goal.returns

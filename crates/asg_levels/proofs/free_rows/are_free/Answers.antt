@@ -1,6 +1,4 @@
-use Rattle.std.proofs.Common.{◌≡◌, ◌<◌, ◌*◌, ◌/◌, ◌+◌, ℕ, length, arith}
-use Rattle.asg_square.specs.BitTable.{word_count}
-use Rattle.asg_levels.specs.MarkWords.{words_each}
+use Rattle.asg_levels.proofs.Common.{◌≡◌, ℕ, ◌+◌, ◌*◌, ◌/◌, ◌<◌, length, arith, word_count, words_each}
 use Rattle.asg_levels.proofs.MarkWordLemmas.{words_reach}
 use Rattle.asg_levels.proofs.free_rows.are_free.Goals as goal
 

@@ -1,7 +1,4 @@
-use Rattle.std.proofs.Common.{◌≡◌, ◌<◌, ℕ, List, length}
-use Rattle.asg_proof.specs.Phases.{staying_at}
-use Rattle.asg_square.specs.BitTable.{has_bit}
-use Rattle.asg_levels.specs.UnitSteps.{AreFree}
+use Rattle.asg_levels.proofs.Common.{◌≡◌, ℕ, ◌<◌, List, length, has_bit, AreFree, staying_at}
 use Rattle.asg_levels.proofs.free_rows.are_free.Given as goal
 
 -- the rows so far

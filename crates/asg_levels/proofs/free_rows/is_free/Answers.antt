@@ -1,7 +1,5 @@
-use Rattle.std.proofs.Common.{◌<◌, get_or, sym, subst}
-use Rattle.asg_square.specs.BitTable.{has_bit, word_count}
+use Rattle.asg_levels.proofs.Common.{◌<◌, get_or, sym, subst, has_bit, word_count, bit_in_row}
 use Rattle.asg_levels.proofs.FreeLemmas.{free_more}
-use Rattle.asg_square.specs.laws.Words.{bit_in_row}
 use Rattle.asg_levels.proofs.TightWords.{row_bits}
 use Rattle.asg_levels.proofs.free_rows.is_free.Goals as goal
 

@@ -1,6 +1,4 @@
-use Rattle.std.proofs.Common.{◌≡◌, ◌<◌, ◌*◌, ℕ, true}
-use Rattle.asg_square.specs.BitTable.{has_bit}
-use Rattle.asg_levels.specs.Tight.{tight_bit}
+use Rattle.asg_levels.proofs.Common.{◌≡◌, ℕ, ◌*◌, ◌<◌, true, has_bit, tight_bit}
 use Rattle.asg_levels.proofs.free_rows.is_free.Given as goal
 
 -- the words so far

@@ -1,6 +1,4 @@
-use Rattle.std.proofs.Common.{◌≡◌, ◌<◌, ℕ, length}
-use Rattle.asg_proof.specs.Phases.{staying_at}
-use Rattle.asg_square.specs.BitTable.{has_bit}
+use Rattle.asg_levels.proofs.Common.{◌≡◌, ℕ, ◌<◌, length, has_bit, staying_at}
 use Rattle.asg_levels.proofs.free_rows.mark_staying.Given as goal
 
 -- the columns so far

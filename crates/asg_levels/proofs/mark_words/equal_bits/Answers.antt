@@ -1,7 +1,4 @@
-use Rattle.std.proofs.Common.{take, ◌∙◌, ap, arith, eqb, w32}
-use Rattle.std.proofs.lemmas.List.{length-take}
-use Rattle.std.proofs.lemmas.Simd.{bitmask_splat}
-use Rattle.asg_square.specs.BitTable.{is_bit_set}
+use Rattle.asg_levels.proofs.Common.{eqb, take, ap, ◌∙◌, arith, length-take, w32, bitmask_splat, is_bit_set}
 use Rattle.asg_levels.proofs.TightWords.{equal_mask}
 use Rattle.asg_levels.proofs.mark_words.equal_bits.Goals as goal
 

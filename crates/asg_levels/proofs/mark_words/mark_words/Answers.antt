@@ -1,7 +1,4 @@
-use Rattle.std.proofs.Common.{◌+◌, ◌*◌, ◌/◌, ◌%◌, ◌∙◌, sym, subst, ap, length, get_or}
-use Rattle.std.specs.Prelude.{◌==◌}
-use Rattle.std.proofs.lemmas.List.{length_push}
-use Rattle.asg_levels.specs.MarkWords.{AreMarkWords}
+use Rattle.asg_levels.proofs.Common.{◌+◌, ◌*◌, ◌/◌, ◌%◌, length, get_or, ◌==◌, sym, ap, ◌∙◌, subst, length_push, AreMarkWords}
 use Rattle.asg_levels.proofs.MarkWordLemmas.{words_push}
 use Rattle.asg_levels.proofs.mark_words.mark_words.Goals as goal
 

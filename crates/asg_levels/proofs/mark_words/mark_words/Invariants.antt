@@ -1,5 +1,4 @@
-use Rattle.std.proofs.Common.{◌≡◌, length}
-use Rattle.asg_levels.specs.MarkWords.{words_each, AreMarkWords}
+use Rattle.asg_levels.proofs.Common.{◌≡◌, length, words_each, AreMarkWords}
 use Rattle.asg_levels.proofs.mark_words.mark_words.Given as goal
 
 -- the words so far

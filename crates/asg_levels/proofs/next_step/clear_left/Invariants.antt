@@ -1,6 +1,4 @@
-use Rattle.std.proofs.Common.{◌≡◌, length}
-use Rattle.asg_square.specs.BitTable.{word_count}
-use Rattle.asg_levels.specs.NextStep.{ClearsColumns}
+use Rattle.asg_levels.proofs.Common.{◌≡◌, length, word_count, ClearsColumns}
 use Rattle.asg_levels.proofs.next_step.clear_left.Given as goal
 
 -- the words so far

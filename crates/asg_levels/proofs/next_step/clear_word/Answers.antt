@@ -1,6 +1,4 @@
-use Rattle.std.proofs.Common.{◌≡◌, ◌<◌, ◌%◌, ◌&&◌, ◌∙◌, not, sym, subst, ap, arith, ⊎_elim}
-use Rattle.std.proofs.lemmas.Bool.{cases_eq}
-use Rattle.asg_square.specs.BitTable.{has_bit, is_bit_set, word_count}
+use Rattle.asg_levels.proofs.Common.{◌≡◌, ◌%◌, ◌<◌, not, ◌&&◌, sym, ap, ◌∙◌, subst, ⊎_elim, arith, cases_eq, has_bit, is_bit_set, word_count}
 use Rattle.asg_levels.proofs.NextSteps.{cleared_inside, cleared_here, cleared_else}
 use Rattle.asg_levels.proofs.next_step.clear_word.Goals as goal
 

@@ -1,5 +1,4 @@
-use Rattle.std.proofs.Common.{◌≡◌, ◌<◌, ◌≤◌, ◌/◌, ◌%◌, ◌&&◌, not, ℕ}
-use Rattle.asg_square.specs.BitTable.{has_bit, is_bit_set}
+use Rattle.asg_levels.proofs.Common.{◌≡◌, ℕ, ◌/◌, ◌%◌, ◌<◌, ◌≤◌, not, ◌&&◌, has_bit, is_bit_set}
 use Rattle.asg_levels.proofs.next_step.clear_word.Given as goal
 
 -- the rows so far

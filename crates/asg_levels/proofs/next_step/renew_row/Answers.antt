@@ -1,6 +1,4 @@
-use Rattle.std.proofs.Common.{◌≡◌, ◌<◌, ◌+◌, ◌*◌, ℕ, length, refl, sym, ◌∙◌, ap, subst, arith}
-use Rattle.asg_square.specs.BitTable.{BitTable, word_count}
-use Rattle.asg_levels.specs.Tight.{TightensWords}
+use Rattle.asg_levels.proofs.Common.{◌≡◌, ℕ, ◌+◌, ◌*◌, ◌<◌, length, sym, refl, ap, ◌∙◌, subst, arith, BitTable, word_count, TightensWords}
 use Rattle.asg_levels.proofs.TightWords.{words_none, words_more, row_bits, row_inside}
 use Rattle.asg_levels.proofs.next_step.renew_row.Goals as goal
 

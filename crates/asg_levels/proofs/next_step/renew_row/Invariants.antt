@@ -1,4 +1,4 @@
-use Rattle.asg_levels.specs.Tight.{TightensWords}
+use Rattle.asg_levels.proofs.Common.{TightensWords}
 use Rattle.asg_levels.proofs.next_step.renew_row.Given as goal
 
 -- the words so far

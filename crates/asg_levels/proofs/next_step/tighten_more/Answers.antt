@@ -1,5 +1,4 @@
-use Rattle.std.proofs.Common.{◌≡◌, ◌∙◌, sym, subst, refl, arith}
-use Rattle.asg_levels.specs.NextStep.{RenewsRows}
+use Rattle.asg_levels.proofs.Common.{◌≡◌, sym, refl, ◌∙◌, subst, arith, RenewsRows}
 use Rattle.asg_levels.proofs.NextSteps.{renews_more, next_tight}
 use Rattle.asg_levels.proofs.next_step.tighten_more.Goals as goal
 

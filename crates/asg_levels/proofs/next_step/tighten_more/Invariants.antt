@@ -1,4 +1,4 @@
-use Rattle.asg_levels.specs.NextStep.{RenewsRows}
+use Rattle.asg_levels.proofs.Common.{RenewsRows}
 use Rattle.asg_levels.proofs.next_step.tighten_more.Given as goal
 
 -- the rows so far

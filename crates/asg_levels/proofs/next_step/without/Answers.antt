@@ -1,5 +1,4 @@
-use Rattle.std.proofs.Math.Facts.{Fits-lt-pow}
-use Rattle.asg_square.specs.laws.Words.{is_without}
+use Rattle.asg_levels.proofs.Common.{Fits-lt-pow, is_without}
 use Rattle.asg_levels.proofs.next_step.without.Goals as goal
 
 pub returns : goal.returns

@@ -1,4 +1,4 @@
-use Rattle.std.proofs.Common.{refl, arith}
+use Rattle.asg_levels.proofs.Common.{refl, arith}
 use Rattle.asg_levels.proofs.ZeroBits.{mask_more}
 use Rattle.asg_levels.proofs.next_step.zero_bits.Goals as goal
 

@@ -1,9 +1,4 @@
-use Rattle.std.proofs.Common.{◌∙◌, ap, ◌&&◌, w64}
-use Rattle.std.specs.Prelude.{bit_and}
-use Rattle.std.specs.Int.{bit_not}
-use Rattle.std.proofs.Math.Facts.{Fits-lt-pow}
-use Rattle.asg_square.specs.BitTable.{is_bit_set}
-use Rattle.asg_square.specs.laws.Words.{is_and}
+use Rattle.asg_levels.proofs.Common.{◌&&◌, bit_and, ap, ◌∙◌, w64, Fits-lt-pow, bit_not, is_bit_set, is_and}
 use Rattle.asg_levels.proofs.TightWords.{is_or, is_not, two_parts}
 use Rattle.asg_levels.proofs.tight.tight_word.Goals as goal
 

@@ -1,6 +1,4 @@
-use Rattle.std.proofs.Common.{◌≡◌, ◌*◌, ◌/◌, ◌+◌, ◌<◌, ℕ, arith, sym, ◌∙◌, ap, length}
-use Rattle.asg_square.specs.BitTable.{word_count}
-use Rattle.asg_levels.specs.MarkWords.{words_each}
+use Rattle.asg_levels.proofs.Common.{◌≡◌, ℕ, ◌+◌, ◌*◌, ◌/◌, ◌<◌, length, sym, ap, ◌∙◌, arith, word_count, words_each}
 use Rattle.asg_levels.proofs.MarkWordLemmas.{words_reach}
 use Rattle.asg_levels.proofs.TightWords.{rows_more}
 use Rattle.asg_levels.proofs.tight.tighten.Goals as goal

@@ -1,5 +1,4 @@
-use Rattle.asg_levels.specs.Tight.{Tightens}
-use Rattle.std.specs.Prelude.{length}
+use Rattle.asg_levels.proofs.Common.{length, Tightens}
 use Rattle.asg_levels.proofs.tight.tighten.Given as goal
 
 -- the rows so far

@@ -1,4 +1,4 @@
-use Rattle.asg_levels.specs.Tight.{TightensWords}
+use Rattle.asg_levels.proofs.Common.{TightensWords}
 use Rattle.asg_levels.proofs.tight.tighten_row.Given as goal
 
 -- the words so far

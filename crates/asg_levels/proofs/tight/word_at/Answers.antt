@@ -1,5 +1,4 @@
-use Rattle.std.proofs.Common.{◌∙◌, ap, ◌&&◌, ◌+◌, ◌*◌, not, get_or, arith}
-use Rattle.asg_square.specs.BitTable.{is_bit_set}
+use Rattle.asg_levels.proofs.Common.{◌+◌, ◌*◌, not, ◌&&◌, get_or, ap, ◌∙◌, arith, is_bit_set}
 use Rattle.asg_levels.proofs.TightWords.{one_more_each, two_parts}
 use Rattle.asg_levels.proofs.tight.word_at.Goals as goal
 

@@ -1,6 +1,4 @@
-use Rattle.std.proofs.Common.{subst}
-use Rattle.asg_levels.specs.UnitLists.{AreCountedUnits}
-use Rattle.asg_levels.specs.laws.UnitLists.{marks_after, tightens_by}
+use Rattle.asg_levels.proofs.Common.{subst, AreCountedUnits, marks_after, tightens_by}
 use Rattle.asg_levels.proofs.unit_lists.apply_units.Goals as goal
 
 pub returns-clause-units : goal.returns-clause-units

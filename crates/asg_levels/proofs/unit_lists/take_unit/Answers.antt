@@ -1,9 +1,4 @@
-use Rattle.std.proofs.Common.{◌≡◌, ◌<◌, ℕ, length, refl, ◌∙◌, ap, subst, arith}
-use Rattle.asg_proof.specs.Phases.{staying_at}
-use Rattle.asg_square.specs.BitTable.{has_bit}
-use Rattle.asg_levels.specs.UnitLists.{square_after_units}
-use Rattle.asg_levels.specs.UnitSteps.{AreFree, CountsRight, CountsStep}
-use Rattle.asg_levels.specs.laws.UnitLists.{HasSide-bits, counts_more, units_more}
+use Rattle.asg_levels.proofs.Common.{◌≡◌, ℕ, ◌<◌, length, refl, ap, ◌∙◌, subst, arith, has_bit, square_after_units, AreFree, CountsRight, CountsStep, HasSide-bits, counts_more, units_more, staying_at}
 use Rattle.asg_levels.proofs.FreeSteps.{unit_admitted}
 use Rattle.asg_levels.proofs.ListLemmas.{bits_square, free_by}
 use Rattle.asg_levels.proofs.unit_lists.take_unit.Goals as goal

@@ -1,6 +1,4 @@
-use Rattle.std.proofs.Common.{◌≡◌, ◌<◌, ◌+◌, ◌++◌, ◌∷◌, [], ℕ, List, length, take, sym, ◌∙◌, ap, subst, arith}
-use Rattle.std.proofs.lemmas.List.{length-take, take_all, take_more}
-use Rattle.asg_levels.specs.UnitLists.{AreCountedUnits}
+use Rattle.asg_levels.proofs.Common.{◌≡◌, ℕ, ◌+◌, ◌<◌, List, [], ◌∷◌, ◌++◌, length, take, sym, ap, ◌∙◌, subst, arith, length-take, take_all, take_more, AreCountedUnits}
 use Rattle.asg_levels.proofs.unit_lists.take_units.Goals as goal
 
 taken : {A : Type 0} (xs : List A) (n : ℕ) → n < length xs → length (take n xs) ≡ n

@@ -1,6 +1,4 @@
-use Rattle.std.proofs.Common.{◌≡◌, ◌*◌, length, take}
-use Rattle.asg_square.specs.BitTable.{word_count}
-use Rattle.asg_levels.specs.UnitLists.{AreCountedUnits}
+use Rattle.asg_levels.proofs.Common.{◌≡◌, ◌*◌, length, take, word_count, AreCountedUnits}
 use Rattle.asg_levels.proofs.unit_lists.take_units.Given as goal
 
 -- the phases so far

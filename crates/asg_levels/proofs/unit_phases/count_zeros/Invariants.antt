@@ -1,5 +1,4 @@
-use Rattle.std.proofs.Common.{◌≡◌, ◌<◌, ◌≤◌, ◌+◌, ℕ, length, get_or, cond}
-use Rattle.std.specs.Prelude.{◌==◌}
+use Rattle.asg_levels.proofs.Common.{◌≡◌, ℕ, ◌+◌, ◌<◌, ◌≤◌, cond, length, get_or, ◌==◌}
 use Rattle.asg_levels.proofs.unit_phases.count_zeros.Given as goal
 
 abbrev pub invariant-loop-place : goal.invariant-loop-place

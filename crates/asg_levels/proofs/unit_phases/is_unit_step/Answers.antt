@@ -1,5 +1,4 @@
-use Rattle.std.proofs.Common.{◌≡◌, ◌∷◌, [], ◌∙◌, List, length, get_or, sym, ap, arith}
-use Rattle.std.proofs.lemmas.Bool.{eqb-true}
+use Rattle.asg_levels.proofs.Common.{◌≡◌, List, [], ◌∷◌, length, get_or, sym, ap, ◌∙◌, arith, eqb-true}
 use Rattle.asg_order.specs.declared.words.Word.{Word}
 use Rattle.asg_levels.proofs.unit_phases.is_unit_step.Goals as goal
 

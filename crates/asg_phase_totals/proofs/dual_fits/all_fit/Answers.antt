@@ -1,8 +1,4 @@
-use Rattle.std.proofs.Common.{◌≡◌, ◌<◌, ◌≤◌, Bool, true, false, refl, subst, arith, ⊎_elim}
-use Rattle.std.specs.Prelude.{IsTrue, ◌&&◌}
-use Rattle.std.proofs.lemmas.Bool.{cases_lt, false≢true}
-use Rattle.asg_phase_totals.specs.Duals.{FitsAt}
-use Rattle.asg_phase_totals.specs.laws.NumberLemmas.{read_is}
+use Rattle.asg_phase_totals.proofs.Common.{◌≡◌, ◌<◌, ◌≤◌, Bool, true, false, ◌&&◌, IsTrue, refl, subst, ⊎_elim, arith, cases_lt, false≢true, FitsAt, read_is}
 use Rattle.asg_phase_totals.proofs.dual_fits.all_fit.Goals as goal
 
 -- two answers together

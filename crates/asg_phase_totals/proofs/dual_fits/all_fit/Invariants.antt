@@ -1,6 +1,4 @@
-use Rattle.std.proofs.Common.{ℕ, ◌↔◌, ◌<◌}
-use Rattle.std.specs.Prelude.{IsTrue}
-use Rattle.asg_phase_totals.specs.Duals.{FitsAt}
+use Rattle.asg_phase_totals.proofs.Common.{ℕ, ◌<◌, ◌↔◌, IsTrue, FitsAt}
 use Rattle.asg_phase_totals.proofs.dual_fits.all_fit.Given as goal
 
 -- whether the cells so far do so

@@ -1,12 +1,6 @@
-use Rattle.std.proofs.Common.{◌≡◌, ℕ, ◌+◌, ◌*◌, ◌/◌, ◌%◌, refl, subst, arith}
-use Rattle.std.specs.Prelude.{slice_index}
-use Rattle.std.proofs.Math.Facts.{Fits-lt-pow}
-use Rattle.asg_square.specs.Grid.{cell_at}
-use Rattle.asg_phase_totals.specs.Duals.{FitsAt}
-use Rattle.asg_admit.specs.laws.AdmissionLemmas.{not_both, never}
-use Rattle.asg_phase_totals.specs.laws.PresentLemmas.{values_are, words_are}
+use Rattle.asg_phase_totals.proofs.Common.{◌≡◌, ℕ, ◌+◌, ◌*◌, ◌/◌, ◌%◌, slice_index, refl, subst, arith, Fits-lt-pow, not_both, never, FitsAt, values_are, words_are, cell_at}
 use Rattle.asg_phase_totals.proofs.RowWords.{bit_cell, cell_bit, value_at}
-use Rattle.asg_admit.specs.laws.WordBits.{bit_below}
+use Rattle.asg_bit_rows.specs.laws.Bits.{bit_below}
 use Rattle.asg_phase_totals.proofs.dual_fits.fit_cells.Goals as goal
 
 column_parts : (k : ℕ) → 64 * (k / 64) + k % 64 ≡ k

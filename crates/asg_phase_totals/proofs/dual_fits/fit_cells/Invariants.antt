@@ -1,7 +1,4 @@
-use Rattle.std.proofs.Common.{◌≡◌, ℕ, ◌+◌, ◌*◌, ◌<◌}
-use Rattle.std.specs.Int.{bit_at}
-use Rattle.std.specs.Prelude.{slice_index}
-use Rattle.asg_phase_totals.specs.Duals.{FitsAt}
+use Rattle.asg_phase_totals.proofs.Common.{◌≡◌, ℕ, ◌+◌, ◌*◌, ◌<◌, slice_index, bit_at, FitsAt}
 use Rattle.asg_phase_totals.proofs.dual_fits.fit_cells.Given as goal
 
 -- the cells of the words so far do so

@@ -1,7 +1,4 @@
-use Rattle.std.proofs.Common.{◌≡◌, ℕ, ◌+◌, ◌<◌, length, refl, sym, subst, arith}
-use Rattle.asg_square.specs.Grid.{cell_at}
-use Rattle.asg_phase_totals.specs.Duals.{FitCells, sum_before}
-use Rattle.asg_phase_totals.specs.laws.NumberLemmas.{count_is, read_is, sum_rises}
+use Rattle.asg_phase_totals.proofs.Common.{◌≡◌, ℕ, ◌+◌, ◌<◌, length, sym, refl, subst, arith, FitCells, sum_before, count_is, read_is, sum_rises, cell_at}
 use Rattle.asg_phase_totals.proofs.dual_fits.row_fits.Goals as goal
 
 pub returns-then-enter-steps : goal.returns-then-enter-steps

@@ -1,10 +1,4 @@
-use Rattle.std.proofs.Common.{◌≡◌, ℕ, ◌<◌, ◌≤◌, sym, subst, arith, ⊎_elim}
-use Rattle.std.specs.Prelude.{slice_index}
-use Rattle.std.proofs.lemmas.Bool.{cases_lt}
-use Rattle.asg_square.specs.Grid.{cell_at}
-use Rattle.asg_phase_totals.specs.Duals.{FitsRow}
-use Rattle.asg_admit.specs.laws.AdmissionLemmas.{not_both, never}
-use Rattle.asg_phase_totals.specs.laws.NumberLemmas.{read_is}
+use Rattle.asg_phase_totals.proofs.Common.{◌≡◌, ℕ, ◌<◌, ◌≤◌, slice_index, sym, subst, ⊎_elim, arith, cases_lt, not_both, never, FitsRow, read_is, cell_at}
 use Rattle.asg_phase_totals.proofs.dual_fits.rows_fit.Goals as goal
 
 pub row_fits-requires-clause-few_rows : goal.row_fits-requires-clause-few_rows

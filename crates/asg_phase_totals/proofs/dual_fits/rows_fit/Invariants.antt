@@ -1,7 +1,4 @@
-use Rattle.std.proofs.Common.{ℕ, ◌<◌}
-use Rattle.std.specs.Prelude.{slice_index}
-use Rattle.asg_square.specs.Grid.{cell_at}
-use Rattle.asg_phase_totals.specs.Duals.{FitsRow}
+use Rattle.asg_phase_totals.proofs.Common.{ℕ, ◌<◌, slice_index, FitsRow, cell_at}
 use Rattle.asg_phase_totals.proofs.dual_fits.rows_fit.Given as goal
 
 -- the rows so far allow the steps

@@ -1,11 +1,5 @@
-use Rattle.std.proofs.Common.{◌≡◌, ◌+◌, ◌<◌, ⊎_elim, sym, subst, arith}
-use Rattle.std.proofs.Math.Facts.{Fits-lt-pow}
-use Rattle.std.proofs.lemmas.Bool.{cases_eq}
-use Rattle.std.specs.Int.{bit_at}
-use Rattle.asg_phase_totals.specs.Duals.{FitsAt}
-use Rattle.asg_admit.specs.laws.AdmissionLemmas.{never}
-use Rattle.asg_phase_totals.specs.laws.NumberLemmas.{read_is}
-use Rattle.asg_admit.specs.laws.WordBits.{next_bit, next_has, next_below, next_kept, next_gone, next_smaller}
+use Rattle.asg_phase_totals.proofs.Common.{◌≡◌, ◌+◌, ◌<◌, sym, subst, ⊎_elim, arith, Fits-lt-pow, bit_at, cases_eq, never, FitsAt, read_is}
+use Rattle.asg_admit.specs.laws.NextBits.{next_bit, next_has, next_below, next_kept, next_gone, next_smaller}
 use Rattle.asg_phase_totals.proofs.dual_fits.some_fit.Goals as goal
 
 pub overflow_add-column : goal.overflow_add-column

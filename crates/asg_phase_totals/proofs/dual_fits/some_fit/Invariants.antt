@@ -1,6 +1,4 @@
-use Rattle.std.proofs.Common.{ℕ, ◌+◌}
-use Rattle.asg_phase_totals.specs.Duals.{FitsAt}
-use Rattle.asg_admit.specs.laws.WordBits.{HasBit}
+use Rattle.asg_phase_totals.proofs.Common.{ℕ, ◌+◌, HasBit, FitsAt}
 use Rattle.asg_phase_totals.proofs.dual_fits.some_fit.Given as goal
 
 -- the bits that are left are the word's, and the cells of those that are left no more do so

@@ -1,7 +1,4 @@
-use Rattle.std.proofs.Common.{◌≡◌, ℕ, ◌<◌, ◌∙◌, ap, arith}
-use Rattle.std.proofs.lemmas.Nat.Bits.{bit_at_ones}
-use Rattle.std.specs.Int.{bit_at}
-use Rattle.asg_admit.specs.laws.WordBits.{HasBit}
+use Rattle.asg_phase_totals.proofs.Common.{◌≡◌, ℕ, ◌<◌, ap, ◌∙◌, arith, bit_at, bit_at_ones, HasBit}
 use Rattle.asg_phase_totals.proofs.dual_fits.word_fits.Goals as goal
 
 -- a word of ones has each bit

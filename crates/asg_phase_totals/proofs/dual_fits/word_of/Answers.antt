@@ -1,5 +1,4 @@
-use Rattle.std.proofs.Common.{◌+◌, ◌-◌, ◌*◌, arith}
-use Rattle.asg_phase_totals.specs.laws.NumberLemmas.{part_at}
+use Rattle.asg_phase_totals.proofs.Common.{◌+◌, ◌-◌, ◌*◌, arith, part_at}
 use Rattle.asg_phase_totals.proofs.dual_fits.word_of.Goals as goal
 
 pub returns-clause-each : goal.returns-clause-each

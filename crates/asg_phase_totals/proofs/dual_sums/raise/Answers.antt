@@ -1,9 +1,4 @@
-use Rattle.std.proofs.Common.{◌≡◌, ◌∙◌, ap, sym, refl, subst, ◌+◌, ◌≤◌, ◌<◌, length, min, arith, ⊎_elim}
-use Rattle.std.specs.Prelude.{◌≢◌, slice_index, slice_set}
-use Rattle.std.proofs.lemmas.Bool.{cases_lt}
-use Rattle.std.proofs.lemmas.List.{length-set}
-use Rattle.asg_phase_totals.specs.Duals.{sum_before}
-use Rattle.asg_phase_totals.specs.laws.NumberLemmas.{count_is, written_is, kept_is, read_is, sum_rises}
+use Rattle.asg_phase_totals.proofs.Common.{◌≡◌, ◌+◌, ◌<◌, ◌≤◌, min, ◌≢◌, length, slice_index, slice_set, sym, refl, ap, ◌∙◌, subst, ⊎_elim, arith, length-set, cases_lt, sum_before, count_is, written_is, kept_is, read_is, sum_rises}
 use Rattle.asg_phase_totals.proofs.dual_sums.raise.Goals as goal
 
 pub plus-requires : goal.plus-requires

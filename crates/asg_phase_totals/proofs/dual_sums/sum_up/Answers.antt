@@ -1,9 +1,4 @@
-use Rattle.std.proofs.Common.{◌≡◌, ◌∙◌, ap, sym, ◌+◌, ◌≤◌, ◌<◌, length, arith, ⊎_elim}
-use Rattle.std.specs.Prelude.{◌≢◌, slice_index, slice_set}
-use Rattle.std.proofs.lemmas.Bool.{cases_lt}
-use Rattle.std.proofs.lemmas.List.{length-set}
-use Rattle.asg_phase_totals.specs.Duals.{sum_before}
-use Rattle.asg_phase_totals.specs.laws.NumberLemmas.{written_is, kept_is, read_is, sum_more, sum_rises}
+use Rattle.asg_phase_totals.proofs.Common.{◌≡◌, ◌+◌, ◌<◌, ◌≤◌, ◌≢◌, length, slice_index, slice_set, sym, ap, ◌∙◌, ⊎_elim, arith, length-set, cases_lt, sum_before, written_is, kept_is, read_is, sum_more, sum_rises}
 use Rattle.asg_phase_totals.proofs.dual_sums.sum_up.Goals as goal
 
 pub loop-t-init : goal.loop-t-init

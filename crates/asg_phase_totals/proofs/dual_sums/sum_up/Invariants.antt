@@ -1,6 +1,4 @@
-use Rattle.std.proofs.Common.{◌≡◌, ℕ, ◌≤◌, length}
-use Rattle.std.specs.Prelude.{slice_index}
-use Rattle.asg_phase_totals.specs.Duals.{sum_before}
+use Rattle.asg_phase_totals.proofs.Common.{◌≡◌, ℕ, ◌≤◌, length, slice_index, sum_before}
 use Rattle.asg_phase_totals.proofs.dual_sums.sum_up.Given as goal
 
 -- the sums so far

@@ -1,5 +1,4 @@
-use Rattle.std.proofs.Common.{◌+◌, length, arith}
-use Rattle.asg_phase_totals.specs.laws.NumberLemmas.{read_is, sum_more, sum_rises}
+use Rattle.asg_phase_totals.proofs.Common.{◌+◌, length, arith, read_is, sum_more, sum_rises}
 use Rattle.asg_phase_totals.proofs.dual_sums.sum_within.Goals as goal
 
 pub returns-then-is_below-clause-beyond : goal.returns-then-is_below-clause-beyond

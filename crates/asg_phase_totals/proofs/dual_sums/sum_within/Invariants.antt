@@ -1,5 +1,4 @@
-use Rattle.std.proofs.Common.{◌≡◌, ◌≤◌}
-use Rattle.asg_phase_totals.specs.Duals.{sum_before}
+use Rattle.asg_phase_totals.proofs.Common.{◌≡◌, ◌≤◌, sum_before}
 use Rattle.asg_phase_totals.proofs.dual_sums.sum_within.Given as goal
 
 -- the sum so far

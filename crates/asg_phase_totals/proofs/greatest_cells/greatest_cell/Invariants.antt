@@ -1,5 +1,4 @@
-use Rattle.asg_square.specs.Grid.{cell_at}
-use Rattle.asg_phase_totals.specs.Duals.{IsGreatest}
+use Rattle.asg_phase_totals.proofs.Common.{IsGreatest, cell_at}
 use Rattle.asg_phase_totals.proofs.greatest_cells.greatest_cell.Given as goal
 
 -- the greatest of the rows so far

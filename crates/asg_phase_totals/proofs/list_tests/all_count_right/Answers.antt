@@ -1,11 +1,4 @@
-use Rattle.std.proofs.Common.{◌<◌, ◌≤◌, ◌∷◌, [], ◌++◌, length, take, refl, sym, ◌∙◌, ap, subst, arith}
-use Rattle.std.specs.Prelude.{All}
-use Rattle.std.proofs.lemmas.List.{take_more, take_all}
-use Rattle.std.proofs.lemmas.List.Elements.{All-push}
-use Rattle.asg_phase_totals.specs.PhaseTotals.{CountsRight}
-use Rattle.asg_phase_totals.specs.SumNumbers.{numbered}
-use Rattle.asg_admit.specs.laws.AdmissionLemmas.{never, not_both}
-use Rattle.asg_phase_totals.specs.laws.NumberLemmas.{phase_count_is, phase_is}
+use Rattle.asg_phase_totals.proofs.Common.{◌<◌, ◌≤◌, [], ◌∷◌, ◌++◌, length, take, All, sym, refl, ap, ◌∙◌, subst, arith, take_all, All-push, take_more, never, not_both, CountsRight, numbered, phase_count_is, phase_is}
 use Rattle.asg_phase_totals.proofs.list_tests.all_count_right.Goals as goal
 
 pub loop-i-preserved : goal.loop-i-preserved

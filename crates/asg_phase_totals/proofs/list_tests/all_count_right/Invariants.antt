@@ -1,6 +1,4 @@
-use Rattle.std.specs.Prelude.{All}
-use Rattle.std.proofs.Common.{take}
-use Rattle.asg_phase_totals.specs.PhaseTotals.{CountsRight}
+use Rattle.asg_phase_totals.proofs.Common.{take, All, CountsRight}
 use Rattle.asg_phase_totals.proofs.list_tests.all_count_right.Given as goal
 
 -- the phases so far count right

@@ -1,6 +1,4 @@
-use Rattle.std.proofs.Common.{◌≡◌, List, ℕ, length, sym, subst, ap, ◌∙◌}
-use Rattle.asg_admit.specs.Admission.{AreCounted}
-use Rattle.asg_phase_totals.specs.laws.NumberLemmas.{count_is}
+use Rattle.asg_phase_totals.proofs.Common.{◌≡◌, ℕ, List, length, sym, ap, ◌∙◌, subst, AreCounted, count_is}
 use Rattle.asg_phase_totals.proofs.list_tests.counts_right.Goals as goal
 
 pub returns : goal.returns

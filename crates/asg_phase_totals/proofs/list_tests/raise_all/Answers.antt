@@ -1,10 +1,4 @@
-use Rattle.std.proofs.Common.{◌≡◌, ◌<◌, length, take, subst, sym, ap, ◌∙◌, arith}
-use Rattle.std.specs.Prelude.{slice_index}
-use Rattle.std.specs.List.{sum}
-use Rattle.std.proofs.lemmas.List.{take_all}
-use Rattle.asg_phase_totals.specs.PhaseTotals.{CountsRight, row_raise, column_raise, sum_to}
-use Rattle.asg_phase_totals.specs.SumNumbers.{numbered}
-use Rattle.asg_phase_totals.specs.laws.NumberLemmas.{count_is, all_is, phase_count_is, phase_is}
+use Rattle.asg_phase_totals.proofs.Common.{◌≡◌, ◌<◌, length, take, slice_index, sym, ap, ◌∙◌, subst, arith, take_all, CountsRight, row_raise, column_raise, sum_to, numbered, count_is, all_is, phase_count_is, phase_is, sum}
 use Rattle.asg_phase_totals.proofs.SegmentLemmas.{row_raise-more, column_raise-more, row_raise-few, column_raise-few, sum_with_one}
 use Rattle.asg_phase_totals.proofs.list_tests.raise_all.Goals as goal
 

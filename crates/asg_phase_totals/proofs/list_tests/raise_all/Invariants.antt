@@ -1,6 +1,4 @@
-use Rattle.std.proofs.Common.{◌≡◌, ℕ, ◌<◌, length, take}
-use Rattle.std.specs.Prelude.{slice_index}
-use Rattle.asg_phase_totals.specs.PhaseTotals.{row_raise, column_raise}
+use Rattle.asg_phase_totals.proofs.Common.{◌≡◌, ℕ, ◌<◌, length, take, slice_index, row_raise, column_raise}
 use Rattle.asg_phase_totals.proofs.list_tests.raise_all.Given as goal
 
 -- the dual variables are raised by the phases so far

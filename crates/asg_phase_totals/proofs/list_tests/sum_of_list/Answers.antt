@@ -1,9 +1,4 @@
-use Rattle.std.proofs.Common.{◌<◌, length, ◌∙◌, ap, arith}
-use Rattle.std.specs.List.{sum}
-use Rattle.std.proofs.lemmas.List.{take_all}
-use Rattle.asg_phase_totals.specs.PhaseTotals.{sum_of_steps}
-use Rattle.asg_phase_totals.specs.SumNumbers.{numbered}
-use Rattle.asg_phase_totals.specs.laws.NumberLemmas.{all_is, phase_count_is, phase_is}
+use Rattle.asg_phase_totals.proofs.Common.{◌<◌, length, ap, ◌∙◌, arith, take_all, sum_of_steps, numbered, all_is, phase_count_is, phase_is, sum}
 use Rattle.asg_phase_totals.proofs.SegmentLemmas.{sum_of_steps-more, sum_with_one}
 use Rattle.asg_phase_totals.proofs.list_tests.sum_of_list.Goals as goal
 

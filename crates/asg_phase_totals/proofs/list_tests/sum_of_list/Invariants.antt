@@ -1,5 +1,4 @@
-use Rattle.std.proofs.Common.{◌≡◌, ◌≤◌, take}
-use Rattle.asg_phase_totals.specs.PhaseTotals.{sum_of_steps}
+use Rattle.asg_phase_totals.proofs.Common.{◌≡◌, ◌≤◌, take, sum_of_steps}
 use Rattle.asg_phase_totals.proofs.list_tests.sum_of_list.Given as goal
 
 -- the sum of the steps so far, within the top

@@ -1,12 +1,4 @@
-use Rattle.std.proofs.Common.{◌≡◌, ℕ, ◌+◌, ◌-◌, ◌<◌, List, ◌∷◌, length, get_or, refl, sym, ◌∙◌, ap, subst, arith}
-use Rattle.std.specs.Prelude.{slice_index}
-use Rattle.asg_proof.specs.Phases.{PhaseOf, phase_of}
-use Rattle.asg_square.specs.Grid.{cell_at}
-use Rattle.asg_phase_totals.specs.PhaseTotals.{AreTotals, CanPrecede, CountsRight, EndsSegment}
-use Rattle.asg_phase_totals.specs.SumNumbers.{numbered}
-use Rattle.asg_admit.specs.laws.AdmissionLemmas.{never}
-use Rattle.asg_phase_totals.specs.laws.NumberLemmas.{count_is, phase_count_is, phase_is}
-use Rattle.asg_phase_totals.specs.laws.PresentLemmas.{value_is, column_within}
+use Rattle.asg_phase_totals.proofs.Common.{◌≡◌, ℕ, ◌+◌, ◌-◌, ◌<◌, List, ◌∷◌, length, get_or, slice_index, sym, refl, ap, ◌∙◌, subst, arith, never, AreTotals, CanPrecede, CountsRight, EndsSegment, numbered, count_is, phase_count_is, phase_is, value_is, column_within, PhaseOf, phase_of, cell_at}
 use Rattle.asg_phase_totals.proofs.WalkLemmas.{Walked, walked_start, walked_row, walked_row_part, walked_column_part, walked_on, walked_ends, walked_all, walked_sum, walked_more}
 use Rattle.asg_phase_totals.proofs.list_tests.walk_back.Goals as goal
 

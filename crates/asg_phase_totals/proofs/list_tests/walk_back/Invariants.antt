@@ -1,5 +1,4 @@
-use Rattle.std.proofs.Common.{◌≡◌, ◌-◌, length}
-use Rattle.asg_square.specs.Grid.{cell_at}
+use Rattle.asg_phase_totals.proofs.Common.{◌≡◌, ◌-◌, length, cell_at}
 use Rattle.asg_phase_totals.proofs.WalkLemmas.{Walked}
 use Rattle.asg_phase_totals.proofs.list_tests.walk_back.Given as goal
 

@@ -1,8 +1,4 @@
-use Rattle.std.proofs.Common.{◌≡◌, ◌<◌, ◌≤◌, refl, subst, sym, arith, ⊎_elim}
-use Rattle.std.specs.Prelude.{slice_index}
-use Rattle.std.proofs.lemmas.Bool.{cases_lt}
-use Rattle.asg_admit.specs.laws.AdmissionLemmas.{never}
-use Rattle.asg_phase_totals.specs.laws.NumberLemmas.{read_is}
+use Rattle.asg_phase_totals.proofs.Common.{◌≡◌, ◌<◌, ◌≤◌, slice_index, sym, refl, subst, ⊎_elim, arith, cases_lt, never, read_is}
 use Rattle.asg_phase_totals.proofs.phase_totals.are_ordered.Goals as goal
 
 pub loop-k-preserved : goal.loop-k-preserved

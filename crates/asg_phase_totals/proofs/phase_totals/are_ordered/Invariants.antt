@@ -1,5 +1,4 @@
-use Rattle.std.proofs.Common.{ℕ, ◌<◌, ◌≤◌}
-use Rattle.std.specs.Prelude.{slice_index}
+use Rattle.asg_phase_totals.proofs.Common.{ℕ, ◌<◌, ◌≤◌, slice_index}
 use Rattle.asg_phase_totals.proofs.phase_totals.are_ordered.Given as goal
 
 -- the columns so far are at least the greatest number of a row

@@ -1,7 +1,4 @@
-use Rattle.std.proofs.Common.{◌≢◌, ◌<◌, ◌≤◌, ◌∙◌, arith, ⊎_elim}
-use Rattle.std.proofs.lemmas.Bool.{cases_lt}
-use Rattle.std.proofs.lemmas.List.{length-set}
-use Rattle.asg_phase_totals.specs.laws.NumberLemmas.{written_is, kept_is}
+use Rattle.asg_phase_totals.proofs.Common.{◌<◌, ◌≤◌, ◌≢◌, ◌∙◌, ⊎_elim, arith, length-set, cases_lt, written_is, kept_is}
 use Rattle.asg_phase_totals.proofs.phase_totals.clear.Goals as goal
 
 pub loop-i-preserved : goal.loop-i-preserved

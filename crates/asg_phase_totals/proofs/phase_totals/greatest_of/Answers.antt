@@ -1,7 +1,4 @@
-use Rattle.std.proofs.Common.{◌≡◌, ◌<◌, ◌≤◌, ◌∙◌, inl, inr, sym, ap, arith, ⊎_elim}
-use Rattle.std.specs.Prelude.{slice_index}
-use Rattle.std.proofs.lemmas.Bool.{cases_lt}
-use Rattle.asg_phase_totals.specs.laws.NumberLemmas.{read_is}
+use Rattle.asg_phase_totals.proofs.Common.{◌≡◌, ◌<◌, ◌≤◌, slice_index, sym, ap, ◌∙◌, inl, inr, ⊎_elim, arith, cases_lt, read_is}
 use Rattle.asg_phase_totals.proofs.phase_totals.greatest_of.Goals as goal
 
 pub loop-i-preserved : goal.loop-i-preserved

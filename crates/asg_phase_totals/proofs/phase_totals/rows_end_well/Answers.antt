@@ -1,10 +1,4 @@
-use Rattle.std.proofs.Common.{◌≡◌, ℕ, ◌<◌, ◌≤◌, sym, subst, arith, ⊎_elim}
-use Rattle.std.specs.Prelude.{slice_index}
-use Rattle.std.proofs.lemmas.Bool.{cases_lt}
-use Rattle.asg_square.specs.Grid.{cell_at}
-use Rattle.asg_phase_totals.specs.Duals.{FitCells}
-use Rattle.asg_admit.specs.laws.AdmissionLemmas.{never, not_both}
-use Rattle.asg_phase_totals.specs.laws.NumberLemmas.{read_is}
+use Rattle.asg_phase_totals.proofs.Common.{◌≡◌, ℕ, ◌<◌, ◌≤◌, slice_index, sym, subst, ⊎_elim, arith, cases_lt, never, not_both, FitCells, read_is, cell_at}
 use Rattle.asg_phase_totals.proofs.phase_totals.rows_end_well.Goals as goal
 
 pub fit_cells-requires-clause-few : goal.fit_cells-requires-clause-few

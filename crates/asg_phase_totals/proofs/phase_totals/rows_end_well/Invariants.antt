@@ -1,7 +1,4 @@
-use Rattle.std.proofs.Common.{ℕ, ◌<◌}
-use Rattle.std.specs.Prelude.{slice_index}
-use Rattle.asg_square.specs.Grid.{cell_at}
-use Rattle.asg_phase_totals.specs.Duals.{FitCells}
+use Rattle.asg_phase_totals.proofs.Common.{ℕ, ◌<◌, slice_index, FitCells, cell_at}
 use Rattle.asg_phase_totals.proofs.phase_totals.rows_end_well.Given as goal
 
 -- the cells of the rows so far are so

@@ -1,9 +1,4 @@
-use Rattle.std.proofs.Common.{ℕ, List, ◌<◌, ◌≤◌, inl, inr, refl, sym, ap, subst, arith}
-use Rattle.std.specs.Prelude.{slice_index}
-use Rattle.std.proofs.lemmas.Bool.{false≢true, true≢false}
-use Rattle.asg_square.specs.Grid.{cell_at}
-use Rattle.asg_phase_totals.specs.PhaseTotals.{EndsSegment, IsLoweredBy}
-use Rattle.asg_admit.specs.laws.AdmissionLemmas.{not_both}
+use Rattle.asg_phase_totals.proofs.Common.{ℕ, ◌<◌, ◌≤◌, List, slice_index, sym, refl, ap, subst, inl, inr, true≢false, arith, false≢true, not_both, EndsSegment, IsLoweredBy, cell_at}
 use Rattle.asg_phase_totals.proofs.segments.close_segment.Goals as goal
 
 pub returns-then-is_ordered-clause-closed : goal.returns-then-is_ordered-clause-closed

@@ -1,8 +1,4 @@
-use Rattle.std.proofs.Common.{◌≡◌, ◌≢◌, ◌∙◌, ap, sym, refl, subst, ◌+◌, ◌<◌, ◌≤◌, length, arith, ⊎_elim}
-use Rattle.std.specs.Prelude.{slice_index, slice_set}
-use Rattle.std.proofs.lemmas.Bool.{cases_lt}
-use Rattle.std.proofs.lemmas.List.{length-set}
-use Rattle.asg_phase_totals.specs.laws.NumberLemmas.{count_is, written_is, kept_is, read_is}
+use Rattle.asg_phase_totals.proofs.Common.{◌≡◌, ◌+◌, ◌<◌, ◌≤◌, ◌≢◌, length, slice_index, slice_set, sym, refl, ap, ◌∙◌, subst, ⊎_elim, arith, length-set, cases_lt, count_is, written_is, kept_is, read_is}
 use Rattle.asg_phase_totals.proofs.segments.lower_by.Goals as goal
 
 pub minus-requires : goal.minus-requires

@@ -1,5 +1,4 @@
-use Rattle.std.proofs.Common.{◌≡◌, ℕ, ◌+◌, ◌<◌, ◌≤◌, length}
-use Rattle.std.specs.Prelude.{slice_index}
+use Rattle.asg_phase_totals.proofs.Common.{◌≡◌, ℕ, ◌+◌, ◌<◌, ◌≤◌, length, slice_index}
 use Rattle.asg_phase_totals.proofs.segments.lower_by.Given as goal
 
 -- the numbers so far are less by the part, and the others as they were

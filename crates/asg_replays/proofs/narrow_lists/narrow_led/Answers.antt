@@ -1,8 +1,4 @@
-use Rattle.std.proofs.Common.{ℕ, sym, ap, subst, ◌∙◌}
-use Rattle.asg_admit.specs.Reduced.{IsReduced}
-use Rattle.asg_monoids.specs.BoundedSums.{bounded_sums, bounded_difference, plain_word, narrow_top}
-use Rattle.asg_replays.specs.Replays.{AreReplayed}
-use Rattle.asg_square.specs.Grid.{Grid}
+use Rattle.asg_replays.proofs.Common.{ℕ, sym, ap, ◌∙◌, subst, IsReduced, bounded_sums, bounded_difference, plain_word, narrow_top, AreReplayed, Grid}
 use Rattle.asg_replays.proofs.narrow_lists.narrow_led.Goals as goal
 
 pub make-requires-clause-reduced : goal.make-requires-clause-reduced

@@ -1,9 +1,5 @@
-use Rattle.std.proofs.Common.{◌≡◌, take, subst, arith}
-use Rattle.std.proofs.lemmas.List.{take_all}
-use Rattle.asg_monoids.specs.BoundedSums.{bounded_sums, bounded_difference, plain_word, narrow_top}
+use Rattle.asg_replays.proofs.Common.{◌≡◌, take, subst, arith, take_all, bounded_sums, bounded_difference, plain_word, narrow_top, AreReplayed, IsReplayed, replayed-none, replayed-push}
 use Rattle.asg_monoids.specs.laws.Bounded.{bounded_laws}
-use Rattle.asg_replays.specs.Replays.{AreReplayed, IsReplayed}
-use Rattle.asg_replays.specs.laws.Replaying.{replayed-none, replayed-push}
 use Rattle.asg_replays.proofs.narrow_lists.replay_all.Goals as goal
 
 pub loop-place-init : goal.loop-place-init

@@ -1,6 +1,4 @@
-use Rattle.std.proofs.Common.{take}
-use Rattle.asg_monoids.specs.BoundedSums.{bounded_sums, bounded_difference, plain_word, narrow_top}
-use Rattle.asg_replays.specs.Replays.{AreReplayed}
+use Rattle.asg_replays.proofs.Common.{take, bounded_sums, bounded_difference, plain_word, narrow_top, AreReplayed}
 use Rattle.asg_replays.proofs.narrow_lists.replay_all.Given as goal
 
 -- the phases so far lead to the square as it is

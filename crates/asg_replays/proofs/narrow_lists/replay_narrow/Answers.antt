@@ -1,8 +1,5 @@
-use Rattle.std.proofs.Common.{◌≡◌, map, sym, ap, ◌∙◌, arith}
+use Rattle.asg_replays.proofs.Common.{◌≡◌, map, sym, ap, ◌∙◌, arith, plain_word, narrow_top, phase_of, phase-words}
 use Rattle.asg_dual_squares.specs.declared.dual_squares.Replayed.TheVariants.{Applied, Full}
-use Rattle.asg_monoids.specs.BoundedSums.{plain_word, narrow_top}
-use Rattle.asg_proof.specs.Phases.{phase_of}
-use Rattle.asg_replays.specs.laws.Replaying.{phase-words}
 use Rattle.asg_replays.proofs.narrow_lists.replay_narrow.Goals as goal
 
 applied_is_not_full : Applied ≡ Full → ⊥

@@ -1,8 +1,4 @@
-use Rattle.std.proofs.Common.{◌≡◌, take, sym, subst, arith}
-use Rattle.std.proofs.lemmas.List.{take_all}
-use Rattle.asg_square.specs.Grid.{cell_at}
-use Rattle.asg_replays.specs.Replays.{AreReplayed, IsAdmittedFrom, IsReplayed}
-use Rattle.asg_replays.specs.laws.Replaying.{first-bad, replayed-push}
+use Rattle.asg_replays.proofs.Common.{◌≡◌, take, sym, subst, arith, take_all, AreReplayed, IsAdmittedFrom, IsReplayed, first-bad, replayed-push, cell_at}
 use Rattle.asg_replays.proofs.replays.first_bad.Goals as goal
 
 pub loop-place-init : goal.loop-place-init

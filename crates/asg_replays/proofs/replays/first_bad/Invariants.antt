@@ -1,6 +1,4 @@
-use Rattle.std.proofs.Common.{take}
-use Rattle.asg_admit.specs.Reduced.{IsReduced}
-use Rattle.asg_replays.specs.Replays.{LeadOn}
+use Rattle.asg_replays.proofs.Common.{take, IsReduced, LeadOn}
 use Rattle.asg_replays.proofs.replays.first_bad.Given as goal
 
 -- the phases so far lead to the square as it is

@@ -1,6 +1,4 @@
-use Rattle.std.proofs.Common.{◌<◌, ◌∷◌, [], ◌++◌, length, take, ap, sym, arith, ◌-◌, ◌∙◌}
-use Rattle.std.proofs.lemmas.List.{map_more, take_all}
-use Rattle.asg_replays.specs.PhaseParts.{counted_from}
+use Rattle.asg_replays.proofs.Common.{◌-◌, ◌<◌, [], ◌∷◌, ◌++◌, length, take, sym, ap, ◌∙◌, arith, take_all, map_more, counted_from}
 use Rattle.asg_replays.proofs.replays.marks_from.Goals as goal
 
 pub loop-place-preserved : goal.loop-place-preserved

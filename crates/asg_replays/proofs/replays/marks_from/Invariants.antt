@@ -1,5 +1,4 @@
-use Rattle.std.proofs.Common.{◌≡◌, length, take}
-use Rattle.asg_replays.specs.PhaseParts.{counted_from}
+use Rattle.asg_replays.proofs.Common.{◌≡◌, length, take, counted_from}
 use Rattle.asg_replays.proofs.replays.marks_from.Given as goal
 
 -- the marks so far are counted from the place on

@@ -1,9 +1,4 @@
-use Rattle.std.proofs.Common.{◌<◌, length, map, sym, subst, ap, ◌∙◌, arith}
-use Rattle.std.specs.Prelude.{All}
-use Rattle.std.proofs.lemmas.List.Elements.{All-push}
-use Rattle.asg_order.specs.declared.words.Word.{Word}
-use Rattle.asg_order.specs.Monoid.{IsValue}
-use Rattle.asg_replays.specs.laws.PhaseParts.{none_at-between, values-between}
+use Rattle.asg_replays.proofs.Common.{◌<◌, map, length, All, sym, ap, ◌∙◌, subst, arith, All-push, IsValue, Word, none_at-between, values-between}
 use Rattle.asg_replays.proofs.replays.read_between.Goals as goal
 
 abbrev none : Word

@@ -1,7 +1,4 @@
-use Rattle.std.proofs.Common.{◌≡◌, ◌≤◌, map}
-use Rattle.std.specs.Prelude.{All}
-use Rattle.asg_order.specs.Monoid.{IsValue}
-use Rattle.asg_replays.specs.PhaseParts.{steps_between}
+use Rattle.asg_replays.proofs.Common.{◌≡◌, ◌≤◌, map, All, IsValue, steps_between}
 use Rattle.asg_replays.proofs.replays.read_between.Given as goal
 
 -- the values so far have the words so far

@@ -1,11 +1,4 @@
-use Rattle.std.proofs.Common.{map, refl, sym, subst, ap, ◌∙◌}
-use Rattle.std.specs.Prelude.{All}
-use Rattle.std.proofs.lemmas.Bool.{false≢true}
-use Rattle.asg_order.specs.Monoid.{IsValue}
-use Rattle.asg_proof.specs.Phases.{phase_of}
-use Rattle.asg_square.specs.Grid.{cell_at}
-use Rattle.asg_replays.specs.PhaseParts.{steps_between}
-use Rattle.asg_replays.specs.laws.Replaying.{phase-words, refused-words, unread-words}
+use Rattle.asg_replays.proofs.Common.{map, All, sym, refl, ap, ◌∙◌, subst, false≢true, IsValue, phase_of, steps_between, phase-words, refused-words, unread-words, cell_at}
 use Rattle.asg_replays.proofs.replays.replay_between.Goals as goal
 
 pub returns-then-not-branch-clause-refused : goal.returns-then-not-branch-clause-refused

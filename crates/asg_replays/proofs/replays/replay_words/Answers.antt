@@ -1,7 +1,4 @@
-use Rattle.std.proofs.Common.{subst, ap, ◌∙◌, ◌≤◌, length, arith}
-use Rattle.asg_square.specs.Grid.{cell_at}
-use Rattle.asg_replays.specs.Replays.{IsReplayed}
-use Rattle.asg_replays.specs.laws.PhaseParts.{refused-first, refused-part, replayed-part, whole-part}
+use Rattle.asg_replays.proofs.Common.{◌≤◌, length, ap, ◌∙◌, subst, arith, IsReplayed, refused-first, refused-part, replayed-part, whole-part, cell_at}
 use Rattle.asg_replays.proofs.replays.replay_words.Goals as goal
 
 pub returns-then-not-branch-clause-refused : goal.returns-then-not-branch-clause-refused

@@ -1,6 +1,4 @@
-use Rattle.std.proofs.Common.{◌≡◌, ◌-◌, ◌≤◌, length}
-use Rattle.asg_replays.specs.PhaseParts.{first_part}
-use Rattle.asg_replays.specs.Replays.{IsReplayed}
+use Rattle.asg_replays.proofs.Common.{◌≡◌, ◌-◌, ◌≤◌, length, first_part, IsReplayed}
 use Rattle.asg_replays.proofs.replays.replay_words.Given as goal
 
 -- the steps so far are applied

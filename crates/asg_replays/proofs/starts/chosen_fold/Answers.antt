@@ -1,5 +1,4 @@
-use Rattle.asg_model.specs.Values.{chosen_cost}
-use Rattle.asg_replays.specs.laws.LiveCosts.{fold_more}
+use Rattle.asg_replays.proofs.Common.{chosen_cost, fold_more}
 use Rattle.asg_replays.proofs.starts.chosen_fold.Goals as goal
 
 pub loop-row-preserved : goal.loop-row-preserved

@@ -1,8 +1,4 @@
-use Rattle.std.proofs.Common.{◌≡◌, map}
-use Rattle.std.specs.Prelude.{filter_map}
-use Rattle.std.specs.List.{range_with_len}
-use Rattle.asg_model.specs.Values.{chosen_cost}
-use Rattle.asg_order.specs.Monoid.{IsValue, fold_of}
+use Rattle.asg_replays.proofs.Common.{◌≡◌, map, filter_map, range_with_len, chosen_cost, IsValue, fold_of}
 use Rattle.asg_replays.proofs.starts.chosen_fold.Given as goal
 
 -- the product is that of the rows so far

@@ -1,8 +1,5 @@
-use Rattle.std.proofs.Common.{sym, subst}
+use Rattle.asg_replays.proofs.Common.{sym, subst, IsStart, live_values, IsSquareOf}
 use Rattle.asg_proof.specs.PhaseProofs.{EntersValues}
-use Rattle.asg_square.specs.Grid.{IsSquareOf}
-use Rattle.asg_replays.specs.Replays.{IsStart}
-use Rattle.asg_replays.specs.laws.LiveCosts.{live_values}
 use Rattle.asg_replays.specs.laws.Starts.{start_of}
 use Rattle.asg_replays.proofs.starts.start.Goals as goal
 

@@ -1,4 +1,4 @@
-use Rattle.std.proofs.Common.{sym, ◌∙◌, arith}
+use Rattle.asg_replays.proofs.Common.{sym, ◌∙◌, arith}
 use Rattle.asg_replays.proofs.whole_lists.list_index.Goals as goal
 
 pub none-requires : goal.none-requires

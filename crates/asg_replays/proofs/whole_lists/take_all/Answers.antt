@@ -1,8 +1,4 @@
-use Rattle.std.proofs.Common.{◌≡◌, ℕ, ◌+◌, ◌-◌, ◌<◌, [], ◌∷◌, length, drop, get_or, refl, sym, ◌∙◌, ap, subst, arith}
-use Rattle.std.proofs.lemmas.List.{drop_all, drop_more}
-use Rattle.asg_order.specs.declared.words.Word.{Word}
-use Rattle.asg_proof.specs.Phases.{PhaseOf}
-use Rattle.asg_replays.specs.WholeLists.{AreTotalsOf}
+use Rattle.asg_replays.proofs.Common.{◌≡◌, ℕ, ◌+◌, ◌-◌, ◌<◌, [], ◌∷◌, length, get_or, drop, sym, refl, ap, ◌∙◌, subst, arith, drop_all, drop_more, Word, PhaseOf, AreTotalsOf}
 use Rattle.asg_replays.proofs.whole_lists.take_all.Goals as goal
 
 pub phases-init : goal.phases-init

@@ -1,5 +1,4 @@
-use Rattle.std.proofs.Common.{◌≡◌, ◌-◌, drop, length}
-use Rattle.asg_replays.specs.WholeLists.{AreTotalsOf}
+use Rattle.asg_replays.proofs.Common.{◌≡◌, ◌-◌, length, drop, AreTotalsOf}
 use Rattle.asg_replays.proofs.whole_lists.take_all.Given as goal
 
 -- the totals are those of the phases from here on

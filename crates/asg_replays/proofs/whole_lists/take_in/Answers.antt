@@ -1,7 +1,4 @@
-use Rattle.std.proofs.Common.{◌≡◌, ◌∷◌, map, sym, ap, ◌∙◌}
-use Rattle.asg_monoids.specs.BoundedSums.{plain_word}
-use Rattle.asg_proof.specs.Phases.{phase_of, worded}
-use Rattle.asg_replays.specs.laws.Replaying.{phase-words}
+use Rattle.asg_replays.proofs.Common.{◌≡◌, ◌∷◌, map, sym, ap, ◌∙◌, plain_word, phase_of, worded, phase-words}
 use Rattle.asg_replays.proofs.whole_lists.take_in.Goals as goal
 
 pub returns-clause-taken : goal.returns-clause-taken

@@ -1,6 +1,4 @@
-use Rattle.std.proofs.Common.{◌≡◌, length, inl, inr, refl, ◌∙◌, subst, arith, ⊎_elim}
-use Rattle.std.proofs.lemmas.List.{length-set}
-use Rattle.asg_settling.specs.JoinedSteps.{IsJoined}
+use Rattle.asg_settling.proofs.Common.{◌≡◌, length, refl, ◌∙◌, subst, inl, inr, ⊎_elim, arith, length-set, IsJoined}
 use Rattle.asg_settling.proofs.JoinedLemmas.{joined_none, joined_more}
 use Rattle.asg_settling.proofs.joined_steps.join_steps.Goals as goal
 

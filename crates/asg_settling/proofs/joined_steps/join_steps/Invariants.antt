@@ -1,5 +1,4 @@
-use Rattle.std.proofs.Common.{◌≡◌, ◌-◌, ◌≤◌, length}
-use Rattle.asg_settling.specs.JoinedSteps.{IsJoined}
+use Rattle.asg_settling.proofs.Common.{◌≡◌, ◌-◌, ◌≤◌, length, IsJoined}
 use Rattle.asg_settling.proofs.joined_steps.join_steps.Given as goal
 
 -- the steps so far are joined

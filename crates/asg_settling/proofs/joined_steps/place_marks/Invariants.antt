@@ -1,5 +1,4 @@
-use Rattle.std.proofs.Common.{◌≡◌, ℕ, ◌<◌, ◌≤◌, length}
-use Rattle.std.specs.Prelude.{slice_index}
+use Rattle.asg_settling.proofs.Common.{◌≡◌, ℕ, ◌<◌, ◌≤◌, length, slice_index}
 use Rattle.asg_settling.proofs.joined_steps.place_marks.Given as goal
 
 -- the marks so far have their places, and those of the others stand

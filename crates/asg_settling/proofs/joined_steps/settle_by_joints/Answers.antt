@@ -1,6 +1,4 @@
-use Rattle.std.proofs.Common.{◌≡◌, ℕ, ◌<◌, get_or, ◌∙◌, ap}
-use Rattle.std.proofs.lemmas.List.{get_or-take}
-use Rattle.asg_admit.specs.Settled.{step_of}
+use Rattle.asg_settling.proofs.Common.{◌≡◌, ℕ, ◌<◌, get_or, ap, ◌∙◌, get_or-take, step_of}
 use Rattle.asg_settling.proofs.JoinedLemmas.{joints_are_values, joined_phase}
 use Rattle.asg_settling.proofs.joined_steps.settle_by_joints.Goals as goal
 

@@ -1,8 +1,4 @@
-use Rattle.std.proofs.Common.{◌≡◌, ◌+◌, ◌-◌, ◌<◌, length, set, sym, ◌∙◌, ap, subst, arith, ⊎_elim}
-use Rattle.std.specs.Prelude.{slice_index}
-use Rattle.std.proofs.lemmas.Bool.{cases_eq}
-use Rattle.std.proofs.lemmas.List.{length-set, get_or-set_same, get_or-set_other}
-use Rattle.asg_settling.specs.LeftColumns.{IsPassed}
+use Rattle.asg_settling.proofs.Common.{◌≡◌, ◌+◌, ◌-◌, ◌<◌, length, set, slice_index, sym, ap, ◌∙◌, subst, ⊎_elim, arith, length-set, get_or-set_other, get_or-set_same, cases_eq, IsPassed}
 use Rattle.asg_settling.proofs.LeftLemmas.{passed_none, passed_more}
 use Rattle.asg_settling.proofs.left_columns.find_left.Goals as goal
 

@@ -1,6 +1,4 @@
-use Rattle.std.proofs.Common.{◌≡◌, ℕ, ◌+◌, ◌≤◌, length}
-use Rattle.std.specs.Prelude.{slice_index}
-use Rattle.asg_settling.specs.LeftColumns.{IsPassed}
+use Rattle.asg_settling.proofs.Common.{◌≡◌, ℕ, ◌+◌, ◌≤◌, length, slice_index, IsPassed}
 use Rattle.asg_settling.proofs.left_columns.find_left.Given as goal
 
 -- the last columns so far

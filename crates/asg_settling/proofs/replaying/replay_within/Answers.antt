@@ -1,8 +1,5 @@
-use Rattle.std.proofs.Common.{refl}
-use Rattle.asg_admit.specs.Reduced.{phase_of}
+use Rattle.asg_settling.proofs.Common.{refl, phase_of, same_labels, unchanged}
 use Rattle.asg_admit.specs.laws.AdmissionLemmas.{not_both, never, over_from, over_admitted, allows_from}
-use Rattle.asg_admit.specs.laws.SettleLemmas.{unchanged}
-use Rattle.asg_admit.specs.laws.SquareLemmas.{same_labels}
 use Rattle.asg_settling.proofs.replaying.replay_within.Goals as goal
 
 pub returns-then-not-is_over-clause-admitted : goal.returns-then-not-is_over-clause-admitted

@@ -1,8 +1,5 @@
-use Rattle.std.proofs.Common.{◌∙◌, ap}
+use Rattle.asg_settling.proofs.Common.{ap, ◌∙◌, phase_of, phase_by, cell_at}
 use Rattle.asg_proof.specs.laws.PhaseSteps.{phase_has_values}
-use Rattle.asg_square.specs.Grid.{cell_at}
-use Rattle.asg_admit.specs.Reduced.{phase_of}
-use Rattle.asg_admit.specs.laws.SettleLemmas.{phase_by}
 use Rattle.asg_settling.proofs.settling.settle.Goals as goal
 
 pub settle_square-requires-clause-values : goal.settle_square-requires-clause-values

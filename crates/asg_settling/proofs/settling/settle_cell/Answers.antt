@@ -1,10 +1,5 @@
-use Rattle.std.proofs.Common.{◌≡◌, Some, sym, ◌∙◌, ap, subst}
-use Rattle.std.specs.Option.{option_map}
-use Rattle.asg_square.specs.Grid.{cell_at}
-use Rattle.asg_admit.specs.Settled.{settled}
-use Rattle.asg_admit.specs.Settling.{IsWritten}
+use Rattle.asg_settling.proofs.Common.{◌≡◌, Some, option_map, sym, ap, ◌∙◌, subst, settled, IsWritten, equal_marks, cell_at}
 use Rattle.asg_admit.specs.laws.SquareLemmas.{unwritten, written}
-use Rattle.asg_admit.specs.laws.SettleLemmas.{equal_marks}
 use Rattle.asg_settling.proofs.settling.settle_cell.Goals as goal
 
 pub returns-then-enter-leave : goal.returns-then-enter-leave

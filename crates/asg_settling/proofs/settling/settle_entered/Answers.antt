@@ -1,6 +1,4 @@
-use Rattle.std.proofs.Common.{◌+◌, length, refl, sym, ◌∙◌, ap, subst, arith}
-use Rattle.asg_square.specs.Grid.{Grid}
-use Rattle.asg_admit.specs.Reduced.{phase_of}
+use Rattle.asg_settling.proofs.Common.{◌+◌, length, sym, refl, ap, ◌∙◌, subst, arith, phase_of, Grid}
 use Rattle.asg_settling.proofs.SettledRows.{SettlesEnteredTo, none_entered, one_entered, all_entered, row_settled, row_stays}
 use Rattle.asg_settling.proofs.settling.settle_entered.Goals as goal
 use Rattle.asg_settling.proofs.settling.settle_entered.Goals.{then-enter-steps, else-enter-steps}

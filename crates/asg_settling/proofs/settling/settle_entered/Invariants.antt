@@ -1,5 +1,4 @@
-use Rattle.std.proofs.Common.{◌≡◌, length}
-use Rattle.asg_admit.specs.Reduced.{phase_of}
+use Rattle.asg_settling.proofs.Common.{◌≡◌, length, phase_of}
 use Rattle.asg_settling.proofs.SettledRows.{SettlesEnteredTo}
 use Rattle.asg_settling.proofs.settling.settle_entered.Given as goal
 

@@ -1,5 +1,4 @@
-use Rattle.asg_admit.specs.Reduced.{phase_of}
-use Rattle.asg_admit.specs.laws.SettleLemmas.{all_rows}
+use Rattle.asg_settling.proofs.Common.{phase_of, all_rows}
 use Rattle.asg_settling.proofs.settling.settle_rows.Goals as goal
 
 pub returns-clause-settled : goal.returns-clause-settled

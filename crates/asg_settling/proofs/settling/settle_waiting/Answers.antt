@@ -1,11 +1,4 @@
-use Rattle.std.proofs.Common.{◌≡◌, ℕ, ◌<◌, ◌≤◌, length, sym, ◌∙◌, ap, subst, arith, below_more}
-use Rattle.std.specs.Prelude.{slice_index}
-use Rattle.std.specs.Option.{option_map}
-use Rattle.asg_square.specs.Grid.{Grid, cell_at}
-use Rattle.asg_admit.specs.Reduced.{KeepsLabels, phase_of}
-use Rattle.asg_admit.specs.Settled.{settled, settled_at}
-use Rattle.asg_admit.specs.laws.SettleLemmas.{late_marks}
-use Rattle.asg_admit.specs.laws.SquareLemmas.{chained_labels}
+use Rattle.asg_settling.proofs.Common.{◌≡◌, ℕ, ◌<◌, ◌≤◌, length, slice_index, option_map, sym, ap, ◌∙◌, subst, arith, below_more, KeepsLabels, phase_of, settled, settled_at, chained_labels, late_marks, Grid, cell_at}
 use Rattle.asg_settling.proofs.settling.settle_waiting.Goals as goal
 use Rattle.asg_settling.proofs.settling.settle_waiting.Goals.{then-enters-row, else-enters-row}
 

@@ -1,8 +1,4 @@
-use Rattle.std.proofs.Common.{◌≡◌, ℕ, ◌≤◌, ◌<◌, length}
-use Rattle.std.specs.Prelude.{slice_index}
-use Rattle.asg_square.specs.Grid.{cell_at}
-use Rattle.asg_admit.specs.Reduced.{KeepsLabels, phase_of}
-use Rattle.asg_admit.specs.Settled.{settled_at}
+use Rattle.asg_settling.proofs.Common.{◌≡◌, ℕ, ◌<◌, ◌≤◌, length, slice_index, KeepsLabels, phase_of, settled_at, cell_at}
 use Rattle.asg_settling.proofs.settling.settle_waiting.Given as goal
 
 -- the waiting rows so far are settled, and the others stand

@@ -1,12 +1,5 @@
-use Rattle.std.proofs.Common.{◌≡◌, ◌+◌, ◌<◌, ◌≤◌, length, inl, inr, refl, sym, ◌∙◌, ap, subst, arith, ⊎_elim}
-use Rattle.std.specs.Prelude.{slice_index}
-use Rattle.std.specs.Option.{option_map}
-use Rattle.std.proofs.lemmas.Bool.{cases_order}
-use Rattle.asg_square.specs.Grid.{cell_at}
-use Rattle.asg_admit.specs.Settled.{settled}
+use Rattle.asg_settling.proofs.Common.{◌≡◌, ◌+◌, ◌<◌, ◌≤◌, length, slice_index, option_map, sym, refl, ap, ◌∙◌, subst, inl, inr, ⊎_elim, arith, cases_order, settled, same_labels, chained_labels, cut_marks, waiting_marks, cell_at}
 use Rattle.asg_admit.specs.laws.ProductLemmas.{across_at}
-use Rattle.asg_admit.specs.laws.SettleLemmas.{cut_marks, waiting_marks}
-use Rattle.asg_admit.specs.laws.SquareLemmas.{same_labels, chained_labels}
 use Rattle.asg_settling.proofs.settling.settle_waiting_row.Goals as goal
 
 pub loop-column-init : goal.loop-column-init

@@ -1,9 +1,4 @@
-use Rattle.std.proofs.Common.{◌≡◌, ◌≢◌, ℕ, ◌-◌, ◌≤◌, ◌<◌, length}
-use Rattle.std.specs.Prelude.{slice_index}
-use Rattle.std.specs.Option.{option_map}
-use Rattle.asg_square.specs.Grid.{cell_at}
-use Rattle.asg_admit.specs.Reduced.{KeepsLabels}
-use Rattle.asg_admit.specs.Settled.{settled}
+use Rattle.asg_settling.proofs.Common.{◌≡◌, ℕ, ◌-◌, ◌<◌, ◌≤◌, ◌≢◌, length, slice_index, option_map, KeepsLabels, settled, cell_at}
 use Rattle.asg_settling.proofs.settling.settle_waiting_row.Given as goal
 
 -- the cells so far are settled, and the others stand

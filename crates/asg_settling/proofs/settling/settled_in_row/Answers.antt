@@ -1,5 +1,4 @@
-use Rattle.std.proofs.Common.{◌∙◌, arith}
-use Rattle.std.specs.Prelude.{slice_index}
+use Rattle.asg_settling.proofs.Common.{slice_index, ◌∙◌, arith}
 use Rattle.asg_admit.specs.laws.ReplayLemmas.{cut_settled}
 use Rattle.asg_settling.proofs.settling.settled_in_row.Goals as goal
 

@@ -1,6 +1,4 @@
-use Rattle.std.proofs.Common.{◌≡◌, ◌<◌, ◌≤◌, ◌+◌, ◌*◌, ◌%◌, ◌^◌, ℕ, List, length, sym, ◌∙◌, ap, subst, arith}
-use Rattle.std.specs.Prelude.{slice_index}
-use Rattle.asg_phase_totals.specs.Duals.{dual_bits}
+use Rattle.asg_dual_squares.proofs.Common.{◌≡◌, ℕ, ◌+◌, ◌*◌, ◌%◌, ◌^◌, ◌<◌, ◌≤◌, List, length, slice_index, sym, ap, ◌∙◌, subst, arith, dual_bits}
 use Rattle.asg_dual_squares.proofs.DualLemmas.{length_of_values, dual_values_at}
 use Rattle.asg_dual_squares.proofs.LesserLemmas.{sum_turned}
 use Rattle.asg_dual_squares.proofs.dual_rows.DualRow+u64.lesser.Goals as goal

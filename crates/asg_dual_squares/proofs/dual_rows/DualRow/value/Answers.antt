@@ -1,7 +1,5 @@
-use Rattle.std.proofs.Common.{◌<◌, ℕ, List, length, sym, ◌∙◌, ap, subst, arith}
-use Rattle.std.specs.Prelude.{slice_index}
+use Rattle.asg_dual_squares.proofs.Common.{ℕ, ◌<◌, List, length, slice_index, sym, ap, ◌∙◌, subst, arith, count_is}
 use Rattle.asg_dual_squares.proofs.DualLemmas.{length_of_values, dual_values_at}
-use Rattle.asg_phase_totals.specs.laws.NumberLemmas.{count_is}
 use Rattle.asg_dual_squares.proofs.dual_rows.DualRow.value.Goals as goal
 
 pub value_at-requires-clause-column : goal.value_at-requires-clause-column

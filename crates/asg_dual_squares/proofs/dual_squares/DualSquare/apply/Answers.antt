@@ -1,22 +1,6 @@
-use Rattle.std.proofs.Common.{◌≡◌, ℕ, ◌+◌, List, length, min, refl, sym, ◌∙◌, ap, subst, arith}
-use Rattle.std.specs.Prelude.{Option, slice_index}
-use Rattle.std.proofs.lemmas.Bool.{false≢true, true≢false}
-use Rattle.asg_monoids.specs.BoundedSums.{bounded_sums, bounded_difference}
-use Rattle.asg_order.specs.Monoid.{fold_of}
-use Rattle.asg_proof.specs.Phases.{IsAdmittedPhase}
-use Rattle.asg_square.specs.Grid.{cell_at}
-use Rattle.asg_admit.specs.declared.reduced.Reduced.{Reduced}
-use Rattle.asg_admit.specs.Admission.{AreCounted}
-use Rattle.asg_phase_totals.specs.Duals.{dual_grid, dual_reduced, sum_before, AreDuals, FitsRows, HasRoom}
-use Rattle.asg_admit.specs.Reduced.{IsPhaseTo, phase_of}
-use Rattle.asg_phase_totals.specs.SumNumbers.{numbered_grid}
-use Rattle.asg_admit.specs.laws.AdmissionLemmas.{not_both, never, counted_from, allows_from, admitted_to}
-use Rattle.asg_phase_totals.specs.laws.SumLemmas.{fold_is}
-use Rattle.asg_admit.specs.laws.SquareLemmas.{present_within}
+use Rattle.asg_dual_squares.proofs.Common.{◌≡◌, ℕ, ◌+◌, min, List, length, slice_index, Option, sym, refl, ap, ◌∙◌, subst, true≢false, arith, false≢true, AreCounted, IsPhaseTo, phase_of, Reduced, not_both, never, counted_from, allows_from, admitted_to, present_within, bounded_sums, bounded_difference, fold_of, dual_grid, dual_reduced, sum_before, AreDuals, FitsRows, HasRoom, numbered_grid, count_is, read_is, sum_at, cell_is, cells_are, fold_is, IsAdmittedPhase, cell_at}
 use Rattle.asg_dual_squares.proofs.DualPhases.{duals_after, phase_after, fits_allow, allow_fits, steps_are_values, lowered_back}
 use Rattle.asg_dual_squares.proofs.NarrowPhases.{duals_wider, room_above}
-use Rattle.asg_phase_totals.specs.laws.NumberLemmas.{count_is, read_is, sum_at}
-use Rattle.asg_phase_totals.specs.laws.PresentLemmas.{cell_is, cells_are}
 use Rattle.asg_dual_squares.proofs.dual_squares.DualSquare.apply.Goals as goal
 
 pub returns-then-enters-side-clause-admitted : goal.returns-then-enters-side-clause-admitted

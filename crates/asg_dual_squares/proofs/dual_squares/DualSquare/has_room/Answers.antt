@@ -1,8 +1,4 @@
-use Rattle.std.proofs.Common.{ℕ, inl, subst, arith}
-use Rattle.std.proofs.lemmas.Bool.{false≢true}
-use Rattle.asg_admit.specs.declared.reduced.Reduced.{Reduced}
-use Rattle.asg_phase_totals.specs.Duals.{HasRoom, IsNearTop}
-use Rattle.asg_phase_totals.specs.SumNumbers.{numbered_grid}
+use Rattle.asg_dual_squares.proofs.Common.{ℕ, subst, inl, arith, false≢true, Reduced, HasRoom, IsNearTop, numbered_grid}
 use Rattle.asg_dual_squares.proofs.DualPhases.{has_room_is, near_top_is}
 use Rattle.asg_dual_squares.proofs.dual_squares.DualSquare.has_room.Goals as goal
 

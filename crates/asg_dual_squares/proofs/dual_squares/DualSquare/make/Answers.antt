@@ -1,10 +1,5 @@
-use Rattle.std.proofs.Common.{◌≡◌, ℕ, replicate, subst, arith}
-use Rattle.std.specs.Prelude.{Option}
-use Rattle.asg_phase_totals.specs.Duals.{IsGreatest}
-use Rattle.asg_phase_totals.specs.SumNumbers.{numbered_grid}
+use Rattle.asg_dual_squares.proofs.Common.{◌≡◌, ℕ, replicate, Option, subst, arith, IsGreatest, numbered_grid, zeros_are, cells_are, grid_is}
 use Rattle.asg_dual_squares.proofs.DualPhases.{duals_start, start_is}
-use Rattle.asg_phase_totals.specs.laws.NumberLemmas.{zeros_are}
-use Rattle.asg_phase_totals.specs.laws.PresentLemmas.{cells_are, grid_is}
 use Rattle.asg_dual_squares.proofs.dual_squares.DualSquare.make.Goals as goal
 
 pub invariant_of-result : goal.invariant_of-result

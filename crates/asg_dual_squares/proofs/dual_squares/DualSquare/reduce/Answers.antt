@@ -1,13 +1,6 @@
-use Rattle.std.proofs.Common.{◌≡◌, ℕ, List, length, sym, ◌∙◌, ap, subst, arith}
-use Rattle.std.specs.Prelude.{Option, slice_index}
-use Rattle.std.specs.Option.{option_map}
-use Rattle.asg_square.specs.Grid.{Grid, cell_at}
-use Rattle.asg_phase_totals.specs.Duals.{dual_grid, dual_value, FitsDuals}
-use Rattle.asg_phase_totals.specs.SumNumbers.{numbered_grid}
+use Rattle.asg_dual_squares.proofs.Common.{◌≡◌, ℕ, List, length, slice_index, Option, option_map, sym, ap, ◌∙◌, subst, arith, dual_grid, dual_value, FitsDuals, numbered_grid, count_is, cell_is, grid_is, Grid, cell_at}
 use Rattle.asg_dual_squares.proofs.DualLemmas.{same_grids, dual_is_grid, dual_cell_at}
 use Rattle.asg_dual_squares.proofs.DualPhases.{duals_fit}
-use Rattle.asg_phase_totals.specs.laws.NumberLemmas.{count_is}
-use Rattle.asg_phase_totals.specs.laws.PresentLemmas.{cell_is, grid_is}
 use Rattle.asg_dual_squares.proofs.dual_squares.DualSquare.reduce.Goals as goal
 
 pub write_cells-requires-clause-rows : goal.write_cells-requires-clause-rows

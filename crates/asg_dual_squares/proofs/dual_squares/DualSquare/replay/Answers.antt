@@ -1,11 +1,5 @@
-use Rattle.std.proofs.Common.{◌≡◌, inl, refl, subst, arith}
-use Rattle.asg_monoids.specs.BoundedSums.{bounded_sums}
-use Rattle.asg_order.specs.Monoid.{fold_of}
+use Rattle.asg_dual_squares.proofs.Common.{◌≡◌, refl, subst, inl, arith, not_both, bounded_sums, fold_of, HasRoom, IsNearTop, sum_at, fold_is}
 use Rattle.asg_dual_squares.specs.declared.dual_squares.Replayed.TheVariants.{Applied, Refused}
-use Rattle.asg_phase_totals.specs.Duals.{HasRoom, IsNearTop}
-use Rattle.asg_admit.specs.laws.AdmissionLemmas.{not_both}
-use Rattle.asg_phase_totals.specs.laws.SumLemmas.{fold_is}
-use Rattle.asg_phase_totals.specs.laws.NumberLemmas.{sum_at}
 use Rattle.asg_dual_squares.proofs.dual_squares.DualSquare.replay.Goals as goal
 
 pub returns-in_default-clause-full : goal.returns-in_default-clause-full

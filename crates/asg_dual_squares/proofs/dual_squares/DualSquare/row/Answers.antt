@@ -1,12 +1,5 @@
-use Rattle.std.proofs.Common.{ℕ, ◌<◌, length, sym, ap, subst, arith}
-use Rattle.std.specs.Prelude.{Option}
-use Rattle.asg_square.specs.CellTable.{AreValuesOf}
-use Rattle.asg_square.specs.Grid.{cell_at}
-use Rattle.asg_admit.specs.declared.reduced.Reduced.{Reduced}
-use Rattle.asg_phase_totals.specs.SumNumbers.{numbered_grid}
+use Rattle.asg_dual_squares.proofs.Common.{ℕ, ◌<◌, length, Option, sym, ap, subst, arith, Reduced, AreValuesOf, numbered_grid, count_is, read_is, values_are, cells_are, cell_at}
 use Rattle.asg_dual_squares.proofs.DualPhases.{dual_row_is}
-use Rattle.asg_phase_totals.specs.laws.NumberLemmas.{count_is, read_is}
-use Rattle.asg_phase_totals.specs.laws.PresentLemmas.{values_are, cells_are}
 use Rattle.asg_dual_squares.proofs.dual_squares.DualSquare.row.Goals as goal
 
 pub index-requires : goal.index-requires

@@ -1,11 +1,5 @@
-use Rattle.std.proofs.Common.{ℕ, subst}
-use Rattle.std.specs.Prelude.{Option, is_some}
-use Rattle.asg_square.specs.BitTable.{AreWordsOf}
-use Rattle.asg_square.specs.Grid.{cell_at}
-use Rattle.asg_admit.specs.declared.reduced.Reduced.{Reduced}
-use Rattle.asg_phase_totals.specs.SumNumbers.{numbered_grid}
+use Rattle.asg_dual_squares.proofs.Common.{ℕ, is_some, Option, subst, Reduced, AreWordsOf, numbered_grid, words_are, cells_are, cell_at}
 use Rattle.asg_dual_squares.proofs.DualPhases.{dual_words}
-use Rattle.asg_phase_totals.specs.laws.PresentLemmas.{words_are, cells_are}
 use Rattle.asg_dual_squares.proofs.dual_squares.DualSquare.row_words.Goals as goal
 
 pub returns : goal.returns

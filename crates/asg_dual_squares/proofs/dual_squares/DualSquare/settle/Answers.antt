@@ -1,16 +1,5 @@
-use Rattle.std.proofs.Common.{◌≡◌, ℕ, ◌+◌, length, sym, ap, subst, arith}
-use Rattle.asg_monoids.specs.BoundedSums.{bounded_sums, bounded_difference}
-use Rattle.asg_order.specs.Monoid.{fold_of}
-use Rattle.asg_proof.specs.Phases.{IsAdmittedPhase}
-use Rattle.asg_square.specs.Grid.{cell_at}
-use Rattle.asg_admit.specs.declared.reduced.Reduced.{Reduced}
-use Rattle.asg_phase_totals.specs.Duals.{dual_grid, dual_reduced, sum_before, AreDuals, HasRoom}
-use Rattle.asg_admit.specs.Reduced.{IsPhaseTo, phase_of}
-use Rattle.asg_phase_totals.specs.SumNumbers.{numbered_grid}
-use Rattle.asg_admit.specs.laws.AdmissionLemmas.{allows_from}
-use Rattle.asg_phase_totals.specs.laws.SumLemmas.{fold_is}
+use Rattle.asg_dual_squares.proofs.Common.{◌≡◌, ℕ, ◌+◌, length, sym, ap, subst, arith, IsPhaseTo, phase_of, Reduced, allows_from, bounded_sums, bounded_difference, fold_of, dual_grid, dual_reduced, sum_before, AreDuals, HasRoom, numbered_grid, count_is, read_is, sum_at, fold_is, IsAdmittedPhase, cell_at}
 use Rattle.asg_dual_squares.proofs.DualPhases.{duals_after, phase_after}
-use Rattle.asg_phase_totals.specs.laws.NumberLemmas.{count_is, read_is, sum_at}
 use Rattle.asg_dual_squares.proofs.dual_squares.DualSquare.settle.Goals as goal
 
 pub sum_up-requires-clause-fits : goal.sum_up-requires-clause-fits

@@ -1,7 +1,4 @@
-use Rattle.std.proofs.Common.{ℕ, subst}
-use Rattle.asg_square.specs.Grid.{IsGrid}
-use Rattle.asg_admit.specs.declared.reduced.Reduced.{Reduced}
-use Rattle.asg_phase_totals.specs.SumNumbers.{numbered_grid}
+use Rattle.asg_dual_squares.proofs.Common.{ℕ, subst, Reduced, numbered_grid, IsGrid}
 use Rattle.asg_dual_squares.proofs.DualLemmas.{dual_is_grid}
 use Rattle.asg_dual_squares.proofs.dual_squares.DualSquare.side.Goals as goal
 

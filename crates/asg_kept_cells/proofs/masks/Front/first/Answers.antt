@@ -1,4 +1,4 @@
-use Rattle.std.proofs.Common.{refl, arith}
+use Rattle.asg_kept_cells.proofs.Common.{refl, arith}
 use Rattle.asg_kept_cells.proofs.masks.Front.first.Goals as goal
 
 pub returns-clause-front : goal.returns-clause-front

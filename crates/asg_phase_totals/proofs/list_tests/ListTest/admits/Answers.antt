@@ -1,8 +1,4 @@
-use Rattle.std.proofs.Common.{◌≡◌, sym, subst, arith}
-use Rattle.std.specs.Prelude.{All}
-use Rattle.asg_square.specs.Grid.{cell_at}
-use Rattle.asg_phase_totals.specs.PhaseTotals.{CountsRight}
-use Rattle.asg_admit.specs.laws.AdmissionLemmas.{never, not_both}
+use Rattle.asg_phase_totals.proofs.Common.{◌≡◌, All, sym, subst, arith, never, not_both, CountsRight, cell_at}
 use Rattle.asg_phase_totals.proofs.SegmentLemmas.{all_count_right}
 use Rattle.asg_phase_totals.proofs.list_tests.ListTest.admits.Goals as goal
 

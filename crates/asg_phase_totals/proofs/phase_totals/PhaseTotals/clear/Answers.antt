@@ -1,6 +1,4 @@
-use Rattle.std.proofs.Common.{length, sym, ◌∙◌, ap, arith}
-use Rattle.asg_phase_totals.specs.PhaseTotals.{Totals}
-use Rattle.asg_phase_totals.specs.laws.NumberLemmas.{count_is}
+use Rattle.asg_phase_totals.proofs.Common.{length, sym, ap, ◌∙◌, arith, Totals, count_is}
 use Rattle.asg_phase_totals.proofs.phase_totals.PhaseTotals.clear.Goals as goal
 
 pub returns-clause-totals : goal.returns-clause-totals

@@ -1,6 +1,4 @@
-use Rattle.std.proofs.Common.{length, ◌∙◌, ap, sym}
-use Rattle.asg_phase_totals.specs.PhaseTotals.{Totals}
-use Rattle.asg_phase_totals.specs.laws.NumberLemmas.{count_is}
+use Rattle.asg_phase_totals.proofs.Common.{length, sym, ap, ◌∙◌, Totals, count_is}
 use Rattle.asg_phase_totals.proofs.phase_totals.PhaseTotals.columns.Goals as goal
 
 pub returns-clause-columns : goal.returns-clause-columns

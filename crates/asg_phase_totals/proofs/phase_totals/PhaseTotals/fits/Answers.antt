@@ -1,14 +1,5 @@
-use Rattle.std.proofs.Common.{◌≡◌, ℕ, List, ◌<◌, length, subst, sym, ap, ◌∙◌, arith, ⊎_elim}
-use Rattle.std.specs.Prelude.{slice_index}
-use Rattle.asg_square.specs.Grid.{cell_at}
-use Rattle.asg_monoids.specs.BoundedSums.{bounded_sums}
-use Rattle.asg_proof.specs.Phases.{index_of}
-use Rattle.asg_phase_totals.specs.Duals.{FitCells}
-use Rattle.asg_phase_totals.specs.PhaseTotals.{Totals, AreTotals, EndsWell, totals_of}
-use Rattle.asg_admit.specs.laws.AdmissionLemmas.{never}
+use Rattle.asg_phase_totals.proofs.Common.{◌≡◌, ℕ, ◌<◌, List, length, slice_index, sym, ap, ◌∙◌, subst, ⊎_elim, arith, never, bounded_sums, FitCells, Totals, AreTotals, EndsWell, totals_of, count_is, value_is, index_of, cell_at}
 use Rattle.asg_admit.specs.laws.SquareLemmas.{present_within}
-use Rattle.asg_phase_totals.specs.laws.NumberLemmas.{count_is}
-use Rattle.asg_phase_totals.specs.laws.PresentLemmas.{value_is}
 use Rattle.asg_phase_totals.proofs.TotalsLemmas.{totals_fit, totals_index}
 use Rattle.asg_phase_totals.proofs.phase_totals.PhaseTotals.fits.Goals as goal
 

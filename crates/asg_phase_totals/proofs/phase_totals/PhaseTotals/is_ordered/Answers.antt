@@ -1,7 +1,4 @@
-use Rattle.std.proofs.Common.{ℕ, List, ◌<◌, ◌≤◌, length, subst, sym, arith}
-use Rattle.std.specs.Prelude.{slice_index}
-use Rattle.asg_phase_totals.specs.PhaseTotals.{AreOrdered}
-use Rattle.asg_phase_totals.specs.laws.NumberLemmas.{count_is}
+use Rattle.asg_phase_totals.proofs.Common.{ℕ, ◌<◌, ◌≤◌, List, length, slice_index, sym, subst, arith, AreOrdered, count_is}
 use Rattle.asg_phase_totals.proofs.phase_totals.PhaseTotals.is_ordered.Goals as goal
 
 pub returns : goal.returns

@@ -1,5 +1,4 @@
-use Rattle.std.proofs.Common.{◌≡◌, length, ◌∙◌, arith}
-use Rattle.asg_phase_totals.specs.laws.NumberLemmas.{count_is}
+use Rattle.asg_phase_totals.proofs.Common.{◌≡◌, length, ◌∙◌, arith, count_is}
 use Rattle.asg_phase_totals.proofs.phase_totals.PhaseTotals.none.Goals as goal
 
 pub invariant_of-result : goal.invariant_of-result

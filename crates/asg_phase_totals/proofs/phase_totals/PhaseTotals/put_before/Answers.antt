@@ -1,11 +1,4 @@
-use Rattle.std.proofs.Common.{◌+◌, ◌≤◌, length, refl, subst, sym, ◌∙◌, ap, arith}
-use Rattle.std.specs.List.{sum}
-use Rattle.std.proofs.lemmas.Bool.{false≢true, true≢false}
-use Rattle.asg_proof.specs.Phases.{phase_of}
-use Rattle.asg_admit.specs.Admission.{AreCounted}
-use Rattle.asg_phase_totals.specs.PhaseTotals.{Totals, AreOrdered, AreTotals, CanPrecede, CountsRight, totals_of}
-use Rattle.asg_admit.specs.laws.AdmissionLemmas.{never, not_both}
-use Rattle.asg_phase_totals.specs.laws.NumberLemmas.{count_is, all_is}
+use Rattle.asg_phase_totals.proofs.Common.{◌+◌, ◌≤◌, length, sym, refl, ap, ◌∙◌, subst, true≢false, arith, false≢true, AreCounted, never, not_both, Totals, AreOrdered, AreTotals, CanPrecede, CountsRight, totals_of, count_is, all_is, phase_of, sum}
 use Rattle.asg_phase_totals.proofs.TotalsLemmas.{keeps_more, sum_all, totals_more}
 use Rattle.asg_phase_totals.proofs.phase_totals.PhaseTotals.put_before.Goals as goal
 

@@ -2,9 +2,8 @@
 use Rattle.std.proofs.Common.{◌≡◌, ⊎_elim, ℕ, ◌^◌, ◌<◌, w64}
 use Rattle.std.specs.Int.{trailing_zeros}
 use Rattle.std.proofs.lemmas.Bool.{cases_eq}
-pub use Rattle.asg_square.specs.WordBits.{HasBit}
-use Rattle.asg_square.specs.laws.Bits.{HasBit-trailing_zeros, HasBit-without_other, without_bit-lt}
-pub use Rattle.asg_square.specs.laws.Bits.{bit_below, without_bit, HasBit-without}
+use Rattle.asg_bit_rows.specs.WordBits.{HasBit}
+use Rattle.asg_bit_rows.specs.laws.Bits.{HasBit-trailing_zeros, HasBit-without, HasBit-without_other, bit_below, without_bit, without_bit-lt}
 
 -- the lowest bit of what is left of a word, and what is left after it
 module _ (rest : ℕ) (some : 0 < rest) (fits : rest < 2 ^ 64) where

@@ -1,0 +1,8 @@
+use Rattle.asg_phase_totals.proofs.Common.{ℕ, ◌<◌, ◌≤◌, IsTrue, slice_index}
+use Rattle.asg_phase_totals.proofs.greatest_cells.is_none_of_64.Given as goal
+
+-- none so far is greater
+abbrev pub invariant-loop-k : goal.invariant-loop-k
+invariant-loop-k g l =
+    let N = g.N.SumNumber in
+    IsTrue l.is_none → (i : ℕ) → i < l.k → slice_index (N.numbers l.values) i ≤ N.number l.most

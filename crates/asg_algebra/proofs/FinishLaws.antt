@@ -1,32 +1,9 @@
 -- How a phase begins and ends, on its growth.
-use Rattle.std.proofs.Common.{◌≡◌, ℕ, ◌+◌, ◌*◌, [], ◌∷◌, ◌<◌, ◌≤◌, List, length, Option, None, cond, get_or, is_some, refl, sym, ◌∙◌, ap, subst, arith, ⊎_elim}
-use Rattle.std.specs.Prelude.{vec_len, IsSome, slice_index}
-use Rattle.std.proofs.lemmas.Bool.{cases_lt, le-ltb, false≢true}
+use Rattle.asg_algebra.proofs.Common.{◌≡◌, ℕ, ◌+◌, ◌*◌, ◌<◌, ◌≤◌, cond, List, [], ◌∷◌, length, get_or, is_some, IsSome, slice_index, None, vec_len, Option, sym, refl, ap, ◌∙◌, subst, ⊎_elim, arith, le-ltb, cases_lt, false≢true, IsReduced, IsPhaseTo, Reduced, made_of, IsServed, ArePushed, unmatched, stage_of, IsAbsorbed, never, leads_in, IsSearch, IsReady, IsPlanted, HasNoLead, lead_at, place_at, IsRest, cut, IsUnderway, Growth, open_unseen, search_cell, Flips, column_at, IsMatched, AllAllowed, parents_in, HasDifferences, Monoid, IsOrderedMonoid, fold_of, Forest, phase_of, square_after, IsAdmittedPhase, is_some-after, IsPresent, Grid, cell_at}
 use Rattle.asg_model.specs.Limits.{most_side}
-use Rattle.asg_admit.specs.Reduced.{IsReduced, IsPhaseTo}
-use Rattle.asg_admit.specs.declared.reduced.Reduced.{Reduced}
 use Rattle.asg_match.specs.ColumnSet.{word_count}
 use Rattle.asg_match.specs.Deficient.{IsDeficient}
-use Rattle.asg_match.specs.Flipped.{Flips}
-use Rattle.asg_match.specs.Matching.{column_at, IsMatched, AllAllowed}
-use Rattle.asg_match.specs.Searched.{parents_in}
-use Rattle.asg_order.specs.Monoid.{Monoid, IsOrderedMonoid, fold_of}
-use Rattle.asg_order.specs.Differences.{HasDifferences}
-use Rattle.asg_pool.specs.Forest.{Forest}
-use Rattle.asg_proof.specs.Phases.{phase_of, square_after, IsAdmittedPhase}
-use Rattle.asg_proof.specs.laws.PhaseSteps.{is_some-after}
-use Rattle.asg_square.specs.Cells.{IsPresent}
-use Rattle.asg_square.specs.Grid.{Grid, cell_at}
-use Rattle.asg_growth.specs.declared.growth.Growth.{Growth}
-use Rattle.asg_growth.specs.Growing.{IsAbsorbed}
-use Rattle.asg_growth.specs.Growths.{never, leads_in, IsSearch, IsReady, IsPlanted, HasNoLead}
-use Rattle.asg_growth.specs.Leads.{lead_at, place_at}
 use Rattle.asg_growth.specs.Nearest.{AreNearest}
-use Rattle.asg_growth.specs.Rest.{IsRest, cut}
-use Rattle.asg_algebra.specs.Served.{made_of, IsServed}
-use Rattle.asg_algebra.specs.Solved.{ArePushed, unmatched}
-use Rattle.asg_growth.specs.Underway.{IsUnderway}
-use Rattle.asg_growth.specs.laws.GrowthLaws.{open_unseen, search_cell}
 use Rattle.asg_growth.specs.laws.NearestLemmas.{AreNearest-none}
 use Rattle.asg_algebra.proofs.PhaseEnds.{phase_ends, planted}
 use Rattle.asg_algebra.proofs.SolvedLaws.{LeadTo-made}
@@ -80,7 +57,7 @@ module _ {V : Type 0} {M : Monoid V} (laws : IsOrderedMonoid M) {difference : V 
         phase_ends M laws difference has never Q.side (cell_at Q) index m b.tree.rows.items (parents_in b.tree) b.sums.items (lead_at M (leads_in b)) (place_at (leads_in b)) b.enters.items b.leaves.items b.steps.items sum (vec_len b.tree.rows) search.underway place column after here flipped
 
   -- the row has a column by at most one phase
-  pub finished : (before new : Reduced V) {m : List (Option ℕ)} {b : Growth V} {sum : V} → IsSearch M difference before.now before.index m b sum (vec_len b.tree.rows) → IsReduced M before → length b.steps.items ≤ before.now.side → {column place : ℕ} {after : List (Option ℕ)} → IsReady M b sum column → place ≡ get_or b.tree.parents.items column 0 → Flips b.tree.rows.items (parents_in b.tree) place column m after → IsPhaseTo M difference (phase_of b.steps.items (cut (length b.steps.items) b.enters.items) (cut (length b.steps.items) b.leaves.items)) before new → {f g : Forest V} {trail last : Option ℕ} → ArePushed (made_of (phase_of b.steps.items (cut (length b.steps.items) b.enters.items) (cut (length b.steps.items) b.leaves.items)) b.steps.items) f g trail last → (root : ℕ) → root ≡ slice_index b.tree.rows.items 0 → IsServed M difference before new m after f g trail last root
+  pub finished : (before new : Reduced V) {m : List (Option ℕ)} {b : Growth V} {sum : V} → IsSearch M difference before.now before.index m b sum (vec_len b.tree.rows) → IsReduced M before → length b.steps.items ≤ before.now.side → {column place : ℕ} {after : List (Option ℕ)} → IsReady M b sum column → place ≡ get_or b.tree.parents.items column 0 → Flips b.tree.rows.items (parents_in b.tree) place column m after → IsPhaseTo M difference (phase_of b.steps.items (cut (length b.steps.items) b.enters.items) (cut (length b.steps.items) b.leaves.items)) before new → {f g : Forest V} {trail last : Option ℕ} → ArePushed (made_of (phase_of b.steps.items (cut (length b.steps.items) b.enters.items) (cut (length b.steps.items) b.leaves.items)) b.steps.items) f g trail last → (root : ℕ) → root ≡ slice_index b.tree.rows.items 0 → IsServed M difference (stage_of before m f) (stage_of new after g) trail last root
   finished before new {m} {b} {sum} search is few {column} {place} {after} ready at flipped to {f} {g} {trail} {last} pushed root root_is =
       let count = length b.steps.items in
       let phase = phase_of b.steps.items (cut count b.enters.items) (cut count b.leaves.items) in

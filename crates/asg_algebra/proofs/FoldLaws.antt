@@ -1,17 +1,6 @@
 -- The fold of an assignment by absorbed cells.
-use Rattle.std.proofs.Common.{◌≡◌, ◌≢◌, ℕ, ◌<◌, List, [], ◌∷◌, length, Option, Some, None, get_or, is_some, refl, sym, ◌∙◌, ap, subst, arith}
-use Rattle.std.specs.Prelude.{All, AllPairs, IfSome}
-use Rattle.std.specs.List.{range_with_len}
-use Rattle.std.proofs.lemmas.List.{get_or_default}
-use Rattle.std.proofs.lemmas.List.Elements.{All-head, All-tail, All-weaker}
-use Rattle.std.proofs.lemmas.Option.{same_Some}
-use Rattle.asg_match.specs.Matching.{Matches, IsMatching}
-use Rattle.asg_order.specs.Monoid.{Monoid, IsValue, IsOrderedMonoid, fold_of}
-use Rattle.asg_order.specs.laws.Products.{fold_is_value, fold-cons, neutral_right}
+use Rattle.asg_algebra.proofs.Common.{◌≡◌, ℕ, ◌<◌, ◌≢◌, List, [], ◌∷◌, length, get_or, is_some, IfSome, Some, None, All, Option, AllPairs, sym, refl, ap, ◌∙◌, subst, arith, All-head, All-tail, All-weaker, get_or_default, range_with_len, same_Some, IsAbsorbed, Matches, IsMatching, All-filter_map, Monoid, IsValue, IsOrderedMonoid, fold_of, fold_is_value, fold-cons, neutral_right, assignment_values}
 use Rattle.asg_proof.specs.Steps.{HasSide, HasValues, assignment_fold}
-use Rattle.asg_square.specs.Cells.{assignment_values}
-use Rattle.asg_growth.specs.Growing.{IsAbsorbed}
-use Rattle.asg_model.specs.laws.Listing.{All-filter_map}
 
 IfSome-from : {B : Type 0} (o : Option B) (P : B → Type 0) → ((y : B) → o ≡ Some y → P y) → IfSome o P
 IfSome-from None P each = tt

@@ -1,3 +1,4 @@
+pub mod Common
 pub mod PhaseEnds
 pub mod SolvedLaws
 pub mod FinishLaws

@@ -1,30 +1,9 @@
 -- How a phase begins and ends.
-use Rattle.std.proofs.Common.{◌≡◌, ℕ, ◌<◌, ◌≤◌, min, List, [], ◌∷◌, length, replicate, Option, Some, None, get_or, set, refl, sym, ◌∙◌, ap, subst, arith, ⊎_elim}
-use Rattle.std.specs.Prelude.{Contains}
-use Rattle.std.proofs.lemmas.Bool.{cases_lt, cases_eq, le-leb, lt-leb, lt-ltb, le-ltb}
-use Rattle.std.proofs.lemmas.List.{get_or-map, get_or_past, get_or-replicate, length-replicate, length-set, length-map, get_or-set_other}
-use Rattle.std.proofs.lemmas.Grind.{get_or-set_at}
-use Rattle.std.proofs.lemmas.List.Elements.{All-cons, All-nil}
-use Rattle.std.proofs.lemmas.Option.{none-some}
+use Rattle.asg_algebra.proofs.Common.{◌≡◌, ℕ, ◌<◌, ◌≤◌, min, List, [], ◌∷◌, length, get_or, set, replicate, Some, None, Contains, Option, sym, refl, ap, ◌∙◌, subst, ⊎_elim, arith, length-set, get_or-set_other, le-ltb, lt-ltb, le-leb, All-cons, All-nil, cases_eq, cases_lt, get_or-map, get_or-replicate, get_or-set_at, get_or_past, length-map, length-replicate, lt-leb, none-some, IsReduced, IsPhaseTo, Reduced, made_of, IsPush, ArePushed, IsAbsorbed, IsGrowing, IsRest, cut, IsUnderway, Flips, column_at, HasDifferences, Monoid, IsValue, IsOrderedMonoid, fold_of, neutral_right, Forest, phase_of, entered_at, staying_at, square_after, IsAdmittedPhase, PhaseOf, cell_at}
 use Rattle.asg_match.specs.laws.Matchings.{Some-from_test}
-use Rattle.asg_match.specs.Matching.{column_at}
 use Rattle.asg_match.specs.Alternating.{HasParent}
-use Rattle.asg_match.specs.Flipped.{Flips}
-use Rattle.asg_order.specs.Monoid.{Monoid, IsValue, IsOrderedMonoid, fold_of}
-use Rattle.asg_order.specs.Differences.{HasDifferences}
-use Rattle.asg_order.specs.laws.Products.{neutral_right}
-use Rattle.asg_proof.specs.Phases.{phase_of, entered_at, staying_at, square_after, IsAdmittedPhase, PhaseOf}
-use Rattle.asg_admit.specs.declared.reduced.Reduced.{Reduced}
-use Rattle.asg_admit.specs.Reduced.{IsReduced, IsPhaseTo}
 use Rattle.asg_admit.specs.Settled.{step_of, between}
-use Rattle.asg_square.specs.Grid.{cell_at}
-use Rattle.asg_pool.specs.Forest.{Forest}
-use Rattle.asg_growth.specs.Rest.{IsRest, cut}
-use Rattle.asg_algebra.specs.Served.{made_of}
-use Rattle.asg_algebra.specs.Solved.{IsPush, ArePushed}
-use Rattle.asg_growth.specs.Underway.{IsUnderway}
 use Rattle.asg_match.specs.laws.Trees.{IsTree-root}
-use Rattle.asg_growth.specs.Growing.{IsAbsorbed, IsGrowing}
 use Rattle.asg_growth.specs.laws.GrowingLaws.{AllAllowed-flipped}
 use Rattle.asg_growth.specs.laws.SearchingLaws.{square_after-same, AreAdmitted-same}
 

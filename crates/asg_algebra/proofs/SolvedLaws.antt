@@ -1,19 +1,7 @@
 -- Phases that are pushed and lead on, one after another.
-use Rattle.std.proofs.Common.{◌≡◌, ◌≢◌, ℕ, ◌+◌, ◌≤◌, List, [], ◌∷◌, ◌++◌, length, Option, Some, is_some, refl, sym, ◌∙◌, ap, subst, arith, append_assoc}
-use Rattle.std.specs.Prelude.{All, IfSome, unwrap_or, option_map}
-use Rattle.std.proofs.lemmas.Bool.{false≢true}
-use Rattle.std.proofs.lemmas.List.{append-nil}
-use Rattle.std.proofs.lemmas.List.Elements.{All-append, All-cons, All-nil}
-use Rattle.asg_admit.specs.Reduced.{IsReduced, IsPhaseTo}
-use Rattle.asg_admit.specs.declared.reduced.Reduced.{Reduced}
-use Rattle.asg_order.specs.Monoid.{Monoid, IsOrderedMonoid, fold_of}
-use Rattle.asg_order.specs.laws.Products.{neutral_right}
-use Rattle.asg_pool.specs.Forest.{Forest, IsLive, trail_at, grown_on, phases_to}
-use Rattle.asg_proof.specs.Phases.{PhaseOf, phase_of, IsAdmittedPhase, AreAdmittedPhases, after_phases, index_of}
-use Rattle.asg_proof.specs.laws.PhaseLists.{after_phases-append, AreAdmittedPhases-append, index_is_value, index_of-append, steps_value}
-use Rattle.asg_square.specs.Grid.{cell_at}
-use Rattle.asg_algebra.specs.Served.{made_of}
-use Rattle.asg_algebra.specs.Solved.{IsPush, ArePushed, LeadTo}
+use Rattle.asg_algebra.proofs.Common.{◌≡◌, ℕ, ◌+◌, ◌≤◌, ◌≢◌, List, [], ◌∷◌, ◌++◌, length, is_some, IfSome, Some, All, Option, unwrap_or, sym, refl, ap, ◌∙◌, subst, append_assoc, append-nil, arith, All-append, All-cons, All-nil, false≢true, IsReduced, IsPhaseTo, Reduced, made_of, IsPush, ArePushed, LeadTo, Monoid, IsOrderedMonoid, fold_of, neutral_right, Forest, IsLive, trail_at, grown_on, phases_to, PhaseOf, phase_of, IsAdmittedPhase, AreAdmittedPhases, after_phases, index_of, after_phases-append, AreAdmittedPhases-append, index_is_value, index_of-append, steps_value, cell_at}
+use Rattle.std.proofs.Common.{option_map}
+use Rattle.asg_admit.specs.laws.KeptLabels.{same_labels, chained_labels}
 
 module _ {V : Type 0} where
   pub ArePushed-append : (phases more : List (PhaseOf V)) (first second third : Forest V) (trail middle last : Option ℕ) → ArePushed phases first second trail middle → ArePushed more second third middle last → ArePushed (phases ++ more) first third trail last
@@ -70,7 +58,7 @@ module _ {V : Type 0} (M : Monoid V) (laws : IsOrderedMonoid M) (difference : V 
     admitted = tt;
     outcome = λ r k. refl;
     index = sym (neutral_right M laws before.index is.index);
-    labels = record { side = refl; rows = refl; row_labels = refl; column_labels = refl };
+    labels = same_labels before.now;
     reduced = is;
     sizes = All-nil (λ phase. (1 ≤ length phase.steps) × (length phase.steps ≤ before.now.side));
   }
@@ -96,12 +84,7 @@ module _ {V : Type 0} (M : Monoid V) (laws : IsOrderedMonoid M) (difference : V 
             ∙ ap (λ z. M.product z (index_of M more)) a.index
             ∙ laws.associative first.index (index_of M phases) (index_of M more) is.index vp vm
             ∙ ap (M.product first.index) (sym (index_of-append M laws difference side phases more start a.admitted later));
-        labels = record {
-          side = b.labels.side ∙ a.labels.side;
-          rows = b.labels.rows ∙ a.labels.rows;
-          row_labels = b.labels.row_labels ∙ a.labels.row_labels;
-          column_labels = b.labels.column_labels ∙ a.labels.column_labels;
-        };
+        labels = chained_labels first.now second.now third.now a.labels b.labels;
         reduced = b.reduced;
         sizes = All-append (λ phase. (1 ≤ length phase.steps) × (length phase.steps ≤ side)) phases more a.sizes
             (subst (λ n. All (λ phase. (1 ≤ length phase.steps) × (length phase.steps ≤ n)) more) same_side b.sizes);

@@ -1,20 +1,6 @@
 -- Rows that are served one after another.
-use Rattle.std.proofs.Common.{◌≡◌, ℕ, zero, suc, ◌+◌, ◌<◌, ◌≤◌, List, [], ◌∷◌, ◌++◌, length, take, drop, Option, Some, None, cond, is_some, refl, sym, ◌∙◌, ap, subst, arith, ⊎_elim, append_assoc}
-use Rattle.std.specs.Prelude.{IfSome, IsSome, is_none}
-use Rattle.std.proofs.lemmas.Bool.{cases_lt, false≢true}
-use Rattle.std.proofs.lemmas.List.{take_more, take-append-drop, length-append}
-use Rattle.std.proofs.lemmas.List.Sums.{sum_by-append, count_by-le-length}
-use Rattle.asg_admit.specs.Reduced.{IsReduced}
-use Rattle.asg_admit.specs.declared.reduced.Reduced.{Reduced}
-use Rattle.asg_match.specs.Matching.{column_at, IsMatched, IsMatching, AllAllowed, IsPerfect}
-use Rattle.asg_order.specs.Monoid.{Monoid, IsOrderedMonoid}
-use Rattle.asg_pool.specs.Forest.{Forest, IsLive, phases_to}
-use Rattle.asg_proof.specs.Phases.{PhaseOf}
-use Rattle.asg_square.specs.Grid.{cell_at}
-use Rattle.asg_growth.specs.Growing.{IsAbsorbed}
-use Rattle.asg_growth.specs.Rest.{IsRestOf}
-use Rattle.asg_algebra.specs.Served.{IsServed}
-use Rattle.asg_algebra.specs.Solved.{LeadTo, KeepsRows, HasSolved, unmatched}
+use Rattle.asg_algebra.proofs.Common.{◌≡◌, ℕ, zero, suc, ◌+◌, ◌<◌, ◌≤◌, cond, List, [], ◌∷◌, ◌++◌, length, take, drop, is_some, is_none, IfSome, IsSome, Some, None, Option, sym, refl, ap, ◌∙◌, subst, ⊎_elim, append_assoc, arith, take-append-drop, cases_lt, count_by-le-length, false≢true, sum_by-append, take_more, IsReduced, Reduced, IsServed, LeadTo, KeepsRows, HasSolved, unmatched, stage_of, IsAbsorbed, IsRestOf, column_at, IsMatched, IsMatching, AllAllowed, IsPerfect, Monoid, IsOrderedMonoid, Forest, IsLive, phases_to, PhaseOf, cell_at}
+use Rattle.std.proofs.lemmas.List.{length-append}
 use Rattle.asg_algebra.proofs.SolvedLaws.{LeadTo-none, LeadTo-join, ArePushed-live, ArePushed-spare, ArePushed-side, ArePushed-list, ArePushed-kept}
 
 -- the rows below a place were served
@@ -97,7 +83,7 @@ module _ {V : Type 0} (M : Monoid V) (laws : IsOrderedMonoid M) (difference : V 
   }
 
   -- a row that has a column is served by no phase
-  pub IsServed-none : (m' : List (Option ℕ)) → IsMatching m' → AllAllowed (IsAbsorbed M before.index (cell_at before.now)) m' → (root : ℕ) → IsMatched m' root → IsServed M difference before before m' m' f f trail trail root
+  pub IsServed-none : (m' : List (Option ℕ)) → IsMatching m' → AllAllowed (IsAbsorbed M before.index (cell_at before.now)) m' → (root : ℕ) → IsMatched m' root → IsServed M difference (stage_of before m' f) (stage_of before m' f) trail trail root
   IsServed-none m' columns absorbed root has = record {
     phases = [];
     one = omega arith;
@@ -107,7 +93,7 @@ module _ {V : Type 0} (M : Monoid V) (laws : IsOrderedMonoid M) (difference : V 
   }
 
 module _ {V : Type 0} {M : Monoid V} {difference : V → V → V} {before now : Reduced V} {m m' : List (Option ℕ)} {f f' : Forest V} {trail last : Option ℕ} {root : ℕ} (s : IsSolving M difference before now m m' f f' trail last root) where
-  pub IsSolving-next : (laws : IsOrderedMonoid M) → IsReduced M before → root < length m → (new : Reduced V) (m'' : List (Option ℕ)) (f'' : Forest V) (last' : Option ℕ) → IsServed M difference now new m' m'' f' f'' last last' root → IsSolving M difference before new m m'' f f'' trail last' (root + 1)
+  pub IsSolving-next : (laws : IsOrderedMonoid M) → IsReduced M before → root < length m → (new : Reduced V) (m'' : List (Option ℕ)) (f'' : Forest V) (last' : Option ℕ) → IsServed M difference (stage_of now m' f') (stage_of new m'' f'') last last' root → IsSolving M difference before new m m'' f f'' trail last' (root + 1)
   IsSolving-next laws is h new m'' f'' last' one = record {
     phases = s.phases ++ one.phases;
     lead = LeadTo-join M laws difference s.phases one.phases before now new f f' f'' trail last last' is s.lead one.lead;

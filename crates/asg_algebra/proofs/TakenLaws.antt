@@ -1,20 +1,6 @@
 -- Phases that were given, one after another.
-use Rattle.std.proofs.Common.{List, ◌<◌, ◌≡◌, ◌≢◌, ℕ, suc, ◌+◌, ◌≤◌, [], ◌∷◌, ◌++◌, length, take, drop, drop-cons, Option, Some, get_or, refl, sym, ◌∙◌, ap, subst, arith}
-use Rattle.std.specs.Prelude.{IfSome}
-use Rattle.std.proofs.lemmas.List.{take_more, take-append-drop}
-use Rattle.std.proofs.lemmas.List.Elements.{All-cons, All-nil}
-use Rattle.asg_admit.specs.Reduced.{IsReduced, IsPhaseTo}
-use Rattle.asg_admit.specs.declared.reduced.Reduced.{Reduced}
-use Rattle.asg_match.specs.Matching.{IsMatched, IsPerfect}
-use Rattle.asg_order.specs.Monoid.{Monoid, IsOrderedMonoid, fold_of}
-use Rattle.asg_order.specs.laws.Products.{neutral_right}
-use Rattle.asg_pool.specs.Forest.{Forest, IsLive}
-use Rattle.asg_proof.specs.Phases.{PhaseOf, phase_of, AreAdmittedPhases, IsAdmittedPhase}
-use Rattle.asg_proof.specs.laws.PhaseLists.{steps_value, AreAdmittedPhases-back}
-use Rattle.asg_square.specs.Grid.{cell_at}
+use Rattle.asg_algebra.proofs.Common.{◌≡◌, ℕ, suc, ◌+◌, ◌<◌, ◌≤◌, List, [], ◌∷◌, ◌++◌, length, get_or, take, drop, IfSome, Some, Option, sym, refl, ap, ◌∙◌, subst, arith, take-append-drop, drop-cons, All-cons, All-nil, take_more, IsReduced, IsPhaseTo, Reduced, IsPush, LeadTo, HasSolved, KeepsRows, unmatched, IsAbsorbed, IsMatched, IsPerfect, Monoid, IsOrderedMonoid, fold_of, neutral_right, Forest, IsLive, PhaseOf, phase_of, AreAdmittedPhases, IsAdmittedPhase, steps_value, AreAdmittedPhases-back, cell_at}
 use Rattle.asg_algebra.proofs.SolvedLaws.{LeadTo-join, ArePushed-spare, ArePushed-live, ArePushed-side, ArePushed-list, ArePushed-kept}
-use Rattle.asg_growth.specs.Growing.{IsAbsorbed}
-use Rattle.asg_algebra.specs.Solved.{IsPush, LeadTo, HasSolved, KeepsRows, unmatched}
 
 module _ {V : Type 0} (M : Monoid V) (laws : IsOrderedMonoid M) (difference : V → V → V) where
   -- a phase that is applied and pushed leads on

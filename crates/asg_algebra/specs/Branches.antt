@@ -17,6 +17,7 @@ use Rattle.asg_growth.specs.Growths.{Searches, IsReady, HasNoLead}
 use Rattle.asg_growth.specs.Rest.{IsRest}
 use Rattle.asg_algebra.specs.Served.{made_of}
 use Rattle.asg_algebra.specs.Solved.{ArePushed}
+use Rattle.asg_algebra.specs.Stages.{Stage}
 
 -- the index has come to a limit, if there is one
 abbrev pub IsAtLimit : {V : Type 0} → Monoid V → Option V → V → Type 0
@@ -48,36 +49,33 @@ pub record IsLed {V : Type 0} (M : Monoid V) (difference : V → V → V) (reduc
   pub pushed : ArePushed (made_of phase phase.steps) forest forest_after trail last
 
 -- the root has a column, by a phase that was pushed: after it all matched cells are absorbed
-pub record IsBranch {V : Type 0} (M : Monoid V) (difference : V → V → V) (reduced : Reduced V)
-    (matching matching_after : List (Option ℕ)) (index : V) (forest forest_after : Forest V)
-    (trail last : Option ℕ) (root : ℕ) : Type 0 where
+pub record IsBranch {V : Type 0} (M : Monoid V) (difference : V → V → V) (before after : Stage V)
+    (index : V) (trail last : Option ℕ) (root : ℕ) : Type 0 where
   pub phase : PhaseOf V
-  pub led : IsLed M difference reduced phase index forest forest_after trail last
-  pub rest : IsRest M reduced.now.side (after_phase M difference phase (cell_at reduced.now)) index
-      matching_after
-  pub kept : (r : ℕ) → IsMatched matching r → IsMatched matching_after r
-  pub served : IsMatched matching_after root
+  pub led : IsLed M difference before.square phase index before.forest after.forest trail last
+  pub same_square : after.square ≡ before.square
+  pub rest : IsRest M before.square.now.side
+      (after_phase M difference phase (cell_at before.square.now)) index after.matching
+  pub kept : (r : ℕ) → IsMatched before.matching r → IsMatched after.matching r
+  pub served : IsMatched after.matching root
 
 -- the tree was left at the limit: a phase was pushed, and the matching is as it was
-pub record IsLeft {V : Type 0} (M : Monoid V) (difference : V → V → V) (reduced : Reduced V)
-    (matching matching_after : List (Option ℕ)) (limit : Option V) (index : V)
-    (forest forest_after : Forest V) (trail last : Option ℕ) : Type 0 where
+pub record IsLeft {V : Type 0} (M : Monoid V) (difference : V → V → V) (before after : Stage V)
+    (limit : Option V) (index : V) (trail last : Option ℕ) : Type 0 where
   pub phase : PhaseOf V
-  pub led : IsLed M difference reduced phase index forest forest_after trail last
+  pub led : IsLed M difference before.square phase index before.forest after.forest trail last
   pub far : IsAtLimit M limit index
-  pub same_matching : matching_after ≡ matching
+  pub same_square : after.square ≡ before.square
+  pub same_matching : after.matching ≡ before.matching
 
--- what a branch comes to: the root has a column; or the tree was left; or all is as it was, and the
--- rows are deficient
-abbrev pub Branches : {V : Type 0} → Monoid V → (V → V → V) → Reduced V → List (Option ℕ)
-    → List (Option ℕ) → Option V → Forest V → Forest V → Option ℕ → ℕ → List ℕ → Branch V → Type 0
-Branches M difference reduced matching matching_after limit forest forest_after trail root rows
-    (Reached index last) =
-    IsBranch M difference reduced matching matching_after index forest forest_after trail last root
-Branches M difference reduced matching matching_after limit forest forest_after trail root rows
-    (Left index last) =
-    IsLeft M difference reduced matching matching_after limit index forest forest_after trail last
-Branches M difference reduced matching matching_after limit forest forest_after trail root rows
-    Short =
-    (matching_after ≡ matching) × (forest_after ≡ forest)
-    × IsDeficient (IsPresent (cell_at reduced.now)) reduced.now.side rows
+-- what a branch comes to, on a square that isn't touched: the root has a column; or the tree was
+-- left; or all is as it was, and the rows are deficient
+abbrev pub Branches : {V : Type 0} → Monoid V → (V → V → V) → Stage V → Stage V → Option V
+    → Option ℕ → ℕ → List ℕ → Branch V → Type 0
+Branches M difference before after limit trail root rows (Reached index last) =
+    IsBranch M difference before after index trail last root
+Branches M difference before after limit trail root rows (Left index last) =
+    IsLeft M difference before after limit index trail last
+Branches M difference before after limit trail root rows Short =
+    (after ≡ before)
+    × IsDeficient (IsPresent (cell_at before.square.now)) before.square.now.side rows

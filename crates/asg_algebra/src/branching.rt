@@ -12,6 +12,7 @@ ghost use Rattle.asg_growth.specs.Masked.{masked_reduced};
 ghost use Rattle.asg_growth.specs.Rest.{IsRestOf};
 ghost use Rattle.asg_algebra.specs.Served.{made_of};
 ghost use Rattle.asg_algebra.specs.Solved.{ArePushed};
+ghost use Rattle.asg_algebra.specs.Stages.{stage_of};
 
 use crate::bench::Bench;
 use crate::phases::cut_marks;
@@ -138,8 +139,9 @@ fn serve_branch<M: DMonoid, S: RowSquare<M>>(
     requires spare { 1 ≤ region.old.spare }
     requires live { IfSome trail (IsLive region.old) }
     requires region_side { region.old.side ≡ (S.as_reduced reduced.now).now.side }
-    ensures branches { Branches (M.monoid_of m.now) (M.difference m.now) (S.as_reduced reduced.now)
-        matching.old matching.new limit region.old region.new trail root
+    ensures branches { Branches (M.monoid_of m.now) (M.difference m.now)
+        (stage_of (S.as_reduced reduced.now) matching.old region.old)
+        (stage_of (S.as_reduced reduced.now) matching.new region.new) limit trail root
         growth.new.tree.rows.items result }
     ensures bench { IsBench (S.as_reduced reduced.now).now.side growth.new }
 {
@@ -189,8 +191,9 @@ pub fn branch_from<M: DMonoid>(
     requires live { IfSome trail (IsLive region.old) }
     requires region_side { region.old.side ≡ reduced.now.now.side }
     ensures branches { Branches (M.monoid_of m.now) (M.difference m.now)
-        (masked_reduced reduced.entry.now words.now) matching.old matching.new limit region.old
-        region.new trail root bench.new.rows result }
+        (stage_of (masked_reduced reduced.entry.now words.now) matching.old region.old)
+        (stage_of (masked_reduced reduced.entry.now words.now) matching.new region.new)
+        limit trail root bench.new.rows result }
     ensures bench_side { bench.new.side ≡ bench.old.side }
 {
     let _ = reduced.now.side();

@@ -27,8 +27,8 @@ mod tested_lists;
 pub use bench::Bench;
 pub use branching::{Branch, branch_from};
 pub use entered_squares::entered_square;
-pub use solving::{Solved, solve};
-pub use square_solvers::{SolvedSquare, SquareSolver};
+pub use solving::{Progress, Solved, solve, solve_kept};
+pub use square_solvers::{AssignedSquare, SolvedSquare, SquareSolver};
 
 /// There was not enough memory.
 pub type NoMemory = std::alloc::AllocError;

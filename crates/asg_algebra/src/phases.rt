@@ -13,6 +13,7 @@ ghost use Rattle.asg_growth.specs.Growths.{IsRoomy, Searches, IsReady, Closes, p
 ghost use Rattle.asg_growth.specs.Rest.{cut, IsRestOf};
 ghost use Rattle.asg_algebra.specs.Served.{made_of, Serves};
 ghost use Rattle.asg_algebra.specs.Solved.{ArePushed};
+ghost use Rattle.asg_algebra.specs.Stages.{stage_of};
 
 use asg_growth::{Growth, ReducedSquare, grow, plant, refill};
 use asg_match::{Exit, Matching, flip};
@@ -116,8 +117,9 @@ fn finish<M: DMonoid, S: ReducedSquare<M>>(
     requires reduced { IsReduced (M.monoid_of m.now) (S.as_reduced reduced.old) }
     ensures serves { (root : ℕ) → root ≡ slice_index growth.old.tree.rows.items 0
         → Serves (M.monoid_of m.now) (M.difference m.now) S.takes_all
-        (S.as_reduced reduced.old) (S.as_reduced reduced.new) matching.old matching.new
-        region.old region.new trail root growth.new.tree.rows.items result }
+        (stage_of (S.as_reduced reduced.old) matching.old region.old)
+        (stage_of (S.as_reduced reduced.new) matching.new region.new) trail root
+        growth.new.tree.rows.items result }
     ensures tree { growth.new.tree ≡ growth.old.tree }
     ensures roomy { IsRoomy (S.as_reduced reduced.old).now.side growth.new }
 {
@@ -149,8 +151,9 @@ pub(crate) fn augment<M: DMonoid, S: ReducedSquare<M>>(
     requires live { IfSome trail (IsLive region.old) }
     requires region_side { region.old.side ≡ (S.as_reduced reduced.old).now.side }
     ensures serves { Serves (M.monoid_of m.now) (M.difference m.now) S.takes_all
-        (S.as_reduced reduced.old) (S.as_reduced reduced.new) matching.old matching.new
-        region.old region.new trail root growth.new.tree.rows.items result }
+        (stage_of (S.as_reduced reduced.old) matching.old region.old)
+        (stage_of (S.as_reduced reduced.new) matching.new region.new) trail root
+        growth.new.tree.rows.items result }
     ensures roomy { IsRoomy (S.as_reduced reduced.old).now.side growth.new }
     ensures below { let side = (S.as_reduced reduced.old).now.side in
         All (λ r. r < side) growth.new.tree.rows.items }

@@ -8,14 +8,15 @@ ghost use Rattle.asg_monoids.specs.Grades.{graded, graded_difference};
 ghost use Rattle.asg_monoids.specs.Maxima.{maxima, maxima_difference};
 ghost use Rattle.asg_pool.specs.Forest.{IsLive};
 ghost use Rattle.asg_square.specs.Grid.{cell_at};
+ghost use Rattle.asg_algebra.specs.Assigned.{IsAssigned};
 ghost use Rattle.asg_algebra.specs.Ended.{last_of, EndsIn};
 ghost use Rattle.asg_growth.specs.Growing.{IsAbsorbed};
 ghost use Rattle.asg_algebra.specs.Solved.{HasSolved, unmatched};
 
 use crate::NoMemory;
 use crate::bench::Bench;
-use crate::given::solve_kept_given;
-use crate::square_solvers::{SolvedSquare, SquareSolver, solve_rewriting};
+use crate::given::{assign_kept_given, solve_kept_given};
+use crate::square_solvers::{AssignedSquare, SolvedSquare, SquareSolver, solve_rewriting};
 use asg_admit::Reduced;
 use asg_match::Matching;
 use asg_monoids::{Bounded, Graded, Greatest};
@@ -82,6 +83,31 @@ impl SquareSolver for Greatest {
             alloc, self, reduced, matching, region, given, columns, false,
         )
     }
+
+    fn assign_given(
+        &self,
+        alloc: Global,
+        reduced: Reduced<u64>,
+        matching: &mut Matching,
+        region: &mut Region<u64>,
+        given: &[Phase<u64>],
+        columns: &[u32],
+    ) -> Result<Option<AssignedSquare<u64>>, NoMemory>
+        requires reduced { IsReduced maxima reduced }
+        requires matching_side { length matching.old ≡ reduced.now.side }
+        requires empty { (r c : ℕ) → Matches matching.old r c → ⊥ }
+        requires few { length given.now ≤ unmatched matching.old }
+        requires spare { length given.now ≤ region.old.spare }
+        requires region_side { region.old.side ≡ reduced.now.side }
+        ensures assigned { IfOk result (λ found. IfSome found (IsAssigned maxima
+            maxima_difference reduced matching.old matching.new region.old region.new)) }
+        ensures kept_matching { OnErr result (matching.new ≡ matching.old) }
+        ensures kept_region { OnErr result (region.new ≡ region.old) }
+    {
+        assign_kept_given(
+            alloc, self, reduced, matching, region, given, columns, false,
+        )
+    }
 }
 
 impl SquareSolver for Graded<Bounded> {
@@ -143,6 +169,33 @@ impl SquareSolver for Graded<Bounded> {
         ensures kept_region { OnErr result (region.new ≡ region.old) }
     {
         solve_kept_given(
+            alloc, self, reduced, matching, region, given, columns, false,
+        )
+    }
+
+    fn assign_given(
+        &self,
+        alloc: Global,
+        reduced: Reduced<(u64, u128)>,
+        matching: &mut Matching,
+        region: &mut Region<(u64, u128)>,
+        given: &[Phase<(u64, u128)>],
+        columns: &[u32],
+    ) -> Result<Option<AssignedSquare<(u64, u128)>>, NoMemory>
+        requires reduced { IsReduced (graded (bounded_sums self.now.inner.top)) reduced }
+        requires matching_side { length matching.old ≡ reduced.now.side }
+        requires empty { (r c : ℕ) → Matches matching.old r c → ⊥ }
+        requires few { length given.now ≤ unmatched matching.old }
+        requires spare { length given.now ≤ region.old.spare }
+        requires region_side { region.old.side ≡ reduced.now.side }
+        ensures assigned { let sums = bounded_sums self.now.inner.top in
+            IfOk result (λ found. IfSome found (IsAssigned (graded sums)
+            (graded_difference sums bounded_difference) reduced matching.old matching.new
+            region.old region.new)) }
+        ensures kept_matching { OnErr result (matching.new ≡ matching.old) }
+        ensures kept_region { OnErr result (region.new ≡ region.old) }
+    {
+        assign_kept_given(
             alloc, self, reduced, matching, region, given, columns, false,
         )
     }

@@ -12,6 +12,7 @@ ghost use Rattle.asg_growth.specs.Growing.{IsAbsorbed};
 ghost use Rattle.asg_growth.specs.Rest.{IsRestOf};
 ghost use Rattle.asg_algebra.specs.Served.{Serves};
 ghost use Rattle.asg_algebra.specs.Solved.{HasSolved, unmatched};
+ghost use Rattle.asg_algebra.specs.Stages.{stage_of};
 
 use crate::bench::Bench;
 use crate::phases::{Served, augment};
@@ -30,12 +31,12 @@ pub enum Solved {
     Short(Option<Trail>),
 }
 
-// How far the rows were served.
+/// How far [`solve_kept`] came.
 #[derive(Clone, Copy)]
-pub(crate) enum Progress {
-    // All rows were served, or one can't be.
+pub enum Progress {
+    /// All rows were served, or one can't be.
     Ended(Solved),
-    // The phase of a row can't be settled on the square as it is kept; with the last trail.
+    /// The phase of a row can't be settled on the square as it is kept; with the last trail.
     Full(Option<Trail>),
 }
 
@@ -57,8 +58,9 @@ fn serve<M: DMonoid, S: ReducedSquare<M>>(
     requires live { IfSome trail (IsLive region.old) }
     requires region_side { region.old.side ≡ (S.as_reduced reduced.old).now.side }
     ensures serves { Serves (M.monoid_of m.now) (M.difference m.now) S.takes_all
-        (S.as_reduced reduced.old) (S.as_reduced reduced.new) matching.old matching.new
-        region.old region.new trail root growth.new.tree.rows.items result }
+        (stage_of (S.as_reduced reduced.old) matching.old region.old)
+        (stage_of (S.as_reduced reduced.new) matching.new region.new) trail root
+        growth.new.tree.rows.items result }
     ensures bench { IsBench (S.as_reduced reduced.old).now.side growth.new }
 {
     match matching.column_of(root) {
@@ -101,6 +103,43 @@ pub(crate) fn serve_all<M: DMonoid, S: ReducedSquare<M>>(
         }
     }
     Progress::Ended(Solved::Perfect(last))
+}
+
+/// Does what [`solve`] does, under the same conditions, on a square however it is kept, up to the
+/// first phase that it can't take as it is kept. It takes no memory.
+///
+/// `Ended`: as [`solve`] ends. `Full`: only a square that doesn't take every phase ends so, as one
+/// of sums by dual variables where one comes near the top. The phases up to there were applied and
+/// pushed, each row that had a column has one, and at least as many records are spare as rows have
+/// no column, so that the square with its cells written out is solved on from there.
+pub fn solve_kept<M: DMonoid, S: ReducedSquare<M>>(
+    m: &M,
+    square: &mut S,
+    matching: &mut Matching,
+    bench: &mut Bench<M::Value>,
+    region: &mut Region<M::Value>,
+    trail: Option<Trail>,
+) -> Progress
+    requires reduced { IsReduced (M.monoid_of m.now) (S.as_reduced square.old) }
+    requires matching_side { length matching.old ≡ (S.as_reduced square.old).now.side }
+    requires absorbed { let reduced = S.as_reduced square.old in
+        AllAllowed (IsAbsorbed (M.monoid_of m.now) reduced.index (cell_at reduced.now))
+        matching.old }
+    requires bench_side { bench.old.side ≡ (S.as_reduced square.old).now.side }
+    requires region_side { region.old.side ≡ (S.as_reduced square.old).now.side }
+    requires spare { unmatched matching.old ≤ region.old.spare }
+    requires live { IfSome trail (IsLive region.old) }
+    ensures solved { HasSolved (M.monoid_of m.now) (M.difference m.now) (S.as_reduced square.old)
+        (S.as_reduced square.new) matching.old matching.new region.old region.new trail
+        (last_in result) }
+    ensures left { unmatched matching.new + region.old.spare
+        ≤ unmatched matching.old + region.new.spare }
+    ensures ends { Stops (M.monoid_of m.now) S.takes_all (S.as_reduced square.new) matching.new
+        bench.new.rows result }
+    ensures bench_side { bench.new.side ≡ bench.old.side }
+{
+    let _ = (square.side(), matching.side());
+    serve_all(m, square, matching, &mut bench.growth, region, trail)
 }
 
 /// Gives every row a column by an absorbed cell, by shortest augmenting paths

@@ -5,19 +5,21 @@ ghost use Rattle.asg_admit.specs.Reduced.{IsReduced};
 ghost use Rattle.asg_match.specs.Matching.{AllAllowed, Matches};
 ghost use Rattle.asg_pool.specs.Forest.{IsLive};
 ghost use Rattle.asg_square.specs.Grid.{cell_at};
+ghost use Rattle.asg_algebra.specs.Assigned.{IsAssigned};
 ghost use Rattle.asg_algebra.specs.Ended.{last_of, EndsIn};
 ghost use Rattle.asg_growth.specs.Growing.{IsAbsorbed};
 ghost use Rattle.asg_algebra.specs.Solved.{HasSolved, unmatched};
 
 use crate::NoMemory;
 use crate::bench::Bench;
-use crate::solving::{Progress, Solved, serve_all, solve};
+use crate::solving::{Progress, Solved, solve, solve_kept};
 use asg_admit::Reduced;
 use asg_growth::ReducedSquare;
 use asg_match::Matching;
 use asg_order::{DMonoid, Written};
 use asg_pool::{Region, Trail};
 use asg_proof::Phase;
+use asg_square::Square;
 use std::alloc::Global;
 
 /// A reduced square that was solved, and what it came to.
@@ -25,6 +27,15 @@ use std::alloc::Global;
 pub struct SolvedSquare<V: Copy> {
     /// The square with the index, as the phases led to it.
     pub reduced: Reduced<V>,
+    /// What the solver came to, with the last trail.
+    pub ended: Solved,
+}
+
+/// A square that was solved, without the values of its reduced cells, and what it came to.
+#[derive(Drop)]
+pub struct AssignedSquare<V: Copy> {
+    /// A square with the labels and the present cells of the reduced one.
+    pub square: Square<V>,
     /// What the solver came to, with the last trail.
     pub ended: Solved,
 }
@@ -99,6 +110,29 @@ pub trait SquareSolver: Written {
             EndsIn (Self.monoid_of self.now) s.reduced matching.new rows s.ended)) }
         ensures kept_matching { OnErr result (matching.new ≡ matching.old) }
         ensures kept_region { OnErr result (region.new ≡ region.old) };
+
+    /// Does what [`solve_given`](SquareSolver::solve_given) does, under the same conditions, where
+    /// the values of the reduced cells aren't asked for afterwards: they aren't written out.
+    fn assign_given(
+        &self,
+        alloc: Global,
+        reduced: Reduced<Self::Value>,
+        matching: &mut Matching,
+        region: &mut Region<Self::Value>,
+        given: &[Phase<Self::Value>],
+        columns: &[u32],
+    ) -> Result<Option<AssignedSquare<Self::Value>>, NoMemory>
+        requires reduced { IsReduced (Self.monoid_of self.now) reduced }
+        requires matching_side { length matching.old ≡ reduced.now.side }
+        requires empty { (r c : ℕ) → Matches matching.old r c → ⊥ }
+        requires few { length given.now ≤ unmatched matching.old }
+        requires spare { length given.now ≤ region.old.spare }
+        requires region_side { region.old.side ≡ reduced.now.side }
+        ensures assigned { IfOk result (λ found. IfSome found (IsAssigned
+            (Self.monoid_of self.now) (Self.difference self.now) reduced matching.old matching.new
+            region.old region.new)) }
+        ensures kept_matching { OnErr result (matching.new ≡ matching.old) }
+        ensures kept_region { OnErr result (region.new ≡ region.old) };
 }
 
 /// Solves a square whose cells are rewritten after each phase.
@@ -131,7 +165,7 @@ pub(crate) fn solve_rewriting<M: DMonoid>(
 
 /// Solves a square as it is kept, so long as it takes the phases. From the first that it doesn't
 /// take on, its cells are written out and rewritten after each phase.
-pub(crate) fn solve_kept<M: DMonoid, S: ReducedSquare<M> + Drop>(
+pub(crate) fn solve_through<M: DMonoid, S: ReducedSquare<M> + Drop>(
     m: &M,
     square: S,
     matching: &mut Matching,
@@ -155,9 +189,8 @@ pub(crate) fn solve_kept<M: DMonoid, S: ReducedSquare<M> + Drop>(
         result.ended }
     ensures bench_side { bench.new.side ≡ bench.old.side }
 {
-    let _ = (square.side(), matching.side());
     let mut square = square;
-    match serve_all(m, &mut square, matching, &mut bench.growth, region, trail) {
+    match solve_kept(m, &mut square, matching, bench, region, trail) {
         Progress::Ended(ended) => SolvedSquare {
             reduced: square.into_reduced(),
             ended,

@@ -7,14 +7,15 @@ ghost use Rattle.asg_monoids.specs.BoundedSums.{bounded_sums, bounded_difference
 ghost use Rattle.asg_pool.specs.Forest.{IsLive};
 ghost use Rattle.asg_proof.specs.Phases.{AreAdmittedPhases};
 ghost use Rattle.asg_square.specs.Grid.{cell_at};
+ghost use Rattle.asg_algebra.specs.Assigned.{IsAssigned};
 ghost use Rattle.asg_algebra.specs.Ended.{last_of, EndsIn};
 ghost use Rattle.asg_growth.specs.Growing.{IsAbsorbed};
 ghost use Rattle.asg_algebra.specs.Solved.{HasSolved, unmatched};
 
 use crate::NoMemory;
 use crate::bench::Bench;
-use crate::given::solve_kept_given;
-use crate::square_solvers::{SolvedSquare, SquareSolver, solve_kept};
+use crate::given::{assign_kept_given, solve_kept_given};
+use crate::square_solvers::{AssignedSquare, SolvedSquare, SquareSolver, solve_through};
 use crate::tested_lists::are_admitted;
 use asg_admit::Reduced;
 use asg_dual_squares::DualSquare;
@@ -73,7 +74,7 @@ impl SquareSolver for Bounded {
         ensures kept_bench { OnErr result (bench.new ≡ bench.old) }
     {
         let square = DualSquare::make(alloc, self.top, reduced)?;
-        Ok(solve_kept(self, square, matching, bench, region, trail))
+        Ok(solve_through(self, square, matching, bench, region, trail))
     }
 
     fn solve_given(
@@ -111,6 +112,38 @@ impl SquareSolver for Bounded {
             alloc, self, square, matching, region, given, columns, is_known,
         )
     }
+
+    fn assign_given(
+        &self,
+        alloc: Global,
+        reduced: Reduced<u128>,
+        matching: &mut Matching,
+        region: &mut Region<u128>,
+        given: &[Phase<u128>],
+        columns: &[u32],
+    ) -> Result<Option<AssignedSquare<u128>>, NoMemory>
+        requires reduced { IsReduced (bounded_sums self.now.top) reduced }
+        requires matching_side { length matching.old ≡ reduced.now.side }
+        requires empty { (r c : ℕ) → Matches matching.old r c → ⊥ }
+        requires few { length given.now ≤ unmatched matching.old }
+        requires spare { length given.now ≤ region.old.spare }
+        requires region_side { region.old.side ≡ reduced.now.side }
+        ensures assigned { IfOk result (λ found. IfSome found (IsAssigned (bounded_sums self.now.top)
+            bounded_difference reduced matching.old matching.new region.old region.new)) }
+        ensures kept_matching { OnErr result (matching.new ≡ matching.old) }
+        ensures kept_region { OnErr result (region.new ≡ region.old) }
+    {
+        if self.top < 1 << 62 {
+            return assign_kept_given(
+                alloc, self, reduced, matching, region, given, columns, false,
+            );
+        }
+        let is_known = are_known(alloc, self, &reduced.now, given)?;
+        let square = DualSquare::make(alloc, self.top, reduced)?;
+        assign_kept_given(
+            alloc, self, square, matching, region, given, columns, is_known,
+        )
+    }
 }
 
 impl SquareSolver for NarrowSums {
@@ -142,7 +175,7 @@ impl SquareSolver for NarrowSums {
         ensures kept_bench { OnErr result (bench.new ≡ bench.old) }
     {
         let square = DualSquare::make(alloc, NARROW_TOP, reduced)?;
-        Ok(solve_kept(self, square, matching, bench, region, trail))
+        Ok(solve_through(self, square, matching, bench, region, trail))
     }
 
     fn solve_given(
@@ -173,5 +206,32 @@ impl SquareSolver for NarrowSums {
         }
         let square = DualSquare::make(alloc, NARROW_TOP, reduced)?;
         solve_kept_given(alloc, self, square, matching, region, given, columns, true)
+    }
+
+    fn assign_given(
+        &self,
+        alloc: Global,
+        reduced: Reduced<u64>,
+        matching: &mut Matching,
+        region: &mut Region<u64>,
+        given: &[Phase<u64>],
+        columns: &[u32],
+    ) -> Result<Option<AssignedSquare<u64>>, NoMemory>
+        requires reduced { IsReduced (bounded_sums narrow_top) reduced }
+        requires matching_side { length matching.old ≡ reduced.now.side }
+        requires empty { (r c : ℕ) → Matches matching.old r c → ⊥ }
+        requires few { length given.now ≤ unmatched matching.old }
+        requires spare { length given.now ≤ region.old.spare }
+        requires region_side { region.old.side ≡ reduced.now.side }
+        ensures assigned { IfOk result (λ found. IfSome found (IsAssigned (bounded_sums narrow_top)
+            bounded_difference reduced matching.old matching.new region.old region.new)) }
+        ensures kept_matching { OnErr result (matching.new ≡ matching.old) }
+        ensures kept_region { OnErr result (region.new ≡ region.old) }
+    {
+        if !are_admitted(alloc, &reduced.now, given)? {
+            return Ok(None);
+        }
+        let square = DualSquare::make(alloc, NARROW_TOP, reduced)?;
+        assign_kept_given(alloc, self, square, matching, region, given, columns, true)
     }
 }

@@ -1,22 +1,9 @@
 -- A row that enters the tree of a search.
-use Rattle.std.proofs.Common.{◌≡◌, ◌≢◌, ℕ, ◌+◌, ◌/◌, ◌<◌, ◌≤◌, List, length, Option, Some, get_or, set, refl, sym, ◌∙◌, ap, subst, arith, ⊎_elim, cond, eqb, true}
-use Rattle.std.specs.Prelude.{vec_len, vec_capacity}
-use Rattle.std.proofs.lemmas.Bool.{ne_eqb}
-use Rattle.std.proofs.lemmas.Bool.Decides.{eqb_tells}
-use Rattle.asg_model.specs.Limits.{most_side}
-use Rattle.asg_match.specs.ColumnSet.{HasColumn, IsColumnSet}
+use Rattle.asg_growth.proofs.Common.{◌≡◌, ℕ, ◌+◌, ◌/◌, ◌<◌, ◌≤◌, true, cond, eqb, ◌≢◌, List, length, get_or, set, Some, vec_len, vec_capacity, Option, sym, refl, ap, ◌∙◌, subst, ⊎_elim, arith, ne_eqb, eqb_tells, never, leads_in, IsSearch, Enters, CanRenew, Renews, leads_of, lead_at, place_at, IsLeast, AreNearest, IsUnderway, search_leads, all_rows, least, column_below, AreNearest-set, HasColumn, IsColumnSet, most_side, Monoid, IsLe, IsOrderedMonoid, Grid, cell_at}
 use Rattle.asg_match.specs.Matching.{Matches}
 use Rattle.asg_match.specs.Searched.{parents_in}
-use Rattle.asg_order.specs.Monoid.{Monoid, IsLe, IsOrderedMonoid}
 use Rattle.asg_order.specs.Differences.{HasDifferences}
-use Rattle.asg_square.specs.Grid.{Grid, cell_at}
 use Rattle.asg_growth.specs.declared.growth.Growth.{Growth}
-use Rattle.asg_growth.specs.Growths.{never, leads_in, IsSearch, Enters, CanRenew, Renews}
-use Rattle.asg_growth.specs.Leads.{leads_of, lead_at, place_at, IsLeast}
-use Rattle.asg_growth.specs.Nearest.{AreNearest}
-use Rattle.asg_growth.specs.Underway.{IsUnderway}
-use Rattle.asg_growth.specs.laws.GrowthLaws.{search_leads, all_rows, least, column_below}
-use Rattle.asg_growth.specs.laws.NearestLemmas.{AreNearest-set}
 use Rattle.asg_growth.specs.laws.UnderwayLaws.{IsUnderway-enter, rows_room}
 
 same_column : (n : ℕ) → eqb n n ≡ true

@@ -1,3 +1,4 @@
+pub mod Common
 pub mod OfferLemmas
 pub mod ScanLemmas
 pub mod EnteringLaws

@@ -1,19 +1,6 @@
 -- Leads whose columns are offered keys one by one, where which columns of a word have keys is
 -- written at the end.
-use Rattle.std.proofs.Common.{◌≡◌, ◌↔◌, ◌⊎◌, inl, inr, ℕ, Bool, true, false, ◌-◌, ◌/◌, ◌%◌, ◌<◌, ◌^◌, List, length, Option, Some, get_or, set, refl, sym, ◌∙◌, ap, subst, arith, ⊎_elim, w64, Fits, eqb, IsTrue}
-use Rattle.std.specs.Prelude.{bit_and}
-use Rattle.std.specs.Int.{bit_at}
-use Rattle.std.proofs.lemmas.Bool.{cases_eq, eqb-true, eq-eqb}
-use Rattle.std.proofs.lemmas.List.{get_or-set_same, get_or-set_other, length-set}
-use Rattle.std.proofs.lemmas.Nat.Bits.{shr_and_one}
-use Rattle.std.proofs.lemmas.Grind.{get_or-set_at}
-use Rattle.asg_match.specs.ColumnSet.{HasBit, HasColumn}
-use Rattle.asg_order.specs.Monoid.{Monoid, IsValue, IsLe}
-use Rattle.asg_growth.specs.Leads.{leads_of, lead_at, KeepsLead, IsOffered, Relaxes, TakesKey, KeepsKey}
-use Rattle.asg_growth.specs.Nearest.{IsAnswered}
-use Rattle.asg_growth.specs.laws.LeadLemmas.{lead_there, lead_has, lead_same, Relaxes-given}
-use Rattle.asg_growth.specs.laws.NearestLemmas.{IsApproached, key_is}
-use Rattle.asg_growth.specs.laws.WordLemmas.{next_bit, next_column, next_place}
+use Rattle.asg_growth.proofs.Common.{◌≡◌, ℕ, ◌-◌, ◌/◌, ◌%◌, ◌^◌, ◌<◌, Bool, true, false, eqb, ◌⊎◌, ◌↔◌, List, [], length, get_or, set, IsTrue, bit_and, Some, Option, sym, refl, ap, ◌∙◌, subst, inl, inr, ⊎_elim, arith, length-set, get_or-set_other, get_or-set_same, w64, Fits, eq-eqb, eqb-true, bit_at, cases_eq, get_or-set_at, shr_and_one, leads_of, lead_at, KeepsLead, IsOffered, Relaxes, TakesKey, KeepsKey, IsAnswered, lead_there, lead_has, lead_same, Relaxes-given, IsApproached, key_is, next_bit, next_column, next_place, HasBit, HasColumn, Monoid, IsValue, IsLe}
 
 -- a column of the word that was set
 pub column_here : (words : List ℕ) (n x k : ℕ) → n < length words → k / 64 ≡ n → HasBit x (k % 64) ↔ HasColumn (set words n x) k
@@ -81,14 +68,14 @@ module _ {V : Type 0} (M : Monoid V) (values : List V) (sum : V) (place : ℕ) w
           (low (told ((column_here keyed number x column within here).1 (lead_has M (leads_of keys (set keyed number x) places) column old e))))
 
       -- a column took the key that it was offered
-      pub Relaxes-took : (HasBit x (column % 64) → IsTrue has_key) → column < length keys → column < length places → TakesKey M (M.product sum (get_or values column M.unit)) place column has_key keys keys_after places places_after → Relaxes M values sum place (λ k. k ≡ column) (leads_of keys (set keyed number x) places) (leads_of keys_after (set keyed number y) places_after)
+      pub Relaxes-took : (HasBit x (column % 64) → IsTrue has_key) → column < length keys → column < length places → TakesKey M (M.product sum (get_or values column M.unit)) place column has_key (leads_of keys [] places) (leads_of keys_after [] places_after) → Relaxes M values sum place (λ k. k ≡ column) (leads_of keys (set keyed number x) places) (leads_of keys_after (set keyed number y) places_after)
       Relaxes-took told hk hp took =
           Relaxes-given M values sum place (leads_of keys (set keyed number x) places) (leads_of keys_after (set keyed number y) places_after) column (M.product sum (get_or values column M.unit)) hk hp refl
           (took_low told took.low)
           took.keys took.places sides columns_more
 
       -- where a column kept its key, all have what they had
-      module _ (told : IsTrue has_key → HasBit x (column % 64)) (kept : KeepsKey M (M.product sum (get_or values column M.unit)) column has_key keys keys_after places places_after) where
+      module _ (told : IsTrue has_key → HasBit x (column % 64)) (kept : KeepsKey M (M.product sum (get_or values column M.unit)) column has_key (leads_of keys [] places) (leads_of keys_after [] places_after)) where
         has_bit : HasColumn (set keyed number x) column
         has_bit = (column_here keyed number x column within here).0 (told kept.has)
 
@@ -112,16 +99,16 @@ module _ {V : Type 0} (M : Monoid V) (values : List V) (sum : V) (place : ℕ) w
         }
 
       -- a column was offered a key
-      pub Relaxes-offered : (result : Bool) → HasBit x (column % 64) ↔ IsTrue has_key → column < length keys → column < length places → (IsTrue result → TakesKey M (M.product sum (get_or values column M.unit)) place column has_key keys keys_after places places_after) → (result ≡ false → KeepsKey M (M.product sum (get_or values column M.unit)) column has_key keys keys_after places places_after) → Relaxes M values sum place (λ k. k ≡ column) (leads_of keys (set keyed number x) places) (leads_of keys_after (set keyed number y) places_after)
+      pub Relaxes-offered : (result : Bool) → HasBit x (column % 64) ↔ IsTrue has_key → column < length keys → column < length places → (IsTrue result → TakesKey M (M.product sum (get_or values column M.unit)) place column has_key (leads_of keys [] places) (leads_of keys_after [] places_after)) → (result ≡ false → KeepsKey M (M.product sum (get_or values column M.unit)) column has_key (leads_of keys [] places) (leads_of keys_after [] places_after)) → Relaxes M values sum place (λ k. k ≡ column) (leads_of keys (set keyed number x) places) (leads_of keys_after (set keyed number y) places_after)
       Relaxes-offered true told hk hp took kept = Relaxes-took told.0 hk hp (took refl)
       Relaxes-offered false told hk hp took kept = Relaxes-stays told.1 (kept refl)
 
       -- a column took a key or kept its own, and was compared with the nearest one
-      pub Relaxes-answered : (former result : Option ℕ) → HasBit x (column % 64) ↔ IsTrue has_key → column < length keys → column < length places → IsAnswered M (M.product sum (get_or values column M.unit)) place column has_key keys keys_after places places_after former result → Relaxes M values sum place (λ k. k ≡ column) (leads_of keys (set keyed number x) places) (leads_of keys_after (set keyed number y) places_after)
+      pub Relaxes-answered : (former result : Option ℕ) → HasBit x (column % 64) ↔ IsTrue has_key → column < length keys → column < length places → IsAnswered M (M.product sum (get_or values column M.unit)) place column has_key (leads_of keys [] places) (leads_of keys_after [] places_after) former result → Relaxes M values sum place (λ k. k ≡ column) (leads_of keys (set keyed number x) places) (leads_of keys_after (set keyed number y) places_after)
       Relaxes-answered former result told hk hp answered =
           ⊎_elim (λ kept. Relaxes-stays told.1 kept.0) (λ took. Relaxes-took told.0 hk hp took.0) answered
 
-      pub IsApproached-answered : (former result : Option ℕ) → HasBit x (column % 64) ↔ IsTrue has_key → column < length keys → IsValue M (M.product sum (get_or values column M.unit)) → IsAnswered M (M.product sum (get_or values column M.unit)) place column has_key keys keys_after places places_after former result → IsApproached M (leads_of keys (set keyed number x) places) (leads_of keys_after (set keyed number y) places_after) column former result
+      pub IsApproached-answered : (former result : Option ℕ) → HasBit x (column % 64) ↔ IsTrue has_key → column < length keys → IsValue M (M.product sum (get_or values column M.unit)) → IsAnswered M (M.product sum (get_or values column M.unit)) place column has_key (leads_of keys [] places) (leads_of keys_after [] places_after) former result → IsApproached M (leads_of keys (set keyed number x) places) (leads_of keys_after (set keyed number y) places_after) column former result
       IsApproached-answered former result told hk value answered =
           ⊎_elim
           (λ kept. inl (λ k. let keeps = KeepsLead-stays told.1 kept.0 k in keeps.lead, kept.1))

@@ -1,18 +1,7 @@
 -- What leads are after a scan of columns.
-use Rattle.std.proofs.Common.{◌≡◌, inl, inr, ℕ, ◌+◌, ◌/◌, ◌%◌, ◌<◌, List, Option, Some, get_or, sym, ◌∙◌, ap, subst, arith, ⊎_elim}
-use Rattle.std.proofs.lemmas.Bool.{cases_eq, cases_lt}
-use Rattle.std.proofs.lemmas.Option.{same_Some}
-use Rattle.std.specs.Prelude.{IsSome, is_some}
-use Rattle.asg_match.specs.ColumnSet.{HasColumn, IsColumnSet}
-use Rattle.asg_order.specs.Monoid.{Monoid, IsValue}
-use Rattle.asg_square.specs.BitTable.{AreWordsOf}
-use Rattle.asg_square.specs.CellTable.{AreValuesOf}
-use Rattle.asg_growth.specs.Leads.{Leads, lead_at, Relaxes, OffersRow}
-use Rattle.asg_growth.specs.Scanned.{AreValued, IsBoth}
-use Rattle.asg_growth.specs.laws.GrowthLaws.{some_value, value_read}
-use Rattle.asg_growth.specs.laws.LeadLemmas.{Relaxes-join, Relaxes-iff}
-use Rattle.asg_growth.specs.laws.NearestLemmas.{IsApproached}
-use Rattle.asg_growth.specs.laws.WordLemmas.{present_some, some_present}
+use Rattle.asg_growth.proofs.Common.{◌≡◌, ℕ, ◌+◌, ◌/◌, ◌%◌, ◌<◌, List, get_or, is_some, IsSome, Some, Option, sym, ap, ◌∙◌, subst, inl, inr, ⊎_elim, arith, cases_eq, cases_lt, same_Some, Leads, lead_at, Relaxes, OffersRow, AreValued, IsBoth, some_value, value_read, Relaxes-join, Relaxes-iff, IsApproached, present_some, some_present, HasColumn, IsColumnSet, Monoid, IsValue}
+use Rattle.asg_bit_rows.specs.BitTable.{AreWordsOf}
+use Rattle.asg_cell_tables.specs.CellTable.{AreValuesOf}
 
 module _ {V : Type 0} (M : Monoid V) where
   -- the keys are values after a column was offered one

@@ -3,7 +3,7 @@ use Rattle.std.specs.Prelude.{◌≡◌, ◌⊎◌, ℕ, ◌/◌, ◌%◌, ◌==
 use Rattle.std.specs.Int.{bit_at}
 use Rattle.asg_match.specs.ColumnSet.{HasColumn}
 use Rattle.asg_order.specs.Monoid.{Monoid, IsLe}
-use Rattle.asg_square.specs.CellTable.{AreValuesOf}
+use Rattle.asg_cell_tables.specs.CellTable.{AreValuesOf}
 
 -- a key for each column, which columns have one, and for each the place of the row that it comes
 -- from
@@ -71,15 +71,15 @@ Picks M lead is_among (Some column) = IsLeast M lead is_among column
 
 -- a column took a key and the place of a row, where it had no key or one that isn't less
 pub record TakesKey {V : Type 0} (M : Monoid V) (offered : V) (place column : ℕ) (has_key : Bool)
-    (keys_before keys_after : List V) (places_before places_after : List ℕ) : Type 0 where
-  pub keys : keys_after ≡ slice_set keys_before column offered
-  pub places : places_after ≡ slice_set places_before column place
-  pub low : IsTrue has_key → IsLe M offered (slice_index_or keys_before column M.unit)
+    (before after : Leads V) : Type 0 where
+  pub keys : after.keys ≡ slice_set before.keys column offered
+  pub places : after.places ≡ slice_set before.places column place
+  pub low : IsTrue has_key → IsLe M offered (slice_index_or before.keys column M.unit)
 
 -- a column kept the key that it has, which is at most the one that it was offered
 pub record KeepsKey {V : Type 0} (M : Monoid V) (offered : V) (column : ℕ) (has_key : Bool)
-    (keys_before keys_after : List V) (places_before places_after : List ℕ) : Type 0 where
-  pub keys : keys_after ≡ keys_before
-  pub places : places_after ≡ places_before
+    (before after : Leads V) : Type 0 where
+  pub keys : after.keys ≡ before.keys
+  pub places : after.places ≡ before.places
   pub has : IsTrue has_key
-  pub low : IsLe M (slice_index_or keys_before column M.unit) offered
+  pub low : IsLe M (slice_index_or before.keys column M.unit) offered

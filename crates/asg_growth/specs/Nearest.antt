@@ -39,11 +39,9 @@ IsNearest M keys former (Some column) result = IsNearer M keys former column res
 
 -- a column kept its key, or took the one that it was offered and was compared with the nearest one
 -- so far
-abbrev pub IsAnswered : {V : Type 0} → Monoid V → V → ℕ → ℕ → Bool → List V → List V → List ℕ
-    → List ℕ → Option ℕ → Option ℕ → Type 0
-IsAnswered M offered place column has_key keys_before keys_after places_before places_after former
-    result =
-    (KeepsKey M offered column has_key keys_before keys_after places_before places_after
-    × (result ≡ former))
-    ⊎ (TakesKey M offered place column has_key keys_before keys_after places_before places_after
-    × IsNearer M keys_after former column result)
+abbrev pub IsAnswered : {V : Type 0} → Monoid V → V → ℕ → ℕ → Bool → Leads V → Leads V → Option ℕ
+    → Option ℕ → Type 0
+IsAnswered M offered place column has_key before after former result =
+    (KeepsKey M offered column has_key before after × (result ≡ former))
+    ⊎ (TakesKey M offered place column has_key before after
+    × IsNearer M after.keys former column result)

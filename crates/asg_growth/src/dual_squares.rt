@@ -7,6 +7,7 @@ use asg_admit::Reduced;
 use asg_dual_squares::{DualRow, DualSquare, Replayed};
 use asg_match::Matching;
 use asg_monoids::Bounded;
+use asg_square::Square;
 
 impl<'a> RowValues<Bounded> for DualRow<'a, u128> {
     ghost values_of = { λ row. row };
@@ -97,5 +98,9 @@ impl ReducedSquare<Bounded> for DualSquare<u128> {
 
     fn into_reduced(self) -> Reduced<u128> {
         self.reduce()
+    }
+
+    fn into_square(self) -> Square<u128> {
+        self.into_base()
     }
 }

@@ -1,9 +1,9 @@
 //! The leads of columns: of each column that wasn't reached the least key by the rows that were
 //! seen, and the place of the row that it comes from.
 
-ghost use Rattle.std.specs.Prelude.{◌≡◌, ◌<◌, false, length, slice_index_or, IsTrue};
+ghost use Rattle.std.specs.Prelude.{◌≡◌, [], ◌<◌, false, length, slice_index_or, IsTrue};
 ghost use Rattle.asg_order.specs.Monoid.{IsValue, IsLe};
-ghost use Rattle.asg_growth.specs.Leads.{TakesKey, KeepsKey};
+ghost use Rattle.asg_growth.specs.Leads.{leads_of, TakesKey, KeepsKey};
 
 use crate::row_values::RowValues;
 use asg_order::DMonoid;
@@ -51,11 +51,11 @@ pub(crate) fn offer_key<M: DMonoid, R: RowValues<M>>(
     ensures taken { let monoid = M.monoid_of m.now in
         IsTrue result → TakesKey monoid
         (monoid.product sum (slice_index_or (R.values_of values.now) column monoid.unit)) place
-        column has_key keys.old keys.new places.old places.new }
+        column has_key (leads_of keys.old [] places.old) (leads_of keys.new [] places.new) }
     ensures kept { let monoid = M.monoid_of m.now in
         result ≡ false → KeepsKey monoid
         (monoid.product sum (slice_index_or (R.values_of values.now) column monoid.unit)) column
-        has_key keys.old keys.new places.old places.new }
+        has_key (leads_of keys.old [] places.old) (leads_of keys.new [] places.new) }
 {
     let key = m.op(sum, values.value_at(column));
     if !is_lower(m, keys, column, has_key, key) {

@@ -10,6 +10,7 @@ use asg_dual_squares::{DualRow, DualSquare, Replayed};
 use asg_match::Matching;
 use asg_monoids::NarrowSums;
 use asg_phase_totals::NARROW_TOP;
+use asg_square::Square;
 
 impl<'a> RowValues<NarrowSums> for DualRow<'a, u64> {
     ghost values_of = { λ row. row };
@@ -110,5 +111,9 @@ impl ReducedSquare<NarrowSums> for DualSquare<u64> {
 
     fn into_reduced(self) -> Reduced<u64> {
         self.reduce()
+    }
+
+    fn into_square(self) -> Square<u64> {
+        self.into_base()
     }
 }

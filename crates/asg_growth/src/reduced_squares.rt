@@ -1,7 +1,7 @@
 //! How a reduced square is kept.
 
 ghost use Rattle.std.specs.Prelude.{◌≡◌, ◌<◌, ◌≤◌, ℕ, Bool, IsTrue, length};
-ghost use Rattle.asg_admit.specs.Reduced.{IsReduced, IsPhaseTo, phase_of};
+ghost use Rattle.asg_admit.specs.Reduced.{IsReduced, IsPhaseTo, KeepsPresence, phase_of};
 ghost use Rattle.asg_admit.specs.declared.reduced.Reduced.{Reduced};
 ghost use Rattle.asg_match.specs.ColumnSet.{HasColumn, IsColumnSet, word_count};
 ghost use Rattle.asg_model.specs.Limits.{most_side};
@@ -18,6 +18,7 @@ use asg_admit::Reduced;
 use asg_match::Matching;
 use asg_order::DMonoid;
 use asg_settling::replay_within;
+use asg_square::Square;
 
 /// A reduced square over a d-monoid, however it is kept, whose rows can be looked at.
 pub trait RowSquare<M: DMonoid> {
@@ -139,6 +140,11 @@ pub trait ReducedSquare<M: DMonoid>: RowSquare<M> {
     /// The reduced square with its cells written out.
     fn into_reduced(self) -> Reduced<M::Value>
         ensures { result ≡ Self.as_reduced self };
+
+    /// A square with the labels and the present cells of the reduced one, whose values may be
+    /// others.
+    fn into_square(self) -> Square<M::Value>
+        ensures { KeepsPresence (Self.as_reduced self).now result };
 }
 
 impl<M: DMonoid> RowSquare<M> for Reduced<M::Value> {
@@ -216,5 +222,9 @@ impl<M: DMonoid> ReducedSquare<M> for Reduced<M::Value> {
 
     fn into_reduced(self) -> Reduced<M::Value> {
         self
+    }
+
+    fn into_square(self) -> Square<M::Value> {
+        self.now
     }
 }

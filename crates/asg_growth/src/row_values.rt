@@ -2,7 +2,7 @@
 
 ghost use Rattle.std.specs.Prelude.{◌≡◌, ◌+◌, ◌*◌, ◌/◌, ◌%◌, ◌<◌, ◌≤◌, ℕ, List, Some, length, slice_get, slice_index};
 ghost use Rattle.asg_order.specs.Monoid.{IsValue};
-ghost use Rattle.asg_square.specs.BitTable.{is_bit_set};
+ghost use Rattle.asg_bit_rows.specs.BitTable.{is_bit_set};
 ghost use Rattle.asg_growth.specs.Scanned.{TellsLesser};
 
 use asg_order::DMonoid;

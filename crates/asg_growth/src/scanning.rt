@@ -43,7 +43,8 @@ fn offer<M: DMonoid, R: RowValues<M>>(
     ensures { let monoid = M.monoid_of m.now in
         IsAnswered monoid
         (monoid.product sum (slice_index_or (R.values_of values.now) column monoid.unit)) place
-        column has_key keys.old keys.new places.old places.new nearest result }
+        column has_key (leads_of keys.old [] places.old) (leads_of keys.new [] places.new) nearest
+        result }
 {
     if !offer_key(m, values, sum, keys, places, place, column, has_key) {
         return nearest;

@@ -99,9 +99,9 @@ fn index_by<M: SquareSolver>(
     Ok(index_at(alloc, m, reduced, desk, given, columns)?)
 }
 
-// Two phases of the three rows. Their steps prove the least sum where they are 1 and 1,002, and
-// then 1,002 and 1,000.
-fn two_phases<V: Copy>(
+/// Two phases of the three rows. Their steps prove the least sum where they are 1 and 1,002, and
+/// then 1,002 and 1,000.
+pub(crate) fn two_phases<V: Copy>(
     alloc: Global,
     first: &[V],
     second: &[V],
@@ -189,8 +189,8 @@ fn narrow_sums_near_the_top_are_not_given(rt: HostRuntime) -> Result<(), Fail> {
     Ok(())
 }
 
-// A phase of the second of two rows.
-fn one_phase<V: Copy>(alloc: Global, steps: &[V]) -> Result<Vec<Phase<V>>, NoMemory> {
+/// A phase of the second of two rows.
+pub(crate) fn one_phase<V: Copy>(alloc: Global, steps: &[V]) -> Result<Vec<Phase<V>>, NoMemory> {
     let one = phase(alloc, steps, &[1, 0], &[1, 1])?;
     Ok(vec![in alloc; one]?)
 }

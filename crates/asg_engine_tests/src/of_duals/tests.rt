@@ -8,7 +8,7 @@ ghost use Rattle.asg_monoids.specs.BoundedSums.{bounded_sums, narrow_top};
 use crate::samples::reduced_of;
 use asg_admit::Reduced;
 use asg_dual_squares::{DualSquare, Replayed};
-use asg_duals::{Duals, short_phases, tight_duals};
+use asg_duals::{Duals, first_duals, short_phases, tight_duals};
 use asg_monoids::NarrowSums;
 use asg_phase_totals::NARROW_TOP;
 use asg_proof::Phase;
@@ -165,6 +165,25 @@ fn is_solved(
 #[test]
 fn turns_duals_of_the_worked_square_into_two_phases(rt: HostRuntime) -> Result<(), Fail> {
     assert!(rt; is_solved(rt.alloc(), 3, &WORKED, 2, 1, 3_000_000_005)?);
+    Ok(())
+}
+
+// The column of the first row by the dual variables that are found first.
+fn first_column(alloc: Global, side: u32, cells: &[Option<u64>]) -> Result<Option<u32>, Fault> {
+    let reduced = reduced_of(alloc, &NarrowSums, side, cells)?;
+    let found = first_duals(alloc, &reduced.now);
+    drop(reduced);
+    let Some(duals) = found? else {
+        return Ok(None);
+    };
+    let first = duals.columns().first().copied();
+    drop(duals);
+    Ok(first)
+}
+
+#[test]
+fn finds_duals_first(rt: HostRuntime) -> Result<(), Fail> {
+    assert!(rt; first_column(rt.alloc(), 3, &WORKED)? == Some(1));
     Ok(())
 }
 

@@ -14,7 +14,7 @@ use Rattle.asg_match.specs.laws.Matchings.{Some-from_test}
 use Rattle.asg_order.specs.Monoid.{Monoid, IsValue, IsLe, IsOrderedMonoid, fold_of}
 use Rattle.asg_order.specs.Differences.{HasDifferences}
 use Rattle.asg_proof.specs.Phases.{phase_of, square_after}
-use Rattle.asg_square.specs.CellTable.{AreValuesOf}
+use Rattle.asg_cell_tables.specs.CellTable.{AreValuesOf}
 use Rattle.asg_square.specs.Grid.{Grid, cell_at}
 use Rattle.asg_growth.specs.declared.growth.Growth.{Growth}
 use Rattle.asg_growth.specs.Growing.{IsAbsorbed}

@@ -6,9 +6,9 @@ use Rattle.std.proofs.Math.Facts.{Fits-lt-pow}
 use Rattle.std.proofs.lemmas.Bool.{cases_eq, cases_lt, eqb-true}
 use Rattle.std.proofs.lemmas.List.{get_or_past}
 use Rattle.std.proofs.lemmas.Nat.Bits.{bit_at-lt, bit_at_and, bit_at_or, bit_at_not}
-use Rattle.asg_square.specs.BitTable.{AreWordsOf}
+use Rattle.asg_bit_rows.specs.BitTable.{AreWordsOf}
 use Rattle.asg_match.specs.ColumnSet.{HasBit, HasColumn}
-use Rattle.asg_square.specs.laws.Bits.{with_bit, without_bit, bit_below, HasBit-zero, HasBit-with, HasBit-with_same, HasBit-with_kept, HasBit-without, HasBit-without_other, HasBit-trailing_zeros, without_bit-lt}
+use Rattle.asg_bit_rows.specs.laws.Bits.{with_bit, without_bit, bit_below, HasBit-zero, HasBit-with, HasBit-with_same, HasBit-with_kept, HasBit-without, HasBit-without_other, HasBit-trailing_zeros, without_bit-lt}
 
 -- a bit is set, or it isn't
 pub cases_column : (words : List ℕ) (k : ℕ) → HasColumn words k ⊎ (HasColumn words k → ⊥)

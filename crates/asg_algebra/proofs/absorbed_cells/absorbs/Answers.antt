@@ -1,5 +1,4 @@
-use Rattle.std.proofs.Common.{◌≡◌, sym, ◌∙◌, subst}
-use Rattle.asg_order.specs.Monoid.{Monoid, IsValue, IsLe, IsOrderedMonoid}
+use Rattle.asg_algebra.proofs.Common.{◌≡◌, sym, ◌∙◌, subst, Monoid, IsValue, IsLe, IsOrderedMonoid}
 use Rattle.asg_order.specs.laws.Orders.{le_product}
 use Rattle.asg_algebra.proofs.absorbed_cells.absorbs.Goals as goal
 

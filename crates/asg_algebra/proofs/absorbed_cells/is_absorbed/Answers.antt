@@ -1,5 +1,4 @@
-use Rattle.std.proofs.Common.{sym, ◌∙◌, subst, ap}
-use Rattle.asg_order.specs.Monoid.{IsValue}
+use Rattle.asg_algebra.proofs.Common.{sym, ap, ◌∙◌, subst, IsValue}
 use Rattle.asg_algebra.proofs.absorbed_cells.is_absorbed.Goals as goal
 
 pub absorbs-requires-clause-index : goal.absorbs-requires-clause-index

@@ -1,4 +1,4 @@
-use Rattle.asg_algebra.specs.Solved.{KeepsRows}
+use Rattle.asg_algebra.proofs.Common.{KeepsRows}
 use Rattle.asg_algebra.proofs.absorbed_cells.match_columns.Given as goal
 
 -- rows kept their columns, and all are absorbed

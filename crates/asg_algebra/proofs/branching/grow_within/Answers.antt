@@ -1,5 +1,4 @@
-use Rattle.std.proofs.Common.{length, arith}
-use Rattle.asg_model.specs.laws.Listing.{length-le_from_below}
+use Rattle.asg_algebra.proofs.Common.{length, arith, length-le_from_below}
 use Rattle.asg_algebra.proofs.branching.grow_within.Goals as goal
 
 -- a tree has at most as many rows as the side, so the rounds don't run out

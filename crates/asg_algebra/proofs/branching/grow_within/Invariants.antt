@@ -1,6 +1,4 @@
-use Rattle.std.proofs.Common.{◌≡◌, ◌+◌}
-use Rattle.std.specs.Prelude.{vec_len, slice_index}
-use Rattle.asg_growth.specs.Growths.{Searches}
+use Rattle.asg_algebra.proofs.Common.{◌≡◌, ◌+◌, slice_index, vec_len, Searches}
 use Rattle.asg_algebra.proofs.branching.grow_within.Given as goal
 
 -- one row entered in each round

@@ -1,9 +1,6 @@
-use Rattle.std.proofs.Common.{◌≢◌, ◌/◌, ◌%◌, ◌<◌, length, get_or, refl, sym, ◌∙◌, ap, subst, arith}
-use Rattle.std.specs.Prelude.{All, AllPairs}
-use Rattle.asg_growth.specs.Growths.{IsPlanted, IsRoomy}
+use Rattle.asg_algebra.proofs.Common.{◌/◌, ◌%◌, ◌<◌, ◌≢◌, length, get_or, All, AllPairs, sym, refl, ap, ◌∙◌, subst, arith, IsPlanted, IsRoomy, few_rows, place_read, search_place}
 use Rattle.asg_algebra.proofs.BranchLaws.{branched, left_at}
 use Rattle.asg_algebra.proofs.FinishLaws.{planted_search, stuck_deficient}
-use Rattle.asg_growth.specs.laws.GrowthLaws.{few_rows, place_read, search_place}
 use Rattle.asg_algebra.proofs.branching.serve_branch.Goals as goal
 
 pub grow_within-requires-clause-search : goal.grow_within-requires-clause-search
@@ -56,7 +53,7 @@ pub returns-in-Stuck-clause-branches : goal.returns-in-Stuck-clause-branches
 returns-in-Stuck-clause-branches g c =
     let m = c.args.m.now in
     let p = c.in-Stuck.ensures.probes in
-    (refl, refl, stuck_deficient (g.met.M.Ordered.laws m) (g.met.M.DMonoid.difference_laws m) p.0 p.1)
+    (refl, stuck_deficient (g.met.M.Ordered.laws m) (g.met.M.DMonoid.difference_laws m) p.0 p.1)
 
 pub returns-in-Exit-clause-branches : goal.returns-in-Exit-clause-branches
 returns-in-Exit-clause-branches g c =

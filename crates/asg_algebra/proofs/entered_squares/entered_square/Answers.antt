@@ -1,7 +1,5 @@
-use Rattle.std.proofs.Common.{◌≡◌, ◌∙◌, ap, subst}
-use Rattle.std.proofs.lemmas.Result.{IfOk-weaker}
+use Rattle.asg_algebra.proofs.Common.{◌≡◌, ap, ◌∙◌, subst, IfOk-weaker, IsSquareBy, IsSquareOf}
 use Rattle.asg_model.specs.declared.parts.Cost.{Cost}
-use Rattle.asg_square.specs.Grid.{IsSquareBy, IsSquareOf}
 use Rattle.asg_proof.specs.laws.LiveCosts.{costs_may_enter}
 use Rattle.asg_algebra.proofs.entered_squares.entered_square.Goals as goal
 

@@ -1,5 +1,4 @@
-use Rattle.std.proofs.Common.{ℕ, ◌<◌}
-use Rattle.asg_match.specs.Matching.{IsMatched}
+use Rattle.asg_algebra.proofs.Common.{ℕ, ◌<◌, IsMatched}
 use Rattle.asg_algebra.proofs.given.is_perfect.Given as goal
 
 -- the rows so far have columns

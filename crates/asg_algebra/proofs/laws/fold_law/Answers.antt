@@ -1,7 +1,4 @@
-use Rattle.std.proofs.Common.{◌≡◌, ℕ, ◌<◌, get_or, is_some, ◌∙◌, ap, subst}
-use Rattle.asg_proof.specs.Phases.{after_phases, index_of}
-use Rattle.asg_square.specs.Cells.{IsAssignment}
-use Rattle.asg_growth.specs.Growing.{IsAbsorbed}
+use Rattle.asg_algebra.proofs.Common.{◌≡◌, ℕ, ◌<◌, get_or, is_some, ap, ◌∙◌, subst, IsAbsorbed, after_phases, index_of, IsAssignment}
 use Rattle.asg_algebra.proofs.FoldLaws.{columns_apart, fold_absorbed}
 use Rattle.asg_algebra.proofs.laws.fold_law.Goals as goal
 

@@ -1,6 +1,4 @@
-use Rattle.std.proofs.Common.{get_or, refl, sym, ◌∙◌, ap, subst, ◌<◌, ◌≢◌}
-use Rattle.asg_growth.specs.Growths.{IsPlanted}
-use Rattle.std.specs.Prelude.{All, AllPairs}
+use Rattle.asg_algebra.proofs.Common.{◌<◌, ◌≢◌, get_or, All, AllPairs, sym, refl, ap, ◌∙◌, subst, IsPlanted}
 use Rattle.asg_algebra.proofs.FinishLaws.{planted_search, stuck_deficient}
 use Rattle.asg_algebra.proofs.phases.augment.Goals as goal
 

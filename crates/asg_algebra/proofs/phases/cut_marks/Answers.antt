@@ -1,6 +1,4 @@
-use Rattle.std.proofs.Common.{◌<◌, length, min, get_or, set, ◌∙◌, ap, arith}
-use Rattle.std.proofs.lemmas.List.{get_or_default}
-use Rattle.std.proofs.lemmas.List.Edits.{map_over_more}
+use Rattle.asg_algebra.proofs.Common.{◌<◌, min, length, get_or, set, ap, ◌∙◌, arith, get_or_default, map_over_more}
 use Rattle.asg_algebra.proofs.phases.cut_marks.Goals as goal
 
 pub loop-mark-preserved : goal.loop-mark-preserved

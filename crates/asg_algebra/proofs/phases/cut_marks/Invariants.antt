@@ -1,5 +1,4 @@
-use Rattle.std.proofs.Common.{◌≡◌, ◌++◌, take, drop}
-use Rattle.asg_growth.specs.Rest.{cut}
+use Rattle.asg_algebra.proofs.Common.{◌≡◌, ◌++◌, take, drop, cut}
 use Rattle.asg_algebra.proofs.phases.cut_marks.Given as goal
 
 -- the marks so far are cut

@@ -1,6 +1,5 @@
-use Rattle.std.proofs.Common.{◌<◌, ◌≤◌, length, refl, sym, subst, arith}
+use Rattle.asg_algebra.proofs.Common.{◌<◌, ◌≤◌, length, sym, refl, subst, arith, few_rows, place_read, search_place}
 use Rattle.asg_algebra.proofs.FinishLaws.{finished_phase, finished}
-use Rattle.asg_growth.specs.laws.GrowthLaws.{few_rows, place_read, search_place}
 use Rattle.asg_algebra.proofs.phases.finish.Goals as goal
 
 pub flip-requires-clause-place_within : goal.flip-requires-clause-place_within

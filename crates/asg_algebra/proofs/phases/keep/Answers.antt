@@ -1,14 +1,4 @@
-use Rattle.std.proofs.Common.{◌≡◌, ◌+◌, ◌<◌, ◌≤◌, List, [], length, refl, sym, ◌∙◌, ap, subst, arith}
-use Rattle.std.specs.Prelude.{vec_len, vec_capacity}
-use Rattle.std.proofs.lemmas.Bool.{eqb-false, eqb-true}
-use Rattle.std.proofs.lemmas.List.{nil_from_length}
-use Rattle.asg_admit.specs.Reduced.{IsPhaseTo}
-use Rattle.asg_order.specs.Monoid.{fold_of}
-use Rattle.asg_proof.specs.Phases.{IsAdmittedPhase, phase_of}
-use Rattle.asg_square.specs.Grid.{cell_at}
-use Rattle.asg_growth.specs.Growths.{phase_in}
-use Rattle.asg_algebra.specs.Served.{made_of}
-use Rattle.asg_algebra.specs.Solved.{ArePushed, IsPush}
+use Rattle.asg_algebra.proofs.Common.{◌≡◌, ◌+◌, ◌<◌, ◌≤◌, List, [], length, vec_len, vec_capacity, sym, refl, ap, ◌∙◌, subst, arith, eqb-true, eqb-false, nil_from_length, IsPhaseTo, made_of, ArePushed, IsPush, phase_in, fold_of, IsAdmittedPhase, phase_of, cell_at}
 use Rattle.asg_algebra.proofs.PhaseEnds.{no_steps, ArePushed-made}
 use Rattle.asg_algebra.proofs.phases.keep.Given.{Over}
 use Rattle.asg_algebra.proofs.phases.keep.Goals as goal

@@ -1,4 +1,4 @@
-use Rattle.std.proofs.Common.{is_some, sym, ◌∙◌, ap}
+use Rattle.asg_algebra.proofs.Common.{is_some, sym, ap, ◌∙◌}
 use Rattle.asg_algebra.proofs.SolvingLaws.{IsReduced-rest, IsServed-none}
 use Rattle.asg_algebra.proofs.solving.serve.Goals as goal
 

@@ -1,6 +1,4 @@
-use Rattle.std.proofs.Common.{sym, ◌∙◌, ap, subst, arith}
-use Rattle.asg_algebra.specs.Benches.{IsBench}
-use Rattle.asg_algebra.specs.Solved.{HasSolved, unmatched}
+use Rattle.asg_algebra.proofs.Common.{sym, ap, ◌∙◌, subst, arith, IsBench, HasSolved, unmatched}
 use Rattle.asg_algebra.proofs.SolvingLaws.{IsReduced-rest, solving_left, IsSolving-start, IsSolving-next, solving_spare, solving_live, solving_side, HasSolved-from}
 use Rattle.asg_algebra.proofs.solving.serve_all.Goals as goal
 

@@ -1,4 +1,4 @@
-use Rattle.asg_algebra.specs.Benches.{IsBench}
+use Rattle.asg_algebra.proofs.Common.{IsBench}
 use Rattle.asg_algebra.proofs.SolvingLaws.{IsSolving}
 use Rattle.asg_algebra.proofs.solving.serve_all.Given as goal
 

@@ -1,8 +1,4 @@
-use Rattle.std.proofs.Common.{◌≡◌, ◌^◌, ℕ, sym, subst, arith}
-use Rattle.std.specs.Prelude.{IfOk, IsTrue}
-use Rattle.asg_monoids.specs.BoundedSums.{bounded_sums, bounded_difference}
-use Rattle.asg_proof.specs.Phases.{AreAdmittedPhases}
-use Rattle.asg_square.specs.Grid.{cell_at}
+use Rattle.asg_algebra.proofs.Common.{◌≡◌, ℕ, ◌^◌, IfOk, IsTrue, sym, subst, arith, bounded_sums, bounded_difference, AreAdmittedPhases, cell_at}
 use Rattle.asg_algebra.proofs.sum_solvers.are_known.Goals as goal
 
 pub returns : goal.returns

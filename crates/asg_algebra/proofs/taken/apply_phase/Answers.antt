@@ -1,7 +1,4 @@
-use Rattle.std.proofs.Common.{subst}
-use Rattle.asg_proof.specs.Phases.{phase_of}
-use Rattle.asg_proof.specs.laws.PhaseSteps.{phase_has_values}
-use Rattle.asg_square.specs.Grid.{cell_at}
+use Rattle.asg_algebra.proofs.Common.{subst, phase_of, phase_has_values, cell_at}
 use Rattle.asg_algebra.proofs.taken.apply_phase.Goals as goal
 
 pub fold-requires : goal.fold-requires

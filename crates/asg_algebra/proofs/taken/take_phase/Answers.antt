@@ -1,6 +1,4 @@
-use Rattle.std.proofs.Common.{◌≤◌, length, sym, ◌∙◌, arith}
-use Rattle.std.proofs.lemmas.Grind.{common_steps}
-use Rattle.asg_proof.specs.Phases.{phase_of}
+use Rattle.asg_algebra.proofs.Common.{◌≤◌, length, sym, ◌∙◌, arith, common_steps, phase_of}
 use Rattle.asg_algebra.proofs.TakenLaws.{LeadTo-one}
 use Rattle.asg_algebra.proofs.taken.take_phase.Goals as goal
 

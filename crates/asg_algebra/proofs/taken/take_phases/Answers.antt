@@ -1,6 +1,4 @@
-use Rattle.std.proofs.Common.{◌≤◌, length, Some, refl, ◌∙◌, subst, arith}
-use Rattle.std.proofs.lemmas.List.{take_all, length-take}
-use Rattle.asg_algebra.specs.Solved.{LeadTo}
+use Rattle.asg_algebra.proofs.Common.{◌≤◌, length, Some, refl, ◌∙◌, subst, arith, length-take, take_all, LeadTo}
 use Rattle.asg_algebra.proofs.SolvedLaws.{LeadTo-none}
 use Rattle.asg_algebra.proofs.TakenLaws.{IsAdmitted-next, LeadTo-more, lead_spare, lead_live, lead_sides}
 use Rattle.asg_algebra.proofs.taken.take_phases.Goals as goal

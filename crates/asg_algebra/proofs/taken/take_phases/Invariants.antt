@@ -1,5 +1,4 @@
-use Rattle.std.proofs.Common.{◌≡◌, length, take}
-use Rattle.asg_algebra.specs.Solved.{LeadTo}
+use Rattle.asg_algebra.proofs.Common.{◌≡◌, length, take, LeadTo}
 use Rattle.asg_algebra.proofs.taken.take_phases.Given as goal
 
 -- the phases so far were taken

@@ -1,7 +1,4 @@
-use Rattle.std.proofs.Common.{◌<◌, ◌∷◌, [], ◌++◌, length, take, sym, ◌∙◌, ap, subst, arith}
-use Rattle.std.specs.Prelude.{All}
-use Rattle.std.proofs.lemmas.List.{take_more, take_all}
-use Rattle.std.proofs.lemmas.List.Elements.{All-push}
+use Rattle.asg_algebra.proofs.Common.{◌<◌, [], ◌∷◌, ◌++◌, length, take, All, sym, ap, ◌∙◌, subst, arith, take_all, All-push, take_more}
 use Rattle.asg_algebra.proofs.tested_lists.have_room.Goals as goal
 
 pub phases-preserved : goal.phases-preserved

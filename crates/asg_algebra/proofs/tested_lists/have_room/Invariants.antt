@@ -1,5 +1,4 @@
-use Rattle.std.proofs.Common.{◌<◌, length, take}
-use Rattle.std.specs.Prelude.{All}
+use Rattle.asg_algebra.proofs.Common.{◌<◌, length, take, All}
 use Rattle.asg_algebra.proofs.tested_lists.have_room.Given as goal
 
 -- the phases so far have fewer steps

@@ -1,4 +1,4 @@
-use Rattle.std.proofs.Common.{arith}
+use Rattle.asg_algebra.proofs.Common.{arith}
 use Rattle.asg_algebra.proofs.tested_lists.test_list.Goals as goal
 
 pub returns-in-Some : goal.returns-in-Some

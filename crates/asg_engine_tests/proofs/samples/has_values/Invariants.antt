@@ -1,5 +1,4 @@
-use Rattle.std.specs.Prelude.{ℕ, ◌<◌}
-use Rattle.asg_admit.specs.Settling.{HasValueAt}
+use Rattle.asg_engine_tests.proofs.Common.{ℕ, ◌<◌, HasValueAt}
 use Rattle.asg_engine_tests.proofs.samples.has_values.Given as goal
 
 -- the rows so far have values

@@ -1,5 +1,4 @@
-use Rattle.std.specs.Prelude.{ℕ, ◌<◌}
-use Rattle.asg_admit.specs.Settling.{HasValueAt}
+use Rattle.asg_engine_tests.proofs.Common.{ℕ, ◌<◌, HasValueAt}
 use Rattle.asg_engine_tests.proofs.samples.is_row_of_values.Given as goal
 
 -- the cells so far are values

@@ -1,4 +1,4 @@
-use Rattle.std.proofs.Common.{◌≡◌}
+use Rattle.asg_engine_tests.proofs.Common.{◌≡◌}
 use Rattle.asg_engine_tests.proofs.samples.put.Given as goal
 
 -- the side stays

@@ -1,10 +1,6 @@
-use Rattle.std.proofs.Common.{◌≡◌, ◌+◌, ◌<◌, ◌≤◌, length, [], ◌∷◌, get_or, ◌∙◌, ap, arith, sym, subst}
-use Rattle.std.specs.Prelude.{vec_len, vec_capacity}
-use Rattle.std.proofs.lemmas.List.{get_or_append_left, length-append}
-use Rattle.asg_model.specs.Limits.{most_side}
-use Rattle.asg_match.specs.ColumnSet.{IsColumnSet}
+use Rattle.asg_growth.proofs.Common.{◌≡◌, ◌+◌, ◌<◌, ◌≤◌, [], ◌∷◌, length, get_or, vec_len, vec_capacity, sym, ap, ◌∙◌, subst, arith, get_or_append_left, column_below, IsColumnSet, most_side}
+use Rattle.std.proofs.lemmas.List.{length-append}
 use Rattle.asg_match.specs.laws.Matchings.{Matches-below}
-use Rattle.asg_growth.specs.laws.GrowthLaws.{column_below}
 use Rattle.asg_growth.proofs.EnteringLaws.{can_enter, can_renew, search_entered}
 use Rattle.asg_growth.proofs.growth.advance_round.Given.{Over}
 use Rattle.asg_growth.proofs.growth.advance_round.Goals.{In-Some-row_of}

@@ -1,4 +1,4 @@
-use Rattle.std.proofs.Common.{length, arith}
+use Rattle.asg_growth.proofs.Common.{length, arith}
 use Rattle.asg_model.specs.laws.Listing.{length-le_from_below}
 use Rattle.asg_growth.proofs.growth.grow.Given.{Over}
 use Rattle.asg_growth.proofs.growth.grow.Goals as goal

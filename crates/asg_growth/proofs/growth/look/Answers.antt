@@ -1,14 +1,5 @@
-use Rattle.std.proofs.Common.{◌≡◌, ◌+◌, ◌<◌, length, refl, sym, ap, subst, arith, Some}
-use Rattle.std.proofs.lemmas.List.{get_or_read, with_items_is}
+use Rattle.asg_growth.proofs.Common.{◌≡◌, ◌+◌, ◌<◌, length, Some, sym, refl, ap, subst, arith, get_or_read, with_items_is, never, leads_of, lead_at, place_at, OffersRow, Picks, AreNearest, IsUnderway, search_leads, search_looked, HasColumn, IsColumnSet, IsValue, cell_at}
 use Rattle.asg_match.specs.Alternating.{parent_of}
-use Rattle.asg_match.specs.ColumnSet.{HasColumn, IsColumnSet}
-use Rattle.asg_order.specs.Monoid.{IsValue}
-use Rattle.asg_square.specs.Grid.{cell_at}
-use Rattle.asg_growth.specs.Growths.{never}
-use Rattle.asg_growth.specs.Leads.{leads_of, lead_at, place_at, OffersRow, Picks}
-use Rattle.asg_growth.specs.Nearest.{AreNearest}
-use Rattle.asg_growth.specs.Underway.{IsUnderway}
-use Rattle.asg_growth.specs.laws.GrowthLaws.{search_leads, search_looked}
 use Rattle.asg_growth.proofs.growth.look.Goals as goal
 
 pub offer_row-requires-clause-reduced : goal.offer_row-requires-clause-reduced

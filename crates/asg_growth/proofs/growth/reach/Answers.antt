@@ -1,10 +1,4 @@
-use Rattle.std.proofs.Common.{◌≡◌, ◌+◌, ◌<◌, sym, ◌∙◌, ap, subst, arith}
-use Rattle.std.specs.Prelude.{vec_len, IfNone}
-use Rattle.asg_match.specs.ColumnSet.{HasColumn}
-use Rattle.asg_order.specs.Monoid.{IsValue}
-use Rattle.asg_growth.specs.Growths.{leads_in, IsSearch, IsReady, HasNoLead}
-use Rattle.asg_growth.specs.Leads.{lead_at, Picks}
-use Rattle.asg_growth.specs.laws.GrowthLaws.{search_leads, few_rows, key_read, search_climbed}
+use Rattle.asg_growth.proofs.Common.{◌≡◌, ◌+◌, ◌<◌, IfNone, vec_len, sym, ap, ◌∙◌, subst, arith, leads_in, IsSearch, IsReady, HasNoLead, lead_at, Picks, search_leads, few_rows, key_read, search_climbed, HasColumn, IsValue}
 use Rattle.asg_growth.proofs.growth.reach.Given.{Over}
 use Rattle.asg_growth.proofs.growth.reach.Goals as goal
 

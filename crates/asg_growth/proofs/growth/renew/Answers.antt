@@ -1,7 +1,4 @@
-use Rattle.std.proofs.Common.{◌≡◌, ◌/◌, [], Some, refl, subst, rules}
-use Rattle.asg_match.specs.ColumnSet.{HasColumn}
-use Rattle.asg_growth.specs.Leads.{leads_of, lead_at, Picks}
-use Rattle.asg_growth.specs.Nearest.{IsWithin}
+use Rattle.asg_growth.proofs.Common.{◌≡◌, ◌/◌, [], Some, refl, subst, rules, leads_of, lead_at, Picks, IsWithin, HasColumn}
 use Rattle.asg_growth.proofs.growth.renew.Goals as goal
 
 pub nearest_in_word-found-requires-clause-leads : goal.nearest_in_word-found-requires-clause-leads

@@ -1,7 +1,4 @@
-use Rattle.std.proofs.Common.{get_or, set, refl, sym, ◌∙◌, ap, subst}
-use Rattle.std.proofs.lemmas.Bool.{false≢true, true≢false}
-use Rattle.std.proofs.lemmas.Option.{get_or_from_slice_get}
-use Rattle.asg_order.specs.Monoid.{IsValue, IsLe}
+use Rattle.asg_growth.proofs.Common.{get_or, set, sym, refl, ap, ◌∙◌, subst, true≢false, false≢true, get_or_from_slice_get, IsValue, IsLe}
 use Rattle.asg_growth.proofs.leads.offer_key.Goals as goal
 
 pub op-key-requires-clause-left : goal.op-key-requires-clause-left

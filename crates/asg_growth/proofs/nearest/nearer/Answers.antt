@@ -1,4 +1,4 @@
-use Rattle.std.proofs.Common.{◌<◌, length, arith}
+use Rattle.asg_growth.proofs.Common.{◌<◌, length, arith}
 use Rattle.asg_growth.proofs.nearest.nearer.Given.{Over}
 use Rattle.asg_growth.proofs.nearest.nearer.Goals.{In-Some}
 use Rattle.asg_growth.proofs.nearest.nearer.Goals as goal

@@ -1,11 +1,4 @@
-use Rattle.std.proofs.Common.{◌≡◌, inl, inr, ◌%◌, [], Some, length, get_or, refl, sym, subst, arith, ⊎_elim}
-use Rattle.asg_match.specs.ColumnSet.{HasBit}
-use Rattle.asg_square.specs.laws.Bits.{without_bit, HasBit-zero, HasBit-and}
-use Rattle.asg_growth.specs.Leads.{leads_of, lead_at}
-use Rattle.asg_growth.specs.Nearest.{IsWithin}
-use Rattle.asg_growth.specs.laws.LeadLemmas.{lead_none, lead_there}
-use Rattle.asg_growth.specs.laws.NearestLemmas.{Picks-same, Picks-nearest, Picks-itself, Picks-key}
-use Rattle.asg_growth.specs.laws.WordLemmas.{bit_in, next_bit, next_column, next_word, next_in, next_among, next_under, next_smaller, next_cases, next_gone, next_kept}
+use Rattle.asg_growth.proofs.Common.{◌≡◌, ◌%◌, [], length, get_or, Some, sym, refl, subst, inl, inr, ⊎_elim, arith, without_bit, HasBit-zero, HasBit-and, leads_of, lead_at, IsWithin, lead_none, lead_there, Picks-same, Picks-nearest, Picks-itself, Picks-key, bit_in, next_bit, next_column, next_word, next_in, next_among, next_under, next_smaller, next_cases, next_gone, next_kept, HasBit}
 use Rattle.asg_growth.proofs.nearest.nearest_in_word.Goals as goal
 
 pub columns-init : goal.columns-init

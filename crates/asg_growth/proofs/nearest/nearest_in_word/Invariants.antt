@@ -1,8 +1,4 @@
-use Rattle.std.proofs.Common.{◌%◌, []}
-use Rattle.asg_match.specs.ColumnSet.{HasBit}
-use Rattle.asg_growth.specs.Leads.{leads_of, lead_at, Picks}
-use Rattle.asg_growth.specs.Nearest.{IsWithin}
-use Rattle.asg_growth.specs.laws.WordLemmas.{IsAmong}
+use Rattle.asg_growth.proofs.Common.{◌%◌, [], leads_of, lead_at, Picks, IsWithin, IsAmong, HasBit}
 use Rattle.asg_growth.proofs.nearest.nearest_in_word.Given as goal
 
 -- the columns whose bits are no longer in the rest were looked at

@@ -1,4 +1,4 @@
-use Rattle.std.proofs.Common.{arith}
+use Rattle.asg_growth.proofs.Common.{arith}
 use Rattle.asg_growth.proofs.nearest.nearest_of.Goals as goal
 
 pub nearer-requires-clause-column : goal.nearer-requires-clause-column

@@ -1,5 +1,4 @@
-use Rattle.std.proofs.Common.{◌≡◌, replicate}
-use Rattle.std.specs.Prelude.{vec_capacity}
+use Rattle.asg_growth.proofs.Common.{◌≡◌, replicate, vec_capacity}
 use Rattle.asg_growth.proofs.roots.refill.Given as goal
 
 -- the value stands there so many times

@@ -1,12 +1,4 @@
-use Rattle.std.proofs.Common.{◌≡◌, ℕ, ◌+◌, ◌*◌, ◌%◌, List, [], get_or, sym, subst, arith}
-use Rattle.std.specs.Prelude.{bit_and}
-use Rattle.asg_match.specs.ColumnSet.{HasBit}
-use Rattle.asg_order.specs.Monoid.{IsValue, IsLe}
-use Rattle.asg_growth.specs.Leads.{leads_of}
-use Rattle.asg_growth.specs.Scanned.{IsBoth}
-use Rattle.asg_growth.specs.laws.LeadLemmas.{lead_there}
-use Rattle.asg_square.specs.laws.Bits.{HasBit-and}
-use Rattle.asg_growth.specs.laws.WordLemmas.{bit_in, column_in, left_out}
+use Rattle.asg_growth.proofs.Common.{◌≡◌, ℕ, ◌+◌, ◌*◌, ◌%◌, List, [], get_or, bit_and, sym, subst, arith, HasBit-and, leads_of, IsBoth, lead_there, bit_in, column_in, left_out, HasBit, IsValue, IsLe}
 use Rattle.asg_growth.proofs.scanning.candidates.Goals as goal
 
 -- the bit of a column that is in both sets

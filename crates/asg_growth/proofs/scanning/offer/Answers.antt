@@ -1,6 +1,4 @@
-use Rattle.std.proofs.Common.{sym, subst, get_or}
-use Rattle.asg_growth.specs.Nearest.{HasKey}
-use Rattle.asg_growth.specs.laws.NearestLemmas.{HasKey-given, HasKey-set}
+use Rattle.asg_growth.proofs.Common.{get_or, sym, subst, HasKey, HasKey-given, HasKey-set}
 use Rattle.asg_growth.proofs.scanning.offer.Goals as goal
 
 pub nearer-requires-clause-column : goal.nearer-requires-clause-column

@@ -1,12 +1,5 @@
-use Rattle.std.proofs.Common.{inl, inr, ◌+◌, ◌/◌, ◌<◌, refl, arith, ⊎_elim, length}
-use Rattle.std.proofs.lemmas.Bool.{cases_lt}
-use Rattle.asg_match.specs.ColumnSet.{HasColumn}
-use Rattle.asg_growth.specs.Leads.{leads_of, lead_at}
-use Rattle.asg_growth.specs.Nearest.{IsWithin}
-use Rattle.asg_growth.specs.laws.LeadLemmas.{Relaxes-none, Relaxes-iff}
-use Rattle.asg_growth.specs.laws.NearestLemmas.{IsBelow, Picks-same, Picks-key, Picks-nearest, AreNearest-set}
+use Rattle.asg_growth.proofs.Common.{◌+◌, ◌/◌, ◌<◌, length, refl, inl, inr, ⊎_elim, arith, cases_lt, leads_of, lead_at, IsWithin, Relaxes-none, Relaxes-iff, IsBelow, Picks-same, Picks-key, Picks-nearest, AreNearest-set, column_word, HasColumn}
 use Rattle.asg_growth.proofs.ScanLemmas.{Relaxes-more}
-use Rattle.asg_growth.specs.laws.WordLemmas.{column_word}
 use Rattle.asg_growth.proofs.scanning.scan.Goals as goal
 
 pub loop-number-init : goal.loop-number-init

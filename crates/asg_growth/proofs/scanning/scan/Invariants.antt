@@ -1,9 +1,4 @@
-use Rattle.std.proofs.Common.{◌/◌, ◌<◌}
-use Rattle.asg_match.specs.ColumnSet.{HasColumn}
-use Rattle.asg_growth.specs.Leads.{leads_of, lead_at, Relaxes, Picks}
-use Rattle.asg_growth.specs.Nearest.{AreNearest}
-use Rattle.asg_growth.specs.Scanned.{AreValued}
-use Rattle.asg_growth.specs.laws.NearestLemmas.{IsBelow}
+use Rattle.asg_growth.proofs.Common.{◌/◌, ◌<◌, leads_of, lead_at, Relaxes, Picks, AreNearest, AreValued, IsBelow, HasColumn}
 use Rattle.asg_growth.proofs.scanning.scan.Given as goal
 
 -- the columns of the words so far were offered their keys

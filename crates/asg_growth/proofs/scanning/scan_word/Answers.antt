@@ -1,15 +1,6 @@
-use Rattle.std.proofs.Common.{◌≡◌, inl, inr, ◌%◌, ◌<◌, length, get_or, set, sym, subst, arith, ⊎_elim}
-use Rattle.std.proofs.lemmas.List.{set-get_or}
-use Rattle.asg_match.specs.ColumnSet.{HasBit}
-use Rattle.asg_square.specs.laws.Bits.{with_bit, without_bit, HasBit-zero}
-use Rattle.asg_growth.specs.Leads.{leads_of, lead_at, Relaxes, Picks}
-use Rattle.asg_growth.specs.Nearest.{IsWithin}
-use Rattle.asg_growth.specs.Scanned.{AreValued, IsBoth}
-use Rattle.asg_growth.specs.laws.LeadLemmas.{lead_there, Relaxes-soon, Relaxes-iff, Relaxes-join}
-use Rattle.asg_growth.specs.laws.NearestLemmas.{IsApproached, Picks-approached, Picks-key, Picks-same}
+use Rattle.asg_growth.proofs.Common.{◌≡◌, ◌%◌, ◌<◌, length, get_or, set, sym, subst, inl, inr, ⊎_elim, arith, set-get_or, with_bit, without_bit, HasBit-zero, leads_of, lead_at, Relaxes, Picks, IsWithin, AreValued, IsBoth, lead_there, Relaxes-soon, Relaxes-iff, Relaxes-join, IsApproached, Picks-approached, Picks-key, Picks-same, next_bit, next_column, next_word, next_in, next_among, next_under, next_smaller, next_cases, next_gone, next_kept, next_there, next_more, HasBit}
 use Rattle.asg_growth.proofs.OfferLemmas.{column_here, next_read, Relaxes-answered, IsApproached-answered}
 use Rattle.asg_growth.proofs.ScanLemmas.{AreValued-approached}
-use Rattle.asg_growth.specs.laws.WordLemmas.{next_bit, next_column, next_word, next_in, next_among, next_under, next_smaller, next_cases, next_gone, next_kept, next_there, next_more}
 use Rattle.asg_growth.proofs.scanning.scan_word.Goals as goal
 
 pub columns-init : goal.columns-init

@@ -1,9 +1,4 @@
-use Rattle.std.proofs.Common.{◌%◌, set}
-use Rattle.asg_match.specs.ColumnSet.{HasBit}
-use Rattle.asg_growth.specs.Leads.{leads_of, lead_at, Relaxes, Picks}
-use Rattle.asg_growth.specs.Nearest.{IsWithin}
-use Rattle.asg_growth.specs.Scanned.{AreValued, IsBoth}
-use Rattle.asg_growth.specs.laws.WordLemmas.{IsAmong}
+use Rattle.asg_growth.proofs.Common.{◌%◌, set, leads_of, lead_at, Relaxes, Picks, IsWithin, AreValued, IsBoth, IsAmong, HasBit}
 use Rattle.asg_growth.proofs.scanning.scan_word.Given as goal
 
 -- the columns whose bits are no longer in the rest were offered their keys

@@ -1,12 +1,4 @@
-use Rattle.std.proofs.Common.{ℕ, None, sym, subst}
-use Rattle.std.specs.Prelude.{IfOk, IfSome, IsTrue}
-use Rattle.asg_admit.specs.Reduced.{IsReduced}
-use Rattle.asg_monoids.specs.BoundedSums.{bounded_sums, bounded_difference}
-use Rattle.asg_admit.specs.declared.reduced.Reduced.{Reduced}
-use Rattle.asg_proof.specs.Phases.{AreAdmittedPhases}
-use Rattle.asg_square.specs.Grid.{cell_at}
-use Rattle.asg_algebra.specs.Ended.{last_of}
-use Rattle.asg_algebra.specs.Solved.{HasSolved}
+use Rattle.asg_algebra.proofs.Common.{ℕ, IfSome, IfOk, IsTrue, None, sym, subst, IsReduced, Reduced, last_of, HasSolved, bounded_sums, bounded_difference, AreAdmittedPhases, cell_at}
 use Rattle.asg_algebra.proofs.sum_solvers.BoundedSquareSolver.solve_given.Goals as goal
 
 pub solve_kept_given-requires-2-clause-reduced : goal.solve_kept_given-requires-2-clause-reduced

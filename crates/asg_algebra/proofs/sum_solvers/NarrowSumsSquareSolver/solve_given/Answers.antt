@@ -1,9 +1,4 @@
-use Rattle.std.proofs.Common.{None, sym, subst}
-use Rattle.std.specs.Prelude.{IfOk, IfSome}
-use Rattle.asg_admit.specs.Reduced.{IsReduced}
-use Rattle.asg_monoids.specs.BoundedSums.{bounded_sums, bounded_difference, narrow_top}
-use Rattle.asg_algebra.specs.Ended.{last_of}
-use Rattle.asg_algebra.specs.Solved.{HasSolved}
+use Rattle.asg_algebra.proofs.Common.{IfSome, IfOk, None, sym, subst, IsReduced, last_of, HasSolved, bounded_sums, bounded_difference, narrow_top}
 use Rattle.asg_algebra.proofs.sum_solvers.NarrowSumsSquareSolver.solve_given.Goals as goal
 
 pub solve_kept_given-requires-clause-reduced : goal.solve_kept_given-requires-clause-reduced

@@ -1,7 +1,5 @@
 -- A kept cell is a cell of the square.
-use Rattle.std.proofs.Common.{◌≡◌, sym, ◌∙◌, ap}
-use Rattle.std.specs.Prelude.{is_some}
-use Rattle.asg_square.specs.laws.Masks.{some_kept, kept_some}
+use Rattle.asg_engine_tests.proofs.Common.{◌≡◌, is_some, sym, ap, ◌∙◌, some_kept, kept_some}
 use Rattle.asg_engine_tests.proofs.of_admit.masked.admits_step.Goals as goal
 
 pub admits_within-requires : goal.admits_within-requires

@@ -1,10 +1,5 @@
 -- No row has a column yet, and a kept cell is a cell of the square.
-use Rattle.std.proofs.Common.{◌≡◌, sym, ◌∙◌, ap, subst, length}
-use Rattle.std.specs.Prelude.{is_some, None}
-use Rattle.std.proofs.lemmas.List.{length-replicate}
-use Rattle.asg_match.specs.Matching.{IsMatching, Matches}
-use Rattle.asg_match.specs.laws.Matchings.{Matches-empty, IsMatching-empty}
-use Rattle.asg_square.specs.laws.Masks.{some_kept, kept_some}
+use Rattle.asg_engine_tests.proofs.Common.{◌≡◌, length, is_some, None, sym, ap, ◌∙◌, subst, length-replicate, IsMatching, Matches, Matches-empty, IsMatching-empty, some_kept, kept_some}
 use Rattle.asg_engine_tests.proofs.of_algebra.branches.branch_at.Goals as goal
 
 pub branch_from-branch-requires-clause-rest : goal.branch_from-branch-requires-clause-rest

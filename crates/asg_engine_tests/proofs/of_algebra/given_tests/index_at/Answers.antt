@@ -1,6 +1,4 @@
-use Rattle.std.proofs.Common.{subst}
-use Rattle.asg_match.specs.Matching.{Matches}
-use Rattle.asg_match.specs.laws.Matchings.{Matches-empty}
+use Rattle.asg_engine_tests.proofs.Common.{subst, Matches, Matches-empty}
 use Rattle.asg_engine_tests.proofs.of_algebra.given_tests.index_at.Goals as goal
 
 pub solve_given-found-requires-clause-empty : goal.solve_given-found-requires-clause-empty

@@ -1,9 +1,4 @@
-use Rattle.std.proofs.Common.{ℕ, Option, None, ap, arith, length, subst}
-use Rattle.std.proofs.lemmas.List.{length-replicate}
-use Rattle.std.proofs.lemmas.List.Sums.{count_by-le-length}
-use Rattle.std.specs.Prelude.{is_none}
-use Rattle.asg_match.specs.Matching.{Matches}
-use Rattle.asg_match.specs.laws.Matchings.{Matches-empty}
+use Rattle.asg_engine_tests.proofs.Common.{ℕ, length, is_none, None, Option, ap, subst, arith, count_by-le-length, length-replicate, Matches, Matches-empty}
 use Rattle.asg_engine_tests.proofs.of_algebra.solver_tests.answer_at.Goals as goal
 
 pub solve_square-found-requires-clause-absorbed : goal.solve_square-found-requires-clause-absorbed

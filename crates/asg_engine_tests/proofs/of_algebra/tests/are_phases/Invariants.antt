@@ -1,5 +1,4 @@
-use Rattle.std.specs.Prelude.{IfSome}
-use Rattle.asg_pool.specs.Forest.{IsLive}
+use Rattle.asg_engine_tests.proofs.Common.{IfSome, IsLive}
 use Rattle.asg_engine_tests.proofs.of_algebra.tests.are_phases.Given as goal
 
 -- the trail that is left is live

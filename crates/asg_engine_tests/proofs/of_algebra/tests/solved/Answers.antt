@@ -1,8 +1,4 @@
-use Rattle.std.proofs.Common.{◌≡◌, ℕ, List, [], ◌∷◌, Option, Some, None, length, ◌∙◌, ap, subst, arith}
-use Rattle.std.proofs.lemmas.List.{length-replicate}
-use Rattle.asg_match.specs.Matching.{Matches}
-use Rattle.asg_match.specs.laws.Matchings.{Matches-empty}
-use Rattle.asg_pool.specs.Forest.{Forest}
+use Rattle.asg_engine_tests.proofs.Common.{◌≡◌, ℕ, List, [], ◌∷◌, length, Some, None, Option, ap, ◌∙◌, subst, arith, length-replicate, Matches, Matches-empty, Forest}
 use Rattle.asg_proof.specs.Phases.{PhaseOf}
 use Rattle.asg_algebra.specs.Solved.{ArePushed}
 use Rattle.asg_engine_tests.proofs.of_algebra.tests.solved.Goals as goal

@@ -1,4 +1,4 @@
-use Rattle.std.proofs.Common.{refl, arith}
+use Rattle.asg_growth.proofs.Common.{refl, arith}
 use Rattle.asg_growth.proofs.AppliedPhases.{applied_is_not_full}
 use Rattle.asg_growth.proofs.dual_squares.DualSquareU128ReducedSquareBounded.replay.Goals as goal
 

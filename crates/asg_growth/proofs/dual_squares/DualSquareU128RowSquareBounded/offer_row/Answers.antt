@@ -1,6 +1,4 @@
-use Rattle.asg_monoids.specs.BoundedSums.{bounded_sums}
-use Rattle.asg_square.specs.Grid.{cell_at}
-use Rattle.asg_growth.specs.Leads.{leads_of}
+use Rattle.asg_growth.proofs.Common.{leads_of, bounded_sums, cell_at}
 use Rattle.asg_growth.proofs.ScanLemmas.{OffersRow-scanned}
 use Rattle.asg_growth.proofs.dual_squares.DualSquareU128RowSquareBounded.offer_row.Goals as goal
 

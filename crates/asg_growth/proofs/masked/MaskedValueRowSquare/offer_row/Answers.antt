@@ -1,8 +1,5 @@
-use Rattle.std.proofs.Common.{◌/◌, ◌%◌, arith}
-use Rattle.asg_square.specs.Grid.{cell_at}
+use Rattle.asg_growth.proofs.Common.{◌/◌, ◌%◌, arith, leads_of, cell_at, AreValuesOf-masked}
 use Rattle.asg_square.specs.Masked.{masked_grid}
-use Rattle.asg_square.specs.laws.Masks.{AreValuesOf-masked}
-use Rattle.asg_growth.specs.Leads.{leads_of}
 use Rattle.asg_growth.proofs.ScanLemmas.{OffersRow-scanned, present_values}
 use Rattle.asg_growth.proofs.masked.MaskedValueRowSquare.offer_row.Goals as goal
 

@@ -1,4 +1,4 @@
-use Rattle.asg_square.specs.laws.Masks.{IsGrid-masked}
+use Rattle.asg_growth.proofs.Common.{IsGrid-masked}
 use Rattle.asg_growth.proofs.masked.MaskedValueRowSquare.side.Goals as goal
 
 pub returns-clause-grid : goal.returns-clause-grid

@@ -1,5 +1,4 @@
-use Rattle.std.proofs.Common.{refl, arith}
-use Rattle.asg_monoids.specs.BoundedSums.{narrow_top}
+use Rattle.asg_growth.proofs.Common.{refl, arith, narrow_top}
 use Rattle.asg_growth.proofs.AppliedPhases.{applied_is_not_full}
 use Rattle.asg_growth.proofs.narrow_squares.DualSquareU64ReducedSquareNarrowSums.replay.Goals as goal
 

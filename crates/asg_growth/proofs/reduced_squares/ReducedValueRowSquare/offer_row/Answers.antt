@@ -1,6 +1,4 @@
-use Rattle.std.proofs.Common.{◌/◌, ◌%◌, arith}
-use Rattle.asg_square.specs.Grid.{cell_at}
-use Rattle.asg_growth.specs.Leads.{leads_of}
+use Rattle.asg_growth.proofs.Common.{◌/◌, ◌%◌, arith, leads_of, cell_at}
 use Rattle.asg_growth.proofs.ScanLemmas.{OffersRow-scanned, present_values}
 use Rattle.asg_growth.proofs.reduced_squares.ReducedValueRowSquare.offer_row.Goals as goal
 

@@ -1,4 +1,4 @@
-use Rattle.std.proofs.lemmas.Nat.Bits.{bit_at_ones}
+use Rattle.asg_growth.proofs.Common.{bit_at_ones}
 use Rattle.asg_growth.proofs.row_values.RowValues.lesser.Goals as goal
 
 -- each bit is set

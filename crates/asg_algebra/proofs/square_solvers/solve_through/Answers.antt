@@ -1,33 +1,7 @@
-use Rattle.std.proofs.Common.{sym, ap, subst, arith}
-use Rattle.asg_admit.specs.Reduced.{IsReduced}
-use Rattle.asg_match.specs.Matching.{AllAllowed}
-use Rattle.asg_square.specs.Grid.{cell_at}
-use Rattle.asg_algebra.specs.Ended.{last_of, EndsIn}
-use Rattle.asg_growth.specs.Growing.{IsAbsorbed}
-use Rattle.asg_algebra.specs.Solved.{HasSolved}
+use Rattle.asg_algebra.proofs.Common.{sym, ap, subst, arith, IsReduced, last_of, EndsIn, HasSolved, IsAbsorbed, AllAllowed, cell_at}
 use Rattle.asg_algebra.proofs.SolvedLaws.{ArePushed-side}
 use Rattle.asg_algebra.proofs.SolvingLaws.{HasSolved-join}
-use Rattle.asg_algebra.proofs.square_solvers.solve_kept.Goals as goal
-
-pub serve_all-requires-clause-rest : goal.serve_all-requires-clause-rest
-serve_all-requires-clause-rest g c =
-    let r = c.requires in
-    record {
-      values = r.reduced.cells;
-      index_is_value = r.reduced.index;
-      matching_side = r.matching_side;
-      columns = c.side-2.ensures.matching;
-      absorbed = r.absorbed;
-    }
-
-pub serve_all-requires-clause-spare : goal.serve_all-requires-clause-spare
-serve_all-requires-clause-spare g c = c.requires.spare
-
-pub serve_all-requires-clause-live : goal.serve_all-requires-clause-live
-serve_all-requires-clause-live g c = c.requires.live
-
-pub serve_all-requires-clause-region_side : goal.serve_all-requires-clause-region_side
-serve_all-requires-clause-region_side g c = c.requires.region_side
+use Rattle.asg_algebra.proofs.square_solvers.solve_through.Goals as goal
 
 pub solve_rewriting-requires-clause-reduced : goal.solve_rewriting-requires-clause-reduced
 solve_rewriting-requires-clause-reduced g c =
@@ -38,7 +12,7 @@ pub solve_rewriting-requires-clause-absorbed : goal.solve_rewriting-requires-cla
 solve_rewriting-requires-clause-absorbed g c =
     let M = g.M.Ordered.monoid_of c.args.m.now in
     let s = c.in-Full.ensures.solved in
-    subst (λ d. AllAllowed (IsAbsorbed M d.index (cell_at d.now)) c.serve_all.new.matching) (sym c.into_reduced-in-Full.ensures) s.rows.absorbed
+    subst (λ d. AllAllowed (IsAbsorbed M d.index (cell_at d.now)) c.solve_kept.new.matching) (sym c.into_reduced-in-Full.ensures) s.rows.absorbed
 
 pub solve_rewriting-requires-clause-spare : goal.solve_rewriting-requires-clause-spare
 solve_rewriting-requires-clause-spare g c = omega (arith, c.in-Full.ensures.left, c.requires.spare)
@@ -49,20 +23,20 @@ solve_rewriting-requires-clause-live g c = let s = c.in-Full.ensures.solved in s
 pub solve_rewriting-requires-clause-region_side : goal.solve_rewriting-requires-clause-region_side
 solve_rewriting-requires-clause-region_side g c =
     let s = c.in-Full.ensures.solved in
-    omega (arith, ArePushed-side s.phases c.args.region.now c.serve_all.new.region c.args.trail c.in-Full.last s.lead.pushed, c.requires.region_side, s.lead.labels.side, ap (λ d. d.now.side) c.into_reduced-in-Full.ensures)
+    omega (arith, ArePushed-side s.phases c.args.region.now c.solve_kept.new.region c.args.trail c.in-Full.last s.lead.pushed, c.requires.region_side, s.lead.labels.side, ap (λ d. d.now.side) c.into_reduced-in-Full.ensures)
 
 pub returns-in-Full-clause-solved : goal.returns-in-Full-clause-solved
 returns-in-Full-clause-solved g c =
     let M = g.M.Ordered.monoid_of c.args.m.now in
     let difference = g.M.DMonoid.difference c.args.m.now in
     let first = g.S.RowSquare.as_reduced c.args.square in
-    let second = g.S.RowSquare.as_reduced c.serve_all.new.reduced in
+    let second = g.S.RowSquare.as_reduced c.solve_kept.new.square in
     let third = c.solve_rewriting.result.reduced in
     let m = c.args.matching.now in
-    let m' = c.serve_all.new.matching in
+    let m' = c.solve_kept.new.matching in
     let m'' = c.solve_rewriting.new.matching in
     let f = c.args.region.now in
-    let g' = c.serve_all.new.region in
+    let g' = c.solve_kept.new.region in
     let h = c.solve_rewriting.new.region in
     let last = last_of c.solve_rewriting.result.ended in
     HasSolved-join M (g.met.M.Ordered.laws c.args.m.now) difference first second third m m' m'' f g' h c.args.trail c.in-Full.last last c.requires.reduced
@@ -77,11 +51,11 @@ pub returns-in-Ended-clause-solved : goal.returns-in-Ended-clause-solved
 returns-in-Ended-clause-solved g c =
     let M = g.M.Ordered.monoid_of c.args.m.now in
     let before = g.S.RowSquare.as_reduced c.args.square in
-    let new = c.serve_all.new in
+    let new = c.solve_kept.new in
     subst (λ d. HasSolved M (g.M.DMonoid.difference c.args.m.now) before d c.args.matching.now new.matching c.args.region.now new.region c.args.trail (last_of c.in-Ended.ended)) (sym c.into_reduced.ensures) c.in-Ended.ensures.solved
 
 pub returns-in-Ended-clause-ends : goal.returns-in-Ended-clause-ends
 returns-in-Ended-clause-ends g c =
     let M = g.M.Ordered.monoid_of c.args.m.now in
-    let new = c.serve_all.new in
-    subst (λ d. EndsIn M d new.matching new.growth.tree.rows.items c.in-Ended.ended) (sym c.into_reduced.ensures) c.in-Ended.ensures.ends
+    let new = c.solve_kept.new in
+    subst (λ d. EndsIn M d new.matching new.bench.rows c.in-Ended.ended) (sym c.into_reduced.ensures) c.in-Ended.ensures.ends

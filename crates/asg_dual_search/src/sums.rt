@@ -27,11 +27,38 @@ pub(crate) fn part(list: &[u64], number: u32, wide: usize) -> &[u64] {
     }
 }
 
-// The bits of the numbers that are there, of a word of a row.
+// Whether each number from a place to another is there.
+#[inline]
+fn are_there(numbers: &[u64], first: usize, end: usize) -> bool {
+    let mut are_there = true;
+    for column in first..end.min(numbers.len()) {
+        are_there &= numbers[column] != NO_NUMBER;
+    }
+    are_there
+}
+
+// Whether none is.
+#[inline]
+fn are_missing(numbers: &[u64], first: usize, end: usize) -> bool {
+    let mut are_missing = true;
+    for column in first..end.min(numbers.len()) {
+        are_missing &= numbers[column] == NO_NUMBER;
+    }
+    are_missing
+}
+
+// The bits of the numbers that are there, of a word of a row. Where all are there, or none, they
+// aren't told one by one.
 #[inline]
 fn word_of(numbers: &[u64], number: usize) -> u64 {
     let first = number.saturating_mul(64);
     let end = first.saturating_add(64).min(numbers.len());
+    if end.saturating_sub(first) == 64 && are_there(numbers, first, end) {
+        return u64::MAX;
+    }
+    if are_missing(numbers, first, end) {
+        return 0;
+    }
     let mut word = 0u64;
     let mut bit = 1u64;
     for column in first..end {

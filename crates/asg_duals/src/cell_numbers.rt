@@ -6,6 +6,24 @@ use asg_dual_search::{NO_NUMBER, Numbers};
 use asg_square::Square;
 use std::alloc::Global;
 
+// Reads cells of a row that are all present.
+#[inline]
+fn read_present<R: Reading>(
+    reading: &R,
+    row: u32,
+    values: &[R::Cell],
+    first: usize,
+    numbers: &mut [u64],
+) {
+    let end = first
+        .saturating_add(64)
+        .min(values.len())
+        .min(numbers.len());
+    for column in first..end {
+        numbers[column] = reading.read(row, column, values[column]);
+    }
+}
+
 // Reads the cells of a word of a row.
 #[inline]
 fn read_word<R: Reading>(
@@ -17,6 +35,10 @@ fn read_word<R: Reading>(
     numbers: &mut [u64],
 ) {
     let first = number.saturating_mul(64);
+    if word == u64::MAX {
+        read_present(reading, row, values, first, numbers);
+        return;
+    }
     let end = first
         .saturating_add(64)
         .min(values.len())

@@ -20,7 +20,7 @@ mod readings;
 mod retold_phases;
 mod tightness;
 
-pub use assigning::tight_duals;
+pub use assigning::{first_duals, tight_duals};
 pub use capped_guesses::capped_guess;
 pub use conversion::short_phases;
 pub use duals::Duals;

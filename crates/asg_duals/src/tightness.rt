@@ -1,9 +1,9 @@
 //! The test of dual variables, in one pass over the cells.
 
 ghost use Rattle.std.specs.Prelude.{◌≡◌, ◌<◌, ◌≤◌, ◌+◌, ◌/◌, ◌%◌, ℕ, IsTrue, Some, IfSome, IsSome, length, slice_index};
-ghost use Rattle.asg_square.specs.BitTable.{is_bit_set, word_count};
+ghost use Rattle.asg_bit_rows.specs.BitTable.{is_bit_set, word_count};
 ghost use Rattle.asg_square.specs.Grid.{cell_at};
-ghost use Rattle.asg_square.specs.WordBits.{HasBit};
+ghost use Rattle.asg_bit_rows.specs.WordBits.{HasBit};
 ghost use Rattle.asg_duals.specs.Tight.{AreTight, IsRowTight, Reaches};
 
 use crate::duals::Duals;

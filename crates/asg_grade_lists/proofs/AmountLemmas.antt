@@ -1,14 +1,5 @@
 -- Phases of amounts at a grade.
-use Rattle.std.proofs.Common.{◌≡◌, ℕ, ◌<◌, ◌≤◌, List, [], ◌∷◌, ◌++◌, length, map, sym, ◌∙◌, ap, refl, subst, arith}
-use Rattle.std.proofs.lemmas.List.{length-map, map-append}
-use Rattle.std.proofs.lemmas.List.Elements.{All-nil, All-cons, All-push}
-use Rattle.asg_phase_totals.specs.PhaseTotals.{AreTotals, CountsRight, Totals}
-use Rattle.asg_monoids.specs.Grades.{graded_word}
-use Rattle.asg_order.specs.declared.words.Word.{Word}
-use Rattle.asg_proof.specs.GradeAmounts.{HasPositiveSteps, graded_phase, of_grade}
-use Rattle.asg_proof.specs.Phases.{PhaseOf, phase_of, worded}
-use Rattle.asg_proof.specs.PromisedProofs.{IsPhaseOver}
-use Rattle.asg_grade_lists.specs.GradeLists.{AreAmountsAt, AreOfGrade, TakesIn}
+use Rattle.asg_grade_lists.proofs.Common.{◌≡◌, ℕ, ◌<◌, ◌≤◌, List, [], ◌∷◌, ◌++◌, map, length, sym, refl, ap, ◌∙◌, subst, arith, All-cons, All-nil, All-push, length-map, map-append, AreAmountsAt, AreOfGrade, TakesIn, graded_word, Word, AreTotals, CountsRight, Totals, HasPositiveSteps, graded_phase, of_grade, PhaseOf, phase_of, worded, IsPhaseOver}
 
 -- no steps
 pub amounts_none : (g : ℕ) (amounts : List ℕ) → amounts ≡ [] → AreAmountsAt g [] amounts

@@ -1,11 +1,5 @@
 -- Cells that end well by amounts at a grade.
-use Rattle.std.proofs.Common.{◌≡◌, ℕ, ◌+◌, ◌<◌, ◌≤◌, false, List, refl, sym, ◌∙◌, subst, arith, ⊎_elim}
-use Rattle.std.specs.Prelude.{Option, Some, None, is_some, slice_index}
-use Rattle.std.proofs.lemmas.Bool.{cases_lt, false≢true}
-use Rattle.std.proofs.lemmas.Option.{none-some, same_Some}
-use Rattle.asg_monoids.specs.BoundedSums.{narrow_top}
-use Rattle.asg_proof.specs.GradeAmounts.{amount_at}
-use Rattle.asg_grade_lists.specs.GradeLists.{EndsWellAt, RowEndsWell, RowsEndWell}
+use Rattle.asg_grade_lists.proofs.Common.{◌≡◌, ℕ, ◌+◌, ◌<◌, ◌≤◌, false, List, is_some, slice_index, Some, None, Option, sym, refl, ◌∙◌, subst, ⊎_elim, arith, cases_lt, false≢true, none-some, same_Some, EndsWellAt, RowEndsWell, RowsEndWell, narrow_top, amount_at}
 
 -- a value ends well whose amount does, if it has one
 pub none_ends : (g row column : ℕ) (value : ℕ × ℕ) → amount_at g value ≡ None → EndsWellAt g row column (Some value)

@@ -1,16 +1,5 @@
 -- Lists of phases of one grade are admitted.
-use Rattle.std.proofs.Common.{◌≡◌, ℕ, ◌+◌, ◌<◌, ◌≤◌, ◌^◌, List, [], ◌∷◌, drop, length, map, sym, ◌∙◌, ap, refl, subst, arith}
-use Rattle.std.specs.Prelude.{All, Option, Some, None}
-use Rattle.std.proofs.lemmas.List.Elements.{All-cons}
-use Rattle.std.proofs.lemmas.Option.{none-some}
-use Rattle.asg_phase_totals.specs.PhaseTotals.{Totals, AreTotals, CountAndRaise, EndAtLeast0, StayBelow, sum_of_steps}
-use Rattle.asg_monoids.specs.BoundedSums.{bounded_sums, bounded_difference, narrow_top}
-use Rattle.asg_monoids.specs.Grades.{graded, graded_difference, graded_word}
-use Rattle.asg_order.specs.declared.words.Word.{Word}
-use Rattle.asg_proof.specs.GradeAmounts.{AreAmounts, HasPositiveSteps, IsRisePhase, cell_amount, graded_phase, of_grade, rise_phase}
-use Rattle.asg_proof.specs.Phases.{PhaseOf, AreAdmittedPhases, entered_at, index_of, phase_of, staying_at, worded}
-use Rattle.asg_proof.specs.PromisedProofs.{IsPhaseOver}
-use Rattle.asg_grade_lists.specs.GradeLists.{AreOfGrade, BeginWithRise, LeadTo, RowsEndWell}
+use Rattle.asg_grade_lists.proofs.Common.{◌≡◌, ℕ, ◌+◌, ◌^◌, ◌<◌, ◌≤◌, List, [], ◌∷◌, map, length, drop, Some, None, All, Option, sym, refl, ap, ◌∙◌, subst, arith, All-cons, none-some, AreOfGrade, BeginWithRise, LeadTo, RowsEndWell, bounded_sums, bounded_difference, narrow_top, graded, graded_difference, graded_word, Word, Totals, AreTotals, CountAndRaise, EndAtLeast0, StayBelow, sum_of_steps, AreAmounts, HasPositiveSteps, IsRisePhase, cell_amount, graded_phase, of_grade, rise_phase, PhaseOf, AreAdmittedPhases, entered_at, index_of, phase_of, staying_at, worded, IsPhaseOver}
 use Rattle.asg_grade_lists.proofs.RiseLemmas.{side_some}
 
 -- what the one-pass law says of sums

@@ -1,17 +1,6 @@
 -- Phases of one step to a grade.
-use Rattle.std.proofs.Common.{◌≡◌, ℕ, zero, suc, ◌+◌, ◌<◌, ◌≤◌, Bool, true, false, List, [], ◌∷◌, drop, length, get_or, sym, ◌∙◌, ap, subst, arith, ⊎_elim, is_some}
-use Rattle.std.specs.Prelude.{IfOk, IfSome, Option, Result, Some, slice_index}
-use Rattle.std.proofs.lemmas.Bool.{cases_lt, false≢true, leb-true, ltb-true}
-use Rattle.std.proofs.lemmas.List.{drop_more}
-use Rattle.std.proofs.lemmas.Option.{IfSome_then}
-use Rattle.std.proofs.lemmas.Result.{IfOk-weaker}
-use Rattle.asg_monoids.specs.Grades.{graded_word}
-use Rattle.asg_order.specs.declared.words.Word.{Word}
-use Rattle.asg_proof.specs.GradeAmounts.{IsRisePhase}
-use Rattle.asg_phase_totals.specs.PhaseTotals.{CountsRight}
-use Rattle.asg_proof.specs.Phases.{PhaseOf, entered_at, phase_of, staying_at}
+use Rattle.asg_grade_lists.proofs.Common.{◌≡◌, ℕ, zero, suc, ◌+◌, ◌<◌, ◌≤◌, Bool, true, false, List, [], ◌∷◌, length, get_or, drop, is_some, IfSome, IfOk, slice_index, Some, Option, Result, sym, ap, ◌∙◌, subst, ⊎_elim, arith, ltb-true, leb-true, IfOk-weaker, IfSome_then, cases_lt, drop_more, false≢true, BeginWithRise, NoneLower, NoneLowerIn, IsRiseTo, graded_word, Word, CountsRight, IsRisePhase, PhaseOf, entered_at, phase_of, staying_at}
 use Rattle.asg_proof.specs.Steps.{count_below}
-use Rattle.asg_grade_lists.specs.GradeLists.{BeginWithRise, NoneLower, NoneLowerIn, IsRiseTo}
 
 -- one more cell of a row
 pub lower_more : (g : ℕ) (leaves : List ℕ) (cells : ℕ → Option (ℕ × ℕ)) (k : ℕ) → NoneLower g k leaves cells → ((x : ℕ × ℕ) → 0 < slice_index leaves k → cells k ≡ Some x → g ≤ x.0) → NoneLower g (k + 1) leaves cells

@@ -1,39 +1,9 @@
 -- Outcomes by sums in 64 bits that stay below a cap are outcomes of `capped`.
-use Rattle.std.proofs.Common.{◌≡◌, ℕ, ◌<◌, ◌≤◌, false, List, map, Option, arith, subst, pos, ◌<ℤ◌}
-use Rattle.std.specs.Prelude.{All, sum_by, int_lt}
-use Rattle.std.proofs.lemmas.Bool.Decides.{nat_tests}
-use Rattle.std.proofs.lemmas.Int.{ints}
-use Rattle.std.proofs.lemmas.List.Elements.{All-weaker}
-use Rattle.asg_model.specs.declared.objectives.Objective.TheVariants.{Capped}
-use Rattle.asg_model.specs.declared.parts.Cost.{Cost}
-use Rattle.asg_model.specs.Instances.{IsInstance}
-use Rattle.asg_model.specs.Problem.{Problem}
-use Rattle.asg_model.specs.Refused.{PassesNegative}
-use Rattle.asg_model.specs.Shapes.{square_side}
-use Rattle.asg_model.specs.Values.{costs_of, first_parts, total}
-use Rattle.asg_monoids.specs.BoundedSums.{bounded_sums, bounded_difference, plain_word, narrow_top}
-use Rattle.asg_monoids.specs.Entered.{cost_reach, sum_entered}
-use Rattle.asg_monoids.specs.laws.Bounded.{bounded_laws}
+use Rattle.asg_objectives.proofs.Common.{◌≡◌, ℕ, ◌<◌, ◌≤◌, false, List, map, pos, ◌<ℤ◌, int_lt, All, sum_by, Option, subst, arith, All-weaker, ints, nat_tests, IsInstance, Problem, PassesNegative, square_side, costs_of, first_parts, total, Capped, Cost, bounded_sums, bounded_difference, plain_word, narrow_top, cost_reach, sum_entered, bounded_laws, IsFoldOutcome, choice_fold, MayEnter, IsValue, Word, ProvesFold, IsOutcome, EntersValues, PhaseOf, AreAdmittedPhases, index_of, worded, HasValues, Outcome, Best, Nothing, Phases, lies_within, square_cell, Grid, cell_at, IsSquareOf}
 use Rattle.asg_monoids.specs.laws.SumFolds.{sum_capped, total_plain}
 use Rattle.asg_monoids.specs.laws.SumOrders.{fold_is}
-use Rattle.asg_order.specs.declared.words.Word.{Word}
-use Rattle.asg_order.specs.Bridge.{choice_fold}
-use Rattle.asg_order.specs.Entering.{MayEnter}
-use Rattle.asg_order.specs.Monoid.{IsValue}
 use Rattle.asg_order.specs.laws.ChosenCosts.{costs_may_enter}
-use Rattle.asg_proof.specs.declared.outcomes.Outcome.{Outcome}
-use Rattle.asg_proof.specs.declared.outcomes.Outcome.TheVariants.{Best, Nothing}
-use Rattle.asg_proof.specs.declared.outcomes.Proof.TheVariants.{Phases}
-use Rattle.asg_proof.specs.FoldProofs.{ProvesFold}
-use Rattle.asg_proof.specs.laws.LiveCosts.{lies_within}
-use Rattle.asg_proof.specs.Outcomes.{IsOutcome}
-use Rattle.asg_proof.specs.PhaseProofs.{EntersValues}
-use Rattle.asg_proof.specs.Phases.{PhaseOf, AreAdmittedPhases, index_of, worded}
-use Rattle.asg_proof.specs.Steps.{HasValues}
-use Rattle.asg_square.specs.Cells.{square_cell}
-use Rattle.asg_square.specs.Grid.{Grid, cell_at, IsSquareOf}
 use Rattle.asg_objectives.specs.CappedOutcomes.{StaysBelow}
-use Rattle.asg_objectives.specs.FoldOutcomes.{IsFoldOutcome}
 use Rattle.asg_objectives.proofs.EnteredOutcomes.{EntersValues-may}
 use Rattle.asg_objectives.proofs.LedSquares.{HasValues-of_square}
 

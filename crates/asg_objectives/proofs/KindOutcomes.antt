@@ -1,26 +1,6 @@
 -- Outcomes by the monoid of a kind are outcomes of its objective.
-use Rattle.std.proofs.Common.{◌≡◌, ℕ, ◌^◌, true, List, Option, subst}
-use Rattle.std.specs.Prelude.{IsTrue}
-use Rattle.std.proofs.lemmas.Bool.{false≢true}
-use Rattle.asg_model.specs.declared.objectives.Objective.{Objective}
-use Rattle.asg_model.specs.declared.objectives.Objective.TheVariants.{Sum, SumMax, SumPair, Capped, Bottleneck, BottleneckMax, TimeCost, Balanced, Lex}
-use Rattle.asg_model.specs.declared.parts.Cost.{Cost}
-use Rattle.asg_model.specs.Problem.{Problem}
-use Rattle.asg_model.specs.ValidChoice.{IsValid}
-use Rattle.asg_monoids.specs.BoundedSums.{bounded_sums, bounded_difference, plain_word}
-use Rattle.asg_monoids.specs.Entered.{is_sum_objective, top_of, sum_entered, peak_entered, time_entered}
+use Rattle.asg_objectives.proofs.Common.{◌≡◌, ℕ, ◌^◌, true, List, IsTrue, Option, subst, false≢true, Problem, IsValid, Objective, Sum, SumMax, SumPair, Capped, Bottleneck, BottleneckMax, TimeCost, Balanced, Lex, Cost, bounded_sums, bounded_difference, plain_word, is_sum_objective, top_of, sum_entered, peak_entered, time_entered, graded, graded_difference, graded_word, maxima, maxima_difference, IsFoldOutcome, Monoid, Word, ProvesFold, ProvesSum, ProvesPeak, ProvesPhases, IsOutcome, PhaseOf, Outcome, Best, Nothing, Phases}
 use Rattle.asg_model.specs.Objectives.{is_bottleneck}
-use Rattle.asg_monoids.specs.Grades.{graded, graded_difference, graded_word}
-use Rattle.asg_monoids.specs.Maxima.{maxima, maxima_difference}
-use Rattle.asg_order.specs.declared.words.Word.{Word}
-use Rattle.asg_order.specs.Monoid.{Monoid}
-use Rattle.asg_proof.specs.declared.outcomes.Outcome.{Outcome}
-use Rattle.asg_proof.specs.declared.outcomes.Outcome.TheVariants.{Best, Nothing}
-use Rattle.asg_proof.specs.declared.outcomes.Proof.TheVariants.{Phases}
-use Rattle.asg_proof.specs.FoldProofs.{ProvesFold, ProvesSum, ProvesPeak, ProvesPhases}
-use Rattle.asg_proof.specs.Outcomes.{IsOutcome}
-use Rattle.asg_proof.specs.Phases.{PhaseOf}
-use Rattle.asg_objectives.specs.FoldOutcomes.{IsFoldOutcome}
 
 -- where phases that prove the fold of a valid choice prove the objective's, an outcome by folds is
 -- one of the objective

@@ -1,41 +1,12 @@
 -- What phases that lead on from the square of an instance show of it.
-use Rattle.std.proofs.Common.{◌≡◌, ℕ, ◌<◌, ◌≤◌, List, [], ◌∷◌, length, map, get_or, Option, refl, sym, ◌∙◌, ap, subst, arith, is_some}
-use Rattle.std.proofs.lemmas.List.{length-map}
-use Rattle.std.specs.Prelude.{All, IfSome, is_none}
-use Rattle.std.proofs.lemmas.List.Sums.{count_by-le-length}
-use Rattle.std.proofs.lemmas.List.Elements.{All-nil, All-cons, All-head, All-tail}
-use Rattle.asg_admit.specs.Reduced.{KeepsLabels}
+use Rattle.asg_objectives.proofs.Common.{◌≡◌, ℕ, ◌<◌, ◌≤◌, List, [], map, length, get_or, is_some, is_none, IfSome, Option, sym, refl, ap, ◌∙◌, subst, arith, count_by-le-length, length-map, HasLabelsOf-kept, admitted_over, words_over, unmatched, Matches, IsPerfect, IsInstance, live_at, Problem, square_side, costs_of, Cost, IsFoldOutcome, IsChoiceBy, IsBestBy, IsNothingBy, IsSquareOutcome, costs_fold, choice_fold, Monoid, IsValue, IsOrderedMonoid, fold_of, Word, Forest, ProvesFold, EntersValues, PhaseOf, worded, after_phases, AreAdmittedPhases, index_of, AreFewPhases, GivesFewPhases, HasSide, HasValues, assignment_fold, Outcome, Best, Nothing, Phases, square_cell, IsAssignment, IsPresent, choice_of, assignment_values, Grid, cell_at, HasLabelsOf, IsSquareOf, IsWithinSquareOf, IsPerm, grid_choice}
 use Rattle.asg_admit.specs.declared.reduced.Reduced.{Reduced}
 use Rattle.asg_growth.specs.Growing.{IsAbsorbed}
-use Rattle.asg_algebra.specs.Solved.{LeadTo, unmatched}
-use Rattle.asg_match.specs.Matching.{Matches, IsPerfect}
+use Rattle.asg_algebra.specs.Solved.{LeadTo}
 use Rattle.asg_model.specs.declared.bands.Band.TheVariants.{Whole}
-use Rattle.asg_model.specs.declared.parts.Cost.{Cost}
-use Rattle.asg_model.specs.Instances.{IsInstance}
-use Rattle.asg_model.specs.Live.{live_at}
-use Rattle.asg_model.specs.Problem.{Problem}
-use Rattle.asg_model.specs.Shapes.{square_side}
-use Rattle.asg_model.specs.Values.{costs_of}
-use Rattle.asg_order.specs.declared.words.Word.{Word}
-use Rattle.asg_order.specs.Bridge.{costs_fold, choice_fold}
-use Rattle.asg_order.specs.Monoid.{Monoid, IsValue, IsOrderedMonoid, fold_of}
-use Rattle.asg_pool.specs.Forest.{Forest}
-use Rattle.asg_proof.specs.declared.outcomes.Outcome.{Outcome}
-use Rattle.asg_proof.specs.declared.outcomes.Outcome.TheVariants.{Best, Nothing}
-use Rattle.asg_proof.specs.declared.outcomes.Proof.TheVariants.{Phases}
-use Rattle.asg_proof.specs.FoldProofs.{ProvesFold}
-use Rattle.asg_proof.specs.PhaseProofs.{EntersValues}
-use Rattle.asg_proof.specs.Phases.{PhaseOf, worded, after_phase, after_phases, AreAdmittedPhases, index_of}
-use Rattle.asg_proof.specs.Steps.{HasSide, HasValues, assignment_fold}
 use Rattle.asg_proof.specs.laws.PhaseLists.{is_some-phases, index_is_value}
-use Rattle.asg_proof.specs.laws.PhaseSteps.{phase_has_values}
 use Rattle.asg_proof.specs.laws.Squares.{HasSide-square_cell, HasValues-square_cell}
-use Rattle.asg_square.specs.Cells.{square_cell, IsAssignment, IsPresent, choice_of, assignment_values}
-use Rattle.asg_square.specs.Grid.{Grid, cell_at, HasLabelsOf, IsSquareOf, IsWithinSquareOf, IsPerm, grid_choice}
 use Rattle.asg_square.specs.Presence.{has_cell}
-use Rattle.asg_objectives.specs.FoldOutcomes.{IsFoldOutcome}
-use Rattle.asg_proof.specs.PromisedProofs.{AreFewPhases, GivesFewPhases, IsPhaseOver}
-use Rattle.asg_objectives.specs.SolvedSquares.{AreOfValues, IsChoiceBy, IsBestBy, IsNothingBy, IsSquareOutcome}
 
 -- the square of an instance, whose live costs enter as values, is of values
 pub HasValues-of_square : {V : Type 0} (M : Monoid V) → IsOrderedMonoid M → (X : Problem) (enter : Cost → V) (Q : Grid V) → IsSquareOf X M.unit enter Q → EntersValues M enter X → HasValues M Q.side (cell_at Q)
@@ -52,42 +23,11 @@ IsPerfect-present M z square side matching perfect = record {
   cells = λ r k has. let absorbed = perfect.cells r k has in ap is_some absorbed.there;
 }
 
-module _ {V : Type 0} (M : Monoid V) (difference : V → V → V) (side : ℕ) where
-  -- the steps of admitted phases are values
-  pub admitted_values : (phases : List (PhaseOf V)) (square : ℕ → ℕ → Option V) → AreAdmittedPhases M difference side phases square → AreOfValues M phases
-  admitted_values [] square all = All-nil (λ (phase : PhaseOf V). All (IsValue M) phase.steps)
-  admitted_values (phase ∷ rest) square all =
-      All-cons (λ (p : PhaseOf V). All (IsValue M) p.steps) phase rest (phase_has_values M difference side phase square all.0) (admitted_values rest (after_phase M difference phase square) all.1)
-
-  -- admitted phases of 1 to side steps, with each step in another form
-  pub worded_over : {W : Type 0} (word_of : V → W) (phases : List (PhaseOf V)) (square : ℕ → ℕ → Option V) → AreAdmittedPhases M difference side phases square → All (λ phase. (1 ≤ length phase.steps) × (length phase.steps ≤ side)) phases → All (IsPhaseOver side) (map (worded word_of) phases)
-  worded_over word_of [] square all sizes = All-nil (IsPhaseOver side)
-  worded_over word_of (phase ∷ rest) square all sizes =
-      let Sized : PhaseOf V → Type 0 = λ p. (1 ≤ length p.steps) × (length p.steps ≤ side) in
-      let size = All-head Sized phase rest sizes in
-      All-cons (IsPhaseOver side) (worded word_of phase) (map (worded word_of) rest)
-      (record {
-        some = omega (arith, size.0, length-map phase.steps word_of);
-        few = omega (arith, size.1, length-map phase.steps word_of);
-        enters = all.0.rows;
-        leaves = all.0.columns;
-      })
-      (worded_over word_of rest (after_phase M difference phase square) all.1 (All-tail Sized phase rest sizes))
-
--- labels that are kept
-pub HasLabelsOf-kept : {V : Type 0} (X : Problem) (before after : Grid V) → HasLabelsOf X before → KeepsLabels before after → HasLabelsOf X after
-HasLabelsOf-kept X before after labels kept = record {
-  side = kept.side ∙ labels.side;
-  rows = kept.rows ∙ labels.rows;
-  row_labels = kept.row_labels ∙ labels.row_labels;
-  column_labels = kept.column_labels ∙ labels.column_labels;
-}
-
 -- as few phases as rows have no column, with each step as its word
 pub AreFewPhases-words : {V : Type 0} (M : Monoid V) (difference : V → V → V) (word_of : V → Word) (before after : Reduced V) (phases : List (PhaseOf V)) (forest forest_after : Forest V) (trail last : Option ℕ) → LeadTo M difference phases before after forest forest_after trail last → (matching : List (Option ℕ)) → length phases ≤ unmatched matching → length matching ≡ before.now.side → AreFewPhases before.now.side (map (worded word_of) phases)
 AreFewPhases-words M difference word_of before after phases forest forest_after trail last lead matching few whole = record {
   few = omega (arith, few, whole, count_by-le-length (is_none {T = ℕ}) matching, length-map phases (worded word_of));
-  each = worded_over M difference before.now.side word_of phases (cell_at before.now) lead.admitted lead.sizes;
+  each = words_over word_of before.now.side phases (admitted_over M difference before.now.side phases (cell_at before.now) lead.admitted lead.sizes);
 }
 
 -- ---- the outcome
@@ -122,7 +62,7 @@ module _ {V : Type 0} (M : Monoid V) (laws : IsOrderedMonoid M) (difference : V 
       side_is = ap (λ (g : Grid V). g.side) start ∙ square.labels.side
 
       pub labels_after : HasLabelsOf X after.now
-      labels_after = HasLabelsOf-kept X before.now after.now (subst (HasLabelsOf X) (sym start) square.labels) lead.labels
+      labels_after = HasLabelsOf-kept X before.now after.now lead.labels (subst (HasLabelsOf X) (sym start) square.labels)
 
       admitted : AreAdmittedPhases M difference (square_side X) phases (square_cell X M.unit enter)
       admitted = subst (λ n. AreAdmittedPhases M difference n phases (square_cell X M.unit enter)) side_is

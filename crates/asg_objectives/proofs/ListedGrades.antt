@@ -1,20 +1,5 @@
 -- Lists of phases of one grade prove outcomes of `time-cost`.
-use Rattle.std.proofs.Common.{◌≡◌, ℕ, ◌≤◌, ◌^◌, List, length, Option, ◌∙◌, sym, subst, arith}
-use Rattle.std.specs.Prelude.{All}
-use Rattle.asg_grade_lists.specs.GradeLists.{LeadTo}
-use Rattle.asg_model.specs.Problem.{Problem}
-use Rattle.asg_model.specs.Shapes.{square_side}
-use Rattle.asg_monoids.specs.BoundedSums.{bounded_sums, bounded_difference}
-use Rattle.asg_monoids.specs.Entered.{time_entered}
-use Rattle.asg_monoids.specs.Grades.{graded, graded_difference}
-use Rattle.asg_order.specs.Bridge.{choice_fold}
-use Rattle.asg_order.specs.declared.words.Word.{Word}
-use Rattle.asg_order.specs.Monoid.{Monoid}
-use Rattle.asg_proof.specs.FoldProofs.{ProvesTime}
-use Rattle.asg_proof.specs.Phases.{PhaseOf, AreAdmittedPhases}
-use Rattle.asg_proof.specs.PromisedProofs.{AreFewPhases, IsPhaseOver}
-use Rattle.asg_square.specs.Cells.{square_cell}
-use Rattle.asg_square.specs.Grid.{Grid, IsSquareOf, cell_at}
+use Rattle.asg_objectives.proofs.Common.{◌≡◌, ℕ, ◌^◌, ◌≤◌, List, length, All, Option, sym, ◌∙◌, subst, arith, LeadTo, Problem, square_side, bounded_sums, bounded_difference, time_entered, graded, graded_difference, choice_fold, Monoid, Word, ProvesTime, PhaseOf, AreAdmittedPhases, AreFewPhases, IsPhaseOver, square_cell, Grid, IsSquareOf, cell_at}
 
 abbrev Sums : Monoid ℕ
 Sums = bounded_sums (2 ^ 120)

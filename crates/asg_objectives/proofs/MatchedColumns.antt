@@ -1,12 +1,5 @@
 -- The columns of a matching that gives each row one.
-use Rattle.std.proofs.Common.{◌≡◌, ◌≢◌, ℕ, ◌+◌, ◌<◌, List, [], ◌∷◌, ◌++◌, length, get_or, Option, sym, ◌∙◌, ap, subst, arith, ⊎_elim}
-use Rattle.std.specs.Prelude.{AllPairs, Result, Ok, Err, IfOk}
-use Rattle.std.proofs.Math.Seq.{get_or-append_seam}
-use Rattle.std.proofs.lemmas.Bool.{cases_lt}
-use Rattle.std.proofs.lemmas.List.{get_or_default, get_or_append_left}
-use Rattle.asg_match.specs.Matching.{Matches, IsMatching, IsPerfect}
-use Rattle.asg_square.specs.Cells.{IsPresent}
-use Rattle.asg_square.specs.Grid.{Grid, cell_at, IsPerm}
+use Rattle.asg_objectives.proofs.Common.{◌≡◌, ℕ, ◌+◌, ◌<◌, ◌≢◌, List, [], ◌∷◌, ◌++◌, length, get_or, IfOk, Ok, Err, Option, Result, AllPairs, sym, ap, ◌∙◌, subst, ⊎_elim, arith, cases_lt, get_or-append_seam, get_or_append_left, get_or_default, Matches, IsMatching, IsPerfect, IsPresent, Grid, cell_at, IsPerm}
 
 pub IfOk-both : {X Y : Type 0} (r : Result X Y) (P Q R : X → Type 0) → ((x : X) → P x → Q x → R x) → IfOk r P → IfOk r Q → IfOk r R
 IfOk-both (Ok x) P Q R both h k = both x h k

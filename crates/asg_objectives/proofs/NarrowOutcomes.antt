@@ -1,35 +1,6 @@
 -- Outcomes by sums in 64 bits are outcomes of `sum` and `sum-max`.
-use Rattle.std.proofs.Common.{◌≡◌, ℕ, ◌<◌, ◌≤◌, ◌^◌, true, List, length, Option, arith, refl, sym, is_some}
-use Rattle.std.specs.Prelude.{All, IsTrue}
-use Rattle.std.proofs.lemmas.Bool.{false≢true}
-use Rattle.std.proofs.lemmas.List.Sums.{count_by-le-length}
-use Rattle.asg_model.specs.declared.objectives.Objective.{Objective}
-use Rattle.asg_model.specs.declared.objectives.Objective.TheVariants.{Sum, SumMax, SumPair, Capped, Bottleneck, BottleneckMax, TimeCost, Balanced, Lex}
-use Rattle.asg_model.specs.declared.parts.Cost.{Cost}
-use Rattle.asg_model.specs.Instances.{IsInstance}
-use Rattle.asg_model.specs.Limits.{most_rows}
-use Rattle.asg_model.specs.Problem.{Problem}
-use Rattle.asg_model.specs.Refused.{PassesNegative}
-use Rattle.asg_model.specs.ValidChoice.{IsValid}
-use Rattle.asg_model.specs.Values.{costs_of}
-use Rattle.asg_monoids.specs.BoundedSums.{bounded_sums, bounded_difference, plain_word, narrow_top}
-use Rattle.asg_monoids.specs.Entered.{is_sum_objective, cost_reach, sum_entered}
-use Rattle.asg_monoids.specs.laws.Bounded.{bounded_laws}
-use Rattle.asg_order.specs.declared.words.Word.{Word}
-use Rattle.asg_order.specs.Bridge.{costs_fold, choice_fold}
-use Rattle.asg_order.specs.Entering.{MayEnter}
-use Rattle.asg_order.specs.Monoid.{IsValue}
+use Rattle.asg_objectives.proofs.Common.{◌≡◌, ℕ, ◌^◌, ◌<◌, ◌≤◌, true, List, length, is_some, IsTrue, All, Option, sym, refl, arith, count_by-le-length, false≢true, IsInstance, most_rows, Problem, PassesNegative, IsValid, costs_of, Objective, Sum, SumMax, SumPair, Capped, Bottleneck, BottleneckMax, TimeCost, Balanced, Lex, Cost, bounded_sums, bounded_difference, plain_word, narrow_top, is_sum_objective, cost_reach, sum_entered, bounded_laws, IsFoldOutcome, IsSquareOutcome, costs_fold, choice_fold, MayEnter, IsValue, Word, ProvesFold, ProvesPhases, IsOutcome, EntersValues, PhaseOf, HasValues, Outcome, lies_within, Grid, cell_at, IsSquareOf}
 use Rattle.asg_order.specs.laws.ChosenCosts.{costs_may_enter, length-costs_of}
-use Rattle.asg_proof.specs.declared.outcomes.Outcome.{Outcome}
-use Rattle.asg_proof.specs.FoldProofs.{ProvesFold, ProvesPhases}
-use Rattle.asg_proof.specs.laws.LiveCosts.{lies_within}
-use Rattle.asg_proof.specs.Outcomes.{IsOutcome}
-use Rattle.asg_proof.specs.PhaseProofs.{EntersValues}
-use Rattle.asg_proof.specs.Phases.{PhaseOf}
-use Rattle.asg_proof.specs.Steps.{HasValues}
-use Rattle.asg_square.specs.Grid.{Grid, cell_at, IsSquareOf}
-use Rattle.asg_objectives.specs.FoldOutcomes.{IsFoldOutcome}
-use Rattle.asg_objectives.specs.SolvedSquares.{IsSquareOutcome}
 use Rattle.asg_monoids.specs.NarrowObjectives.{is_narrow_objective}
 use Rattle.asg_objectives.proofs.EnteredOutcomes.{EntersValues-may}
 use Rattle.asg_objectives.proofs.KindOutcomes.{IsOutcome-from_fold}

@@ -1,10 +1,6 @@
 -- The words of the present cells of a row.
-use Rattle.std.proofs.Common.{◌≡◌, ◌↔◌, ℕ, ◌+◌, ◌*◌, ◌/◌, ◌%◌, ◌<◌, List, length, Option, get_or, is_some, sym, ◌∙◌, ap, arith}
-use Rattle.std.specs.Int.{bit_at}
-use Rattle.std.proofs.lemmas.Bool.Decides.{Decides-eqb}
-use Rattle.asg_match.specs.ColumnSet.{HasBit}
-use Rattle.asg_square.specs.BitTable.{is_bit_set, AreWordsOf}
-use Rattle.asg_square.specs.Cells.{IsPresent}
+use Rattle.asg_objectives.proofs.Common.{◌≡◌, ℕ, ◌+◌, ◌*◌, ◌/◌, ◌%◌, ◌<◌, ◌↔◌, List, length, get_or, is_some, Option, sym, ap, ◌∙◌, arith, Decides-eqb, bit_at, HasBit, IsPresent}
+use Rattle.asg_bit_rows.specs.BitTable.{is_bit_set, AreWordsOf}
 
 -- a bit of a word says whether the cell is present
 pub present_bit : {V : Type 0} (cells : ℕ → ℕ → Option V) (r side n k : ℕ) (words : List ℕ) → AreWordsOf (λ c. is_some (cells r c)) side words → n < length words → k < 64 → HasBit (get_or words n 0) k ↔ IsPresent cells r (64 * n + k)

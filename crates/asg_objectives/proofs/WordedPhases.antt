@@ -1,11 +1,5 @@
 -- Phases that are turned into words one after the other.
-use Rattle.std.proofs.Common.{◌≡◌, List, [], ◌∷◌, ◌++◌, map, sym, ◌∙◌, ap, subst, append_assoc}
-use Rattle.std.specs.Prelude.{All}
-use Rattle.std.proofs.lemmas.List.Elements.{All-push, All-tail}
-use Rattle.asg_order.specs.declared.words.Word.{Word}
-use Rattle.asg_order.specs.Monoid.{Monoid, IsValue}
-use Rattle.asg_proof.specs.Phases.{PhaseOf, worded, IsPhase, ArePhases}
-use Rattle.asg_objectives.specs.SolvedSquares.{AreOfValues}
+use Rattle.asg_objectives.proofs.Common.{◌≡◌, List, [], ◌∷◌, ◌++◌, map, All, sym, ap, ◌∙◌, subst, append_assoc, All-push, All-tail, AreOfValues, Monoid, IsValue, Word, PhaseOf, worded, IsPhase, ArePhases}
 
 module _ {V : Type 0} (M : Monoid V) (word_of : V → Word) (all : List (PhaseOf V)) where
   -- the first phases are out as words, the others are left

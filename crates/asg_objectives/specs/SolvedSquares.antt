@@ -1,11 +1,11 @@
 -- What the square of an instance comes to.
-use Rattle.std.specs.Prelude.{◌≡◌, ℕ, ◌<◌, List, length, All, Option, slice_index}
+use Rattle.std.specs.Prelude.{◌≡◌, ℕ, ◌<◌, List, length, Option, slice_index}
 use Rattle.asg_match.specs.HallSets.{GivesHallSets}
 use Rattle.asg_match.specs.Matching.{Matches}
 use Rattle.asg_model.specs.declared.parts.Cost.{Cost}
 use Rattle.asg_model.specs.Problem.{Problem}
 use Rattle.asg_order.specs.declared.words.Word.{Word}
-use Rattle.asg_order.specs.Monoid.{Monoid, IsValue}
+use Rattle.asg_order.specs.Monoid.{Monoid}
 use Rattle.asg_proof.specs.declared.outcomes.Outcome.{Outcome}
 use Rattle.asg_proof.specs.declared.outcomes.Outcome.TheVariants.{Best, Nothing}
 use Rattle.asg_proof.specs.declared.outcomes.Proof.{Proof}
@@ -15,10 +15,6 @@ use Rattle.asg_proof.specs.Phases.{PhaseOf}
 use Rattle.asg_square.specs.Cells.{IsPresent}
 use Rattle.asg_square.specs.Grid.{Grid, cell_at, IsSquareOf, IsPerm, grid_choice, IsValidWithin}
 use Rattle.asg_objectives.specs.FoldOutcomes.{IsFoldOutcome}
-
--- each step of the phases is a value
-abbrev pub AreOfValues : {V : Type 0} → Monoid V → List (PhaseOf V) → Type 0
-AreOfValues M phases = All (λ phase. All (IsValue M) phase.steps) phases
 
 -- the choice of the perfect assignment of the square by which each row has its column of the
 -- matching

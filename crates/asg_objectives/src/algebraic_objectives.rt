@@ -98,7 +98,7 @@ fn by_grades(alloc: Global, inst: &Instance) -> Result<Outcome, NoMemory>
 /// A best choice for an algebraic objective, with phases that prove it: at most as many as the side
 /// of the instance's square, each of 1 to side steps. Where no choice is valid, a Hall set of the
 /// whole instance. The objective is any but `Balanced` and `Lex`, it refuses no live cost of the
-/// instance (`asg_model::negative`), and the side is at most 2,000. The error is want of memory.
+/// instance (`asg_values::negative`), and the side is at most 2,000. The error is want of memory.
 /// Few phases are guessed first and tested (`asg_duals`); where no guess passes the tests, the
 /// method and its time are those of [`algebraic`]. The sums of `sum` and `sum-max` are taken in 64
 /// bits, and those of `capped` where they stay below the cap.

@@ -18,14 +18,16 @@ ghost use Rattle.asg_objectives.specs.CappedOutcomes.{IsBelow, StaysBelow};
 ghost use Rattle.asg_objectives.specs.FoldOutcomes.{IsFoldOutcome};
 
 use crate::NoMemory;
+use crate::capped_tables::capped_by_table;
 use crate::guessed_squares::guessed_outcome;
 use crate::solved_squares::outcome;
-use asg_duals::{Duals, short_phases, tight_duals};
-use asg_model::{Choice, Cost, Instance, Objective, Value, value};
+use asg_duals::{Duals, first_duals, short_phases};
+use asg_model::{Choice, Cost, Instance, Objective, Value};
 use asg_monoids::NarrowSums;
 use asg_proof::laws::lesser_tops_law;
 use asg_proof::{Outcome, Phase};
 use asg_square::Square;
+use asg_values::value;
 use std::alloc::Global;
 
 // Where sums in 64 bits stop.
@@ -125,7 +127,7 @@ fn found_uncut_outcome(
         bounded_difference plain_word (sum_entered (Capped cap)) inst.now)) }
     ensures phases { IfOk result (λ found. IfSome found (GivesFewPhases (square_side inst.now))) }
 {
-    match tight_duals(alloc, &square)? {
+    match first_duals(alloc, &square)? {
         Some(duals) => guessed_uncut_outcome(alloc, cap, inst, square, &duals),
         None => Ok(Some(uncut_outcome(alloc, cap, inst, square)?)),
     }
@@ -195,9 +197,26 @@ fn outcome_below(
     }
 }
 
+// The outcome of `capped`, by sums in 64 bits over a square, which don't stop at the cap.
+fn by_uncut_square(alloc: Global, cap: u64, inst: &Instance) -> Result<Option<Outcome>, NoMemory>
+    requires cap { cap < narrow_top }
+    requires side { square_side inst.now ≤ most_side }
+    requires passes { PassesNegative (Capped cap) inst.now }
+    ensures outcome { IfOk result (λ found. IfSome found (IsOutcome (Capped cap) inst.now)) }
+    ensures phases { IfOk result (λ found. IfSome found (GivesFewPhases (square_side inst.now))) }
+{
+    let square = capped_square(alloc, cap, inst)?;
+    match found_uncut_outcome(alloc, cap, inst, square)? {
+        Some(found) => outcome_below(alloc, cap, inst, found),
+        None => Ok(None),
+    }
+}
+
 /// The outcome of `capped`, by sums in 64 bits that don't stop at the cap: where the costs of its
-/// choice add up to less, it is as good where they do. `None` where they don't, where the cap is
-/// 2^62 or more, and where guessed phases don't pass the tests. The error is want of memory.
+/// choice add up to less, it is as good where they do. The phases are tested over the costs as they
+/// stand, where the square is the table of costs, and otherwise over the square. `None` where the
+/// costs come to the cap, where that is 2^62 or more, and where guessed phases don't pass the tests.
+/// The error is want of memory.
 pub(crate) fn by_uncut_sums(
     alloc: Global,
     cap: u64,
@@ -211,9 +230,8 @@ pub(crate) fn by_uncut_sums(
     if cap >= TOP {
         return Ok(None);
     }
-    let square = capped_square(alloc, cap, inst)?;
-    match found_uncut_outcome(alloc, cap, inst, square)? {
-        Some(found) => outcome_below(alloc, cap, inst, found),
-        None => Ok(None),
+    match capped_by_table(alloc, cap, inst)? {
+        Some(found) => Ok(Some(found)),
+        None => by_uncut_square(alloc, cap, inst),
     }
 }

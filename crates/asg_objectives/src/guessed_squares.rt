@@ -3,19 +3,21 @@
 ghost use Rattle.std.specs.Prelude.{◌≤◌, length, IfOk, IfSome};
 ghost use Rattle.asg_proof.specs.PromisedProofs.{GivesFewPhases};
 ghost use Rattle.asg_proof.specs.Steps.{HasValues};
-ghost use Rattle.asg_square.specs.Grid.{Grid, cell_at, HasLabelsOf};
-ghost use Rattle.asg_objectives.specs.SolvedFrom.{IsSolvedFrom};
+ghost use Rattle.asg_square.specs.Grid.{Grid, cell_at};
+ghost use Rattle.asg_objectives.specs.SolvedFrom.{IsAssignedFrom};
 ghost use Rattle.asg_objectives.specs.SolvedSquares.{IsSquareOutcome};
 ghost use Rattle.asg_objectives.specs.Workspaces.{IsReady};
 
 use crate::NoMemory;
-use crate::solved_squares::outcome_of;
+use crate::solved_squares::best;
 use crate::workspaces::Workspace;
 use asg_admit::Reduced;
-use asg_algebra::{SolvedSquare, SquareSolver};
+use asg_algebra::laws::fold_law;
+use asg_algebra::{AssignedSquare, Solved, SquareSolver};
 use asg_model::Instance;
 use asg_proof::{Outcome, Phase};
 use asg_square::Square;
+use asg_square::laws::{grid_law, square_law};
 use std::alloc::Global;
 
 // Solves a square in a workspace by phases and columns that were guessed; `None` where they don't
@@ -27,18 +29,18 @@ fn solve_guessed<M: SquareSolver>(
     workspace: &mut Workspace<M::Value>,
     phases: &[Phase<M::Value>],
     columns: &[u32],
-) -> Result<Option<SolvedSquare<M::Value>>, NoMemory>
+) -> Result<Option<AssignedSquare<M::Value>>, NoMemory>
     requires values { HasValues (M.monoid_of m.now) square.side (cell_at square) }
     requires few { length phases.now ≤ square.side }
     requires ready { IsReady square.side (length phases.now) workspace.old }
     ensures { IfOk result (λ found. IfSome found (λ solved.
-        IsSolvedFrom (M.monoid_of m.now) (M.difference m.now) square solved workspace.new)) }
+        IsAssignedFrom (M.monoid_of m.now) (M.difference m.now) square solved workspace.new)) }
 {
     let reduced = Reduced {
         now: square,
         index: m.unit(),
     };
-    m.solve_given(
+    m.assign_given(
         alloc,
         reduced,
         &mut workspace.matching,
@@ -48,25 +50,37 @@ fn solve_guessed<M: SquareSolver>(
     )
 }
 
-// The outcome of the square of an instance that was solved in a workspace, as one that was found.
+// The outcome of the square of an instance that was solved in a workspace; `None` where not every
+// row has a column.
 fn found_outcome<M: SquareSolver>(
     alloc: Global,
     m: &M,
     inst: &Instance,
-    solved: SolvedSquare<M::Value>,
+    solved: AssignedSquare<M::Value>,
     workspace: Workspace<M::Value>,
 ) -> Result<Option<Outcome>, NoMemory>
-    requires { (Q : Grid M.Value) × HasLabelsOf inst.now Q
-        × IsSolvedFrom (M.monoid_of m.now) (M.difference m.now) Q solved workspace }
+    requires { (Q : Grid M.Value)
+        × IsAssignedFrom (M.monoid_of m.now) (M.difference m.now) Q solved workspace }
     ensures outcome { (Q : Grid M.Value)
-        → IsSolvedFrom (M.monoid_of m.now) (M.difference m.now) Q solved workspace
+        → IsAssignedFrom (M.monoid_of m.now) (M.difference m.now) Q solved workspace
         → IfOk result (λ found. IfSome found (IsSquareOutcome (M.monoid_of m.now)
         (M.difference m.now) (M.word_of m.now) inst.now Q)) }
     ensures phases { (Q : Grid M.Value)
-        → IsSolvedFrom (M.monoid_of m.now) (M.difference m.now) Q solved workspace
+        → IsAssignedFrom (M.monoid_of m.now) (M.difference m.now) Q solved workspace
         → IfOk result (λ found. IfSome found (GivesFewPhases Q.side)) }
 {
-    Ok(Some(outcome_of(alloc, m, inst, solved, workspace)?))
+    fold_law(m);
+    square_law::<M::Value>();
+    grid_law::<M::Value>();
+    let _rows = inst.rows();
+    let AssignedSquare { square, ended } = solved;
+    match ended {
+        Solved::Perfect(last) => {
+            let found = best(alloc, m, square, workspace, last)?;
+            Ok(Some(found))
+        }
+        Solved::Short(_) => Ok(None),
+    }
 }
 
 // The outcome of the square of an instance that may have been solved in a workspace; `None` where
@@ -75,18 +89,18 @@ fn outcome_if_solved<M: SquareSolver>(
     alloc: Global,
     m: &M,
     inst: &Instance,
-    found: Option<SolvedSquare<M::Value>>,
+    found: Option<AssignedSquare<M::Value>>,
     workspace: Workspace<M::Value>,
 ) -> Result<Option<Outcome>, NoMemory>
-    requires { (Q : Grid M.Value) × HasLabelsOf inst.now Q × IfSome found (λ solved.
-        IsSolvedFrom (M.monoid_of m.now) (M.difference m.now) Q solved workspace) }
+    requires { (Q : Grid M.Value) × IfSome found (λ solved.
+        IsAssignedFrom (M.monoid_of m.now) (M.difference m.now) Q solved workspace) }
     ensures outcome { (Q : Grid M.Value)
-        → IfSome found (λ solved. IsSolvedFrom (M.monoid_of m.now) (M.difference m.now) Q solved
+        → IfSome found (λ solved. IsAssignedFrom (M.monoid_of m.now) (M.difference m.now) Q solved
         workspace)
         → IfOk result (λ outcome. IfSome outcome (IsSquareOutcome (M.monoid_of m.now)
         (M.difference m.now) (M.word_of m.now) inst.now Q)) }
     ensures phases { (Q : Grid M.Value)
-        → IfSome found (λ solved. IsSolvedFrom (M.monoid_of m.now) (M.difference m.now) Q solved
+        → IfSome found (λ solved. IsAssignedFrom (M.monoid_of m.now) (M.difference m.now) Q solved
         workspace)
         → IfOk result (λ outcome. IfSome outcome (GivesFewPhases Q.side)) }
 {
@@ -106,7 +120,6 @@ fn guessed_outcome_in<M: SquareSolver>(
     phases: &[Phase<M::Value>],
     columns: &[u32],
 ) -> Result<Option<Outcome>, NoMemory>
-    requires labels { HasLabelsOf inst.now square }
     requires values { HasValues (M.monoid_of m.now) square.side (cell_at square) }
     requires few { length phases.now ≤ square.side }
     requires ready { IsReady square.side (length phases.now) workspace }
@@ -130,7 +143,6 @@ pub(crate) fn guessed_outcome<M: SquareSolver>(
     phases: &[Phase<M::Value>],
     columns: &[u32],
 ) -> Result<Option<Outcome>, NoMemory>
-    requires labels { HasLabelsOf inst.now square }
     requires values { HasValues (M.monoid_of m.now) square.side (cell_at square) }
     ensures outcome { IfOk result (λ found. IfSome found (IsSquareOutcome (M.monoid_of m.now)
         (M.difference m.now) (M.word_of m.now) inst.now square)) }

@@ -11,6 +11,7 @@
 
 mod algebraic_objectives;
 mod capped_squares;
+mod capped_tables;
 mod entered_squares;
 mod guessed_squares;
 mod listed_grades;

@@ -17,12 +17,13 @@ ghost use Rattle.asg_square.specs.Grid.{IsSquareOf};
 use crate::NoMemory;
 use asg_duals::Guess;
 use asg_grade_lists::grade_list_index;
-use asg_model::{Choice, Instance, is_valid};
+use asg_model::{Choice, Instance};
 use asg_monoids::TimeKind;
 use asg_order::Word;
 use asg_proof::{Outcome, Phase, Phases, Proof, StepWords, WrittenPhase};
 use asg_replays::chosen_fold;
 use asg_square::Square;
+use asg_values::is_valid;
 use std::alloc::Global;
 
 // Lets the row of the instance that a row of its square stands for choose the column of which a

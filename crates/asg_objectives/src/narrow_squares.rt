@@ -17,7 +17,7 @@ use crate::NoMemory;
 use crate::guessed_squares::guessed_outcome;
 use crate::solved_squares::{is_short, outcome};
 use crate::table_outcomes::outcome_by_table;
-use asg_duals::{Duals, short_phases, tight_duals};
+use asg_duals::{Duals, first_duals, short_phases, tight_duals};
 use asg_model::{Cost, Instance, Objective};
 use asg_monoids::laws::narrow_sums;
 use asg_monoids::{NarrowSums, narrow_entry};
@@ -121,10 +121,32 @@ fn guessed_narrow_outcome(
     )
 }
 
-// The outcome of `sum` or `sum-max`, by sums in 64 bits over a square: by phases from dual variables
-// that are guessed, and where these don't pass the tests by those of the engine, over a square that
-// is made anew. Where no dual variables are found, the engine solves the square that was made; where
-// some rows have too few present cells, none are searched for.
+// The same over a square that is made anew, by phases from dual variables that are tight on it, and
+// where these don't pass the tests by those of the engine, over one more square. Where no dual
+// variables are found, the engine solves the square that was made.
+fn by_tight_duals(alloc: Global, objective: Objective, inst: &Instance) -> Result<Outcome, NoMemory>
+    requires objective { IsTrue (is_narrow_objective objective) }
+    requires side { square_side inst.now ≤ most_side }
+    requires passes { PassesNegative objective inst.now }
+    ensures outcome { IfOk result (IsOutcome objective inst.now) }
+    ensures phases { IfOk result (GivesFewPhases (square_side inst.now)) }
+{
+    let square = narrow_square(alloc, objective, inst)?;
+    let Some(duals) = tight_duals(alloc, &square)? else {
+        return narrow_outcome(alloc, objective, inst, square);
+    };
+    if let Some(found) = guessed_narrow_outcome(alloc, objective, inst, square, &duals)? {
+        return Ok(found);
+    }
+    let square = narrow_square(alloc, objective, inst)?;
+    narrow_outcome(alloc, objective, inst, square)
+}
+
+// The outcome of `sum` or `sum-max`, by sums in 64 bits over a square: by phases from the dual
+// variables that are found first, which aren't tested by themselves, and where the phases don't pass
+// the tests by those from dual variables that are. Where no dual variables are found, the engine
+// solves the square that was made; where some rows have too few present cells, none are searched
+// for.
 fn outcome_by_square(
     alloc: Global,
     objective: Objective,
@@ -140,14 +162,13 @@ fn outcome_by_square(
     if is_short(alloc, &square)? {
         return narrow_outcome(alloc, objective, inst, square);
     }
-    let Some(duals) = tight_duals(alloc, &square)? else {
+    let Some(duals) = first_duals(alloc, &square)? else {
         return narrow_outcome(alloc, objective, inst, square);
     };
     if let Some(found) = guessed_narrow_outcome(alloc, objective, inst, square, &duals)? {
         return Ok(found);
     }
-    let square = narrow_square(alloc, objective, inst)?;
-    narrow_outcome(alloc, objective, inst, square)
+    by_tight_duals(alloc, objective, inst)
 }
 
 /// The outcome of `sum` or `sum-max`: by phases that are guessed and tested over the costs as they

@@ -10,7 +10,8 @@ ghost use Rattle.asg_proof.specs.Steps.{HasValues};
 ghost use Rattle.asg_square.specs.Cells.{IsPresent};
 ghost use Rattle.asg_square.specs.Grid.{Grid, cell_at, HasLabelsOf};
 ghost use Rattle.asg_proof.specs.PromisedProofs.{GivesFewPhases};
-ghost use Rattle.asg_objectives.specs.SolvedSquares.{AreOfValues, IsChoiceBy, IsBestBy};
+ghost use Rattle.asg_admit.specs.PhaseValues.{AreOfValues};
+ghost use Rattle.asg_objectives.specs.SolvedSquares.{IsChoiceBy, IsBestBy};
 ghost use Rattle.asg_objectives.specs.SolvedSquares.{IsNothingBy, IsSquareOutcome};
 ghost use Rattle.asg_objectives.specs.SolvedFrom.{IsSolvedFrom};
 ghost use Rattle.asg_objectives.specs.Workspaces.{IsReady};
@@ -95,8 +96,8 @@ fn best_by<M: Written>(
     })
 }
 
-// The same of a workspace.
-fn best<M: Written>(
+/// The same of a workspace.
+pub(crate) fn best<M: Written>(
     alloc: Global,
     m: &M,
     square: Square<M::Value>,

@@ -12,11 +12,12 @@ use crate::trail_phases::words_of;
 use asg_dual_search::Lead;
 use asg_duals::{Duals, short_phases};
 use asg_model::limits::MOST_COST;
-use asg_model::{Choice, Instance, Objective, is_valid};
+use asg_model::{Choice, Instance, Objective};
 use asg_monoids::NarrowSums;
 use asg_proof::{Outcome, Phase, Proof};
 use asg_table_phases::{is_table_square, proves};
 use asg_table_sums::{choice_of, lead};
+use asg_values::is_valid;
 use std::alloc::Global;
 
 // The number at a place, 0 outside.
@@ -34,13 +35,13 @@ fn fall_of(objective: Objective, inst: &Instance, rises: &[u32], row: u32, colum
     let Some(cost) = inst.live(row, column) else {
         return 0;
     };
-    let entered = if objective == Objective::SumMax {
-        MOST_COST.wrapping_sub(cost.a)
-    } else {
-        MOST_COST.wrapping_add(cost.a)
+    let entered = match objective {
+        Objective::SumMax => MOST_COST.wrapping_sub(cost.a).cast_unsigned(),
+        Objective::Capped(cap) => cost.a.unsigned_abs().min(cap),
+        _ => MOST_COST.wrapping_add(cost.a).cast_unsigned(),
     };
     let rise = number_at(rises, column as usize);
-    entered.cast_unsigned().wrapping_add(u64::from(rise))
+    entered.wrapping_add(u64::from(rise))
 }
 
 // By how much each row may fall that has its cell in its column.
@@ -69,8 +70,8 @@ fn widened(alloc: Global, numbers: &[u32]) -> Result<Vec<u64>, NoMemory> {
     Ok(wide)
 }
 
-// The dual variables of columns of rows with rises of columns. Nothing is tested.
-fn duals_of(
+/// The dual variables of columns of rows with rises of columns. Nothing is tested.
+pub(crate) fn duals_of(
     alloc: Global,
     objective: Objective,
     inst: &Instance,

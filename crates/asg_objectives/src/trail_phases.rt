@@ -4,7 +4,7 @@ ghost use Rattle.std.specs.Prelude.{◌≡◌, ◌++◌, ◌∷◌, [], All, map
 ghost use Rattle.asg_order.specs.Monoid.{IsValue};
 ghost use Rattle.asg_pool.specs.Forest.{IsLive, phases_to};
 ghost use Rattle.asg_proof.specs.Phases.{worded, IsPhase};
-ghost use Rattle.asg_objectives.specs.SolvedSquares.{AreOfValues};
+ghost use Rattle.asg_admit.specs.PhaseValues.{AreOfValues};
 
 use crate::NoMemory;
 use asg_order::Written;

@@ -1,22 +1,7 @@
 -- Sums in 64 bits are sums below a greater top, and sums that stop at a cap are sums in 64 bits.
-use Rattle.std.proofs.Common.{◌≡◌, ◌⊎◌, ◌≤◌, ℕ, true, List, Option, inl, inr, sym, ap, subst, ◌∙◌, arith}
-use Rattle.std.specs.Prelude.{min}
-use Rattle.std.proofs.lemmas.Bool.Decides.{nat_tests}
-use Rattle.asg_model.specs.Problem.{Problem}
-use Rattle.asg_model.specs.declared.parts.Cost.{Cost}
-use Rattle.asg_model.specs.declared.objectives.Objective.{Objective}
-use Rattle.asg_model.specs.declared.objectives.Objective.TheVariants.{Sum, SumMax}
+use Rattle.asg_phase_verdicts.proofs.Common.{◌≡◌, ℕ, ◌≤◌, min, true, ◌⊎◌, List, Option, sym, ap, ◌∙◌, subst, inl, inr, arith, nat_tests, IsReduced, Reduced, Problem, Objective, Sum, SumMax, Cost, bounded_sums, bounded_difference, narrow_top, plain_word, cost_reach, sum_entered, top_of, IsValue, Word, PhaseOf, AreAdmittedPhases, index_of, IsStart, HaveIndex}
 use Rattle.asg_order.specs.Entering.{MayEnter}
-use Rattle.asg_order.specs.declared.words.Word.{Word}
-use Rattle.asg_order.specs.Monoid.{IsValue}
-use Rattle.asg_monoids.specs.BoundedSums.{bounded_sums, bounded_difference, narrow_top, plain_word}
-use Rattle.asg_monoids.specs.Entered.{cost_reach, sum_entered, top_of}
 use Rattle.asg_monoids.specs.NarrowObjectives.{is_narrow_objective}
-use Rattle.asg_admit.specs.declared.reduced.Reduced.{Reduced}
-use Rattle.asg_admit.specs.Reduced.{IsReduced}
-use Rattle.asg_proof.specs.Phases.{PhaseOf, AreAdmittedPhases, index_of}
-use Rattle.asg_replays.specs.Replays.{IsStart}
-use Rattle.asg_replays.specs.WholeLists.{HaveIndex}
 
 -- what holds where sums stop at a top holds where they stop at one that is no less
 module _ (low top : ℕ) (wide : low ≤ top) where

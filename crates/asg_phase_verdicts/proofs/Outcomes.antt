@@ -1,5 +1,5 @@
 -- What became of a phase is one of three things.
-use Rattle.std.proofs.Common.{◌≡◌, ◌≢◌}
+use Rattle.asg_phase_verdicts.proofs.Common.{◌≡◌, ◌≢◌}
 use Rattle.asg_dual_squares.specs.declared.dual_squares.Replayed.{Replayed}
 use Rattle.asg_dual_squares.specs.declared.dual_squares.Replayed.TheVariants.{Applied, Refused, Full}
 

@@ -1,35 +1,12 @@
 -- What the verdict on phases tells.
-use Rattle.std.proofs.Common.{◌≡◌, ◌≢◌, ◌⊎◌, ℕ, suc, ◌+◌, ◌<◌, ◌^◌, true, List, [], ◌∷◌, take, Option, inl, inr, refl, sym, ap, subst, ◌∙◌, arith}
-use Rattle.std.specs.Prelude.{pos}
-use Rattle.std.proofs.Math.Path.{fun_ext}
-use Rattle.asg_model.specs.declared.objectives.Objective.{Objective}
-use Rattle.asg_model.specs.declared.objectives.Objective.TheVariants.{Sum, SumMax, SumPair, Capped, Bottleneck, BottleneckMax, TimeCost}
-use Rattle.asg_model.specs.declared.parts.Cost.{Cost}
-use Rattle.asg_model.specs.Problem.{Problem}
-use Rattle.asg_model.specs.Shapes.{square_side}
-use Rattle.asg_order.specs.declared.words.Word.{Word}
-use Rattle.asg_order.specs.Bridge.{choice_fold}
-use Rattle.asg_order.specs.Monoid.{Monoid, IsValue, IsOrderedMonoid}
+use Rattle.asg_phase_verdicts.proofs.Common.{◌≡◌, ℕ, suc, ◌+◌, ◌^◌, ◌<◌, true, ◌≢◌, ◌⊎◌, List, [], ◌∷◌, take, pos, Option, sym, refl, ap, ◌∙◌, subst, inl, inr, arith, fun_ext, Reduced, Problem, square_side, Objective, Sum, SumMax, SumPair, Capped, Bottleneck, BottleneckMax, TimeCost, Cost, bounded_sums, bounded_difference, plain_word, is_sum_objective, top_of, sum_entered, peak_entered, time_entered, graded, graded_difference, graded_word, choice_fold, Monoid, IsValue, IsOrderedMonoid, Word, StandsFor, StandsFrom, StandsOver, PhaseOf, index_of, Tells, phase_reasons, No, Yes, AreAdmittedFrom, AreReplayed, IsFirstBad, IsStart, HaveIndex, square_cell, cell_at}
 use Rattle.asg_order.specs.Words.{HasWords}
-use Rattle.asg_monoids.specs.BoundedSums.{bounded_sums, bounded_difference, plain_word}
-use Rattle.asg_monoids.specs.Entered.{is_sum_objective, top_of, sum_entered, peak_entered, time_entered}
 use Rattle.asg_model.specs.Objectives.{is_bottleneck}
-use Rattle.asg_monoids.specs.Grades.{graded, graded_difference, graded_word}
 use Rattle.asg_monoids.specs.Maxima.{maxima, maxima_difference}
-use Rattle.asg_square.specs.Cells.{square_cell}
-use Rattle.asg_square.specs.Grid.{cell_at}
-use Rattle.asg_proof.specs.Phases.{PhaseOf, index_of}
 use Rattle.asg_proof.specs.laws.PhaseLists.{index_is_value}
-use Rattle.asg_admit.specs.declared.reduced.Reduced.{Reduced}
 use Rattle.asg_reasons.specs.declared.verdicts.Reason.TheVariants.{BadPhase, IndexDiffers}
 use Rattle.asg_reasons.specs.declared.verdicts.Verdict.{Verdict}
-use Rattle.asg_reasons.specs.declared.verdicts.Verdict.TheVariants.{No, Yes}
-use Rattle.asg_replays.specs.Replays.{AreAdmittedFrom}
 use Rattle.asg_phase_verdicts.specs.PhaseReasons.{HaveIndexBut, IsBadAt}
-use Rattle.asg_reasons.specs.Verdicts.{Tells, phase_reasons}
-use Rattle.asg_replays.specs.Replays.{AreReplayed, IsFirstBad, IsStart}
-use Rattle.asg_phase_verdicts.specs.Replays.{StandsFor, StandsFrom, StandsOver}
-use Rattle.asg_replays.specs.WholeLists.{HaveIndex}
 use Rattle.asg_phase_verdicts.specs.laws.ByObjective.{no_other_from}
 use Rattle.asg_replays.specs.laws.PhaseWords.{admitted-take, take-take}
 use Rattle.asg_reasons.specs.laws.Parts.{no_part, stops}

@@ -8,6 +8,7 @@
 //! phases say, and stands on no solver: the checker of documents stands on it.
 #![tactic(auto)]
 
+mod capped_tables;
 mod capped_verdicts;
 mod grade_verdicts;
 mod narrow_starts;

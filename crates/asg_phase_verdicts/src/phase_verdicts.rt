@@ -1,11 +1,12 @@
 //! What stands against phases for a choice of an instance.
 
-ghost use Rattle.std.specs.Prelude.{◌≡◌, ◌⊎◌, ◌≤◌, IsTrue, IfOk, IfSome};
+ghost use Rattle.std.specs.Prelude.{◌≡◌, ◌⊎◌, ◌<◌, ◌≤◌, IsTrue, IfOk, IfSome};
 ghost use Rattle.asg_model.specs.declared.objectives.Objective.TheVariants.{Capped, Sum, SumMax, TimeCost};
 ghost use Rattle.asg_model.specs.Instances.{IsInstance};
 ghost use Rattle.asg_model.specs.Limits.{most_side};
 ghost use Rattle.asg_model.specs.Refused.{PassesNegative};
 ghost use Rattle.asg_model.specs.Shapes.{square_side};
+ghost use Rattle.asg_monoids.specs.BoundedSums.{narrow_top};
 ghost use Rattle.asg_monoids.specs.Entered.{is_sum_objective};
 ghost use Rattle.asg_order.specs.Entering.{LiesWithin};
 ghost use Rattle.asg_model.specs.Objectives.{is_algebraic};
@@ -13,6 +14,7 @@ ghost use Rattle.asg_reasons.specs.Verdicts.{Tells, phase_reasons};
 ghost use Rattle.asg_phase_verdicts.specs.Replays.{StandsFor, StandsOver};
 
 use crate::NoMemory;
+use crate::capped_tables::capped_table_told;
 use crate::capped_verdicts::capped_verdict;
 use crate::grade_verdicts::grade_verdict;
 use crate::narrow_starts::{capped_start, narrow_start};
@@ -150,7 +152,8 @@ fn narrow_square_told(
     Ok(told)
 }
 
-// The same for `capped`, where the cap is below 2^62.
+// The same for `capped`, where the cap is below 2^62: by the table, and where that doesn't tell it by
+// the square.
 fn capped_told(
     alloc: Global,
     cap: u64,
@@ -167,6 +170,27 @@ fn capped_told(
     if cap >= 1 << 62 {
         return Ok(None);
     }
+    match capped_table_told(alloc, cap, inst, choice, phases)? {
+        Some(told) => Ok(Some(told)),
+        None => capped_square_told(alloc, cap, inst, choice, phases),
+    }
+}
+
+// The same by the square.
+fn capped_square_told(
+    alloc: Global,
+    cap: u64,
+    inst: &Instance,
+    choice: &Choice,
+    phases: &[WrittenPhase],
+) -> Result<Option<Verdict>, NoMemory>
+    requires cap { cap < narrow_top }
+    requires instance { IsInstance inst.now }
+    requires side { square_side inst.now ≤ most_side }
+    requires passes { PassesNegative (Capped cap) inst.now }
+    ensures { IfOk result (λ told. IfSome told (Tells
+        (StandsFor (Capped cap) inst.now choice.now phases.now) phase_reasons)) }
+{
     let kind = SumKind::of(Objective::Capped(cap));
     let start = capped_start(alloc, cap, inst)?;
     let fold = chosen_fold(&kind, inst, choice);

@@ -1,19 +1,6 @@
 -- Phases whose totals fit a table are admitted from the square of the instance.
-use Rattle.std.proofs.Common.{◌≡◌, ℕ, ◌<◌, ◌≤◌, true, List, length, sym, ◌∙◌, subst, arith}
-use Rattle.std.specs.Prelude.{Option}
-use Rattle.asg_phase_totals.specs.PhaseTotals.{AreTotals, CountAndRaise, EndAtLeast0, StayBelow, Totals, sum_of_steps}
-use Rattle.asg_model.specs.declared.objectives.Objective.{Objective}
-use Rattle.asg_model.specs.Instances.{IsInstance}
-use Rattle.asg_model.specs.Problem.{Problem}
-use Rattle.asg_model.specs.Shapes.{square_side}
-use Rattle.asg_monoids.specs.BoundedSums.{bounded_sums, bounded_difference, narrow_top}
-use Rattle.asg_monoids.specs.Entered.{sum_entered}
-use Rattle.asg_monoids.specs.NarrowObjectives.{is_narrow_objective}
-use Rattle.asg_proof.specs.Phases.{PhaseOf, AreAdmittedPhases}
-use Rattle.asg_square.specs.Cells.{square_cell}
-use Rattle.asg_table_phases.specs.TableRows.{FitTotals}
-use Rattle.asg_table_phases.specs.TableSquares.{IsTableSquare}
-use Rattle.asg_table_phases.proofs.RowCosts.{entered_few, near}
+use Rattle.asg_table_phases.proofs.Common.{◌≡◌, ℕ, ◌*◌, ◌<◌, ◌≤◌, List, length, unsigned_abs, Option, sym, ◌∙◌, subst, arith, IsInstance, most_cost, Problem, square_side, Objective, Cost, bounded_sums, bounded_difference, narrow_top, sum_entered, AreTotals, CountAndRaise, EndAtLeast0, StayBelow, Totals, sum_of_steps, PhaseOf, AreAdmittedPhases, square_cell, FitTotals, IsTableSquare}
+use Rattle.asg_table_phases.proofs.RowCosts.{near}
 use Rattle.asg_table_phases.proofs.TableCells.{cell_of, side_is}
 
 -- what the one-pass law says
@@ -26,7 +13,7 @@ OnePass =
     → CountAndRaise side phases
     → AreAdmittedPhases (bounded_sums top) bounded_difference side phases square
 
-module _ (objective : Objective) (narrow : is_narrow_objective objective ≡ true) (X : Problem) (instance : IsInstance X) (table : IsTableSquare X) (totals : Totals) (count : length totals.rows ≡ length X.rows) (fit : FitTotals objective X totals) where
+module _ (objective : Objective) (few : (x : Cost) → unsigned_abs x.a ≤ most_cost → sum_entered objective x ≤ 2 * most_cost) (X : Problem) (instance : IsInstance X) (table : IsTableSquare X) (totals : Totals) (count : length totals.rows ≡ length X.rows) (fit : FitTotals objective X totals) where
   -- they are admitted
   pub fit_admitted : OnePass → (top : ℕ) (phases : List (PhaseOf ℕ)) → narrow_top ≤ top → AreTotals phases totals → AreAdmittedPhases (bounded_sums top) bounded_difference (square_side X) phases (square_cell X 0 (sum_entered objective))
   fit_admitted law top phases above are =
@@ -34,8 +21,8 @@ module _ (objective : Objective) (narrow : is_narrow_objective objective ≡ tru
       (omega (arith, fit.few, are.sum, above))
       (λ r k x hr hk is.
       let cell = cell_of X table (sum_entered objective) r k x hr hk is in
-      let few = entered_few objective cell.cost narrow (near X instance r k cell.cost cell.live) in
-      omega (arith, few, cell.is, fit.few, are.sum, above))
+      let small = few cell.cost (near X instance r k cell.cost cell.live) in
+      omega (arith, small, cell.is, fit.few, are.sum, above))
       (λ r k x hr hk is.
       let cell = cell_of X table (sum_entered objective) r k x hr hk is in
       let row : r < length totals.rows = omega (arith, hr, side_is X table, count) in

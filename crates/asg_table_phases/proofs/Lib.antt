@@ -1,3 +1,4 @@
+pub mod Common
 mod TableCells
 mod RowCosts
 mod AdmittedTables

@@ -1,27 +1,9 @@
 -- What admitted phases with a choice's fold prove.
-use Rattle.std.proofs.Common.{◌≡◌, ℕ, ◌^◌, true, false, List, [], ◌∷◌, map, refl, arith}
-use Rattle.std.specs.Prelude.{All, IfSome, Option, Some, None}
-use Rattle.std.proofs.lemmas.List.{length-map}
-use Rattle.std.proofs.lemmas.List.Elements.{All-nil, All-cons, All-head, All-tail}
-use Rattle.asg_model.specs.declared.objectives.Objective.{Objective}
-use Rattle.asg_model.specs.declared.objectives.Objective.TheVariants.{Sum, SumMax}
-use Rattle.asg_model.specs.declared.parts.Cost.{Cost}
-use Rattle.asg_model.specs.Live.{live_at}
-use Rattle.asg_model.specs.Problem.{Problem}
-use Rattle.asg_model.specs.Refused.{is_refused, PassesNegative}
-use Rattle.asg_model.specs.Shapes.{square_side}
-use Rattle.asg_monoids.specs.BoundedSums.{bounded_sums, bounded_difference, plain_word}
-use Rattle.asg_monoids.specs.Entered.{is_sum_objective, sum_entered, top_of}
-use Rattle.asg_monoids.specs.NarrowObjectives.{is_narrow_objective}
+use Rattle.asg_table_phases.proofs.Common.{◌≡◌, ℕ, ◌^◌, true, false, List, map, IfSome, Some, None, Option, refl, arith, length-map, admitted_over, words_over, live_at, Problem, is_refused, PassesNegative, square_side, Objective, Sum, SumMax, Cost, bounded_sums, bounded_difference, plain_word, is_sum_objective, sum_entered, top_of, is_narrow_objective, PhaseOf, worded, AreAdmittedPhases, index_of, square_cell, AreSized}
 use Rattle.asg_order.specs.declared.words.Word.{Word}
 use Rattle.asg_order.specs.Bridge.{choice_fold}
-use Rattle.asg_order.specs.Monoid.{IsValue}
 use Rattle.asg_proof.specs.FoldProofs.{ProvesFold, ProvesPhases}
-use Rattle.asg_proof.specs.Phases.{PhaseOf, after_phase, worded, AreAdmittedPhases, index_of}
-use Rattle.asg_proof.specs.PromisedProofs.{AreFewPhases, IsPhaseOver}
-use Rattle.asg_proof.specs.laws.PhaseSteps.{phase_has_values}
-use Rattle.asg_square.specs.Cells.{square_cell}
-use Rattle.asg_table_phases.specs.Sizes.{AreSized, IsSized}
+use Rattle.asg_proof.specs.PromisedProofs.{AreFewPhases}
 
 -- these objectives enter sums
 pub is_sum : (objective : Objective) → is_narrow_objective objective ≡ true → is_sum_objective objective ≡ true
@@ -54,34 +36,14 @@ proved Sum e X choice words proof = proof
 proved SumMax e X choice words proof = proof
 proved _ e X choice words proof = absurd (cc)
 
-module _ (top side : ℕ) where
-  -- the steps of admitted phases are values
-  pub admitted_values : (phases : List (PhaseOf ℕ)) (square : ℕ → ℕ → Option ℕ) → AreAdmittedPhases (bounded_sums top) bounded_difference side phases square → All (λ phase. All (IsValue (bounded_sums top)) phase.steps) phases
-  admitted_values [] square all = All-nil (λ (phase : PhaseOf ℕ). All (IsValue (bounded_sums top)) phase.steps)
-  admitted_values (phase ∷ rest) square all =
-      All-cons (λ (p : PhaseOf ℕ). All (IsValue (bounded_sums top)) p.steps) phase rest
-      (phase_has_values (bounded_sums top) bounded_difference side phase square all.0)
-      (admitted_values rest (after_phase (bounded_sums top) bounded_difference phase square) all.1)
-
-  -- admitted phases of 1 to side steps, as words
-  worded_over : (phases : List (PhaseOf ℕ)) (square : ℕ → ℕ → Option ℕ) → AreAdmittedPhases (bounded_sums top) bounded_difference side phases square → All (IsSized side) phases → All (IsPhaseOver side) (map (worded plain_word) phases)
-  worded_over [] square all sizes = All-nil (IsPhaseOver side)
-  worded_over (phase ∷ rest) square all sizes =
-      let size = All-head (IsSized side) phase rest sizes in
-      All-cons (IsPhaseOver side) (worded plain_word phase) (map (worded plain_word) rest)
-      (record {
-        some = omega (arith, size.some, length-map phase.steps plain_word);
-        few = omega (arith, size.few, length-map phase.steps plain_word);
-        enters = all.0.rows;
-        leaves = all.0.columns;
-      })
-      (worded_over rest (after_phase (bounded_sums top) bounded_difference phase square) all.1 (All-tail (IsSized side) phase rest sizes))
-
-  pub few_phases : (phases : List (PhaseOf ℕ)) (square : ℕ → ℕ → Option ℕ) → AreAdmittedPhases (bounded_sums top) bounded_difference side phases square → AreSized side phases → AreFewPhases side (map (worded plain_word) phases)
-  few_phases phases square all sizes = record {
-    few = omega (arith, sizes.few, length-map phases (worded plain_word));
-    each = worded_over phases square all sizes.each;
-  }
+-- admitted phases of 1 to side steps, as words
+pub few_phases : (top side : ℕ) (phases : List (PhaseOf ℕ)) (square : ℕ → ℕ → Option ℕ) → AreAdmittedPhases (bounded_sums top) bounded_difference side phases square → AreSized side phases → AreFewPhases side (map (worded plain_word) phases)
+few_phases top side phases square all sizes = record {
+  few = omega (arith, sizes.few, length-map phases (worded plain_word));
+  each = words_over plain_word side phases
+      (admitted_over (bounded_sums top) bounded_difference side phases square all
+      (λ k d below. let size = sizes.each k d below in (size.some, size.few)));
+}
 
 -- phases that are admitted, whose index is the fold of a choice
 pub proves_choice : (objective : Objective) → is_narrow_objective objective ≡ true → (X : Problem) (choice : List (Option ℕ)) (phases : List (PhaseOf ℕ))

@@ -1,22 +1,5 @@
 -- The costs of a row as they stand in its table, and what they enter as.
-use Rattle.std.proofs.Common.{◌≡◌, ℕ, ◌+◌, ◌*◌, ◌<◌, ◌≤◌, Bool, true, false, cond, ◌&&◌, List, length, refl, sym, ap, ◌∙◌, subst, arith, ⊎_elim, ℤ, pos, ◌+ℤ◌, ◌-ℤ◌}
-use Rattle.std.specs.Prelude.{Option, Some, None, IfSome, slice_index_or, unsigned_abs, ◌≤ℤ◌}
-use Rattle.std.specs.Option.{option_map_or}
-use Rattle.std.specs.Ordering.{int_eq}
-use Rattle.std.proofs.lemmas.Bool.{and_parts, cases_lt, false≢true}
-use Rattle.std.proofs.lemmas.Int.{ints}
-use Rattle.std.proofs.lemmas.Option.{slice_get_past}
-use Rattle.asg_model.specs.declared.objectives.Objective.{Objective}
-use Rattle.asg_model.specs.declared.objectives.Objective.TheVariants.{Sum, SumMax}
-use Rattle.asg_model.specs.declared.parts.Cost.{Cost}
-use Rattle.asg_model.specs.Instances.{IsInstance}
-use Rattle.asg_model.specs.Limits.{most_cost}
-use Rattle.asg_model.specs.Live.{cost_at, is_active, is_open, live_at}
-use Rattle.asg_model.specs.Problem.{Problem}
-use Rattle.asg_model.specs.Table.{absent, table_cost, AreRowParts}
-use Rattle.asg_monoids.specs.Entered.{shifted, sum_entered, turned}
-use Rattle.asg_monoids.specs.NarrowObjectives.{is_narrow_objective}
-use Rattle.asg_proof.specs.laws.LiveCosts.{first_part_in_range}
+use Rattle.asg_table_phases.proofs.Common.{◌≡◌, ℕ, ◌+◌, ◌*◌, ◌<◌, ◌≤◌, min, Bool, true, false, cond, ◌&&◌, List, length, ℤ, pos, ◌+ℤ◌, ◌-ℤ◌, ◌≤ℤ◌, IfSome, slice_index_or, unsigned_abs, Some, None, Option, int_eq, sym, refl, ap, ◌∙◌, subst, ⊎_elim, arith, and_parts, cases_lt, false≢true, ints, option_map_or, slice_get_past, IsInstance, most_cost, cost_at, is_active, is_open, live_at, Problem, absent, table_cost, AreRowParts, Objective, Capped, Sum, SumMax, Cost, shifted, sum_entered, turned, is_narrow_objective, first_part_in_range}
 
 live_parts : (b : Bool) (o : Option Cost) (x : Cost) → cond b o None ≡ Some x → (b ≡ true) × (o ≡ Some x)
 live_parts true o x e = (refl, e)
@@ -61,8 +44,18 @@ module _ (X : Problem) (instance : IsInstance X) (r : ℕ) (firsts seconds : Lis
       let within = near X instance r c x live in
       omega (arith, ints, le, is, within)
 
+  -- the same, as it enters cut at a cap
+  pub cut_above : (cap : ℕ) → pos n ≤ℤ (slice_index_or firsts c absent +ℤ pos k) → n ≤ cap → n ≤ min (unsigned_abs x.a) cap + k
+  cut_above cap le few =
+      let is = first_is X r firsts seconds parts c x live in
+      let within = near X instance r c x live in
+      omega (arith, ints, le, is, within, few)
+
 -- a cost in range enters as at most twice the cost limit
 pub entered_few : (objective : Objective) (x : Cost) → is_narrow_objective objective ≡ true → unsigned_abs x.a ≤ most_cost → sum_entered objective x ≤ 2 * most_cost
 entered_few Sum x e within = omega (arith, ints, within)
 entered_few SumMax x e within = omega (arith, ints, within)
 entered_few _ x e within = absurd (cc)
+
+pub capped_few : (cap : ℕ) (x : Cost) → unsigned_abs x.a ≤ most_cost → sum_entered (Capped cap) x ≤ 2 * most_cost
+capped_few cap x within = omega (arith, within)

@@ -1,21 +1,11 @@
 -- The square of an instance whose square is its table.
-use Rattle.std.proofs.Common.{◌≡◌, ℕ, zero, suc, ◌+◌, ◌<◌, ◌≤◌, ◌&&◌, Bool, true, false, cond, List, [], ◌∷◌, length, take, refl, sym, ap, subst, ◌∙◌, arith}
-use Rattle.std.specs.Prelude.{Option, Some, None, All, max, sum_by, slice_get, nat_lt}
-use Rattle.std.specs.Option.{option_map, option_map_or}
-use Rattle.std.proofs.lemmas.List.Elements.{All-head, All-tail}
-use Rattle.std.proofs.lemmas.List.Sums.{sum_by-cons}
-use Rattle.std.proofs.lemmas.Option.{same_Some}
+use Rattle.asg_table_phases.proofs.Common.{◌≡◌, ℕ, zero, suc, ◌+◌, ◌<◌, ◌≤◌, max, Bool, true, false, cond, ◌&&◌, List, [], ◌∷◌, length, take, nat_lt, slice_get, Some, None, All, sum_by, Option, option_map, sym, refl, ap, ◌∙◌, subst, arith, All-head, All-tail, option_map_or, same_Some, sum_by-cons, is_active, live_at, Problem, side_by, square_side, Cost, square_cell, IsTableSquare}
 use Rattle.asg_model.specs.declared.parts.Column.{Column}
-use Rattle.asg_model.specs.declared.parts.Cost.{Cost}
 use Rattle.asg_model.specs.declared.parts.Row.{Row}
 use Rattle.asg_model.specs.Counts.{capacity_at, is_counted, is_counted_by, total_capacity}
-use Rattle.asg_model.specs.Live.{is_active, live_at}
-use Rattle.asg_model.specs.Problem.{Problem}
-use Rattle.asg_model.specs.Shapes.{side_by, square_side}
-use Rattle.asg_square.specs.Cells.{labelled_cell, square_cell}
+use Rattle.asg_cell_tables.specs.LabelledCells.{labelled_cell}
 use Rattle.asg_square.specs.Labels.{column_label, first_copy, row_label}
 use Rattle.asg_square.specs.laws.Copies.{label_at}
-use Rattle.asg_table_phases.specs.TableSquares.{IsTableSquare}
 
 -- what all have, the one at a place has
 at_each : {A B : Type 0} (f : A → B) (v d : B) (xs : List A) (k : ℕ) → All (λ x. f x ≡ v) xs → k < length xs → option_map_or f (slice_get xs k) d ≡ v

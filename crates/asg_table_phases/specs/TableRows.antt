@@ -9,9 +9,13 @@ use Rattle.asg_model.specs.Problem.{Problem}
 use Rattle.asg_monoids.specs.BoundedSums.{narrow_top}
 use Rattle.asg_monoids.specs.Entered.{sum_entered}
 
+-- no number is greater
+abbrev pub AreWithin : ℕ → List ℕ → Type 0
+AreWithin most numbers = (k : ℕ) → k < length numbers → slice_index numbers k ≤ most
+
 -- each number is at most where sums in 64 bits stop
 abbrev pub AreLow : List ℕ → Type 0
-AreLow numbers = (k : ℕ) → k < length numbers → slice_index numbers k ≤ narrow_top
+AreLow numbers = AreWithin narrow_top numbers
 
 -- each live cell of a row, as it enters, is with so much more at least the number of its column
 abbrev pub FitsRow : Objective → Problem → List ℕ → ℕ → ℕ → Type 0

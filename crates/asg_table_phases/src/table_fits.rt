@@ -2,34 +2,23 @@
 
 ghost use Rattle.std.specs.Prelude.{◌≡◌, ◌≤◌, ℕ, IsTrue, List, length};
 ghost use Rattle.asg_phase_totals.specs.PhaseTotals.{AreTotals};
+ghost use Rattle.asg_model.specs.declared.objectives.Objective.TheVariants.{Capped};
 ghost use Rattle.asg_model.specs.Shapes.{square_side};
 ghost use Rattle.asg_monoids.specs.BoundedSums.{bounded_sums, bounded_difference, narrow_top};
 ghost use Rattle.asg_monoids.specs.Entered.{sum_entered};
 ghost use Rattle.asg_monoids.specs.NarrowObjectives.{is_narrow_objective};
 ghost use Rattle.asg_proof.specs.Phases.{PhaseOf, AreAdmittedPhases, index_of};
 ghost use Rattle.asg_square.specs.Cells.{square_cell};
-ghost use Rattle.asg_table_phases.specs.TableRows.{AreLow, FitTotals};
+ghost use Rattle.asg_table_phases.specs.TableRows.{FitTotals};
 ghost use Rattle.asg_table_phases.specs.TableSquares.{IsTableSquare};
 
-use crate::table_rows::rows_fit;
+use crate::table_rows::{are_within, rows_fit};
 use asg_model::{Instance, Objective};
 use asg_phase_totals::laws::one_pass_law;
 use asg_phase_totals::{NARROW_TOP, PhaseTotals};
 
 // The greatest sum of steps with which no entered cost comes to more than 2^62.
 const MOST_SUM: u64 = NARROW_TOP - 2_000_000_000;
-
-// Whether each number is at most where sums stop.
-fn are_low(numbers: &[u64]) -> bool
-    ensures { IsTrue result → AreLow numbers.now }
-{
-    'numbers: for place in 0..numbers.len() {
-        if numbers[place] > NARROW_TOP {
-            return false;
-        }
-    }
-    true
-}
 
 // Whether no sum comes near where sums stop, and no live cell ends below 0.
 fn fit_totals(objective: Objective, inst: &Instance, totals: &PhaseTotals<u64>) -> bool
@@ -41,10 +30,10 @@ fn fit_totals(objective: Objective, inst: &Instance, totals: &PhaseTotals<u64>) 
     }
     let rows = totals.rows();
     let columns = totals.columns();
-    if !are_low(rows) {
+    if !are_within(rows, NARROW_TOP) {
         return false;
     }
-    if !are_low(columns) {
+    if !are_within(columns, NARROW_TOP) {
         return false;
     }
     rows_fit(objective, inst, rows, columns)
@@ -71,4 +60,25 @@ pub fn fits_table(objective: Objective, inst: &Instance, totals: &PhaseTotals<u6
     one_pass_law();
     let _rows = inst.rows();
     fit_totals(objective, inst, totals)
+}
+
+/// The same for `capped`: whether no sum comes near 2^62, and no live cell, as it enters, ends below
+/// 0. So the phases are admitted from the square by sums that don't stop at the cap.
+pub fn fits_capped_table(cap: u64, inst: &Instance, totals: &PhaseTotals<u64>) -> bool
+    requires table { IsTableSquare inst.now }
+    requires side { length totals.now.rows ≡ length inst.now.rows }
+    ensures admitted { IsTrue result
+        → (top : ℕ) (phases : List (PhaseOf ℕ)) → narrow_top ≤ top
+        → AreTotals phases totals.now
+        → AreAdmittedPhases (bounded_sums top) bounded_difference (square_side inst.now) phases
+        (square_cell inst.now 0 (sum_entered (Capped cap))) }
+    ensures index { IsTrue result
+        → (top : ℕ) (phases : List (PhaseOf ℕ))
+        → narrow_top ≤ top
+        → AreTotals phases totals.now
+        → index_of (bounded_sums top) phases ≡ totals.now.sum }
+{
+    one_pass_law();
+    let _rows = inst.rows();
+    fit_totals(Objective::Capped(cap), inst, totals)
 }

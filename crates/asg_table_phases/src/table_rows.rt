@@ -4,7 +4,7 @@ ghost use Rattle.std.specs.Prelude.{◌≡◌, ◌<◌, ◌≤◌, ◌+◌, ◌�
 ghost use Rattle.asg_model.specs.Limits.{most_cost};
 ghost use Rattle.asg_model.specs.Table.{absent};
 ghost use Rattle.asg_monoids.specs.BoundedSums.{narrow_top};
-ghost use Rattle.asg_table_phases.specs.TableRows.{AreLow, FitsRow, FitsRows};
+ghost use Rattle.asg_table_phases.specs.TableRows.{AreLow, AreWithin, FitsRow, FitsRows};
 
 use asg_model::limits::MOST_COST;
 use asg_model::{Instance, Objective, RowRoom};
@@ -61,6 +61,58 @@ fn are_below(costs: &[i64], columns: &[u64], raise: u64) -> bool
     are_below
 }
 
+/// Whether no number is greater.
+pub(crate) fn are_within(numbers: &[u64], most: u64) -> bool
+    ensures { IsTrue result → AreWithin most numbers.now }
+{
+    'numbers: for place in 0..numbers.len() {
+        if numbers[place] > most {
+            return false;
+        }
+    }
+    true
+}
+
+// Whether a cost is with so much more at least a number.
+#[inline]
+fn is_reached(cost: i64, number: u64, raise: u64) -> bool
+    requires number { number ≤ narrow_top }
+    requires raise { raise ≤ narrow_top }
+    ensures { IsTrue result → pos number ≤ℤ (cost +ℤ pos raise) }
+{
+    cost >= number as i64 - raise as i64
+}
+
+// Whether each cost is so by the number of its column.
+fn are_reached(costs: &[i64], columns: &[u64], raise: u64) -> bool
+    requires count { length columns.now ≡ length costs.now }
+    requires low { AreLow columns.now }
+    requires raise { raise ≤ narrow_top }
+    ensures { IsTrue result → (k : ℕ) → k < length costs.now
+        → pos (slice_index columns.now k) ≤ℤ (slice_index_or costs.now k absent +ℤ pos raise) }
+{
+    let mut are_reached = true;
+    'columns: for column in 0..costs.len() {
+        are_reached &= is_reached(costs[column], columns[column], raise);
+    }
+    are_reached
+}
+
+// Whether each cost is so, cut at a cap: no number of a column is greater than that.
+fn are_reached_below(costs: &[i64], columns: &[u64], raise: u64, cap: u64) -> bool
+    requires count { length columns.now ≡ length costs.now }
+    requires low { AreLow columns.now }
+    requires raise { raise ≤ narrow_top }
+    ensures within { IsTrue result → AreWithin cap columns.now }
+    ensures reached { IsTrue result → (k : ℕ) → k < length costs.now
+        → pos (slice_index columns.now k) ≤ℤ (slice_index_or costs.now k absent +ℤ pos raise) }
+{
+    if !are_within(columns, cap) {
+        return false;
+    }
+    are_reached(costs, columns, raise)
+}
+
 // Whether each live cell of a row, as it enters, is with so much more at least the number of its
 // column.
 fn row_fits(
@@ -85,6 +137,7 @@ fn row_fits(
     match objective {
         Objective::Sum => are_above(parts.firsts, columns, raise),
         Objective::SumMax => are_below(parts.firsts, columns, raise),
+        Objective::Capped(cap) => are_reached_below(parts.firsts, columns, raise, cap),
         _ => false,
     }
 }

@@ -1,34 +1,16 @@
 -- A level choice is best.
-use Rattle.std.proofs.Common.{◌≡◌, ◌⊎◌, ℕ, ◌+◌, ◌<◌, ◌≤◌, min, true, false, List, length, map, get_or, ◌*◌, refl, sym, ap, ◌∙◌, inl, inr, ⊎_elim, arith}
-use Rattle.std.specs.Prelude.{Option, Some, None, IfSome, is_some, sum_by, count_by}
-use Rattle.std.proofs.lemmas.Bool.{cases_lt}
-use Rattle.std.proofs.lemmas.Bool.Decides.{nat_tests}
-use Rattle.std.proofs.lemmas.List.{get_or_past}
-use Rattle.std.proofs.lemmas.List.Sums.{sum-map}
-use Rattle.asg_model.specs.declared.objectives.Objective.{Objective}
+use Rattle.asg_table_sums.proofs.Common.{◌≡◌, ℕ, ◌+◌, ◌*◌, ◌<◌, ◌≤◌, min, true, false, ◌⊎◌, List, map, length, get_or, is_some, IfSome, Some, None, sum_by, count_by, Option, sym, refl, ap, ◌∙◌, inl, inr, ⊎_elim, arith, cases_lt, get_or_past, nat_tests, sum-map, capacity_at, IsInstance, live_at, Problem, sum_below, IsValid, takes, chosen_cost, choice_value, costs_of, Objective, Cost, sum_below-le, sum_below-add, cost_reach, is_sum_objective, sum_entered, top_of, lies_within, rise_at, IsRowLevel, IsLevel}
 use Rattle.asg_model.specs.declared.objectives.Objective.TheVariants.{Sum, SumMax}
-use Rattle.asg_model.specs.declared.parts.Cost.{Cost}
 use Rattle.asg_model.specs.Best.{IsBest}
 use Rattle.asg_model.specs.Better.{IsBetter}
-use Rattle.asg_model.specs.Counts.{capacity_at}
-use Rattle.asg_model.specs.Instances.{IsInstance}
-use Rattle.asg_model.specs.Live.{live_at}
-use Rattle.asg_model.specs.Problem.{Problem}
 use Rattle.asg_model.specs.Refused.{is_refused, PassesNegative}
-use Rattle.asg_model.specs.Sums.{sum_below}
-use Rattle.asg_model.specs.ValidChoice.{IsValid, takes}
-use Rattle.asg_model.specs.Values.{chosen_cost, choice_value, costs_of}
-use Rattle.asg_model.specs.laws.Counting.{sum_below-le, sum_below-add}
 use Rattle.asg_monoids.specs.BoundedSums.{bounded_sums}
-use Rattle.asg_monoids.specs.Entered.{cost_reach, is_sum_objective, sum_entered, top_of}
 use Rattle.asg_monoids.specs.NarrowObjectives.{is_narrow_objective}
 use Rattle.asg_monoids.specs.laws.SumFolds.{bounded_fold}
 use Rattle.asg_monoids.specs.laws.SumOrders.{sums_keep_order}
 use Rattle.asg_order.specs.Bridge.{choice_fold}
 use Rattle.asg_order.specs.Monoid.{IsLess}
 use Rattle.asg_order.specs.laws.ChosenCosts.{Bridges-from_KeepsOrder}
-use Rattle.asg_proof.specs.laws.LiveCosts.{lies_within}
-use Rattle.asg_table_sums.specs.Level.{rise_at, IsRowLevel, IsLevel}
 use Rattle.asg_table_sums.proofs.TakenSums.{taken, taken-le}
 use Rattle.asg_table_sums.proofs.RowSums.{Chosen, Out, row_of, entered, level_of_out, out_sum, row_sums, column_sums}
 

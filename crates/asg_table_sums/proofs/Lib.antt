@@ -1,3 +1,4 @@
+pub mod Common
 mod TakenSums
 mod RowSums
 mod LevelLaw

@@ -1,19 +1,5 @@
 -- The costs of a row as they stand in its table, and what they enter as.
-use Rattle.std.proofs.Common.{◌≡◌, ℕ, ◌+◌, ◌<◌, ◌≤◌, Bool, true, false, cond, ◌&&◌, List, length, refl, sym, ap, ◌∙◌, subst, arith, ⊎_elim, ℤ, pos, negsuc, ◌+ℤ◌, ◌-ℤ◌}
-use Rattle.std.specs.Prelude.{Option, Some, None, IfSome, slice_index_or, unsigned_abs, ◌≤ℤ◌}
-use Rattle.std.specs.Option.{option_map_or}
-use Rattle.std.specs.Ordering.{int_eq}
-use Rattle.std.proofs.lemmas.Bool.{and_parts, cases_lt, false≢true}
-use Rattle.std.proofs.lemmas.Int.{ints}
-use Rattle.std.proofs.lemmas.Option.{slice_get_past}
-use Rattle.asg_model.specs.declared.parts.Cost.{Cost}
-use Rattle.asg_model.specs.Instances.{IsInstance}
-use Rattle.asg_model.specs.Limits.{most_cost}
-use Rattle.asg_model.specs.Live.{cost_at, is_active, is_open, live_at}
-use Rattle.asg_model.specs.Problem.{Problem}
-use Rattle.asg_model.specs.Table.{absent, table_cost, AreRowParts}
-use Rattle.asg_monoids.specs.Entered.{shifted, turned}
-use Rattle.asg_proof.specs.laws.LiveCosts.{first_part_in_range}
+use Rattle.asg_table_sums.proofs.Common.{◌≡◌, ℕ, ◌+◌, ◌<◌, ◌≤◌, Bool, true, false, cond, ◌&&◌, List, length, ℤ, pos, negsuc, ◌+ℤ◌, ◌-ℤ◌, ◌≤ℤ◌, IfSome, slice_index_or, unsigned_abs, Some, None, Option, int_eq, sym, refl, ap, ◌∙◌, subst, ⊎_elim, arith, and_parts, cases_lt, false≢true, ints, option_map_or, slice_get_past, IsInstance, most_cost, cost_at, is_active, is_open, live_at, Problem, absent, table_cost, AreRowParts, Cost, shifted, turned, first_part_in_range}
 
 live_parts : (b : Bool) (o : Option Cost) (x : Cost) → cond b o None ≡ Some x → (b ≡ true) × (o ≡ Some x)
 live_parts true o x e = (refl, e)

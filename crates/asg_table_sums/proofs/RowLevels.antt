@@ -1,11 +1,5 @@
 -- Rows that choose their least cells, or none.
-use Rattle.std.proofs.Common.{◌≡◌, ℕ, List, sym, ◌∙◌, subst}
-use Rattle.std.specs.Prelude.{Option, Some, None, slice_get}
-use Rattle.std.proofs.lemmas.Option.{same_Some}
-use Rattle.asg_model.specs.declared.objectives.Objective.{Objective}
-use Rattle.asg_model.specs.Problem.{Problem}
-use Rattle.asg_model.specs.ValidChoice.{Chooses}
-use Rattle.asg_table_sums.specs.Level.{IsLeastCell, IsUnder, IsOver, IsRowLevel}
+use Rattle.asg_table_sums.proofs.Common.{◌≡◌, ℕ, List, slice_get, Some, None, Option, sym, ◌∙◌, subst, same_Some, Problem, Chooses, Objective, IsLeastCell, IsUnder, IsOver, IsRowLevel}
 
 none_and_some : (c : ℕ) → None ≡ Some c → ⊥
 none_and_some c e = cc

@@ -1,17 +1,5 @@
 -- The sum of the costs of a valid choice, row by row.
-use Rattle.std.proofs.Common.{◌≡◌, ◌⊎◌, ℕ, zero, suc, ◌+◌, ◌*◌, ◌<◌, cond, List, [], ◌∷◌, length, refl, ap, ◌∙◌, inl, inr, arith, get_or, mul-add}
-use Rattle.std.specs.Prelude.{Option, Some, None, IsSome, is_some, sum_by, count_by, slice_get, filter_map, option_and_then, option_to_list}
-use Rattle.std.specs.List.{range_with_len}
-use Rattle.std.specs.Option.{option_map_or}
-use Rattle.std.proofs.lemmas.List.Sums.{sum_by-cons, sum_by-append}
-use Rattle.std.proofs.lemmas.Option.{slice_get-get_or}
-use Rattle.asg_model.specs.declared.parts.Cost.{Cost}
-use Rattle.asg_model.specs.Live.{live_at}
-use Rattle.asg_model.specs.Problem.{Problem}
-use Rattle.asg_model.specs.Sums.{sum_below}
-use Rattle.asg_model.specs.ValidChoice.{Chooses, IsValid}
-use Rattle.asg_model.specs.Values.{chosen_cost, costs_of}
-use Rattle.asg_model.specs.laws.Counting.{sum_by-below}
+use Rattle.asg_table_sums.proofs.Common.{◌≡◌, ℕ, zero, suc, ◌+◌, ◌*◌, ◌<◌, cond, ◌⊎◌, List, [], ◌∷◌, length, get_or, is_some, IsSome, slice_get, Some, None, sum_by, count_by, Option, option_to_list, filter_map, option_and_then, refl, ap, ◌∙◌, inl, inr, mul-add, arith, option_map_or, range_with_len, slice_get-get_or, sum_by-append, sum_by-cons, live_at, Problem, sum_below, Chooses, IsValid, chosen_cost, costs_of, Cost, sum_by-below}
 use Rattle.asg_model.specs.laws.Listing.{filter_map-range_more}
 
 -- what a row chooses: a column, with its cost

@@ -1,12 +1,5 @@
 -- What columns add up to over the rows that take them.
-use Rattle.std.proofs.Common.{◌≡◌, ℕ, zero, suc, ◌+◌, ◌*◌, ◌<◌, ◌≤◌, ◌⊎◌, Bool, true, false, cond, eqb, List, [], ◌∷◌, sym, ap, ◌∙◌, ⊎_elim, inl, inr, arith, mul-add}
-use Rattle.std.specs.Prelude.{Option, Some, None, sum_by, count_by}
-use Rattle.std.proofs.lemmas.Bool.{cases_lt, ne_eqb, eq-eqb}
-use Rattle.std.proofs.lemmas.Nat.{mul-le}
-use Rattle.std.proofs.lemmas.List.Sums.{sum_by-cons}
-use Rattle.asg_model.specs.Sums.{sum_below, one}
-use Rattle.asg_model.specs.ValidChoice.{takes}
-use Rattle.asg_model.specs.laws.Counting.{sum_below-same, sum_below-le, sum_below-add, sum_below-zero}
+use Rattle.asg_table_sums.proofs.Common.{◌≡◌, ℕ, zero, suc, ◌+◌, ◌*◌, ◌<◌, ◌≤◌, Bool, true, false, cond, eqb, ◌⊎◌, List, [], ◌∷◌, Some, None, sum_by, count_by, Option, sym, ap, ◌∙◌, inl, inr, ⊎_elim, mul-add, arith, eq-eqb, ne_eqb, cases_lt, mul-le, sum_by-cons, sum_below, one, takes, sum_below-same, sum_below-le, sum_below-add, sum_below-zero}
 
 -- the number of the column that is taken, 0 for none
 abbrev pub taken : (ℕ → ℕ) → Option ℕ → ℕ

@@ -12,7 +12,8 @@ use crate::laws::level_law;
 use crate::leads::{choice_of, lead, top_of};
 use crate::level_rows::is_row_level;
 use asg_model::limits::MOST_COST;
-use asg_model::{Choice, Instance, Objective, RowRoom, is_valid};
+use asg_model::{Choice, Instance, Objective, RowRoom};
+use asg_values::is_valid;
 use std::alloc::Global;
 
 // The greatest top that is tested.

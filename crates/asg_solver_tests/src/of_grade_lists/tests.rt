@@ -6,11 +6,12 @@ use crate::of_objectives::samples::PLAIN;
 use asg_algebra::entered_square;
 use asg_grade_lists::{NoMemory, grade_list_index};
 use asg_model::limits::MOST_SIDE;
-use asg_model::{Instance, Objective, negative};
+use asg_model::{Instance, Objective};
 use asg_monoids::TimeKind;
 use asg_order::Word;
 use asg_proof::{StepWords, WrittenPhase};
 use asg_samples::Fault;
+use asg_values::negative;
 use std::alloc::Global;
 use std::test::Fail;
 

@@ -3,11 +3,10 @@
 use asg_lex::{LexRefusal, lexicographic};
 use asg_model::Place::{All, Exactly};
 use asg_model::limits::MOST_SIDE;
-use asg_model::{
-    ABSENT, Band, Choice, Instance, NoMemory, Objective, Place, Value, is_hall, is_valid, value,
-};
+use asg_model::{ABSENT, Band, Choice, Instance, NoMemory, Objective, Place, Value};
 use asg_proof::{Level, Outcome, Proof};
 use asg_samples::{Fours, ONE_COLUMN, PRODUCTS, SIGNED, Sample, THREE, TWO_COLUMNS, four_by_four};
+use asg_values::{is_hall, is_valid, value};
 use std::alloc::Global;
 use std::test::Fail;
 

@@ -7,12 +7,13 @@ ghost use Rattle.asg_model.specs.Objectives.{is_algebraic};
 use crate::of_objectives::samples::{BEST, BEST_FAR, Best, CAPPED, FAR, ONE_COLUMN, PLAIN};
 use asg_algebra::SquareSolver;
 use asg_model::limits::MOST_SIDE;
-use asg_model::{Band, Choice, Instance, Objective, Value, is_hall, is_valid, negative, value};
+use asg_model::{Band, Choice, Instance, Objective, Value};
 use asg_monoids::{PeakKind, SumKind, TimeKind};
 use asg_objectives::{NoMemory, algebraic, algebraic_assignment};
 use asg_order::Kind;
 use asg_proof::{Outcome, Proof};
 use asg_samples::{Fault, Sample};
+use asg_values::{is_hall, is_valid, negative, value};
 use std::alloc::Global;
 use std::test::Fail;
 

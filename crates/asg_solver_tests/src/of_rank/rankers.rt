@@ -4,9 +4,10 @@ ghost use Rattle.std.specs.Prelude.{◌≡◌, [], IfOk, IfSome};
 
 use crate::of_objectives::samples::{ONE_COLUMN, PLAIN};
 use asg_model::limits::MOST_SIDE;
-use asg_model::{Band, Choice, Instance, Objective, Place, is_hall, negative};
+use asg_model::{Band, Choice, Instance, Objective, Place};
 use asg_monoids::SumKind;
 use asg_rank::{Next, NoMemory, RankRefusal, Ranker};
+use asg_values::{is_hall, negative};
 use std::alloc::Global;
 use std::test::Fail;
 

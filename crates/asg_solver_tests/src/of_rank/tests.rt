@@ -6,11 +6,10 @@ ghost use Rattle.asg_model.specs.Objectives.{is_algebraic};
 use crate::of_objectives::samples::{ONE_COLUMN, PLAIN};
 use crate::of_rank::samples::{Case, cases};
 use asg_model::limits::MOST_SIDE;
-use asg_model::{
-    Band, Choice, Instance, Objective, Place, Value, is_hall, is_valid, negative, value,
-};
-use asg_proof::{Mark, Node};
+use asg_model::{Band, Choice, Instance, Objective, Place, Value};
 use asg_rank::{NoMemory, RankOutcome, RankRefusal, ranking};
+use asg_rankings::{Mark, Node};
+use asg_values::{is_hall, is_valid, negative, value};
 use std::alloc::Global;
 use std::test::Fail;
 

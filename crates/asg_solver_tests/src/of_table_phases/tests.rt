@@ -7,7 +7,10 @@ use asg_model::{Choice, Instance, Objective, Place};
 use asg_phase_totals::PhaseTotals;
 use asg_proof::Phase;
 use asg_samples::{Fault, Sample};
-use asg_table_phases::{NoMemory, fits_table, is_table_square, proves};
+use asg_table_phases::{
+    NoMemory, fits_capped_table, fits_table, is_table_square, proves, proves_capped,
+};
+use asg_values::negative;
 use std::alloc::Global;
 use std::test::Fail;
 
@@ -56,16 +59,21 @@ fn phase(
 
 // Appends two phases: the rows fall to their least costs, 1 and 2, and then the second column by
 // the last step, which is 2 where the rest of its first cell is taken.
-fn add_phases(alloc: Global, phases: &mut Vec<Phase<u64>>, last: u64) -> Result<(), NoMemory> {
-    phases.push(phase(alloc, &[SHIFT + 1], &[0, 1], &[1, 1])?)?;
-    phases.push(phase(alloc, &[SHIFT + 2, last], &[1, 0], &[1, 2])?)?;
+fn add_phases(
+    alloc: Global,
+    phases: &mut Vec<Phase<u64>>,
+    shift: u64,
+    last: u64,
+) -> Result<(), NoMemory> {
+    phases.push(phase(alloc, &[shift.wrapping_add(1)], &[0, 1], &[1, 1])?)?;
+    phases.push(phase(alloc, &[shift.wrapping_add(2), last], &[1, 0], &[1, 2])?)?;
     Ok(())
 }
 
 // These phases.
-fn phases(alloc: Global, last: u64) -> Result<Vec<Phase<u64>>, NoMemory> {
+fn phases(alloc: Global, shift: u64, last: u64) -> Result<Vec<Phase<u64>>, NoMemory> {
     let mut phases = Vec::new(alloc);
-    add_phases(alloc, &mut phases, last)?;
+    add_phases(alloc, &mut phases, shift, last)?;
     Ok(phases)
 }
 
@@ -91,7 +99,7 @@ fn are_proved_for(
         return Ok(false);
     }
     let choice = choice_of(alloc, columns.0, columns.1)?;
-    let phases = phases(alloc, last)?;
+    let phases = phases(alloc, SHIFT, last)?;
     let are_proved = proves(alloc, objective, inst, &choice, phases.as_slice());
     drop(phases);
     are_proved
@@ -137,6 +145,37 @@ fn steps_past_a_cell_do_not_fit(rt: HostRuntime) -> Result<(), Fail> {
     Ok(())
 }
 
+// Whether these phases, with no shift, prove the least choice of an instance where sums stop at a
+// cap.
+fn is_capped_proved_for(alloc: Global, inst: &Instance, cap: u32) -> Result<bool, NoMemory> {
+    let cap = u64::from(cap);
+    if !is_table_square(inst) || negative(Objective::Capped(cap), inst).is_some() {
+        return Ok(false);
+    }
+    let choice = choice_of(alloc, 1, 0)?;
+    let phases = phases(alloc, 0, 2)?;
+    let is_proved = proves_capped(alloc, cap, inst, &choice, phases.as_slice());
+    drop(phases);
+    is_proved
+}
+
+// Whether they prove it for the least square.
+fn is_capped_proved(alloc: Global, cap: u32) -> Result<bool, Fault> {
+    let inst = LEAST.instance(alloc)?;
+    let is_proved = is_capped_proved_for(alloc, &inst, cap);
+    drop(inst);
+    Ok(is_proved?)
+}
+
+// The sum is 5: a cap of 5 is reached by no step past it.
+#[test]
+fn capped_sum_is_proved_up_to_the_cap(rt: HostRuntime) -> Result<(), Fail> {
+    assert!(rt; is_capped_proved(rt.alloc(), 9)?);
+    assert!(rt; is_capped_proved(rt.alloc(), 5)?);
+    assert!(rt; !is_capped_proved(rt.alloc(), 4)?);
+    Ok(())
+}
+
 #[test]
 fn more_columns_are_no_square(rt: HostRuntime) -> Result<(), Fail> {
     let inst = WIDE.instance(rt.alloc())?;
@@ -152,7 +191,7 @@ fn none_fit_on(alloc: Global, inst: &Instance) -> Result<bool, NoMemory> {
         return Ok(false);
     }
     let totals = PhaseTotals::none(alloc, inst.rows().len() as u32)?;
-    let none_fit = fits_table(Objective::Sum, inst, &totals);
+    let none_fit = fits_table(Objective::Sum, inst, &totals) && fits_capped_table(9, inst, &totals);
     drop(totals);
     Ok(none_fit)
 }

@@ -7,12 +7,11 @@ ghost use Rattle.asg_model.specs.Objectives.{IsBottleneck};
 
 use asg_model::Place::{All, Exactly};
 use asg_model::limits::MOST_SIDE;
-use asg_model::{
-    ABSENT, Band, Choice, Instance, NoMemory, Objective, Place, Value, is_hall, is_valid, value,
-};
+use asg_model::{ABSENT, Band, Choice, Instance, NoMemory, Objective, Place, Value};
 use asg_proof::{Outcome, Proof};
 use asg_samples::{Fault, Fours, ONE_COLUMN, PRODUCTS, SIGNED, THREE, TWO_COLUMNS, four_by_four};
 use asg_thresh::bottleneck;
+use asg_values::{is_hall, is_valid, value};
 use std::alloc::Global;
 use std::test::Fail;
 

@@ -1,4 +1,4 @@
-use Rattle.std.proofs.Common.{◌≤◌, take}
+use Rattle.asg_duals.proofs.Common.{◌≤◌, take}
 use Rattle.std.specs.List.{sum}
 use Rattle.asg_duals.proofs.capped_guesses.sum_of.Given as goal
 

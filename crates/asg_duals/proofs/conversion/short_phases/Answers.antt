@@ -1,6 +1,4 @@
-use Rattle.std.proofs.Common.{◌≡◌, ℕ, suc, ◌*◌, ◌^◌, ◌<◌, ◌≤◌, ⊎_elim, length, sym, subst, ◌∙◌, ap, arith}
-use Rattle.std.proofs.Math.Nat.{pow-suc}
-use Rattle.std.proofs.lemmas.Bool.{cases_eq}
+use Rattle.asg_duals.proofs.Common.{◌≡◌, ℕ, suc, ◌*◌, ◌^◌, ◌<◌, ◌≤◌, length, sym, ap, ◌∙◌, subst, ⊎_elim, pow-suc, arith, cases_eq}
 use Rattle.asg_duals.proofs.conversion.short_phases.Goals as goal
 
 doubled : (n m limit : ℕ) → limit ≡ 2 ^ n → m ≡ suc n → limit * 2 ≡ 2 ^ m

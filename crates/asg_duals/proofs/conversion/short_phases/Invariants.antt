@@ -1,4 +1,4 @@
-use Rattle.std.proofs.Common.{◌≡◌, ℕ, ◌^◌, ◌<◌, ◌≤◌, length}
+use Rattle.asg_duals.proofs.Common.{◌≡◌, ℕ, ◌^◌, ◌<◌, ◌≤◌, length}
 use Rattle.asg_duals.proofs.conversion.short_phases.Given as goal
 
 -- there are so many phases that the limit is this power of 2, and the powers before it are within

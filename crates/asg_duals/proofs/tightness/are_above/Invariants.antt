@@ -1,5 +1,4 @@
-use Rattle.std.proofs.Common.{ℕ, ◌<◌}
-use Rattle.asg_duals.specs.Tight.{Reaches}
+use Rattle.asg_duals.proofs.Common.{ℕ, ◌<◌, Reaches}
 use Rattle.asg_duals.proofs.tightness.are_above.Given as goal
 
 -- the columns so far are at least the fall

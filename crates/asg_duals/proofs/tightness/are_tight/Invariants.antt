@@ -1,5 +1,4 @@
-use Rattle.std.proofs.Common.{ℕ, ◌<◌}
-use Rattle.asg_duals.specs.Tight.{IsRowTight}
+use Rattle.asg_duals.proofs.Common.{ℕ, ◌<◌, IsRowTight}
 use Rattle.asg_duals.proofs.tightness.are_tight.Given as goal
 
 -- the rows so far are tight

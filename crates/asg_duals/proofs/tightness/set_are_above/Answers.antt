@@ -1,9 +1,5 @@
-use Rattle.std.proofs.Common.{◌≡◌, ◌+◌, ◌<◌, length, ⊎_elim, sym, subst, arith}
-use Rattle.std.proofs.Math.Facts.{Fits-lt-pow}
-use Rattle.std.proofs.lemmas.Bool.{cases_eq}
-use Rattle.std.specs.Int.{bit_at}
-use Rattle.asg_duals.specs.Tight.{Reaches}
-use Rattle.asg_duals.proofs.WordBits.{next_bit, next_kept, next_gone, next_smaller}
+use Rattle.asg_duals.proofs.Common.{◌≡◌, ◌+◌, ◌<◌, length, sym, subst, ⊎_elim, arith, Fits-lt-pow, bit_at, cases_eq, Reaches}
+use Rattle.asg_admit.specs.laws.NextBits.{next_bit, next_kept, next_gone, next_smaller}
 use Rattle.asg_duals.proofs.tightness.set_are_above.Goals as goal
 
 pub bits-smaller : goal.bits-smaller

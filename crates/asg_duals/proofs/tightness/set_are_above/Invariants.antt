@@ -1,6 +1,4 @@
-use Rattle.std.proofs.Common.{ℕ, ◌+◌, ◌<◌, length}
-use Rattle.asg_duals.specs.Tight.{Reaches}
-use Rattle.asg_square.specs.WordBits.{HasBit}
+use Rattle.asg_duals.proofs.Common.{ℕ, ◌+◌, ◌<◌, length, HasBit, Reaches}
 use Rattle.asg_duals.proofs.tightness.set_are_above.Given as goal
 
 -- the bits that are left are the word's, and the columns of those that are left no more are at

@@ -1,5 +1,5 @@
-use Rattle.std.proofs.Common.{◌<◌, arith}
-use Rattle.asg_duals.proofs.WordBits.{bit_below}
+use Rattle.asg_duals.proofs.Common.{◌<◌, arith}
+use Rattle.asg_bit_rows.specs.laws.Bits.{bit_below}
 use Rattle.asg_duals.proofs.tightness.word_is_above.Goals as goal
 
 pub returns-then-values-first-ge64 : goal.returns-then-values-first-ge64

@@ -1,7 +1,4 @@
-use Rattle.std.proofs.Common.{ℕ, ◌+◌, ◌*◌, ◌<◌, length}
-use Rattle.std.specs.Prelude.{slice_index}
-use Rattle.asg_duals.specs.Tight.{Reaches}
-use Rattle.asg_square.specs.WordBits.{HasBit}
+use Rattle.asg_duals.proofs.Common.{ℕ, ◌+◌, ◌*◌, ◌<◌, length, slice_index, HasBit, Reaches}
 use Rattle.asg_duals.proofs.tightness.words_are_above.Given as goal
 
 -- the cells of the words so far are at least the fall, where their bits are set

@@ -1,8 +1,4 @@
-use Rattle.std.proofs.Common.{◌≡◌, ℕ, ◌+◌, ◌-◌, ◌<◌, [], ◌∷◌, length, drop, get_or, refl, sym, ◌∙◌, ap, subst, arith}
-use Rattle.std.proofs.lemmas.List.{drop_all, drop_more}
-use Rattle.asg_order.specs.declared.words.Word.{Word}
-use Rattle.asg_proof.specs.Phases.{PhaseOf}
-use Rattle.asg_grade_lists.specs.GradeLists.{AreOfGrade}
+use Rattle.asg_grade_lists.proofs.Common.{◌≡◌, ℕ, ◌+◌, ◌-◌, ◌<◌, [], ◌∷◌, length, get_or, drop, sym, refl, ap, ◌∙◌, subst, arith, drop_all, drop_more, AreOfGrade, Word, PhaseOf}
 use Rattle.asg_grade_lists.proofs.AmountLemmas.{grade_none}
 use Rattle.asg_grade_lists.proofs.amounts.put_others.Goals as goal
 

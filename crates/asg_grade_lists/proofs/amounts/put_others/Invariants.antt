@@ -1,5 +1,4 @@
-use Rattle.std.proofs.Common.{◌≡◌, ◌-◌, drop, length}
-use Rattle.asg_grade_lists.specs.GradeLists.{AreOfGrade}
+use Rattle.asg_grade_lists.proofs.Common.{◌≡◌, ◌-◌, length, drop, AreOfGrade}
 use Rattle.asg_grade_lists.proofs.amounts.put_others.Given as goal
 
 -- the phases from here on were taken in

@@ -1,6 +1,4 @@
-use Rattle.std.proofs.Common.{◌≡◌, ◌∷◌, [], ◌++◌, take, sym, ◌∙◌, ap, subst, arith}
-use Rattle.std.proofs.lemmas.List.{take_all, take_more}
-use Rattle.asg_grade_lists.specs.GradeLists.{AreAmountsAt}
+use Rattle.asg_grade_lists.proofs.Common.{◌≡◌, [], ◌∷◌, ◌++◌, take, sym, ap, ◌∙◌, subst, arith, take_all, take_more, AreAmountsAt}
 use Rattle.asg_grade_lists.proofs.AmountLemmas.{amounts_more, amounts_none}
 use Rattle.asg_grade_lists.proofs.amounts.read_amounts.Goals as goal
 

@@ -1,5 +1,4 @@
-use Rattle.std.proofs.Common.{take}
-use Rattle.asg_grade_lists.specs.GradeLists.{AreAmountsAt}
+use Rattle.asg_grade_lists.proofs.Common.{take, AreAmountsAt}
 use Rattle.asg_grade_lists.proofs.amounts.read_amounts.Given as goal
 
 -- the steps so far are read

@@ -1,5 +1,4 @@
-use Rattle.std.proofs.Common.{◌∙◌, ap, not}
-use Rattle.asg_square.specs.Grid.{cell_at}
+use Rattle.asg_grade_lists.proofs.Common.{not, ap, ◌∙◌, cell_at}
 use Rattle.asg_grade_lists.proofs.EndLemmas.{absent_ends, cell_ends}
 use Rattle.asg_grade_lists.proofs.end_cells.cell_ends_well.Goals as goal
 

@@ -1,6 +1,4 @@
-use Rattle.std.proofs.Common.{◌∙◌, ap, is_some}
-use Rattle.std.proofs.lemmas.Option.{get_or_from_slice_get}
-use Rattle.asg_square.specs.Grid.{cell_at}
+use Rattle.asg_grade_lists.proofs.Common.{is_some, ap, ◌∙◌, get_or_from_slice_get, cell_at}
 use Rattle.asg_grade_lists.proofs.EndLemmas.{columns_more}
 use Rattle.asg_grade_lists.proofs.end_cells.row_ends_well.Goals as goal
 

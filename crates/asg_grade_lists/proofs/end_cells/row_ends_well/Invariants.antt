@@ -1,5 +1,4 @@
-use Rattle.asg_square.specs.Grid.{cell_at}
-use Rattle.asg_grade_lists.specs.GradeLists.{RowEndsWell}
+use Rattle.asg_grade_lists.proofs.Common.{RowEndsWell, cell_at}
 use Rattle.asg_grade_lists.proofs.end_cells.row_ends_well.Given as goal
 
 -- the cells so far end well

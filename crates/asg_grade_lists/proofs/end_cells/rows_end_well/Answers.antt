@@ -1,4 +1,4 @@
-use Rattle.asg_square.specs.Grid.{cell_at}
+use Rattle.asg_grade_lists.proofs.Common.{cell_at}
 use Rattle.asg_grade_lists.proofs.EndLemmas.{rows_more}
 use Rattle.asg_grade_lists.proofs.end_cells.rows_end_well.Goals as goal
 

@@ -1,5 +1,4 @@
-use Rattle.asg_square.specs.Grid.{cell_at}
-use Rattle.asg_grade_lists.specs.GradeLists.{RowsEndWell}
+use Rattle.asg_grade_lists.proofs.Common.{RowsEndWell, cell_at}
 use Rattle.asg_grade_lists.proofs.end_cells.rows_end_well.Given as goal
 
 -- the rows so far end well

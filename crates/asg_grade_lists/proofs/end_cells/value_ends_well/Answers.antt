@@ -1,4 +1,4 @@
-use Rattle.std.proofs.Common.{sym}
+use Rattle.asg_grade_lists.proofs.Common.{sym}
 use Rattle.asg_grade_lists.proofs.EndLemmas.{none_ends, some_ends}
 use Rattle.asg_grade_lists.proofs.end_cells.value_ends_well.Goals as goal
 

@@ -1,4 +1,4 @@
-use Rattle.std.proofs.Common.{arith}
+use Rattle.asg_grade_lists.proofs.Common.{arith}
 use Rattle.asg_grade_lists.proofs.lists.grade_list_index.Goals as goal
 
 pub none-requires : goal.none-requires

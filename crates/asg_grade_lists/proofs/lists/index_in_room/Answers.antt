@@ -1,8 +1,5 @@
-use Rattle.std.proofs.Common.{◌≤◌, drop, sym, ◌∙◌, ap, subst, is_some}
-use Rattle.asg_monoids.specs.BoundedSums.{narrow_top}
+use Rattle.asg_grade_lists.proofs.Common.{◌≤◌, drop, is_some, sym, ap, ◌∙◌, subst, AreOfGrade, LeadTo, RowsEndWell, narrow_top, cell_at}
 use Rattle.asg_proof.specs.laws.Squares.{HasSide-cell_at}
-use Rattle.asg_square.specs.Grid.{cell_at}
-use Rattle.asg_grade_lists.specs.GradeLists.{AreOfGrade, LeadTo, RowsEndWell}
 use Rattle.asg_grade_lists.proofs.ListLemmas.{GradeLaw, OnePassLaw, list_leads}
 use Rattle.asg_grade_lists.proofs.lists.index_in_room.Goals as goal
 

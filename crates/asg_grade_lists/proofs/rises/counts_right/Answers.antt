@@ -1,6 +1,4 @@
-use Rattle.std.proofs.Common.{[], ◌∷◌, subst}
-use Rattle.asg_phase_totals.specs.PhaseTotals.{CountsRight}
-use Rattle.asg_proof.specs.Phases.{phase_of}
+use Rattle.asg_grade_lists.proofs.Common.{[], ◌∷◌, subst, CountsRight, phase_of}
 use Rattle.asg_grade_lists.proofs.rises.counts_right.Goals as goal
 
 pub returns-clause-right : goal.returns-clause-right

@@ -1,6 +1,4 @@
-use Rattle.std.proofs.Common.{arith}
-use Rattle.asg_square.specs.Grid.{cell_at}
-use Rattle.asg_grade_lists.specs.GradeLists.{BeginWithRise, IsRiseTo}
+use Rattle.asg_grade_lists.proofs.Common.{arith, BeginWithRise, IsRiseTo, cell_at}
 use Rattle.asg_grade_lists.proofs.RiseLemmas.{begin_is, found_weaker}
 use Rattle.asg_grade_lists.proofs.rises.first_grade.Goals as goal
 

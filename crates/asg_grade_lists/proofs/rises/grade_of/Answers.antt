@@ -1,4 +1,4 @@
-use Rattle.std.proofs.Common.{sym, ◌∙◌}
+use Rattle.asg_grade_lists.proofs.Common.{sym, ◌∙◌}
 use Rattle.asg_grade_lists.proofs.RiseLemmas.{zero_step}
 use Rattle.asg_grade_lists.proofs.rises.grade_of.Goals as goal
 

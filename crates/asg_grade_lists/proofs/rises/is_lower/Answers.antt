@@ -1,5 +1,4 @@
-use Rattle.std.proofs.Common.{sym, ◌∙◌}
-use Rattle.asg_square.specs.Grid.{cell_at}
+use Rattle.asg_grade_lists.proofs.Common.{sym, ◌∙◌, cell_at}
 use Rattle.asg_grade_lists.proofs.RiseLemmas.{absent_stays, value_stays}
 use Rattle.asg_grade_lists.proofs.rises.is_lower.Goals as goal
 

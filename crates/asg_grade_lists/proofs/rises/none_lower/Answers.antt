@@ -1,6 +1,4 @@
-use Rattle.std.proofs.Common.{◌∙◌, ap, is_some}
-use Rattle.std.proofs.lemmas.Option.{get_or_from_slice_get}
-use Rattle.asg_square.specs.Grid.{cell_at}
+use Rattle.asg_grade_lists.proofs.Common.{is_some, ap, ◌∙◌, get_or_from_slice_get, cell_at}
 use Rattle.asg_grade_lists.proofs.RiseLemmas.{lower_more}
 use Rattle.asg_grade_lists.proofs.rises.none_lower.Goals as goal
 

@@ -1,5 +1,4 @@
-use Rattle.asg_square.specs.Grid.{cell_at}
-use Rattle.asg_grade_lists.specs.GradeLists.{NoneLower}
+use Rattle.asg_grade_lists.proofs.Common.{NoneLower, cell_at}
 use Rattle.asg_grade_lists.proofs.rises.none_lower.Given as goal
 
 -- none of the cells so far is lower

@@ -1,6 +1,4 @@
-use Rattle.std.proofs.Common.{subst}
-use Rattle.asg_proof.specs.GradeAmounts.{IsRisePhase}
-use Rattle.asg_square.specs.Grid.{cell_at}
+use Rattle.asg_grade_lists.proofs.Common.{subst, IsRisePhase, cell_at}
 use Rattle.asg_grade_lists.proofs.rises.rise_grade.Goals as goal
 
 pub returns-clause-rises : goal.returns-clause-rises

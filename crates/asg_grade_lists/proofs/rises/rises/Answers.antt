@@ -1,7 +1,4 @@
-use Rattle.std.proofs.Common.{[], ◌∷◌, ◌∙◌, subst, arith}
-use Rattle.asg_phase_totals.specs.PhaseTotals.{CountsRight}
-use Rattle.asg_proof.specs.Phases.{phase_of}
-use Rattle.asg_square.specs.Grid.{cell_at}
+use Rattle.asg_grade_lists.proofs.Common.{[], ◌∷◌, ◌∙◌, subst, arith, CountsRight, phase_of, cell_at}
 use Rattle.asg_grade_lists.proofs.RiseLemmas.{rises_all}
 use Rattle.asg_grade_lists.proofs.rises.rises.Goals as goal
 

@@ -1,4 +1,4 @@
-use Rattle.asg_square.specs.Grid.{cell_at}
+use Rattle.asg_grade_lists.proofs.Common.{cell_at}
 use Rattle.asg_grade_lists.proofs.RiseLemmas.{rows_more}
 use Rattle.asg_grade_lists.proofs.rises.rows_rise.Goals as goal
 

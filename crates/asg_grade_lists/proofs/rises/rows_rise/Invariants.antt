@@ -1,5 +1,4 @@
-use Rattle.asg_square.specs.Grid.{cell_at}
-use Rattle.asg_grade_lists.specs.GradeLists.{NoneLowerIn}
+use Rattle.asg_grade_lists.proofs.Common.{NoneLowerIn, cell_at}
 use Rattle.asg_grade_lists.proofs.rises.rows_rise.Given as goal
 
 -- this is so of the rows so far

@@ -1,10 +1,4 @@
-use Rattle.std.proofs.lemmas.Result.{IfOk-weaker}
-use Rattle.asg_model.specs.declared.objectives.Objective.TheVariants.{TimeCost}
-use Rattle.asg_monoids.specs.BoundedSums.{bounded_sums, bounded_difference}
-use Rattle.asg_monoids.specs.Entered.{time_entered}
-use Rattle.asg_monoids.specs.Grades.{graded, graded_difference, graded_word}
-use Rattle.asg_proof.specs.Outcomes.{IsOutcome}
-use Rattle.asg_objectives.specs.FoldOutcomes.{IsFoldOutcome}
+use Rattle.asg_objectives.proofs.Common.{IfOk-weaker, TimeCost, bounded_sums, bounded_difference, time_entered, graded, graded_difference, graded_word, IsFoldOutcome, IsOutcome}
 use Rattle.asg_objectives.proofs.KindOutcomes.{IsOutcome-grades}
 use Rattle.asg_objectives.proofs.algebraic_objectives.by_grades.Goals as goal
 

@@ -1,11 +1,4 @@
-use Rattle.std.proofs.Common.{sym, subst}
-use Rattle.std.proofs.lemmas.Result.{IfOk-weaker}
-use Rattle.asg_model.specs.Refused.{PassesNegative}
-use Rattle.asg_monoids.specs.BoundedSums.{plain_word}
-use Rattle.asg_monoids.specs.Entered.{peak_entered}
-use Rattle.asg_monoids.specs.Maxima.{maxima, maxima_difference}
-use Rattle.asg_proof.specs.Outcomes.{IsOutcome}
-use Rattle.asg_objectives.specs.FoldOutcomes.{IsFoldOutcome}
+use Rattle.asg_objectives.proofs.Common.{sym, subst, IfOk-weaker, PassesNegative, plain_word, peak_entered, maxima, maxima_difference, IsFoldOutcome, IsOutcome}
 use Rattle.asg_objectives.proofs.KindOutcomes.{IsOutcome-maxima}
 use Rattle.asg_objectives.proofs.algebraic_objectives.by_maxima.Goals as goal
 

@@ -1,10 +1,4 @@
-use Rattle.std.proofs.Common.{sym, subst}
-use Rattle.std.proofs.lemmas.Result.{IfOk-weaker}
-use Rattle.asg_model.specs.Refused.{PassesNegative}
-use Rattle.asg_monoids.specs.BoundedSums.{bounded_sums, bounded_difference, plain_word}
-use Rattle.asg_monoids.specs.Entered.{sum_entered}
-use Rattle.asg_proof.specs.Outcomes.{IsOutcome}
-use Rattle.asg_objectives.specs.FoldOutcomes.{IsFoldOutcome}
+use Rattle.asg_objectives.proofs.Common.{sym, subst, IfOk-weaker, PassesNegative, bounded_sums, bounded_difference, plain_word, sum_entered, IsFoldOutcome, IsOutcome}
 use Rattle.asg_objectives.proofs.KindOutcomes.{IsOutcome-sums}
 use Rattle.asg_objectives.proofs.algebraic_objectives.by_sums.Goals as goal
 

@@ -1,12 +1,4 @@
-use Rattle.std.proofs.Common.{subst}
-use Rattle.std.specs.Prelude.{IfOk}
-use Rattle.std.proofs.lemmas.Result.{IfOk-weaker}
-use Rattle.asg_model.specs.declared.objectives.Objective.TheVariants.{Capped}
-use Rattle.asg_monoids.specs.BoundedSums.{bounded_sums, bounded_difference, plain_word, narrow_top}
-use Rattle.asg_monoids.specs.Entered.{sum_entered}
-use Rattle.asg_proof.specs.PromisedProofs.{GivesFewPhases}
-use Rattle.asg_objectives.specs.FoldOutcomes.{IsFoldOutcome}
-use Rattle.asg_objectives.specs.SolvedSquares.{IsSquareOutcome}
+use Rattle.asg_objectives.proofs.Common.{IfOk, subst, IfOk-weaker, Capped, bounded_sums, bounded_difference, plain_word, narrow_top, sum_entered, IsFoldOutcome, IsSquareOutcome, GivesFewPhases}
 use Rattle.asg_objectives.proofs.CappedSums.{EntersValues-uncut, HasValues-uncut}
 use Rattle.asg_objectives.proofs.capped_squares.uncut_outcome.Goals as goal
 

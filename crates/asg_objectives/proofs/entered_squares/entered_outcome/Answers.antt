@@ -1,11 +1,4 @@
-use Rattle.std.proofs.Common.{sym, subst}
-use Rattle.std.specs.Prelude.{IfOk}
-use Rattle.std.proofs.lemmas.Result.{IfOk-weaker}
-use Rattle.asg_proof.specs.PromisedProofs.{GivesFewPhases}
-use Rattle.asg_proof.specs.Steps.{HasValues}
-use Rattle.asg_square.specs.Grid.{cell_at}
-use Rattle.asg_objectives.specs.FoldOutcomes.{IsFoldOutcome}
-use Rattle.asg_objectives.specs.SolvedSquares.{IsSquareOutcome}
+use Rattle.asg_objectives.proofs.Common.{IfOk, sym, subst, IfOk-weaker, IsFoldOutcome, IsSquareOutcome, GivesFewPhases, HasValues, cell_at}
 use Rattle.asg_objectives.proofs.EnteredOutcomes.{EntersValues-may}
 use Rattle.asg_objectives.proofs.LedSquares.{HasValues-of_square}
 use Rattle.asg_objectives.proofs.entered_squares.entered_outcome.Goals as goal

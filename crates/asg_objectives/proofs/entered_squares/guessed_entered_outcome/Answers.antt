@@ -1,16 +1,10 @@
-use Rattle.std.proofs.Common.{sym, subst}
-use Rattle.std.specs.Prelude.{IfOk, IfSome}
-use Rattle.asg_proof.specs.PromisedProofs.{GivesFewPhases}
-use Rattle.asg_proof.specs.Steps.{HasValues}
-use Rattle.asg_square.specs.Grid.{cell_at}
-use Rattle.asg_objectives.specs.FoldOutcomes.{IsFoldOutcome}
-use Rattle.asg_objectives.specs.SolvedSquares.{IsSquareOutcome}
+use Rattle.asg_objectives.proofs.Common.{IfSome, IfOk, sym, subst, IsFoldOutcome, IsSquareOutcome, GivesFewPhases, HasValues, cell_at}
 use Rattle.asg_objectives.proofs.EnteredOutcomes.{EntersValues-may, IfOk-weaker_some}
 use Rattle.asg_objectives.proofs.LedSquares.{HasValues-of_square}
 use Rattle.asg_objectives.proofs.entered_squares.guessed_entered_outcome.Goals as goal
 
-pub guessed_outcome-requires-clause-values : goal.guessed_outcome-requires-clause-values
-guessed_outcome-requires-clause-values g c =
+pub guessed_outcome-requires : goal.guessed_outcome-requires
+guessed_outcome-requires g c =
     let kind = c.args.kind.now in
     let k = g.K.Kind.monoid kind in
     let M = g.K.M.Ordered.monoid_of k in
@@ -18,8 +12,11 @@ guessed_outcome-requires-clause-values g c =
     let enter = g.K.Kind.entered kind in
     let Q = c.args.square in
     let live = EntersValues-may M enter (g.K.Kind.objective kind) (g.K.Kind.reach kind) X c.requires.reach c.rows-rows.ensures.instance c.requires.passes (g.met.K.Kind.enters_value kind) in
-    subst (λ n. HasValues (g.K.M.Ordered.monoid_of n) Q.side (cell_at Q)) (sym c.monoid.ensures)
-    (HasValues-of_square M (g.met.K.M.Ordered.laws k) X enter Q c.requires.square live)
+    record {
+      values =
+          subst (λ n. HasValues (g.K.M.Ordered.monoid_of n) Q.side (cell_at Q)) (sym c.monoid.ensures)
+          (HasValues-of_square M (g.met.K.M.Ordered.laws k) X enter Q c.requires.square live);
+    }
 
 pub returns-clause-outcome : goal.returns-clause-outcome
 returns-clause-outcome g c =

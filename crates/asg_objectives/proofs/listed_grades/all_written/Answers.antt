@@ -1,6 +1,4 @@
-use Rattle.std.proofs.Common.{sym, subst}
-use Rattle.std.proofs.lemmas.List.Elements.{All-push}
-use Rattle.asg_proof.specs.Phases.{ArePhases, IsPhase}
+use Rattle.asg_objectives.proofs.Common.{sym, subst, All-push, ArePhases, IsPhase}
 use Rattle.asg_objectives.proofs.listed_grades.all_written.Goals as goal
 
 pub phases-preserved : goal.phases-preserved

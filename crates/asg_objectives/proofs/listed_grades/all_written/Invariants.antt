@@ -1,4 +1,4 @@
-use Rattle.asg_proof.specs.Phases.{ArePhases}
+use Rattle.asg_objectives.proofs.Common.{ArePhases}
 use Rattle.asg_objectives.proofs.listed_grades.all_written.Given as goal
 
 -- each phase so far is one

@@ -1,9 +1,4 @@
-use Rattle.std.proofs.Common.{◌≡◌, ℕ, sym, ◌∙◌, subst, arith}
-use Rattle.asg_monoids.specs.BoundedSums.{bounded_sums}
-use Rattle.asg_monoids.specs.Entered.{cost_reach, time_entered}
-use Rattle.asg_monoids.specs.Grades.{graded}
-use Rattle.asg_order.specs.Bridge.{choice_fold}
-use Rattle.asg_proof.specs.laws.LiveCosts.{lies_within}
+use Rattle.asg_objectives.proofs.Common.{◌≡◌, ℕ, sym, ◌∙◌, subst, arith, bounded_sums, cost_reach, time_entered, graded, choice_fold, lies_within}
 use Rattle.asg_objectives.proofs.listed_grades.choice_of_fold.Goals as goal
 
 pub chosen_fold-fold-requires-clause-near : goal.chosen_fold-fold-requires-clause-near

@@ -1,6 +1,4 @@
-use Rattle.std.proofs.Common.{◌^◌, sym, ◌∙◌, ap, subst, length, arith}
-use Rattle.asg_grade_lists.specs.GradeLists.{LeadTo}
-use Rattle.asg_square.specs.Grid.{cell_at}
+use Rattle.asg_objectives.proofs.Common.{◌^◌, length, sym, ap, ◌∙◌, subst, arith, LeadTo, cell_at}
 use Rattle.asg_objectives.proofs.ListedGrades.{list_few, list_proves}
 use Rattle.asg_objectives.proofs.listed_grades.tested_outcome.Goals as goal
 

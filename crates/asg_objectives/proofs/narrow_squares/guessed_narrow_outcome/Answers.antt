@@ -1,16 +1,11 @@
-use Rattle.std.proofs.Common.{subst}
-use Rattle.std.specs.Prelude.{IfOk, IfSome}
-use Rattle.asg_monoids.specs.BoundedSums.{bounded_sums, bounded_difference, plain_word, narrow_top}
-use Rattle.asg_proof.specs.Outcomes.{IsOutcome}
-use Rattle.asg_proof.specs.PromisedProofs.{GivesFewPhases}
-use Rattle.asg_objectives.specs.SolvedSquares.{IsSquareOutcome}
+use Rattle.asg_objectives.proofs.Common.{IfSome, IfOk, subst, bounded_sums, bounded_difference, plain_word, narrow_top, IsSquareOutcome, IsOutcome, GivesFewPhases}
 use Rattle.asg_objectives.proofs.EnteredOutcomes.{IfOk-weaker_some}
 use Rattle.asg_objectives.proofs.NarrowOutcomes.{HasValues-narrow, IsOutcome-narrow_square}
 use Rattle.asg_objectives.proofs.narrow_squares.guessed_narrow_outcome.Goals as goal
 
-pub guessed_outcome-requires-clause-values : goal.guessed_outcome-requires-clause-values
-guessed_outcome-requires-clause-values c =
-    HasValues-narrow c.args.objective c.requires.objective c.narrow_sums.ensures.values c.args.inst.now c.rows-rows.ensures.instance c.requires.passes c.args.square c.requires.square
+pub guessed_outcome-requires : goal.guessed_outcome-requires
+guessed_outcome-requires c =
+    record { values = HasValues-narrow c.args.objective c.requires.objective c.narrow_sums.ensures.values c.args.inst.now c.rows-rows.ensures.instance c.requires.passes c.args.square c.requires.square }
 
 pub returns-clause-outcome : goal.returns-clause-outcome
 returns-clause-outcome c =

@@ -1,10 +1,4 @@
-use Rattle.std.proofs.Common.{subst}
-use Rattle.std.specs.Prelude.{IfOk}
-use Rattle.std.proofs.lemmas.Result.{IfOk-weaker}
-use Rattle.asg_monoids.specs.BoundedSums.{bounded_sums, bounded_difference, plain_word, narrow_top}
-use Rattle.asg_proof.specs.Outcomes.{IsOutcome}
-use Rattle.asg_proof.specs.PromisedProofs.{GivesFewPhases}
-use Rattle.asg_objectives.specs.SolvedSquares.{IsSquareOutcome}
+use Rattle.asg_objectives.proofs.Common.{IfOk, subst, IfOk-weaker, bounded_sums, bounded_difference, plain_word, narrow_top, IsSquareOutcome, IsOutcome, GivesFewPhases}
 use Rattle.asg_objectives.proofs.NarrowOutcomes.{HasValues-narrow, IsOutcome-narrow_square}
 use Rattle.asg_objectives.proofs.narrow_squares.narrow_outcome.Goals as goal
 

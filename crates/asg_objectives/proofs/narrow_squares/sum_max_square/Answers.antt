@@ -1,10 +1,4 @@
-use Rattle.std.proofs.Common.{◌≡◌, arith}
-use Rattle.std.proofs.lemmas.Result.{IfOk-weaker}
-use Rattle.asg_model.specs.declared.objectives.Objective.TheVariants.{SumMax}
-use Rattle.asg_model.specs.declared.parts.Cost.{Cost}
-use Rattle.asg_monoids.specs.Entered.{cost_reach, sum_entered}
-use Rattle.asg_square.specs.Grid.{IsSquareBy, IsSquareOf}
-use Rattle.asg_proof.specs.laws.LiveCosts.{costs_may_enter}
+use Rattle.asg_objectives.proofs.Common.{◌≡◌, arith, IfOk-weaker, SumMax, Cost, cost_reach, sum_entered, costs_may_enter, IsSquareBy, IsSquareOf}
 use Rattle.asg_objectives.proofs.narrow_squares.sum_max_square.Goals as goal
 
 pub of-requires-clause-enters : goal.of-requires-clause-enters

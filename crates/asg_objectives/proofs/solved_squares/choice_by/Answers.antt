@@ -1,6 +1,4 @@
-use Rattle.std.proofs.Common.{◌≡◌, sym, ◌∙◌, ap, subst, arith}
-use Rattle.asg_square.specs.Grid.{IsPerm, IsValidWithin, grid_choice}
-use Rattle.asg_objectives.specs.SolvedSquares.{IsChoiceBy}
+use Rattle.asg_objectives.proofs.Common.{◌≡◌, sym, ap, ◌∙◌, subst, arith, IsChoiceBy, IsPerm, IsValidWithin, grid_choice}
 use Rattle.asg_objectives.proofs.MatchedColumns.{IfOk-both, IsPerm-matched}
 use Rattle.asg_objectives.proofs.solved_squares.choice_by.Goals as goal
 

@@ -1,5 +1,4 @@
-use Rattle.std.proofs.Common.{ℕ, ◌+◌, ◌<◌, List, length, get_or, sym, ap, subst, arith, length-append, ◌∷◌, []}
-use Rattle.asg_match.specs.Matching.{Matches}
+use Rattle.asg_objectives.proofs.Common.{ℕ, ◌+◌, ◌<◌, List, [], ◌∷◌, length, get_or, sym, ap, subst, arith, length-append, Matches}
 use Rattle.asg_objectives.proofs.MatchedColumns.{columns_more}
 use Rattle.asg_objectives.proofs.solved_squares.columns_of.Goals as goal
 

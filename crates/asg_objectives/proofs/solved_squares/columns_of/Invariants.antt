@@ -1,5 +1,4 @@
-use Rattle.std.proofs.Common.{ℕ, ◌≡◌, ◌<◌, length, get_or}
-use Rattle.asg_match.specs.Matching.{Matches}
+use Rattle.asg_objectives.proofs.Common.{◌≡◌, ℕ, ◌<◌, length, get_or, Matches}
 use Rattle.asg_objectives.proofs.solved_squares.columns_of.Given as goal
 
 -- the columns so far are those of the rows so far

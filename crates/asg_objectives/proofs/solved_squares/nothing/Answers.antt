@@ -1,7 +1,5 @@
-use Rattle.std.proofs.Common.{sym, subst}
+use Rattle.asg_objectives.proofs.Common.{sym, subst, IsPresent, cell_at}
 use Rattle.asg_match.specs.HallSets.{GivesHallSets}
-use Rattle.asg_square.specs.Cells.{IsPresent}
-use Rattle.asg_square.specs.Grid.{cell_at}
 use Rattle.asg_objectives.proofs.solved_squares.nothing.Goals as goal
 
 pub returns : goal.returns

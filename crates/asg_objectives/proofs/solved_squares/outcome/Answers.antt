@@ -1,4 +1,4 @@
-use Rattle.asg_objectives.specs.SolvedSquares.{IsNothingBy}
+use Rattle.asg_objectives.proofs.Common.{IsNothingBy}
 use Rattle.asg_objectives.proofs.LedSquares.{GivesFewPhases-nothing, IsSquareOutcome-nothing}
 use Rattle.asg_objectives.proofs.solved_squares.outcome.Goals as goal
 

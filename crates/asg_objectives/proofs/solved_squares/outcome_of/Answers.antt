@@ -1,16 +1,6 @@
-use Rattle.std.proofs.Common.{◌≡◌, sym, ◌∙◌, ap, subst, map}
-use Rattle.std.specs.Prelude.{IfSome}
-use Rattle.std.proofs.lemmas.Result.{IfOk-weaker}
-use Rattle.asg_admit.specs.Reduced.{KeepsLabels}
-use Rattle.asg_algebra.specs.Ended.{last_of, EndsIn}
+use Rattle.asg_objectives.proofs.Common.{◌≡◌, map, IfSome, sym, ap, ◌∙◌, subst, IfOk-weaker, AreOfValues, KeepsLabels, HasLabelsOf-kept, admitted_values, last_of, EndsIn, IsBestBy, IsNothingBy, IsSquareOutcome, IsLive, phases_to, worded, AreFewPhases, GivesFewPhases, IsPresent, cell_at}
 use Rattle.asg_match.specs.Deficient.{IsDeficient}
-use Rattle.asg_pool.specs.Forest.{IsLive, phases_to}
-use Rattle.asg_proof.specs.Phases.{worded}
-use Rattle.asg_square.specs.Cells.{IsPresent}
-use Rattle.asg_square.specs.Grid.{cell_at}
-use Rattle.asg_proof.specs.PromisedProofs.{AreFewPhases, GivesFewPhases}
-use Rattle.asg_objectives.specs.SolvedSquares.{AreOfValues, IsBestBy, IsNothingBy, IsSquareOutcome}
-use Rattle.asg_objectives.proofs.LedSquares.{IsPerfect-present, admitted_values, IsFoldOutcome-best, IsFoldOutcome-nothing, GivesFewPhases-best, GivesFewPhases-nothing, HasLabelsOf-kept, AreFewPhases-words}
+use Rattle.asg_objectives.proofs.LedSquares.{IsPerfect-present, IsFoldOutcome-best, IsFoldOutcome-nothing, GivesFewPhases-best, GivesFewPhases-nothing, AreFewPhases-words}
 use Rattle.asg_objectives.proofs.solved_squares.outcome_of.Goals as goal
 
 pub best-requires-clause-perfect : goal.best-requires-clause-perfect
@@ -83,7 +73,7 @@ nothing-requires-clause-labels g c =
     let s = c.requires.2 in
     let after = c.args.found.reduced in
     let lead = s.solved.lead in
-    HasLabelsOf-kept c.args.inst.now c.requires.0 after.now c.requires.1 (subst (λ q. KeepsLabels q after.now) s.start lead.labels)
+    HasLabelsOf-kept c.args.inst.now c.requires.0 after.now (subst (λ q. KeepsLabels q after.now) s.start lead.labels) c.requires.1
 
 pub nothing-requires-clause-short : goal.nothing-requires-clause-short
 nothing-requires-clause-short g c =

@@ -1,17 +1,6 @@
-use Rattle.std.proofs.Common.{ℕ, ◌≡◌, ◌∙◌, Option, None, length, refl, ap, subst, arith, List}
-use Rattle.std.specs.Prelude.{IfOk, is_none, Result, Ok, Err}
-use Rattle.std.proofs.lemmas.List.{length-replicate}
-use Rattle.std.proofs.lemmas.List.Sums.{count_by-le-length}
+use Rattle.asg_objectives.proofs.Common.{◌≡◌, ℕ, List, length, is_none, IfOk, None, Ok, Err, Option, Result, refl, ap, ◌∙◌, subst, arith, count_by-le-length, length-replicate, last_of, EndsIn, HasSolved, Matches, IsSolvedFrom, Workspace, Monoid, Forest, Grid}
 use Rattle.asg_algebra.specs.declared.square_solvers.SolvedSquare.{SolvedSquare}
-use Rattle.asg_algebra.specs.Ended.{last_of, EndsIn}
-use Rattle.asg_algebra.specs.Solved.{HasSolved}
-use Rattle.asg_match.specs.Matching.{Matches}
 use Rattle.asg_match.specs.laws.Matchings.{Matches-empty}
-use Rattle.asg_order.specs.Monoid.{Monoid}
-use Rattle.asg_pool.specs.Forest.{Forest}
-use Rattle.asg_square.specs.Grid.{Grid}
-use Rattle.asg_objectives.specs.declared.workspaces.Workspace.{Workspace}
-use Rattle.asg_objectives.specs.SolvedFrom.{IsSolvedFrom}
 use Rattle.asg_objectives.proofs.solved_squares.solve_in.Goals as goal
 
 solved_from : {V E : Type 0} (M : Monoid V) (d : V → V → V) (Q : Grid V) (z : V) (matching : List (Option ℕ)) (forest : Forest V) (memory : Workspace V) (r : Result (SolvedSquare V) E) → z ≡ M.unit → length matching ≡ Q.side → IfOk r (λ s. HasSolved M d (record { now = Q; index = z }) s.reduced matching memory.matching forest memory.region None (last_of s.ended)) → IfOk r (λ s. EndsIn M s.reduced memory.matching memory.bench.rows s.ended) → IfOk r (λ s. IsSolvedFrom M d Q s memory)

@@ -1,12 +1,4 @@
-use Rattle.std.proofs.Common.{◌≡◌, ℕ, List, map, ap, sym, subst, ◌∙◌}
-use Rattle.std.specs.Prelude.{All}
-use Rattle.asg_model.specs.Shapes.{square_side}
-use Rattle.asg_monoids.specs.BoundedSums.{bounded_sums, narrow_top, plain_word}
-use Rattle.asg_order.specs.declared.words.Word.{Word}
-use Rattle.asg_order.specs.Monoid.{IsValue}
-use Rattle.asg_proof.specs.FoldProofs.{ProvesPhases}
-use Rattle.asg_proof.specs.Phases.{PhaseOf, worded}
-use Rattle.asg_proof.specs.PromisedProofs.{AreFewPhases}
+use Rattle.asg_objectives.proofs.Common.{◌≡◌, ℕ, List, map, All, sym, ap, ◌∙◌, subst, square_side, bounded_sums, narrow_top, plain_word, IsValue, Word, ProvesPhases, PhaseOf, worded, AreFewPhases}
 use Rattle.asg_objectives.proofs.table_outcomes.proved_outcome.Goals as goal
 
 pub words_of-requires : goal.words_of-requires

@@ -1,5 +1,4 @@
-use Rattle.std.proofs.Common.{◌∷◌, [], ◌++◌, ◌∙◌, ap, subst}
-use Rattle.asg_proof.specs.Phases.{IsPhase}
+use Rattle.asg_objectives.proofs.Common.{[], ◌∷◌, ◌++◌, ap, ◌∙◌, subst, IsPhase}
 use Rattle.asg_objectives.proofs.trail_phases.push_words.Goals as goal
 
 pub returns-clause-words : goal.returns-clause-words

@@ -1,6 +1,4 @@
-use Rattle.std.proofs.Common.{length, refl, ap, arith}
-use Rattle.std.specs.Vec.Iter.{into_iter_items}
-use Rattle.asg_proof.specs.Phases.{worded}
+use Rattle.asg_objectives.proofs.Common.{length, refl, ap, arith, into_iter_items, worded}
 use Rattle.asg_objectives.proofs.WordedPhases.{IsWorded-next}
 use Rattle.asg_objectives.proofs.trail_phases.words_of.Goals as goal
 

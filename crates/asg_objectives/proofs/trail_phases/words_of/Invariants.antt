@@ -1,5 +1,4 @@
-use Rattle.std.proofs.Common.{◌≡◌, length}
-use Rattle.std.specs.Vec.Iter.{into_iter_items, into_iter_len}
+use Rattle.asg_objectives.proofs.Common.{◌≡◌, length, into_iter_items, into_iter_len}
 use Rattle.asg_objectives.proofs.WordedPhases.{IsWorded}
 use Rattle.asg_objectives.proofs.trail_phases.words_of.Given as goal
 

@@ -1,8 +1,4 @@
-use Rattle.std.proofs.Common.{arith}
-use Rattle.asg_monoids.specs.BoundedSums.{bounded_sums, bounded_difference, bounded_value, narrow_top, plain_word}
-use Rattle.asg_monoids.specs.laws.Bounded.{bounded_laws, bounded_word_laws}
-use Rattle.asg_square.specs.Grid.{cell_at}
-use Rattle.asg_replays.specs.WholeLists.{HaveIndex}
+use Rattle.asg_phase_verdicts.proofs.Common.{arith, bounded_sums, bounded_difference, bounded_value, narrow_top, plain_word, bounded_laws, bounded_word_laws, HaveIndex, cell_at}
 use Rattle.asg_phase_verdicts.proofs.NarrowSums.{lesser_index}
 use Rattle.asg_phase_verdicts.proofs.PhaseTold.{index_value, told_have}
 use Rattle.asg_phase_verdicts.proofs.capped_verdicts.capped_verdict.Goals.{Then-index-m}

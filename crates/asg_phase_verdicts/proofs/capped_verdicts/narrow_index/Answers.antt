@@ -1,5 +1,4 @@
-use Rattle.std.proofs.Common.{◌≤◌, arith}
-use Rattle.asg_monoids.specs.BoundedSums.{narrow_top}
+use Rattle.asg_phase_verdicts.proofs.Common.{◌≤◌, arith, narrow_top}
 use Rattle.asg_phase_verdicts.proofs.capped_verdicts.narrow_index.Goals as goal
 
 pub returns-in-Some : goal.returns-in-Some

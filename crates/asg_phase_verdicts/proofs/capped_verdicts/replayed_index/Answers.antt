@@ -1,10 +1,4 @@
-use Rattle.std.proofs.Common.{sym, subst}
-use Rattle.asg_monoids.specs.BoundedSums.{bounded_sums, bounded_difference, narrow_top, plain_word}
-use Rattle.asg_monoids.specs.laws.Bounded.{bounded_laws}
-use Rattle.asg_square.specs.Grid.{cell_at}
-use Rattle.asg_replays.specs.Replays.{AreReplayed}
-use Rattle.asg_phase_verdicts.specs.SumReplays.{StopsAt}
-use Rattle.asg_replays.specs.WholeLists.{HaveIndex}
+use Rattle.asg_phase_verdicts.proofs.Common.{sym, subst, bounded_sums, bounded_difference, narrow_top, plain_word, bounded_laws, StopsAt, AreReplayed, HaveIndex, cell_at}
 use Rattle.asg_phase_verdicts.proofs.PhaseTold.{replayed_index}
 use Rattle.asg_phase_verdicts.proofs.capped_verdicts.replayed_index.Goals as goal
 

@@ -1,10 +1,4 @@
-use Rattle.std.proofs.Common.{◌≡◌, ℕ, sym, subst}
-use Rattle.std.specs.Prelude.{IfOk, IfSome}
-use Rattle.asg_admit.specs.Reduced.{IsReduced}
-use Rattle.asg_admit.specs.declared.reduced.Reduced.{Reduced}
-use Rattle.asg_monoids.specs.BoundedSums.{bounded_sums, bounded_difference, narrow_top, plain_word}
-use Rattle.asg_square.specs.Grid.{cell_at}
-use Rattle.asg_replays.specs.WholeLists.{HaveIndex}
+use Rattle.asg_phase_verdicts.proofs.Common.{◌≡◌, ℕ, IfSome, IfOk, sym, subst, IsReduced, Reduced, bounded_sums, bounded_difference, narrow_top, plain_word, HaveIndex, cell_at}
 use Rattle.asg_phase_verdicts.proofs.capped_verdicts.replays_index.Goals as goal
 
 pub replayed_index-requires-clause-reduced : goal.replayed_index-requires-clause-reduced

@@ -1,12 +1,5 @@
-use Rattle.std.proofs.lemmas.Result.{IfOk-weaker}
-use Rattle.asg_monoids.specs.BoundedSums.{bounded_sums, bounded_difference}
-use Rattle.asg_monoids.specs.Grades.{graded, graded_difference, graded_value, graded_word}
-use Rattle.asg_monoids.specs.laws.Bounded.{bounded_laws}
+use Rattle.asg_phase_verdicts.proofs.Common.{IfOk-weaker, bounded_sums, bounded_difference, graded, graded_difference, graded_value, graded_word, bounded_laws, StandsFrom, Tells, phase_reasons, replayed-none, cell_at}
 use Rattle.asg_monoids.specs.laws.Graded.{graded_laws, graded_word_laws}
-use Rattle.asg_reasons.specs.Verdicts.{Tells, phase_reasons}
-use Rattle.asg_phase_verdicts.specs.Replays.{StandsFrom}
-use Rattle.asg_replays.specs.laws.Replaying.{replayed-none}
-use Rattle.asg_square.specs.Grid.{cell_at}
 use Rattle.asg_phase_verdicts.proofs.PhaseTold.{index_value, told_have}
 use Rattle.asg_phase_verdicts.proofs.grade_verdicts.grade_verdict.Goals as goal
 

@@ -1,11 +1,4 @@
-use Rattle.std.proofs.Common.{refl}
-use Rattle.std.specs.Prelude.{unsigned_abs}
-use Rattle.asg_model.specs.declared.objectives.Objective.TheVariants.{Capped}
-use Rattle.asg_monoids.specs.BoundedSums.{bounded_sums}
-use Rattle.asg_monoids.specs.laws.Bounded.{bounded_laws}
-use Rattle.asg_monoids.specs.Entered.{cost_reach, sum_entered}
-use Rattle.asg_replays.specs.laws.LiveCosts.{live_values}
-use Rattle.asg_replays.specs.laws.Starts.{start_of}
+use Rattle.asg_phase_verdicts.proofs.Common.{unsigned_abs, refl, Capped, bounded_sums, cost_reach, sum_entered, bounded_laws, live_values, start_of}
 use Rattle.asg_phase_verdicts.proofs.NarrowSums.{capped_value}
 use Rattle.asg_phase_verdicts.proofs.narrow_starts.capped_start.Goals as goal
 

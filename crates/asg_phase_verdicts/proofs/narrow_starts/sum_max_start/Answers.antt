@@ -1,10 +1,4 @@
-use Rattle.std.proofs.Common.{refl, inr}
-use Rattle.asg_model.specs.declared.objectives.Objective.TheVariants.{SumMax}
-use Rattle.asg_monoids.specs.BoundedSums.{bounded_sums, narrow_top}
-use Rattle.asg_monoids.specs.laws.Bounded.{bounded_laws}
-use Rattle.asg_monoids.specs.Entered.{cost_reach, sum_entered}
-use Rattle.asg_replays.specs.laws.LiveCosts.{live_values}
-use Rattle.asg_replays.specs.laws.Starts.{start_of}
+use Rattle.asg_phase_verdicts.proofs.Common.{refl, inr, SumMax, bounded_sums, narrow_top, cost_reach, sum_entered, bounded_laws, live_values, start_of}
 use Rattle.asg_phase_verdicts.proofs.NarrowSums.{narrow_values}
 use Rattle.asg_phase_verdicts.proofs.narrow_starts.sum_max_start.Goals as goal
 

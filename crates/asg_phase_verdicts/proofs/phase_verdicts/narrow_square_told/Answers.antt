@@ -1,12 +1,4 @@
-use Rattle.std.proofs.Common.{sym, subst, arith}
-use Rattle.std.proofs.lemmas.Option.{IfSome_then}
-use Rattle.asg_monoids.specs.BoundedSums.{bounded_sums, bounded_difference, narrow_top, plain_word}
-use Rattle.asg_monoids.specs.Entered.{cost_reach, sum_entered}
-use Rattle.asg_square.specs.Grid.{cell_at}
-use Rattle.asg_proof.specs.laws.LiveCosts.{lies_within}
-use Rattle.asg_reasons.specs.Verdicts.{Tells, phase_reasons}
-use Rattle.asg_replays.specs.Replays.{IsStart}
-use Rattle.asg_phase_verdicts.specs.Replays.{StandsFrom}
+use Rattle.asg_phase_verdicts.proofs.Common.{sym, subst, arith, IfSome_then, bounded_sums, bounded_difference, narrow_top, plain_word, cost_reach, sum_entered, StandsFrom, lies_within, Tells, phase_reasons, IsStart, cell_at}
 use Rattle.asg_phase_verdicts.proofs.NarrowSums.{start_up, wide_top}
 use Rattle.asg_phase_verdicts.proofs.PhaseTold.{told_over, told_sums}
 use Rattle.asg_phase_verdicts.proofs.phase_verdicts.narrow_square_told.Goals as goal

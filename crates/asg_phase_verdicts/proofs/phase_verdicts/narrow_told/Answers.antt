@@ -1,8 +1,5 @@
-use Rattle.std.proofs.Common.{sym, subst}
-use Rattle.std.specs.Prelude.{IfOk, IfSome}
+use Rattle.asg_phase_verdicts.proofs.Common.{IfSome, IfOk, sym, subst, StandsFor, Tells, phase_reasons}
 use Rattle.asg_model.specs.Refused.{PassesNegative}
-use Rattle.asg_reasons.specs.Verdicts.{Tells, phase_reasons}
-use Rattle.asg_phase_verdicts.specs.Replays.{StandsFor}
 use Rattle.asg_phase_verdicts.proofs.phase_verdicts.narrow_told.Goals as goal
 
 pub capped_told-requires-clause-passes : goal.capped_told-requires-clause-passes

@@ -1,7 +1,4 @@
-use Rattle.std.proofs.Common.{arith}
-use Rattle.std.proofs.lemmas.Result.{IfOk-weaker}
-use Rattle.asg_monoids.specs.Entered.{cost_reach}
-use Rattle.asg_proof.specs.laws.LiveCosts.{lies_within}
+use Rattle.asg_phase_verdicts.proofs.Common.{arith, IfOk-weaker, cost_reach, lies_within}
 use Rattle.asg_phase_verdicts.proofs.PhaseTold.{told_peaks}
 use Rattle.asg_phase_verdicts.proofs.phase_verdicts.phases_verdict.Goals as goal
 

@@ -1,11 +1,5 @@
-use Rattle.std.proofs.Common.{sym, ap, subst, ◌∙◌}
-use Rattle.asg_order.specs.Bridge.{choice_fold}
-use Rattle.asg_order.specs.Monoid.{IsValue}
-use Rattle.asg_reasons.specs.Verdicts.{Tells, phase_reasons}
-use Rattle.asg_replays.specs.Replays.{IsStart}
-use Rattle.asg_phase_verdicts.specs.Replays.{StandsOver}
+use Rattle.asg_phase_verdicts.proofs.Common.{sym, ap, ◌∙◌, subst, choice_fold, IsValue, StandsOver, Tells, phase_reasons, IsStart, replayed-none}
 use Rattle.asg_phase_verdicts.proofs.PhaseTold.{told_over}
-use Rattle.asg_replays.specs.laws.Replaying.{replayed-none}
 use Rattle.asg_phase_verdicts.proofs.phase_verdicts.replayed_verdict.Goals as goal
 
 pub square_verdict-requires-clause-reduced : goal.square_verdict-requires-clause-reduced

@@ -1,13 +1,4 @@
-use Rattle.std.proofs.Common.{sym, subst, arith}
-use Rattle.asg_monoids.specs.BoundedSums.{bounded_sums, bounded_difference, plain_word}
-use Rattle.asg_monoids.specs.Entered.{sum_entered}
-use Rattle.asg_order.specs.Monoid.{IsValue}
-use Rattle.asg_square.specs.Grid.{cell_at}
-use Rattle.asg_admit.specs.Reduced.{IsReduced}
-use Rattle.asg_monoids.specs.Entered.{cost_reach}
-use Rattle.asg_proof.specs.laws.LiveCosts.{lies_within}
-use Rattle.asg_reasons.specs.Verdicts.{Tells, phase_reasons}
-use Rattle.asg_phase_verdicts.specs.Replays.{StandsFrom}
+use Rattle.asg_phase_verdicts.proofs.Common.{sym, subst, arith, IsReduced, bounded_sums, bounded_difference, plain_word, sum_entered, cost_reach, IsValue, StandsFrom, lies_within, Tells, phase_reasons, cell_at}
 use Rattle.asg_phase_verdicts.proofs.PhaseTold.{told_over, told_sums}
 use Rattle.asg_phase_verdicts.proofs.phase_verdicts.summed_verdict.Goals as goal
 

@@ -1,13 +1,4 @@
-use Rattle.std.proofs.Common.{sym, subst, arith}
-use Rattle.asg_monoids.specs.BoundedSums.{bounded_sums, bounded_difference}
-use Rattle.asg_monoids.specs.Entered.{cost_reach, time_entered}
-use Rattle.asg_monoids.specs.Grades.{graded, graded_difference, graded_word}
-use Rattle.asg_order.specs.Monoid.{IsValue}
-use Rattle.asg_square.specs.Grid.{cell_at}
-use Rattle.asg_admit.specs.Reduced.{IsReduced}
-use Rattle.asg_reasons.specs.Verdicts.{Tells, phase_reasons}
-use Rattle.asg_phase_verdicts.specs.Replays.{StandsFrom}
-use Rattle.asg_proof.specs.laws.LiveCosts.{lies_within}
+use Rattle.asg_phase_verdicts.proofs.Common.{sym, subst, arith, IsReduced, bounded_sums, bounded_difference, cost_reach, time_entered, graded, graded_difference, graded_word, IsValue, StandsFrom, lies_within, Tells, phase_reasons, cell_at}
 use Rattle.asg_phase_verdicts.proofs.PhaseTold.{told_over, told_times}
 use Rattle.asg_phase_verdicts.proofs.phase_verdicts.timed_verdict.Goals as goal
 

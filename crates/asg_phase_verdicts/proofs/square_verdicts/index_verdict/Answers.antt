@@ -1,5 +1,4 @@
-use Rattle.std.proofs.Common.{inl, inr, refl, sym, ◌∙◌}
-use Rattle.std.proofs.lemmas.Bool.{false≢true}
+use Rattle.asg_phase_verdicts.proofs.Common.{sym, refl, ◌∙◌, inl, inr, false≢true}
 use Rattle.asg_phase_verdicts.proofs.square_verdicts.index_verdict.Goals as goal
 
 pub returns-then-is_same : goal.returns-then-is_same

@@ -1,9 +1,4 @@
-use Rattle.std.proofs.Common.{take, sym, subst}
-use Rattle.asg_monoids.specs.BoundedSums.{bounded_sums, bounded_difference, bounded_value, plain_word}
-use Rattle.asg_monoids.specs.laws.Bounded.{bounded_laws, bounded_word_laws}
-use Rattle.asg_square.specs.Grid.{cell_at}
-use Rattle.asg_replays.specs.Replays.{AreReplayed, IsAdmittedFrom, IsReplayed}
-use Rattle.asg_replays.specs.laws.Replaying.{first-bad, replayed-none, replayed-push}
+use Rattle.asg_phase_verdicts.proofs.Common.{take, sym, subst, bounded_sums, bounded_difference, bounded_value, plain_word, bounded_laws, bounded_word_laws, AreReplayed, IsAdmittedFrom, IsReplayed, first-bad, replayed-none, replayed-push, cell_at}
 use Rattle.asg_phase_verdicts.proofs.sum_replays.first_stop.Goals as goal
 
 pub loop-place-init : goal.loop-place-init

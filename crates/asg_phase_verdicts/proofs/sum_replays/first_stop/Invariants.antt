@@ -1,6 +1,4 @@
-use Rattle.std.proofs.Common.{take}
-use Rattle.asg_monoids.specs.BoundedSums.{bounded_sums, bounded_difference, plain_word}
-use Rattle.asg_replays.specs.Replays.{AreReplayed}
+use Rattle.asg_phase_verdicts.proofs.Common.{take, bounded_sums, bounded_difference, plain_word, AreReplayed}
 use Rattle.asg_phase_verdicts.proofs.sum_replays.first_stop.Given as goal
 
 -- the phases so far lead to the square as it is

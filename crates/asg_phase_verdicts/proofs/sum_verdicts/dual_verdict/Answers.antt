@@ -1,14 +1,4 @@
-use Rattle.std.proofs.Common.{◌≡◌, ◌≢◌, ◌⊎◌, ◌<◌, length, take, sym, subst, arith}
-use Rattle.std.specs.Prelude.{pos}
-use Rattle.std.proofs.lemmas.Result.{IfOk-weaker}
-use Rattle.asg_admit.specs.Reduced.{IsReduced}
-use Rattle.asg_monoids.specs.BoundedSums.{bounded_sums, bounded_difference, bounded_value, plain_word}
-use Rattle.asg_monoids.specs.laws.Bounded.{bounded_laws, bounded_word_laws}
-use Rattle.asg_order.specs.Monoid.{IsValue}
-use Rattle.asg_square.specs.Grid.{cell_at}
-use Rattle.asg_reasons.specs.declared.verdicts.Verdict.TheVariants.{No, Yes}
-use Rattle.asg_replays.specs.Replays.{AreReplayed, IsFirstBad}
-use Rattle.asg_phase_verdicts.specs.SumReplays.{StopsAt}
+use Rattle.asg_phase_verdicts.proofs.Common.{◌≡◌, ◌<◌, ◌≢◌, ◌⊎◌, length, take, pos, sym, subst, arith, IfOk-weaker, IsReduced, bounded_sums, bounded_difference, bounded_value, plain_word, bounded_laws, bounded_word_laws, IsValue, StopsAt, No, Yes, AreReplayed, IsFirstBad, cell_at}
 use Rattle.asg_phase_verdicts.proofs.PhaseTold.{bad_from, told_index}
 use Rattle.asg_phase_verdicts.proofs.sum_verdicts.dual_verdict.Goals as goal
 

@@ -1,11 +1,4 @@
-use Rattle.std.proofs.Common.{◌≡◌, ℕ, sym, subst}
-use Rattle.std.specs.Prelude.{IfOk, IfSome}
-use Rattle.asg_admit.specs.Reduced.{IsReduced}
-use Rattle.asg_admit.specs.declared.reduced.Reduced.{Reduced}
-use Rattle.asg_monoids.specs.BoundedSums.{bounded_sums, bounded_difference, narrow_top, plain_word}
-use Rattle.asg_square.specs.Grid.{cell_at}
-use Rattle.asg_reasons.specs.Verdicts.{Tells, phase_reasons}
-use Rattle.asg_phase_verdicts.specs.Replays.{StandsFrom}
+use Rattle.asg_phase_verdicts.proofs.Common.{◌≡◌, ℕ, IfSome, IfOk, sym, subst, IsReduced, Reduced, bounded_sums, bounded_difference, narrow_top, plain_word, StandsFrom, Tells, phase_reasons, cell_at}
 use Rattle.asg_phase_verdicts.proofs.NarrowSums.{reduced_up}
 use Rattle.asg_phase_verdicts.proofs.sum_verdicts.narrow_replays_verdict.Goals as goal
 

@@ -1,11 +1,4 @@
-use Rattle.std.proofs.Common.{◌≡◌, ℕ, sym, subst}
-use Rattle.std.specs.Prelude.{IfOk}
-use Rattle.asg_admit.specs.Reduced.{IsReduced}
-use Rattle.asg_admit.specs.declared.reduced.Reduced.{Reduced}
-use Rattle.asg_monoids.specs.BoundedSums.{bounded_sums, bounded_difference, plain_word}
-use Rattle.asg_square.specs.Grid.{cell_at}
-use Rattle.asg_reasons.specs.Verdicts.{Tells, phase_reasons}
-use Rattle.asg_phase_verdicts.specs.Replays.{StandsFrom}
+use Rattle.asg_phase_verdicts.proofs.Common.{◌≡◌, ℕ, IfOk, sym, subst, IsReduced, Reduced, bounded_sums, bounded_difference, plain_word, StandsFrom, Tells, phase_reasons, cell_at}
 use Rattle.asg_phase_verdicts.proofs.sum_verdicts.replays_verdict.Goals as goal
 
 pub dual_verdict-requires-clause-reduced : goal.dual_verdict-requires-clause-reduced

@@ -1,8 +1,4 @@
-use Rattle.std.proofs.lemmas.Result.{IfOk-weaker}
-use Rattle.asg_monoids.specs.BoundedSums.{bounded_sums, bounded_difference, bounded_value, plain_word}
-use Rattle.asg_monoids.specs.laws.Bounded.{bounded_laws, bounded_word_laws}
-use Rattle.asg_replays.specs.laws.Replaying.{replayed-none}
-use Rattle.asg_square.specs.Grid.{cell_at}
+use Rattle.asg_phase_verdicts.proofs.Common.{IfOk-weaker, bounded_sums, bounded_difference, bounded_value, plain_word, bounded_laws, bounded_word_laws, replayed-none, cell_at}
 use Rattle.asg_phase_verdicts.proofs.PhaseTold.{index_value, told_have}
 use Rattle.asg_phase_verdicts.proofs.sum_verdicts.sum_verdict.Goals as goal
 

@@ -1,4 +1,4 @@
-use Rattle.std.proofs.Common.{arith}
+use Rattle.asg_phase_verdicts.proofs.Common.{arith}
 use Rattle.asg_phase_verdicts.proofs.sum_verdicts.wide_index.Goals as goal
 
 pub returns-in-Some : goal.returns-in-Some

@@ -1,8 +1,4 @@
-use Rattle.asg_model.specs.Shapes.{square_side}
-use Rattle.asg_monoids.specs.BoundedSums.{bounded_sums, bounded_difference, bounded_value, plain_word}
-use Rattle.asg_monoids.specs.Entered.{sum_entered}
-use Rattle.asg_monoids.specs.laws.Bounded.{bounded_laws, bounded_word_laws}
-use Rattle.asg_square.specs.Cells.{square_cell}
+use Rattle.asg_phase_verdicts.proofs.Common.{square_side, bounded_sums, bounded_difference, bounded_value, plain_word, sum_entered, bounded_laws, bounded_word_laws, square_cell}
 use Rattle.asg_phase_verdicts.proofs.PhaseTold.{index_value, told_have}
 use Rattle.asg_phase_verdicts.proofs.table_verdicts.index_told.Goals as goal
 

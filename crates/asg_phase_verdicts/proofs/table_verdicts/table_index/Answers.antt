@@ -1,4 +1,4 @@
-use Rattle.std.proofs.Common.{sym, ◌∙◌}
+use Rattle.asg_phase_verdicts.proofs.Common.{sym, ◌∙◌}
 use Rattle.asg_phase_verdicts.proofs.NarrowSums.{narrow_is}
 use Rattle.asg_phase_verdicts.proofs.table_verdicts.table_index.Goals as goal
 

@@ -1,12 +1,4 @@
-use Rattle.std.proofs.Common.{sym, subst, arith}
-use Rattle.std.proofs.lemmas.Option.{IfSome_then}
-use Rattle.asg_model.specs.Shapes.{square_side}
-use Rattle.asg_monoids.specs.BoundedSums.{bounded_sums, bounded_difference, plain_word}
-use Rattle.asg_monoids.specs.Entered.{cost_reach, sum_entered}
-use Rattle.asg_square.specs.Cells.{square_cell}
-use Rattle.asg_proof.specs.laws.LiveCosts.{lies_within}
-use Rattle.asg_reasons.specs.Verdicts.{Tells, phase_reasons}
-use Rattle.asg_phase_verdicts.specs.Replays.{StandsFrom}
+use Rattle.asg_phase_verdicts.proofs.Common.{sym, subst, arith, IfSome_then, square_side, bounded_sums, bounded_difference, plain_word, cost_reach, sum_entered, StandsFrom, lies_within, Tells, phase_reasons, square_cell}
 use Rattle.asg_phase_verdicts.proofs.PhaseTold.{told_sums}
 use Rattle.asg_phase_verdicts.proofs.table_verdicts.table_told.Goals as goal
 

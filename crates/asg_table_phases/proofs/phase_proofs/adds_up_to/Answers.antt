@@ -1,7 +1,4 @@
-use Rattle.std.proofs.Common.{sym, subst, arith}
-use Rattle.asg_model.specs.Refused.{PassesNegative}
-use Rattle.asg_monoids.specs.Entered.{cost_reach}
-use Rattle.asg_proof.specs.laws.LiveCosts.{lies_within}
+use Rattle.asg_table_phases.proofs.Common.{sym, subst, arith, PassesNegative, cost_reach, lies_within}
 use Rattle.asg_table_phases.proofs.ProvedChoices.{is_sum, passes}
 use Rattle.asg_table_phases.proofs.phase_proofs.adds_up_to.Goals as goal
 

@@ -1,12 +1,5 @@
-use Rattle.std.proofs.Common.{◌^◌, length, sym, ap, subst, ◌∙◌, arith}
-use Rattle.std.specs.Prelude.{IfSome, Option}
-use Rattle.asg_phase_totals.specs.PhaseTotals.{AreTotals, Totals}
-use Rattle.asg_model.specs.Shapes.{square_side}
-use Rattle.asg_monoids.specs.BoundedSums.{narrow_top}
-use Rattle.asg_monoids.specs.Entered.{sum_entered}
-use Rattle.asg_square.specs.Cells.{square_cell}
-use Rattle.asg_table_phases.specs.Sizes.{AreSized}
-use Rattle.asg_table_phases.proofs.ProvedChoices.{admitted_values, few_phases, proves_choice}
+use Rattle.asg_table_phases.proofs.Common.{◌^◌, length, IfSome, Option, sym, ap, ◌∙◌, subst, arith, admitted_values, square_side, bounded_sums, bounded_difference, narrow_top, sum_entered, AreTotals, Totals, square_cell, AreSized}
+use Rattle.asg_table_phases.proofs.ProvedChoices.{few_phases, proves_choice}
 use Rattle.asg_table_phases.proofs.TableCells.{side_is}
 use Rattle.asg_table_phases.proofs.phase_proofs.proves.Goals as goal
 
@@ -32,5 +25,5 @@ returns-clause-values c = λ _.
     let X = c.args.inst.now in
     let phases = c.args.phases.now in
     let are = subst (λ (found : Option Totals). IfSome found (AreTotals phases)) c.in-Some.is c.in_ok-totals.ensures.totals in
-    admitted_values narrow_top (square_side X) phases (square_cell X 0 (sum_entered c.args.objective))
+    admitted_values (bounded_sums narrow_top) bounded_difference (square_side X) phases (square_cell X 0 (sum_entered c.args.objective))
     (c.fits_table.ensures.admitted c.if-not-fits_table.false narrow_top phases (omega arith) are)

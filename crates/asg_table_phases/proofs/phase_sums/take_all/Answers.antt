@@ -1,7 +1,4 @@
-use Rattle.std.proofs.Common.{◌≡◌, ℕ, ◌+◌, ◌-◌, ◌<◌, [], ◌∷◌, length, drop, get_or, refl, sym, ◌∙◌, ap, subst, arith}
-use Rattle.std.proofs.lemmas.List.{drop_all, drop_more}
-use Rattle.asg_phase_totals.specs.PhaseTotals.{AreTotals}
-use Rattle.asg_proof.specs.Phases.{PhaseOf}
+use Rattle.asg_table_phases.proofs.Common.{◌≡◌, ℕ, ◌+◌, ◌-◌, ◌<◌, [], ◌∷◌, length, get_or, drop, sym, refl, ap, ◌∙◌, subst, arith, drop_all, drop_more, AreTotals, PhaseOf}
 use Rattle.asg_table_phases.proofs.phase_sums.take_all.Goals as goal
 
 pub phases-init : goal.phases-init

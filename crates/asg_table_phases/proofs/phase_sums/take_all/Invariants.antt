@@ -1,5 +1,4 @@
-use Rattle.std.proofs.Common.{◌≡◌, ◌-◌, drop, length}
-use Rattle.asg_phase_totals.specs.PhaseTotals.{AreTotals}
+use Rattle.asg_table_phases.proofs.Common.{◌≡◌, ◌-◌, length, drop, AreTotals}
 use Rattle.asg_table_phases.proofs.phase_sums.take_all.Given as goal
 
 -- the totals are those of the phases from here on

@@ -1,6 +1,4 @@
-use Rattle.std.proofs.Common.{◌≡◌, ℕ, List, ◌∷◌, ap, ◌∙◌, subst}
-use Rattle.asg_phase_totals.specs.PhaseTotals.{AreTotals}
-use Rattle.asg_proof.specs.Phases.{PhaseOf, phase_of}
+use Rattle.asg_table_phases.proofs.Common.{◌≡◌, ℕ, List, ◌∷◌, ap, ◌∙◌, subst, AreTotals, PhaseOf, phase_of}
 use Rattle.asg_table_phases.proofs.phase_sums.take_in.Goals as goal
 
 -- a phase is that of its lists

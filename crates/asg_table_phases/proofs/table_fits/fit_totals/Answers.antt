@@ -1,5 +1,4 @@
-use Rattle.std.proofs.Common.{ℕ, List, subst, arith}
-use Rattle.asg_table_phases.specs.TableRows.{FitsRows}
+use Rattle.asg_table_phases.proofs.Common.{ℕ, List, subst, arith, FitsRows}
 use Rattle.asg_table_phases.proofs.table_fits.fit_totals.Goals as goal
 
 pub returns : goal.returns

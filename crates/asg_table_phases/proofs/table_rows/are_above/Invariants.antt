@@ -1,7 +1,4 @@
-use Rattle.std.proofs.Common.{ℕ, ◌+◌, ◌<◌, pos, ◌+ℤ◌}
-use Rattle.std.specs.Prelude.{IsTrue, ◌≤ℤ◌, slice_index, slice_index_or}
-use Rattle.asg_model.specs.Limits.{most_cost}
-use Rattle.asg_model.specs.Table.{absent}
+use Rattle.asg_table_phases.proofs.Common.{ℕ, ◌+◌, ◌<◌, pos, ◌+ℤ◌, ◌≤ℤ◌, IsTrue, slice_index, slice_index_or, most_cost, absent}
 use Rattle.asg_table_phases.proofs.table_rows.are_above.Given as goal
 
 -- the columns so far have cells that are at least their numbers

@@ -1,6 +1,4 @@
-use Rattle.std.proofs.Common.{ℕ, ◌<◌}
-use Rattle.std.specs.Prelude.{slice_index}
-use Rattle.asg_table_phases.specs.TableRows.{FitsRow}
+use Rattle.asg_table_phases.proofs.Common.{ℕ, ◌<◌, slice_index, FitsRow}
 use Rattle.asg_table_phases.proofs.table_rows.rows_fit.Given as goal
 
 -- the rows so far do so

@@ -1,6 +1,4 @@
-use Rattle.std.proofs.Common.{◌≡◌, ◌<◌, ◌≤◌, arith, sym, subst, ⊎_elim}
-use Rattle.std.proofs.lemmas.Bool.{cases_lt}
-use Rattle.asg_table_sums.specs.Level.{IsFull}
+use Rattle.asg_table_sums.proofs.Common.{◌≡◌, ◌<◌, ◌≤◌, sym, subst, ⊎_elim, arith, cases_lt, IsFull}
 use Rattle.asg_table_sums.proofs.fullness.are_full.Goals as goal
 
 pub columns-preserved : goal.columns-preserved

@@ -1,5 +1,4 @@
-use Rattle.std.proofs.Common.{ℕ, ◌<◌}
-use Rattle.asg_table_sums.specs.Level.{IsFull}
+use Rattle.asg_table_sums.proofs.Common.{ℕ, ◌<◌, IsFull}
 use Rattle.asg_table_sums.proofs.fullness.are_full.Given as goal
 
 -- the columns so far don't rise, or are full

@@ -1,11 +1,5 @@
 -- One more row.
-use Rattle.std.proofs.Common.{◌≡◌, ℕ, ◌+◌, ◌<◌, List, cond, length, get_or, ap, sym, ◌∙◌, arith}
-use Rattle.std.specs.Prelude.{Option, None, slice_index}
-use Rattle.std.proofs.lemmas.Option.{slice_get-get_or, same_Some}
-use Rattle.std.proofs.lemmas.List.{get_or-replicate}
-use Rattle.std.proofs.lemmas.List.Sums.{sum_by_more}
-use Rattle.asg_model.specs.Limits.{most_columns}
-use Rattle.asg_model.specs.ValidChoice.{takes}
+use Rattle.asg_table_sums.proofs.Common.{◌≡◌, ℕ, ◌+◌, ◌<◌, cond, List, length, get_or, slice_index, None, Option, sym, ap, ◌∙◌, arith, get_or-replicate, same_Some, slice_get-get_or, sum_by_more, most_columns, takes}
 use Rattle.asg_table_sums.proofs.fullness.takers.Goals as goal
 
 pub loop-row-init : goal.loop-row-init

@@ -1,7 +1,4 @@
-use Rattle.std.proofs.Common.{◌≡◌, ℕ, ◌<◌, take}
-use Rattle.std.specs.Prelude.{count_by, slice_index}
-use Rattle.asg_model.specs.Limits.{most_columns}
-use Rattle.asg_model.specs.ValidChoice.{takes}
+use Rattle.asg_table_sums.proofs.Common.{◌≡◌, ℕ, ◌<◌, take, slice_index, count_by, most_columns, takes}
 use Rattle.asg_table_sums.proofs.fullness.takers.Given as goal
 
 abbrev pub invariant-loop-row : goal.invariant-loop-row

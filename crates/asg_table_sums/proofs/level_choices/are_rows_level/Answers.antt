@@ -1,9 +1,4 @@
-use Rattle.std.proofs.Common.{◌≡◌, ◌<◌, ◌≤◌, arith, sym, subst, ⊎_elim, to_z, of_z}
-use Rattle.std.specs.Int.{w64}
-use Rattle.std.proofs.lemmas.Bool.{cases_lt}
-use Rattle.std.proofs.lemmas.Int.{to_z-of_z}
-use Rattle.asg_monoids.specs.Entered.{shifted}
-use Rattle.asg_table_sums.specs.Level.{IsRowLevel}
+use Rattle.asg_table_sums.proofs.Common.{◌≡◌, ◌<◌, ◌≤◌, sym, subst, ⊎_elim, arith, to_z-of_z, to_z, of_z, cases_lt, shifted, IsRowLevel, w64}
 use Rattle.asg_table_sums.proofs.level_choices.are_rows_level.Goals as goal
 
 pub rows-preserved : goal.rows-preserved

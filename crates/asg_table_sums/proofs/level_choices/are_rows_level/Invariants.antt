@@ -1,6 +1,4 @@
-use Rattle.std.proofs.Common.{ℕ, ◌<◌}
-use Rattle.asg_monoids.specs.Entered.{shifted}
-use Rattle.asg_table_sums.specs.Level.{IsRowLevel}
+use Rattle.asg_table_sums.proofs.Common.{ℕ, ◌<◌, shifted, IsRowLevel}
 use Rattle.asg_table_sums.proofs.level_choices.are_rows_level.Given as goal
 
 -- the rows so far are level

@@ -1,4 +1,4 @@
-use Rattle.std.proofs.Common.{refl}
+use Rattle.asg_table_sums.proofs.Common.{refl}
 use Rattle.asg_table_sums.proofs.level_choices.tested.Goals as goal
 
 pub returns-then-is_level : goal.returns-then-is_level

@@ -1,7 +1,4 @@
-use Rattle.std.proofs.Common.{ℕ, ◌<◌, pos, ◌-ℤ◌}
-use Rattle.std.specs.Prelude.{◌≤ℤ◌, slice_index_or}
-use Rattle.asg_model.specs.Table.{absent}
-use Rattle.asg_table_sums.specs.Level.{rise_at}
+use Rattle.asg_table_sums.proofs.Common.{ℕ, ◌<◌, pos, ◌-ℤ◌, ◌≤ℤ◌, slice_index_or, absent, rise_at}
 use Rattle.asg_table_sums.proofs.level_rows.are_below.Given as goal
 
 -- the columns so far are at least the level

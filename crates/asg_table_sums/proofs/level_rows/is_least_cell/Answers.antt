@@ -1,9 +1,4 @@
-use Rattle.std.proofs.Common.{◌+◌, ◌≤◌, ◌≤ℤ◌, ◌+ℤ◌, ◌-ℤ◌, pos, slice_index_or, arith, sym, subst}
-use Rattle.std.specs.Int.{w64}
-use Rattle.std.proofs.lemmas.Int.{to_z-of_z}
-use Rattle.asg_model.specs.Table.{absent}
-use Rattle.asg_monoids.specs.Entered.{shifted, sum_entered}
-use Rattle.asg_table_sums.specs.Level.{rise_at}
+use Rattle.asg_table_sums.proofs.Common.{◌+◌, ◌≤◌, pos, ◌+ℤ◌, ◌-ℤ◌, ◌≤ℤ◌, slice_index_or, sym, subst, arith, to_z-of_z, absent, shifted, sum_entered, rise_at, w64}
 use Rattle.asg_table_sums.proofs.RowCosts.{column_there, shifted_le, turned_le, shifted_under, turned_under}
 use Rattle.asg_table_sums.proofs.level_rows.is_least_cell.Goals as goal
 

@@ -1,8 +1,4 @@
-use Rattle.std.proofs.Common.{subst}
-use Rattle.std.specs.Int.{w64}
-use Rattle.std.proofs.lemmas.Int.{to_z-of_z}
-use Rattle.asg_monoids.specs.Entered.{shifted}
-use Rattle.asg_table_sums.specs.Level.{IsUnder, IsOver}
+use Rattle.asg_table_sums.proofs.Common.{subst, to_z-of_z, shifted, IsUnder, IsOver, w64}
 use Rattle.asg_table_sums.proofs.RowLevels.{level_chosen, level_out}
 use Rattle.asg_table_sums.proofs.level_rows.is_row_level.Goals as goal
 

@@ -1,9 +1,5 @@
-use Rattle.std.proofs.Common.{◌<◌, arith, w64, get_or, length}
-use Rattle.std.proofs.Math.Facts.{Fits-lt-pow}
-use Rattle.std.proofs.lemmas.Nat.Bits.{bit_at-trailing_zeros}
-use Rattle.asg_match.specs.ColumnSet.{HasBit}
-use Rattle.asg_square.specs.Grid.{cell_at}
-use Rattle.asg_square.specs.laws.Bits.{bit_below, HasBit-and}
+use Rattle.asg_objectives.proofs.Common.{◌<◌, length, get_or, arith, w64, Fits-lt-pow, bit_at-trailing_zeros, HasBit, cell_at}
+use Rattle.asg_bit_rows.specs.laws.Bits.{bit_below, HasBit-and}
 use Rattle.asg_objectives.proofs.PresentWords.{present_bit}
 use Rattle.asg_objectives.proofs.present_cells.PresentCellsAllowed.among.Goals as goal
 

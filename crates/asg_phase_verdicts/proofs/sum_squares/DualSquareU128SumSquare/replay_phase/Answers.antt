@@ -1,12 +1,5 @@
-use Rattle.std.proofs.Common.{map, sym, subst, ap, ◌∙◌, arith}
-use Rattle.std.specs.Prelude.{All}
-use Rattle.asg_order.specs.Monoid.{IsValue}
-use Rattle.asg_monoids.specs.BoundedSums.{bounded_sums, bounded_difference, bounded_value, plain_word}
-use Rattle.asg_monoids.specs.laws.Bounded.{bounded_word_laws}
-use Rattle.asg_proof.specs.Phases.{phase_of}
-use Rattle.asg_square.specs.Grid.{cell_at}
+use Rattle.asg_phase_verdicts.proofs.Common.{map, All, sym, ap, ◌∙◌, subst, arith, bounded_sums, bounded_difference, bounded_value, plain_word, bounded_word_laws, IsValue, phase_of, phase-words, refused-words, unread-words, cell_at}
 use Rattle.asg_phase_verdicts.proofs.Outcomes.{applied_not_full, applied_not_refused, refused_not_full}
-use Rattle.asg_replays.specs.laws.Replaying.{phase-words, refused-words, unread-words}
 use Rattle.asg_phase_verdicts.proofs.sum_squares.DualSquareU128SumSquare.replay_phase.Goals as goal
 
 pub returns-then-not-branch-clause-refused : goal.returns-then-not-branch-clause-refused

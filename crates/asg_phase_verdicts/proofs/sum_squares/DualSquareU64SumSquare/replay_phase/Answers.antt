@@ -1,14 +1,6 @@
-use Rattle.std.proofs.Common.{map, sym, subst, ap, ◌∙◌}
-use Rattle.std.specs.Prelude.{All}
-use Rattle.std.proofs.lemmas.List.Elements.{All-weaker}
-use Rattle.asg_order.specs.Monoid.{IsValue}
-use Rattle.asg_monoids.specs.BoundedSums.{bounded_sums, bounded_difference, bounded_value, narrow_top, plain_word}
-use Rattle.asg_monoids.specs.laws.Bounded.{bounded_word_laws}
-use Rattle.asg_proof.specs.Phases.{phase_of}
-use Rattle.asg_square.specs.Grid.{cell_at}
+use Rattle.asg_phase_verdicts.proofs.Common.{map, All, sym, ap, ◌∙◌, subst, All-weaker, bounded_sums, bounded_difference, bounded_value, narrow_top, plain_word, bounded_word_laws, IsValue, phase_of, phase-words, refused-words, cell_at}
 use Rattle.asg_phase_verdicts.proofs.NarrowSums.{value_up}
 use Rattle.asg_phase_verdicts.proofs.Outcomes.{applied_not_full, applied_not_refused, refused_not_full}
-use Rattle.asg_replays.specs.laws.Replaying.{phase-words, refused-words}
 use Rattle.asg_phase_verdicts.proofs.sum_squares.DualSquareU64SumSquare.replay_phase.Goals as goal
 
 pub returns-clause-applied : goal.returns-clause-applied

@@ -1,16 +1,7 @@
-use Rattle.std.proofs.Common.{sym, subst, arith}
-use Rattle.std.proofs.lemmas.Option.{IfSome_then}
-use Rattle.asg_model.specs.declared.objectives.Objective.TheVariants.{Capped}
-use Rattle.asg_monoids.specs.BoundedSums.{bounded_sums, bounded_difference, narrow_top, plain_word}
-use Rattle.asg_monoids.specs.Entered.{cost_reach, sum_entered}
-use Rattle.asg_square.specs.Grid.{cell_at}
-use Rattle.asg_proof.specs.laws.LiveCosts.{lies_within}
-use Rattle.asg_reasons.specs.Verdicts.{Tells, phase_reasons}
-use Rattle.asg_replays.specs.Replays.{IsStart}
-use Rattle.asg_phase_verdicts.specs.Replays.{StandsFrom}
+use Rattle.asg_phase_verdicts.proofs.Common.{sym, subst, arith, IfSome_then, Capped, bounded_sums, bounded_difference, narrow_top, plain_word, cost_reach, sum_entered, StandsFrom, lies_within, Tells, phase_reasons, IsStart, cell_at}
 use Rattle.asg_phase_verdicts.proofs.NarrowSums.{reduced_up}
 use Rattle.asg_phase_verdicts.proofs.PhaseTold.{told_over, told_sums}
-use Rattle.asg_phase_verdicts.proofs.phase_verdicts.capped_told.Goals as goal
+use Rattle.asg_phase_verdicts.proofs.phase_verdicts.capped_square_told.Goals as goal
 
 pub capped_start-requires-clause-near : goal.capped_start-requires-clause-near
 capped_start-requires-clause-near c = lies_within cost_reach c.args.inst.now (omega arith) c.requires.instance
@@ -20,7 +11,7 @@ chosen_fold-fold-requires-clause-near c = lies_within cost_reach c.args.inst.now
 
 pub capped_verdict-requires-clause-reduced : goal.capped_verdict-requires-clause-reduced
 capped_verdict-requires-clause-reduced c =
-    reduced_up c.args.cap narrow_top (omega (arith, c.if-cap.false)) c.in_ok-start.start c.in_ok-start.ensures.reduced
+    reduced_up c.args.cap narrow_top (omega (arith, c.requires.cap)) c.in_ok-start.start c.in_ok-start.ensures.reduced
 
 pub returns : goal.returns
 returns c =

@@ -1,0 +1,11 @@
+use Rattle.asg_table_phases.proofs.Common.{sym, refl, subst, arith, PassesNegative, cost_reach, lies_within}
+use Rattle.asg_table_phases.proofs.capped_proofs.adds_up_to.Goals as goal
+
+pub of-kind-requires : goal.of-kind-requires
+of-kind-requires c = refl
+
+pub chosen_fold-fold-requires-clause-near : goal.chosen_fold-fold-requires-clause-near
+chosen_fold-fold-requires-clause-near c = lies_within cost_reach c.args.inst.now (omega arith) c.rows-rows.ensures.instance
+
+pub chosen_fold-fold-requires-clause-passes : goal.chosen_fold-fold-requires-clause-passes
+chosen_fold-fold-requires-clause-passes c = subst (λ o. PassesNegative o c.args.inst.now) (sym c.of-kind.ensures.objective) c.requires

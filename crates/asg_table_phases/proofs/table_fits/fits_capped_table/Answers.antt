@@ -1,0 +1,14 @@
+use Rattle.asg_table_phases.proofs.Common.{sym, ◌∙◌, arith, Capped}
+use Rattle.asg_table_phases.proofs.AdmittedTables.{fit_admitted}
+use Rattle.asg_table_phases.proofs.RowCosts.{capped_few}
+use Rattle.asg_table_phases.proofs.table_fits.fits_capped_table.Goals as goal
+
+pub returns-clause-admitted : goal.returns-clause-admitted
+returns-clause-admitted c = λ yes.
+    fit_admitted (Capped c.args.cap) (capped_few c.args.cap) c.args.inst.now c.rows-rows.ensures.instance c.requires.table c.args.totals.now c.requires.side (c.fit_totals.ensures yes)
+    c.one_pass_law.ensures.admitted
+
+pub returns-clause-index : goal.returns-clause-index
+returns-clause-index c = λ yes top phases above are.
+    let fit = c.fit_totals.ensures yes in
+    c.one_pass_law.ensures.index top phases (omega (arith, fit.few, are.sum, above)) ∙ sym are.sum

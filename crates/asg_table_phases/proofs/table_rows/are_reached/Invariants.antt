@@ -1,0 +1,7 @@
+use Rattle.asg_table_phases.proofs.Common.{ℕ, ◌<◌, pos, ◌+ℤ◌, ◌≤ℤ◌, IsTrue, slice_index, slice_index_or, absent}
+use Rattle.asg_table_phases.proofs.table_rows.are_reached.Given as goal
+
+-- the columns so far have cells that are at least their numbers
+abbrev pub invariant-columns : goal.invariant-columns
+invariant-columns l =
+    IsTrue l.are_reached → (k : ℕ) → k < l.column → pos (slice_index l.columns k) ≤ℤ (slice_index_or l.costs k absent +ℤ pos l.raise)

@@ -1,12 +1,7 @@
 -- How many active rows there are.
-use Rattle.std.proofs.Common.{◌≡◌, ℕ, ◌<◌, true, length, sym, ◌∙◌, ap, arith}
-use Rattle.asg_model.specs.declared.parts.Place.TheVariants.{All as PlaceAll}
-use Rattle.asg_model.specs.Counts.{active_count, placed, placed_by}
-use Rattle.asg_model.specs.Live.{is_active}
-use Rattle.asg_model.specs.Problem.{Problem}
-use Rattle.asg_model.specs.Sums.{count_below}
-use Rattle.asg_model.specs.laws.Rows.{row-from_active, counted_total}
+use Rattle.asg_branching.proofs.Common.{◌≡◌, ℕ, ◌<◌, true, length, sym, ap, ◌∙◌, arith, active_count, placed, placed_by, is_active, Problem, count_below, row-from_active, counted_total}
 use Rattle.asg_square.specs.laws.Bijections.{rank-less}
+use Rattle.asg_model.specs.declared.parts.Place.TheVariants.{All as PlaceAll}
 
 module _ (X : Problem) (all : X.place ≡ PlaceAll) where
   -- all active rows are placed

@@ -1,31 +1,6 @@
 -- An open node gives its answer, and its children are to come.
-use Rattle.std.proofs.Common.{◌≡◌, ◌≢◌, ℕ, ◌+◌, ◌-◌, ◌*◌, ◌<◌, ◌≤◌, inl, inr, true, cond, List, [], ◌∷◌, ◌++◌, length, Option, refl, sym, ◌∙◌, ap, subst, arith, ⊎_elim}
-use Rattle.std.specs.Prelude.{IsTrue, nat_le}
-use Rattle.std.proofs.lemmas.Bool.{cases_lt, cases_eq, leb-true, le-leb, lt-leb, cond-true, cond-false, false≢true}
-use Rattle.std.proofs.lemmas.List.{length-append, get_or_append_left}
-use Rattle.std.proofs.Math.Nat.{mul-le-mul_right}
-use Rattle.std.proofs.Math.Seq.{get_or-append_seam}
+use Rattle.asg_branching.proofs.Common.{◌≡◌, ℕ, ◌+◌, ◌-◌, ◌*◌, ◌<◌, ◌≤◌, true, cond, ◌≢◌, List, [], ◌∷◌, ◌++◌, length, IsTrue, nat_le, Option, sym, refl, ap, ◌∙◌, subst, inl, inr, ⊎_elim, mul-le-mul_right, arith, le-leb, leb-true, cases_eq, cases_lt, cond-false, cond-true, false≢true, get_or-append_seam, get_or_append_left, lt-leb, winner_in, IsSlot, IsBehind, IsKept, AreSlots, placed, Problem, IsValid, entry_at, is_open_state, is_open_at, child_number, with_state, HallSets, Rules, Leads, IsSolved, SlotList, slot_at, given_at, AreParts, HasState, HasNoPhases, IsNode, IsRoot, IsChildOf, IsWinner, IsTree, Entry, State, Answered, Open, Empty, Slot, Tree, entry_changed, entry_other, count_same, add_one_times, open_from, is_open_inside, is_open_outside, part_place, part_count, child, Splits, frontier_after, length-append}
 use Rattle.asg_model.specs.declared.parts.Place.TheVariants.{All as PlaceAll}
-use Rattle.asg_model.specs.Counts.{placed}
-use Rattle.asg_model.specs.Problem.{Problem}
-use Rattle.asg_model.specs.ValidChoice.{IsValid}
-use Rattle.asg_proof.specs.Children.{child}
-use Rattle.asg_proof.specs.Frontiers.{Splits}
-use Rattle.asg_proof.specs.laws.FrontierSteps.{frontier_after}
-use Rattle.asg_nodes.specs.declared.entries.Entry.{Entry}
-use Rattle.asg_nodes.specs.declared.entries.State.{State}
-use Rattle.asg_nodes.specs.declared.entries.State.TheVariants.{Answered, Open, Empty}
-use Rattle.asg_nodes.specs.declared.trees.Tree.{Tree}
-use Rattle.asg_nodes.specs.Entries.{entry_at, is_open_state, is_open_at, child_number, with_state}
-use Rattle.asg_nodes.specs.HallPools.{HallSets}
-use Rattle.asg_nodes.specs.declared.slots.Slot.{Slot}
-use Rattle.asg_nodes.specs.Rules.{Rules, Leads, IsSolved}
-use Rattle.asg_branching.specs.Searches.{winner_in, IsSlot, IsBehind, IsKept, AreSlots}
-use Rattle.asg_nodes.specs.Slots.{SlotList, slot_at}
-use Rattle.asg_nodes.specs.Trees.{given_at, AreParts, HasState, HasNoPhases, IsNode, IsRoot, IsChildOf, IsWinner, IsTree}
-use Rattle.asg_nodes.specs.laws.EntryLists.{entry_changed, entry_other, count_same, add_one_times}
-use Rattle.asg_nodes.specs.laws.OpenNodes.{open_from, is_open_inside, is_open_outside}
-use Rattle.asg_nodes.specs.laws.Parts.{part_place, part_count}
 
 -- what a state says of a node it says where one more answer was given
 pub HasState-more : (given : List (List (Option ℕ))) (f : List (Option ℕ)) (winner : ℕ → ℕ) (halls : HallSets) (Y : Problem) (n : ℕ) (s : State) → HasState given winner halls Y n s → HasState (given ++ f ∷ []) winner halls Y n s

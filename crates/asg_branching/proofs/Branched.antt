@@ -1,31 +1,7 @@
 -- A child that was grown on its parent's square, of which bits tell the cells that are kept.
-use Rattle.std.proofs.Common.{◌≡◌, ◌≢◌, ℕ, ◌<◌, ◌≤◌, Bool, true, false, cond, List, [], ◌∷◌, Option, Some, None, refl, sym, ◌∙◌, ap, subst, arith, ⊎_elim}
-use Rattle.std.specs.Prelude.{IsSome}
-use Rattle.std.proofs.lemmas.Bool.{cases_lt, cases_eq}
-use Rattle.asg_model.specs.Problem.{Problem}
-use Rattle.asg_model.specs.Shapes.{square_side}
-use Rattle.asg_match.specs.Matching.{IsMatched}
-use Rattle.asg_order.specs.Monoid.{Monoid, IsOrderedMonoid, IsLe, fold_of}
-use Rattle.asg_order.specs.laws.Orders.{le_product}
-use Rattle.asg_order.specs.laws.Products.{neutral_right}
-use Rattle.asg_admit.specs.declared.reduced.Reduced.{Reduced}
-use Rattle.asg_algebra.specs.Branches.{IsBranch, IsLed}
-use Rattle.asg_growth.specs.Growing.{IsAbsorbed}
-use Rattle.asg_growth.specs.Masked.{masked_reduced}
+use Rattle.asg_branching.proofs.Common.{◌≡◌, ℕ, ◌<◌, ◌≤◌, Bool, true, false, cond, ◌≢◌, List, [], ◌∷◌, IsSome, Some, None, Option, sym, refl, ap, ◌∙◌, subst, ⊎_elim, arith, cases_eq, cases_lt, Reduced, IsBranch, IsLed, stage_of, IsAbsorbed, masked_reduced, IsMatched, Problem, square_side, Rules, Leads, IsSolved, IsReducedTo, reduced_cell, Pushes, pushes, Monoid, IsOrderedMonoid, IsLe, fold_of, le_product, neutral_right, Forest, phases_to, PhaseOf, phase_of, IsAdmittedPhase, AreAdmittedPhases, after_phase, after_phases, index_of, after_phases-append, AreAdmittedPhases-append, index_of-append, HasSide-phases, steps_value, index_is_value, child, masked, keeps_cell, after_phases-child, square_cell, cell_at, keeps, masked_grid, cell_at-masked}
 use Rattle.asg_algebra.specs.Served.{made_of}
-use Rattle.asg_pool.specs.Forest.{Forest, phases_to}
-use Rattle.asg_proof.specs.Children.{child}
-use Rattle.asg_proof.specs.Masks.{masked, keeps_cell}
-use Rattle.asg_proof.specs.Phases.{PhaseOf, phase_of, IsAdmittedPhase, AreAdmittedPhases, after_phase, after_phases, index_of}
-use Rattle.asg_proof.specs.laws.MaskedSquares.{after_phases-child}
-use Rattle.asg_proof.specs.laws.PhaseLists.{after_phases-append, AreAdmittedPhases-append, index_of-append, HasSide-phases, steps_value, index_is_value}
 use Rattle.asg_proof.specs.laws.Squares.{HasSide-square_cell}
-use Rattle.asg_square.specs.Cells.{square_cell}
-use Rattle.asg_square.specs.Grid.{cell_at}
-use Rattle.asg_square.specs.Masked.{keeps, masked_grid}
-use Rattle.asg_square.specs.laws.Masks.{cell_at-masked}
-use Rattle.asg_nodes.specs.Rules.{Rules, Leads, IsSolved, IsReducedTo, reduced_cell}
-use Rattle.asg_nodes.specs.laws.Trails.{Pushes, pushes}
 
 none_kept : {V : Type 0} (b d : Bool) (o : Option V) → o ≡ None → cond b o None ≡ cond d o None
 none_kept b d o e = both b o e ∙ sym (both d o e)
@@ -144,7 +120,7 @@ module _ {V : Type 0} (R : Rules V) (laws : IsOrderedMonoid R.monoid) (F : Fores
               subst (IsLe R.monoid index) (sym is) (le_product R.monoid laws index (fold_of R.monoid phase.steps) (subst (λ z. R.monoid.is_value z ≡ true) (sym leads.index_is) vi) vs)
 
         -- where every row has a column then, the child is solved
-        pub solved_child : {G : Forest V} {last : Option ℕ} {now : V} {matching after : List (Option ℕ)} (root : ℕ) (branched : IsBranch R.monoid R.difference (masked_reduced work words) matching after now F G trail last root) → ((r : ℕ) → r < square_side Y → r ≢ root → IsMatched matching r) → IsSolved R G (child Y f branch) last now after
+        pub solved_child : {G : Forest V} {last : Option ℕ} {now : V} {matching after : List (Option ℕ)} (root : ℕ) (branched : IsBranch R.monoid R.difference (stage_of (masked_reduced work words) matching F) (stage_of (masked_reduced work words) after G) now trail last root) → ((r : ℕ) → r < square_side Y → r ≢ root → IsMatched matching r) → IsSolved R G (child Y f branch) last now after
         solved_child {G} {last} {now} {matching} {after} root branched others =
             let square = led_square branched.phase branched.led in
             record {

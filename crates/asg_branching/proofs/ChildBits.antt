@@ -1,29 +1,9 @@
 -- The bits before a child is made, while it is, and after it.
-use Rattle.std.proofs.Common.{◌≡◌, ℕ, ◌+◌, ◌-◌, ◌<◌, ◌≤◌, Bool, true, false, List, [], length, get_or, Option, None, refl, sym, ◌∙◌, ap, subst, arith}
-use Rattle.std.specs.Prelude.{Some, IsTrue, slice_get, slice_index_or}
-use Rattle.std.proofs.lemmas.List.{get_or-take, get_or_default}
-use Rattle.std.proofs.lemmas.Option.{get_or_from_slice_get}
-use Rattle.asg_model.specs.Live.{is_active}
-use Rattle.asg_model.specs.Problem.{Problem}
-use Rattle.asg_model.specs.Shapes.{square_side}
-use Rattle.asg_model.specs.Sums.{count_below}
-use Rattle.asg_model.specs.declared.parts.Place.TheVariants.{All as PlaceAll}
-use Rattle.asg_model.specs.laws.Rows.{row-from_active}
-use Rattle.asg_proof.specs.Masks.{keeps_cell}
-use Rattle.asg_square.specs.BitTable.{BitTable, has_bit}
-use Rattle.asg_square.specs.Grid.{HasLabelsOf}
-use Rattle.asg_square.specs.Labels.{column_label}
-use Rattle.asg_branching.specs.declared.searches.Search.{Search}
-use Rattle.asg_nodes.specs.Cuts.{keeps_copies, fixes_cell, AreBitsFor, PutsRow}
-use Rattle.asg_branching.specs.Expansions.{IsExpanding, last_winner, fixed_for, kept_for}
-use Rattle.asg_nodes.specs.Rules.{Rules}
-use Rattle.asg_branching.specs.Searches.{given_of}
-use Rattle.asg_nodes.specs.Trees.{given_at}
-use Rattle.asg_nodes.specs.laws.BitSteps.{fixes_first, bits_lost, bits_fixed}
+use Rattle.asg_branching.proofs.Common.{◌≡◌, ℕ, ◌+◌, ◌-◌, ◌<◌, ◌≤◌, Bool, true, false, List, [], length, get_or, IsTrue, slice_get, slice_index_or, Some, None, Option, sym, refl, ap, ◌∙◌, subst, arith, get_or-take, get_or_default, get_or_from_slice_get, BitTable, has_bit, IsExpanding, last_winner, fixed_for, kept_for, given_of, Search, is_active, Problem, square_side, count_below, row-from_active, keeps_copies, fixes_cell, AreBitsFor, PutsRow, Rules, given_at, fixes_first, bits_lost, bits_fixed, labels_from_part, keeps_cell, HasLabelsOf, column_label}
 use Rattle.asg_branching.proofs.DeskSteps.{memory_with}
 use Rattle.asg_branching.proofs.GrowCases.{node_rows, node_columns, node_place}
 use Rattle.asg_branching.proofs.GrowStarts.{row_within}
-use Rattle.asg_nodes.specs.laws.Shapes.{labels_from_part}
+use Rattle.asg_model.specs.declared.parts.Place.TheVariants.{All as PlaceAll}
 
 -- bits that are all set are those before the first child
 pub bits_first : (X : Problem) → X.place ≡ PlaceAll → (f : List (Option ℕ)) (side : ℕ) (B : BitTable) → B.rows ≡ side → B.columns ≡ side → ((r k : ℕ) → r < side → k < side → IsTrue (has_bit B r k)) → AreBitsFor side (fixes_cell X f 1) B

@@ -1,22 +1,5 @@
 -- A search after one more child.
-use Rattle.std.proofs.Common.{◌≡◌, ℕ, ◌+◌, ◌-◌, ◌*◌, ◌<◌, ◌≤◌, List, [], ◌∷◌, ◌++◌, length, Bool, refl, sym, ◌∙◌, ap, subst, arith}
-use Rattle.std.specs.Prelude.{vec_capacity}
-use Rattle.asg_model.specs.Counts.{placed}
-use Rattle.asg_model.specs.Problem.{Problem}
-use Rattle.asg_model.specs.Shapes.{square_side}
-use Rattle.asg_branching.specs.declared.desks.Desk.{Desk}
-use Rattle.asg_nodes.specs.declared.entries.Entry.{Entry}
-use Rattle.asg_branching.specs.declared.searches.Search.{Search}
-use Rattle.asg_nodes.specs.declared.trees.Tree.{Tree}
-use Rattle.asg_nodes.specs.Cuts.{AreBitsFor}
-use Rattle.asg_nodes.specs.Entries.{entry_at}
-use Rattle.asg_branching.specs.Expansions.{IsGrowing, IsExpanding, last_winner}
-use Rattle.asg_nodes.specs.Rules.{Rules, IsReducedTo, KeepsTrails}
-use Rattle.asg_branching.specs.Searches.{winner_in, given_of, AreSlots, IsBase, HasMemory}
-use Rattle.asg_nodes.specs.Settled.{IsStanding}
-use Rattle.asg_nodes.specs.Slots.{SlotList, slot_at}
-use Rattle.asg_nodes.specs.laws.ChildSteps.{KeepsHalls, IsNextChild}
-use Rattle.asg_nodes.specs.laws.EntryLists.{entry_before, count_more}
+use Rattle.asg_branching.proofs.Common.{◌≡◌, ℕ, ◌+◌, ◌-◌, ◌*◌, ◌<◌, ◌≤◌, Bool, List, [], ◌∷◌, ◌++◌, length, vec_capacity, sym, refl, ap, ◌∙◌, subst, arith, IsGrowing, IsExpanding, last_winner, winner_in, given_of, AreSlots, IsBase, HasMemory, Desk, Search, placed, Problem, square_side, AreBitsFor, entry_at, Rules, IsReducedTo, KeepsTrails, IsStanding, SlotList, slot_at, Entry, Tree, KeepsHalls, IsNextChild, entry_before, count_more}
 use Rattle.asg_branching.proofs.KeptSquares.{IsReducedTo-kept, standing_kept}
 use Rattle.asg_branching.proofs.SearchSteps.{search_more}
 

@@ -1,14 +1,5 @@
 -- What stays of a desk and of the memory of a search while a child is made.
-use Rattle.std.proofs.Common.{◌≡◌, ℕ, ◌+◌, ◌*◌, ◌^◌, ◌<◌, ◌≤◌, length, sym, ◌∙◌, ap, subst, arith}
-use Rattle.std.specs.Prelude.{vec_len}
-use Rattle.asg_model.specs.Counts.{placed}
-use Rattle.asg_model.specs.Problem.{Problem}
-use Rattle.asg_model.specs.Shapes.{square_side}
-use Rattle.asg_branching.specs.declared.desks.Desk.{Desk}
-use Rattle.asg_branching.specs.declared.searches.Search.{Search}
-use Rattle.asg_nodes.specs.declared.trees.Tree.{Tree}
-use Rattle.asg_branching.specs.Searches.{IsDesk, HasMemory}
-use Rattle.asg_nodes.specs.Slots.{SlotList}
+use Rattle.asg_branching.proofs.Common.{◌≡◌, ℕ, ◌+◌, ◌*◌, ◌^◌, ◌<◌, ◌≤◌, length, vec_len, sym, ap, ◌∙◌, subst, arith, IsDesk, HasMemory, Desk, Search, placed, Problem, square_side, SlotList, Tree}
 
 -- the square and the bits of a desk stay, and its node, and it is one for the side
 pub record DeskStays {V : Type 0} (side : ℕ) (before after : Desk V) : Type 0 where

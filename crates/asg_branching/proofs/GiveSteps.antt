@@ -1,37 +1,6 @@
 -- The answer of the kept node that has the least index.
-use Rattle.std.proofs.Common.{◌≡◌, ◌↔◌, ℕ, ◌<◌, List, length, Option, Some, None, sym, ◌∙◌, ap, subst, arith, is_some, true}
-use Rattle.std.specs.Prelude.{IfSome, slice_index, slice_index_or, option_and_then}
-use Rattle.std.proofs.lemmas.List.FromFn.{get_or-map-range_with_len}
-use Rattle.asg_model.specs.declared.bands.Band.TheVariants.{Whole}
-use Rattle.asg_model.specs.declared.parts.Cost.{Cost}
+use Rattle.asg_branching.proofs.Common.{◌≡◌, ℕ, ◌<◌, true, ◌↔◌, List, length, is_some, IfSome, slice_index, slice_index_or, Some, None, Option, option_and_then, sym, ap, ◌∙◌, subst, arith, get_or-map-range_with_len, Reduced, IsChosenBy, IsAnswer, Matches, Matches-same, Matches-below, IsInstance, is_active, live_at, Problem, problem_of, square_side, IsValid, costs_of, Whole, Cost, row-from_active, Rules, Leads, IsSolved, IsReducedTo, Slot, label_is, active_labelled, assigned, same_side, costs_fold, choice_fold, Monoid, IsValue, IsOrderedMonoid, fold_of, Forest, phases_to, EntersValues, assignment_fold, is_some-phases, IsAssignment, IsSquareChoice, choice_of, square_cell, assignment_values, Grid, cell_at, HasLabelsOf, IsWithinSquareOf, grid_chosen, grid_choice, row_label, column_label, has_cell}
 use Rattle.asg_model.specs.declared.parts.Place.TheVariants.{All as PlaceAll}
-use Rattle.asg_model.specs.Instances.{IsInstance}
-use Rattle.asg_model.specs.Live.{is_active, live_at}
-use Rattle.asg_model.specs.Problem.{Problem, problem_of}
-use Rattle.asg_model.specs.Shapes.{square_side}
-use Rattle.asg_model.specs.ValidChoice.{IsValid}
-use Rattle.asg_model.specs.Values.{costs_of}
-use Rattle.asg_model.specs.laws.Rows.{row-from_active}
-use Rattle.asg_match.specs.Matching.{Matches}
-use Rattle.asg_match.specs.laws.Matchings.{Matches-same, Matches-below}
-use Rattle.asg_order.specs.Bridge.{costs_fold, choice_fold}
-use Rattle.asg_order.specs.Monoid.{Monoid, IsValue, IsOrderedMonoid, fold_of}
-use Rattle.asg_admit.specs.declared.reduced.Reduced.{Reduced}
-use Rattle.asg_pool.specs.Forest.{Forest, phases_to}
-use Rattle.asg_proof.specs.PhaseProofs.{EntersValues}
-use Rattle.asg_proof.specs.Steps.{assignment_fold}
-use Rattle.asg_proof.specs.laws.PhaseLists.{is_some-phases}
-use Rattle.asg_square.specs.Cells.{IsAssignment, IsSquareChoice, choice_of, square_cell, assignment_values}
-use Rattle.asg_square.specs.Grid.{Grid, cell_at, HasLabelsOf, IsWithinSquareOf, grid_chosen, grid_choice}
-use Rattle.asg_square.specs.Labels.{row_label, column_label}
-use Rattle.asg_square.specs.Presence.{has_cell}
-use Rattle.asg_nodes.specs.declared.slots.Slot.{Slot}
-use Rattle.asg_branching.specs.Chosen.{IsChosenBy}
-use Rattle.asg_nodes.specs.Rules.{Rules, Leads, IsSolved, IsReducedTo}
-use Rattle.asg_branching.specs.Searches.{IsAnswer}
-use Rattle.asg_nodes.specs.laws.BitSteps.{label_is, active_labelled}
-use Rattle.asg_nodes.specs.laws.ChoiceSteps.{assigned}
-use Rattle.asg_nodes.specs.laws.Shapes.{same_side}
 
 -- the square of the instance after phases has cells only where that of the instance has some
 pub within_of : {V : Type 0} (R : Rules V) (F : Forest V) (X : Problem) (trail : Option ℕ) (index : V) (base : Reduced V) → IsReducedTo R F X trail index base → ((free : V) (enter : Cost → V) (r c : ℕ) → is_some (square_cell X free enter r c) ≡ has_cell X Whole r c) → IsWithinSquareOf X base.now

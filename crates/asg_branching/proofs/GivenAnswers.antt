@@ -1,50 +1,9 @@
 -- The kept node of the least index: where its matching stands, and the choice that it gives.
-use Rattle.std.proofs.Common.{◌≡◌, ◌↔◌, ℕ, ◌+◌, ◌*◌, ◌<◌, ◌≤◌, Bool, true, false, cond, List, length, set, map, Option, Some, None, refl, sym, ◌∙◌, ap, subst, arith, is_some}
-use Rattle.std.specs.Prelude.{All, IfSome, IsSome, slice_index, slice_get, option_and_then}
-use Rattle.std.proofs.lemmas.List.{length-set}
-use Rattle.std.proofs.lemmas.List.Elements.{All-map, All-set}
-use Rattle.std.proofs.lemmas.List.FromFn.{length-map-range_with_len}
-use Rattle.asg_model.specs.declared.parts.Cost.{Cost}
-use Rattle.asg_model.specs.Counts.{placed}
-use Rattle.asg_model.specs.Instances.{IsInstance}
-use Rattle.asg_model.specs.Live.{live_at}
-use Rattle.asg_model.specs.Problem.{Problem}
-use Rattle.asg_model.specs.Shapes.{square_side}
-use Rattle.asg_model.specs.ValidChoice.{IsValid}
-use Rattle.asg_model.specs.Values.{costs_of}
-use Rattle.asg_match.specs.Matching.{Matches, IsPerfect}
+use Rattle.asg_branching.proofs.Common.{◌≡◌, ℕ, ◌+◌, ◌*◌, ◌<◌, ◌≤◌, Bool, true, false, cond, ◌↔◌, List, map, length, set, is_some, IfSome, IsSome, slice_get, slice_index, Some, None, All, Option, option_and_then, sym, refl, ap, ◌∙◌, subst, arith, length-set, All-map, All-set, length-map-range_with_len, Reduced, IsChosenBy, IsLeastNew, winner_in, given_of, IsAnswer, IsDesk, IsReady, HasMemory, Search, IsAbsorbed, Matches, IsPerfect, placed, IsInstance, live_at, Problem, square_side, IsValid, costs_of, Whole, Cost, entry_at, HallSets, Rules, IsSolved, Leads, IsReducedTo, SlotList, slot_at, Entry, fold_is, AreBefore, part_keeps, part_instance, part_rows, part_columns, part_place, part_live, part_fold, same_side, costs_fold, choice_fold, Monoid, IsValue, IsLe, IsOrderedMonoid, fold_of, fold_is_value, Forest, phases_to, EntersValues, ProvesIndex, PhaseOf, AreAdmittedPhases, after_phases, index_of, HasSide, HasValues, assignment_fold, is_some-phases, keeps_cell, square_cell-child, IsAssignment, IsPresent, IsSquareChoice, choice_of, square_cell, assignment_values, Grid, cell_at, IsWithinSquareOf, IsPerm, grid_chosen, grid_choice, has_cell}
 use Rattle.asg_match.specs.laws.Choices.{costs_each}
-use Rattle.asg_order.specs.Bridge.{costs_fold, choice_fold}
-use Rattle.asg_order.specs.Monoid.{Monoid, IsValue, IsLe, IsOrderedMonoid, fold_of}
-use Rattle.asg_order.specs.laws.Products.{fold_is_value}
-use Rattle.asg_growth.specs.Growing.{IsAbsorbed}
-use Rattle.asg_pool.specs.Forest.{Forest, phases_to}
-use Rattle.asg_admit.specs.declared.reduced.Reduced.{Reduced}
-use Rattle.asg_nodes.specs.HallPools.{HallSets}
-use Rattle.asg_proof.specs.PhaseProofs.{EntersValues, ProvesIndex}
-use Rattle.asg_proof.specs.Phases.{PhaseOf, AreAdmittedPhases, after_phases, index_of}
-use Rattle.asg_proof.specs.Masks.{keeps_cell}
-use Rattle.asg_proof.specs.Steps.{HasSide, HasValues, assignment_fold}
-use Rattle.asg_proof.specs.laws.MaskedSquares.{square_cell-child}
-use Rattle.asg_proof.specs.laws.PhaseLists.{is_some-phases}
-use Rattle.asg_square.specs.Cells.{IsAssignment, IsPresent, IsSquareChoice, choice_of, square_cell, assignment_values}
-use Rattle.asg_square.specs.Grid.{Grid, cell_at, IsWithinSquareOf, IsPerm, grid_chosen, grid_choice}
-use Rattle.asg_model.specs.declared.bands.Band.TheVariants.{Whole}
-use Rattle.asg_square.specs.Presence.{has_cell}
-use Rattle.asg_nodes.specs.declared.entries.Entry.{Entry}
-use Rattle.asg_branching.specs.declared.searches.Search.{Search}
-use Rattle.asg_branching.specs.Chosen.{IsChosenBy}
-use Rattle.asg_nodes.specs.Entries.{entry_at}
-use Rattle.asg_branching.specs.Expansions.{IsLeastNew}
-use Rattle.asg_nodes.specs.Rules.{Rules, IsSolved, Leads, IsReducedTo}
-use Rattle.asg_branching.specs.Searches.{winner_in, given_of, IsAnswer, IsDesk, IsReady, HasMemory}
-use Rattle.asg_nodes.specs.Slots.{SlotList, slot_at}
-use Rattle.asg_nodes.specs.laws.ChoiceSteps.{fold_is}
 use Rattle.asg_branching.proofs.GiveSteps.{within_of, answer_of}
 use Rattle.asg_branching.proofs.GivenSearches.{count_given}
 use Rattle.asg_branching.proofs.LeastSteps.{least_choice}
-use Rattle.asg_nodes.specs.laws.Parts.{AreBefore, part_keeps, part_instance, part_rows, part_columns, part_place, part_live, part_fold}
-use Rattle.asg_nodes.specs.laws.Shapes.{same_side}
 
 some_masked : {V : Type 0} (b : Bool) (o : Option V) → IsSome (cond b o None) → IsSome o
 some_masked true o h = h

@@ -1,21 +1,5 @@
 -- A search after one more answer, whose children are to come.
-use Rattle.std.proofs.Common.{◌≡◌, ℕ, ◌+◌, ◌-◌, ◌*◌, ◌<◌, ◌≤◌, List, [], ◌∷◌, ◌++◌, length, set, take, Option, refl, sym, ◌∙◌, ap, subst, arith}
-use Rattle.std.specs.Prelude.{vec_capacity}
-use Rattle.std.proofs.lemmas.List.{length-take-le, take_more, take-set, get_or-set_same, length-set}
-use Rattle.asg_model.specs.Counts.{placed}
-use Rattle.asg_model.specs.Problem.{Problem}
-use Rattle.asg_pool.specs.Forest.{Forest, trail_at}
-use Rattle.asg_nodes.specs.HallPools.{HallSets}
-use Rattle.asg_nodes.specs.declared.entries.Entry.{Entry}
-use Rattle.asg_nodes.specs.declared.entries.State.TheVariants.{Answered}
-use Rattle.asg_branching.specs.declared.searches.Search.{Search}
-use Rattle.asg_nodes.specs.Entries.{entry_at, with_state}
-use Rattle.asg_branching.specs.Expansions.{IsGrowing, IsLeastNew, IsOneMore}
-use Rattle.asg_nodes.specs.Rules.{Rules, IsReducedTo}
-use Rattle.asg_branching.specs.Searches.{winner_in, given_of, IsAnswer, IsSearch, IsBase, IsReady, HasMemory}
-use Rattle.asg_nodes.specs.Settled.{IsStanding}
-use Rattle.asg_nodes.specs.Slots.{SlotList, slot_at}
-use Rattle.asg_nodes.specs.laws.EntryLists.{entry_kept, count_same, add_one_times}
+use Rattle.asg_branching.proofs.Common.{◌≡◌, ℕ, ◌+◌, ◌-◌, ◌*◌, ◌<◌, ◌≤◌, List, [], ◌∷◌, ◌++◌, length, take, set, vec_capacity, Option, sym, refl, ap, ◌∙◌, subst, arith, length-set, length-take-le, get_or-set_same, take-set, take_more, IsGrowing, IsLeastNew, IsOneMore, winner_in, given_of, IsAnswer, IsSearch, IsBase, IsReady, HasMemory, Search, placed, Problem, entry_at, with_state, HallSets, Rules, IsReducedTo, IsStanding, SlotList, slot_at, Entry, Answered, entry_kept, count_same, add_one_times, Forest, trail_at}
 use Rattle.asg_branching.proofs.KeptSquares.{standing_kept}
 use Rattle.asg_branching.proofs.SearchSteps.{search_answered}
 

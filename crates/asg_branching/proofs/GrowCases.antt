@@ -1,34 +1,7 @@
 -- What is known of the next child while it is made.
-use Rattle.std.proofs.Common.{◌≡◌, ℕ, ◌+◌, ◌-◌, ◌*◌, ◌<◌, ◌≤◌, inl, inr, List, length, Option, refl, sym, ◌∙◌, ap, subst, arith}
-use Rattle.std.proofs.lemmas.List.{length-take-le}
-use Rattle.asg_model.specs.Counts.{placed}
-use Rattle.asg_model.specs.Problem.{Problem}
-use Rattle.asg_model.specs.Shapes.{square_side}
-use Rattle.asg_model.specs.ValidChoice.{IsValid}
-use Rattle.asg_order.specs.Monoid.{IsValue, IsOrderedMonoid}
-use Rattle.asg_pool.specs.Forest.{Forest}
-use Rattle.asg_proof.specs.Children.{child}
-use Rattle.asg_proof.specs.Masks.{keeps_cell}
-use Rattle.asg_proof.specs.PhaseProofs.{EntersValues, IsRaised, ProvesIndex}
-use Rattle.asg_proof.specs.Phases.{PhaseOf, index_of}
-use Rattle.asg_proof.specs.laws.ChildFolds.{IsRaised-child, live-in_child}
-use Rattle.asg_square.specs.Masked.{keeps}
-use Rattle.asg_nodes.specs.declared.entries.Entry.{Entry}
-use Rattle.asg_branching.specs.declared.searches.Search.{Search}
-use Rattle.asg_model.specs.declared.bands.Band.TheVariants.{Whole}
-use Rattle.asg_model.specs.HallSet.{IsHall}
-use Rattle.asg_nodes.specs.declared.entries.State.TheVariants.{Open, Empty}
-use Rattle.asg_nodes.specs.Entries.{entry_at, entry_of, child_number, IsNext}
-use Rattle.asg_nodes.specs.HallPools.{HallSets, hall_at}
-use Rattle.asg_branching.specs.Expansions.{IsGrowing, IsExpanding, kept_for, last_winner}
-use Rattle.asg_nodes.specs.Rules.{Rules, Leads, IsSolved}
-use Rattle.asg_branching.specs.Searches.{winner_in, given_of}
-use Rattle.asg_nodes.specs.Slots.{slot_at}
-use Rattle.asg_nodes.specs.Trees.{given_at}
+use Rattle.asg_branching.proofs.Common.{◌≡◌, ℕ, ◌+◌, ◌-◌, ◌*◌, ◌<◌, ◌≤◌, List, length, Option, sym, refl, ap, ◌∙◌, subst, inl, inr, arith, length-take-le, IsGrowing, IsExpanding, kept_for, last_winner, winner_in, given_of, Search, placed, IsHall, Problem, square_side, IsValid, Whole, entry_at, entry_of, child_number, IsNext, HallSets, hall_at, Rules, Leads, IsSolved, slot_at, given_at, Entry, Open, Empty, IsNextChild, part_live, part_rows, part_columns, part_place, same_side, same_keeps, IsValue, IsOrderedMonoid, Forest, EntersValues, IsRaised, ProvesIndex, PhaseOf, index_of, child, keeps_cell, keeps}
+use Rattle.asg_rankings.specs.laws.ChildFolds.{IsRaised-child, live-in_child}
 use Rattle.asg_branching.proofs.Branched.{LeadsChild}
-use Rattle.asg_nodes.specs.laws.ChildSteps.{IsNextChild}
-use Rattle.asg_nodes.specs.laws.Parts.{part_live, part_rows, part_columns, part_place}
-use Rattle.asg_nodes.specs.laws.Shapes.{same_side, same_keeps}
 
 -- phases prove of an instance with raised cells what they prove of the instance
 abbrev pub Raises : {V : Type 0} → Rules V → Type 0

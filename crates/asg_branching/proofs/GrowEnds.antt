@@ -1,33 +1,5 @@
 -- The ends of the growth of the next child, told of the node and its entry as they were read.
-use Rattle.std.proofs.Common.{◌≡◌, ℕ, ◌+◌, ◌-◌, ◌<◌, List, [], ◌∷◌, ◌++◌, length, is_some, Option, None, sym, ◌∙◌, ap, subst}
-use Rattle.std.specs.Prelude.{vec_capacity, slice_set}
-use Rattle.asg_model.specs.declared.bands.Band.TheVariants.{Whole}
-use Rattle.asg_model.specs.declared.parts.Cost.{Cost}
-use Rattle.asg_model.specs.Counts.{placed}
-use Rattle.asg_model.specs.HallSet.{IsHall}
-use Rattle.asg_model.specs.Problem.{Problem}
-use Rattle.asg_model.specs.Shapes.{square_side}
-use Rattle.asg_model.specs.ValidChoice.{IsValid}
-use Rattle.asg_match.specs.HallSets.{GivesHallSets}
-use Rattle.asg_order.specs.Monoid.{IsOrderedMonoid}
-use Rattle.asg_algebra.specs.Branches.{IsBranch, IsLeft, IsLed}
-use Rattle.asg_growth.specs.Masked.{masked_reduced}
-use Rattle.asg_pool.specs.Forest.{Forest}
-use Rattle.asg_square.specs.Cells.{IsPresent, square_cell}
-use Rattle.asg_square.specs.Grid.{cell_at}
-use Rattle.asg_square.specs.Masked.{masked_grid}
-use Rattle.asg_square.specs.Presence.{has_cell}
-use Rattle.asg_branching.specs.declared.desks.Desk.{Desk}
-use Rattle.asg_nodes.specs.declared.entries.Entry.{Entry}
-use Rattle.asg_nodes.specs.declared.entries.State.{State}
-use Rattle.asg_nodes.specs.declared.entries.State.TheVariants.{Open, Empty}
-use Rattle.asg_branching.specs.declared.searches.Search.{Search}
-use Rattle.asg_nodes.specs.declared.trees.Tree.{Tree}
-use Rattle.asg_nodes.specs.Entries.{entry_at, entry_of}
-use Rattle.asg_branching.specs.Expansions.{IsExpanding, kept_for, last_winner}
-use Rattle.asg_nodes.specs.Rules.{Rules, IsSolved}
-use Rattle.asg_branching.specs.Searches.{IsBehind}
-use Rattle.asg_nodes.specs.Slots.{SlotList, slot_of, slot_at, IsLimit, Offers}
+use Rattle.asg_branching.proofs.Common.{◌≡◌, ℕ, ◌+◌, ◌-◌, ◌<◌, List, [], ◌∷◌, ◌++◌, length, is_some, slice_set, None, vec_capacity, Option, sym, ap, ◌∙◌, subst, IsBranch, IsLeft, IsLed, stage_of, IsExpanding, kept_for, last_winner, IsBehind, Desk, Search, masked_reduced, GivesHallSets, placed, IsHall, Problem, square_side, IsValid, Whole, Cost, entry_at, entry_of, Rules, IsSolved, SlotList, slot_of, slot_at, IsLimit, Offers, Entry, State, Open, Empty, Tree, IsOrderedMonoid, Forest, IsPresent, square_cell, cell_at, masked_grid, has_cell}
 use Rattle.asg_branching.proofs.DeskSteps.{DeskStays}
 use Rattle.asg_branching.proofs.GrowCases.{Raises}
 use Rattle.asg_branching.proofs.GrowOutcomes.{behind_limit, Grows, led_value, grew_none, grew_led, grew_rises, grew_solved, grew_hall, child_left, child_kept, child_empty, part_next}
@@ -60,7 +32,7 @@ module _ {V : Type 0} (R : Rules V) (laws : IsOrderedMonoid R.monoid) (raises : 
         (entries : tree.entries.items ≡ S.tree.entries.items ++ entry_of n (made + 1) Open last index ∷ [])
       where
         -- the tree was left at the limit
-        pub ends_left : (limit : Option V) → IsLimit R.monoid S.slots limit → IsLeft R.monoid R.difference (masked_reduced S.desk.work S.desk.bits.words) (slice_set matching row None) after limit index S.tree.region G x.trail last
+        pub ends_left : (limit : Option V) → IsLimit R.monoid S.slots limit → IsLeft R.monoid R.difference (stage_of (masked_reduced S.desk.work S.desk.bits.words) (slice_set matching row None) S.tree.region) (stage_of (masked_reduced S.desk.work S.desk.bits.words) after G) limit index x.trail last
             → IsExpanding R X count (made + 1) (kept_for X made S) (record S { tree = tree; desk = desk })
         ends_left limit limit_is left =
             let led = subst (λ (y : Entry V). IsLed R.monoid R.difference (masked_reduced S.desk.work S.desk.bits.words) left.phase index S.tree.region G y.trail last) x_is left.led in
@@ -72,11 +44,11 @@ module _ {V : Type 0} (R : Rules V) (laws : IsOrderedMonoid R.monoid) (raises : 
 
         -- the row got a column
         pub ends_kept : (slots : SlotList V) → slots.side ≡ S.slots.side → slots.room ≡ S.slots.room → Offers R.monoid S.slots (slot_of (length S.tree.entries.items + 1) index after) slots
-            → IsBranch R.monoid R.difference (masked_reduced S.desk.work S.desk.bits.words) (slice_set matching row None) after index S.tree.region G x.trail last row
+            → IsBranch R.monoid R.difference (stage_of (masked_reduced S.desk.work S.desk.bits.words) (slice_set matching row None) S.tree.region) (stage_of (masked_reduced S.desk.work S.desk.bits.words) after G) index x.trail last row
             → IsExpanding R X count (made + 1) (kept_for X made S) (record S { tree = tree; slots = slots; desk = desk })
         ends_kept slots side room offers branched =
-            let there = subst (λ (y : Entry V). IsBranch R.monoid R.difference (masked_reduced S.desk.work S.desk.bits.words) (slice_set (slot_at R.monoid.unit S.slots.used (S.given - 1)).matching row None) after index S.tree.region G y.trail last row) x_is
-            (subst (λ m. IsBranch R.monoid R.difference (masked_reduced S.desk.work S.desk.bits.words) (slice_set m row None) after index S.tree.region G x.trail last row) matching_is branched) in
+            let there = subst (λ (y : Entry V). IsBranch R.monoid R.difference (stage_of (masked_reduced S.desk.work S.desk.bits.words) (slice_set (slot_at R.monoid.unit S.slots.used (S.given - 1)).matching row None) S.tree.region) (stage_of (masked_reduced S.desk.work S.desk.bits.words) after G) index y.trail last row) x_is
+            (subst (λ m. IsBranch R.monoid R.difference (stage_of (masked_reduced S.desk.work S.desk.bits.words) (slice_set m row None) S.tree.region) (stage_of (masked_reduced S.desk.work S.desk.bits.words) after G) index x.trail last row) matching_is branched) in
             let grew = grew_led R laws raises X count made S expanding there.phase there.led in
             let solved = grew_solved R laws raises X count made S expanding G last index after row there in
             child_kept R laws raises X count made S expanding less tree desk capacity stays slots after last index (entries_with Open last index entries)

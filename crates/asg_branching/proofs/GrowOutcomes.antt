@@ -1,54 +1,11 @@
 -- The search after the next child was made: it was left open, or it has its best choice, or it has
 -- none.
-use Rattle.std.proofs.Common.{◌≡◌, ℕ, ◌+◌, ◌-◌, ◌*◌, ◌<◌, ◌≤◌, ◌⊎◌, inl, true, List, [], ◌∷◌, ◌++◌, length, get_or, is_some, Option, Some, None, refl, sym, ◌∙◌, ap, subst, arith, ⊎_elim}
-use Rattle.std.specs.Prelude.{IfSome, vec_capacity, slice_set}
-use Rattle.std.proofs.Math.Seq.{get_or-append_seam}
-use Rattle.std.proofs.lemmas.Bool.{cases_lt, false≢true}
-use Rattle.std.proofs.lemmas.List.{length-append, get_or_append_left}
-use Rattle.asg_model.specs.declared.bands.Band.TheVariants.{Whole}
-use Rattle.asg_model.specs.declared.parts.Cost.{Cost}
-use Rattle.asg_model.specs.Counts.{placed}
-use Rattle.asg_model.specs.HallSet.{IsHall}
-use Rattle.asg_model.specs.Problem.{Problem}
-use Rattle.asg_model.specs.Shapes.{square_side}
-use Rattle.asg_model.specs.ValidChoice.{IsValid}
-use Rattle.asg_match.specs.HallSets.{GivesHallSets}
-use Rattle.asg_match.specs.laws.Matchings.{Matches-set_other, Some-from_test}
-use Rattle.asg_order.specs.Monoid.{Monoid, IsValue, IsLe, IsOrderedMonoid}
-use Rattle.asg_order.specs.laws.Orders.{reflexive}
-use Rattle.asg_algebra.specs.Branches.{IsAtLimit, IsBranch, IsLed}
-use Rattle.asg_growth.specs.Masked.{masked_reduced}
-use Rattle.asg_pool.specs.Forest.{Forest, phases_to}
-use Rattle.asg_proof.specs.Children.{child}
-use Rattle.asg_proof.specs.Masks.{keeps_cell}
-use Rattle.asg_proof.specs.Phases.{PhaseOf}
-use Rattle.asg_proof.specs.laws.PhaseLists.{is_some-phases, index_is_value}
-use Rattle.asg_square.specs.Cells.{IsPresent, square_cell}
-use Rattle.asg_square.specs.Grid.{cell_at}
-use Rattle.asg_square.specs.Masked.{keeps, masked_grid}
-use Rattle.asg_square.specs.Presence.{has_cell}
-use Rattle.asg_branching.specs.declared.desks.Desk.{Desk}
-use Rattle.asg_nodes.specs.declared.entries.Entry.{Entry}
-use Rattle.asg_nodes.specs.declared.entries.State.TheVariants.{Open, Empty}
-use Rattle.asg_branching.specs.declared.searches.Search.{Search}
-use Rattle.asg_nodes.specs.declared.slots.Slot.{Slot}
-use Rattle.asg_nodes.specs.declared.trees.Tree.{Tree}
-use Rattle.asg_nodes.specs.Cuts.{AreBitsFor}
-use Rattle.asg_nodes.specs.Entries.{entry_at, entry_of, is_open_state, IsNext}
-use Rattle.asg_branching.specs.Expansions.{IsExpanding, kept_for, last_winner}
-use Rattle.asg_nodes.specs.HallPools.{HallSets, hall_at}
-use Rattle.asg_nodes.specs.Rules.{Rules, Leads, IsSolved, KeepsTrails}
-use Rattle.asg_branching.specs.Searches.{given_of, IsBehind}
-use Rattle.asg_nodes.specs.Slots.{SlotList, slot_of, slot_at, HaveValues, IsLimit, Inserts, Replaces, Refuses, Offers}
-use Rattle.asg_nodes.specs.Trees.{given_at}
+use Rattle.asg_branching.proofs.Common.{◌≡◌, ℕ, ◌+◌, ◌-◌, ◌*◌, ◌<◌, ◌≤◌, true, ◌⊎◌, List, [], ◌∷◌, ◌++◌, length, get_or, is_some, IfSome, slice_set, Some, None, vec_capacity, Option, sym, refl, ap, ◌∙◌, subst, inl, ⊎_elim, arith, cases_lt, false≢true, get_or-append_seam, get_or_append_left, IsAtLimit, IsBranch, IsLed, stage_of, IsExpanding, kept_for, last_winner, given_of, IsBehind, Desk, Search, AreLive, slots_stay, slots_offered, masked_reduced, GivesHallSets, Matches-set_other, Some-from_test, placed, IsHall, Problem, square_side, IsValid, Whole, Cost, AreBitsFor, entry_at, entry_of, is_open_state, IsNext, HallSets, hall_at, Rules, Leads, IsSolved, KeepsTrails, SlotList, slot_of, slot_at, HaveValues, IsLimit, Inserts, Replaces, Refuses, Offers, given_at, Entry, Open, Empty, Slot, Tree, KeepsHalls, inserted, Monoid, IsValue, IsLe, IsOrderedMonoid, reflexive, Forest, phases_to, PhaseOf, is_some-phases, index_is_value, child, keeps_cell, IsPresent, square_cell, cell_at, keeps, masked_grid, has_cell, length-append}
 use Rattle.asg_branching.proofs.Branched.{LeadsChild, leads_child, masked_child, led_pushes, led_child, led_rises, solved_child}
 use Rattle.asg_branching.proofs.ChildSearches.{expanding_more}
-use Rattle.asg_nodes.specs.laws.ChildSteps.{KeepsHalls}
 use Rattle.asg_branching.proofs.DeskSteps.{DeskStays, memory_with}
 use Rattle.asg_branching.proofs.GrowCases.{Raises, given_count, last_less, node_from, node_there, next_part, node_leads, node_rows, node_columns, node_place, raised_child, node_solved, branch_bits, next_open, next_empty}
 use Rattle.asg_branching.proofs.ReadySearches.{one_spare}
-use Rattle.asg_nodes.specs.laws.SlotLists.{inserted}
-use Rattle.asg_branching.specs.laws.SlotSteps.{AreLive, slots_stay, slots_offered}
 
 -- an index that came to the limit is behind all slots
 pub behind_limit : {V : Type 0} (M : Monoid V) (laws : IsOrderedMonoid M) (slots : SlotList V) → HaveValues M slots.used → (index : V) → IsValue M index → (limit : Option V) → IsLimit M slots limit → IsAtLimit M limit index → IsBehind M slots index
@@ -152,7 +109,7 @@ module _ {V : Type 0} (R : Rules V) (laws : IsOrderedMonoid R.monoid) where
 
     -- where the row got a column, the child is solved
     pub grew_solved : (G : Forest V) (last : Option ℕ) (now : V) (after : List (Option ℕ)) (row : ℕ)
-        → IsBranch R.monoid R.difference (masked_reduced S.desk.work S.desk.bits.words) (slice_set (slot_at R.monoid.unit S.slots.used (S.given - 1)).matching row None) after now S.tree.region G above.trail last row
+        → IsBranch R.monoid R.difference (stage_of (masked_reduced S.desk.work S.desk.bits.words) (slice_set (slot_at R.monoid.unit S.slots.used (S.given - 1)).matching row None) S.tree.region) (stage_of (masked_reduced S.desk.work S.desk.bits.words) after G) now above.trail last row
         → IsSolved R G part_next last now after
     grew_solved G last now after row branched =
         let solved = node_solved R X count made S expanding.growing in

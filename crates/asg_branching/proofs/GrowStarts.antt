@@ -1,37 +1,11 @@
 -- Where the next child starts to grow.
-use Rattle.std.proofs.Common.{◌≡◌, ◌≢◌, ℕ, ◌+◌, ◌-◌, ◌*◌, ◌^◌, ◌<◌, ◌≤◌, max, true, List, length, Option, sym, ◌∙◌, ap, subst, arith}
-use Rattle.std.specs.Prelude.{vec_capacity}
-use Rattle.std.proofs.Math.Nat.{mul-le-mul_right}
-use Rattle.asg_model.specs.Counts.{placed, total_capacity}
-use Rattle.asg_model.specs.Live.{is_active}
-use Rattle.asg_model.specs.Problem.{Problem}
-use Rattle.asg_model.specs.Shapes.{square_side, side_by}
-use Rattle.asg_model.specs.Sums.{count_below}
-use Rattle.asg_model.specs.declared.parts.Place.TheVariants.{All as PlaceAll}
-use Rattle.asg_model.specs.laws.Rows.{row-from_active}
-use Rattle.asg_match.specs.Matching.{Matches}
-use Rattle.asg_match.specs.laws.Matchings.{Matches-below}
-use Rattle.asg_order.specs.Monoid.{Monoid}
-use Rattle.asg_admit.specs.declared.reduced.Reduced.{Reduced}
+use Rattle.asg_branching.proofs.Common.{◌≡◌, ℕ, ◌+◌, ◌-◌, ◌*◌, ◌^◌, ◌<◌, ◌≤◌, max, true, ◌≢◌, List, length, vec_capacity, Option, sym, ap, ◌∙◌, subst, mul-le-mul_right, arith, Branches, Stage, IsGrowing, IsExpanding, kept_for, last_winner, given_of, Search, IsRestOf, Matches, Matches-below, placed, total_capacity, is_active, Problem, square_side, side_by, count_below, row-from_active, entry_at, Rules, slot_at, given_at, add_one_times, same_keeps, Monoid, keeps_cell, keeps}
 use Rattle.asg_algebra.specs.declared.branching.Branch.{Branch}
 use Rattle.asg_algebra.specs.declared.branching.Branch.TheVariants.{Reached, Left, Short}
-use Rattle.asg_algebra.specs.Branches.{Branches}
-use Rattle.asg_growth.specs.Rest.{IsRestOf}
-use Rattle.asg_pool.specs.Forest.{Forest}
-use Rattle.asg_proof.specs.Masks.{keeps_cell}
-use Rattle.asg_square.specs.Masked.{keeps}
-use Rattle.asg_branching.specs.declared.searches.Search.{Search}
-use Rattle.asg_nodes.specs.Entries.{entry_at}
-use Rattle.asg_branching.specs.Expansions.{IsGrowing, IsExpanding, kept_for, last_winner}
-use Rattle.asg_nodes.specs.Rules.{Rules}
-use Rattle.asg_branching.specs.Searches.{given_of}
-use Rattle.asg_nodes.specs.Slots.{slot_at}
-use Rattle.asg_nodes.specs.Trees.{given_at}
-use Rattle.asg_nodes.specs.laws.EntryLists.{add_one_times}
 use Rattle.asg_branching.proofs.GrowCases.{last_less, node_rows, node_columns, node_place, node_side, node_solved, branch_bits}
 use Rattle.asg_branching.proofs.GrowSteps.{kept_matched, rest_of}
 use Rattle.asg_branching.proofs.ReadySearches.{one_spare}
-use Rattle.asg_nodes.specs.laws.Shapes.{same_keeps}
+use Rattle.asg_model.specs.declared.parts.Place.TheVariants.{All as PlaceAll}
 
 -- a row that is there is a row of the square
 pub row_within : (X : Problem) → X.place ≡ PlaceAll → (row : ℕ) → row < length X.rows → row < square_side X
@@ -119,8 +93,8 @@ module _ {V : Type 0} (R : Rules V) (X : Problem) (count made : ℕ) (S : Search
         ∙ kept_matched X growing.rankable.place matching_here f (growing.search.answers (S.given - 1) (last_less R X count made S growing)).by row active r k other matched
 
 -- a tree leaves the matching as long as it was
-pub branch_length : {V : Type 0} (M : Monoid V) (difference : V → V → V) (reduced : Reduced V) (matching after : List (Option ℕ)) (limit : Option V) (F G : Forest V) (trail : Option ℕ) (root : ℕ) (rows : List ℕ) (b : Branch V) → length matching ≡ reduced.now.side
-    → Branches M difference reduced matching after limit F G trail root rows b → length after ≡ length matching
-branch_length M difference reduced matching after limit F G trail root rows (Reached index last) side is = is.rest.matching_side ∙ sym side
-branch_length M difference reduced matching after limit F G trail root rows (Left index last) side is = ap length is.same_matching
-branch_length M difference reduced matching after limit F G trail root rows Short side is = ap length is.0
+pub branch_length : {V : Type 0} (M : Monoid V) (difference : V → V → V) (before after : Stage V) (limit : Option V) (trail : Option ℕ) (root : ℕ) (rows : List ℕ) (b : Branch V) → length before.matching ≡ before.square.now.side
+    → Branches M difference before after limit trail root rows b → length after.matching ≡ length before.matching
+branch_length M difference before after limit trail root rows (Reached index last) side is = is.rest.matching_side ∙ sym side
+branch_length M difference before after limit trail root rows (Left index last) side is = ap length is.same_matching
+branch_length M difference before after limit trail root rows Short side is = ap (λ s. length s.matching) is.0

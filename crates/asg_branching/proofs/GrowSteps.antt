@@ -1,22 +1,7 @@
 -- Where a child starts to grow: the matching of its parent without the row's column, on the cells
 -- that are kept.
-use Rattle.std.proofs.Common.{◌≡◌, ◌≢◌, ℕ, ◌<◌, ◌≤◌, Bool, true, cond, not, List, Option, Some, None, refl, sym, ◌∙◌, ap, ⊎_elim}
-use Rattle.std.specs.Prelude.{nat_lt, slice_index_or}
-use Rattle.std.proofs.lemmas.Bool.{cases_lt, eq-eqb, ne_eqb, lt-ltb, le-ltb}
+use Rattle.asg_branching.proofs.Common.{◌≡◌, ℕ, ◌<◌, ◌≤◌, Bool, true, cond, not, ◌≢◌, List, nat_lt, slice_index_or, Some, None, Option, sym, refl, ap, ◌∙◌, ⊎_elim, le-ltb, lt-ltb, eq-eqb, ne_eqb, cases_lt, Reduced, IsRestOf, Matches, IsMatched, is_active, Problem, square_side, takes, Rules, IsSolved, IsReducedTo, labelled_active, other_number, Forest, row_number, is_chosen, is_kept_at, keeps_labelled, keeps_cell, row_label, column_label}
 use Rattle.asg_model.specs.declared.parts.Place.TheVariants.{All as PlaceAll}
-use Rattle.asg_model.specs.Live.{is_active}
-use Rattle.asg_model.specs.Problem.{Problem}
-use Rattle.asg_model.specs.Shapes.{square_side}
-use Rattle.asg_model.specs.ValidChoice.{takes}
-use Rattle.asg_match.specs.Matching.{Matches, IsMatched}
-use Rattle.asg_admit.specs.declared.reduced.Reduced.{Reduced}
-use Rattle.asg_growth.specs.Rest.{IsRestOf}
-use Rattle.asg_pool.specs.Forest.{Forest}
-use Rattle.asg_proof.specs.Children.{row_number, is_chosen, is_kept_at}
-use Rattle.asg_proof.specs.Masks.{keeps_labelled, keeps_cell}
-use Rattle.asg_square.specs.Labels.{row_label, column_label}
-use Rattle.asg_nodes.specs.Rules.{Rules, IsSolved, IsReducedTo}
-use Rattle.asg_nodes.specs.laws.BitSteps.{labelled_active, other_number}
 
 -- a choice is that of a matching
 abbrev pub IsBy : Problem → List (Option ℕ) → List (Option ℕ) → Type 0

@@ -1,16 +1,5 @@
 -- A square that stays that of a node's part.
-use Rattle.std.proofs.Common.{◌≡◌, ℕ, ◌≤◌, length, Option, sym, ◌∙◌, subst, arith}
-use Rattle.std.specs.Prelude.{IfSome}
-use Rattle.asg_model.specs.Problem.{Problem}
-use Rattle.asg_admit.specs.declared.reduced.Reduced.{Reduced}
-use Rattle.asg_pool.specs.Forest.{Forest, IsLive}
-use Rattle.asg_proof.specs.Phases.{after_phases}
-use Rattle.asg_square.specs.Cells.{square_cell}
-use Rattle.asg_nodes.specs.declared.trees.Tree.{Tree}
-use Rattle.asg_nodes.specs.Entries.{entry_at}
-use Rattle.asg_nodes.specs.Rules.{Rules, IsReducedTo, KeepsTrails}
-use Rattle.asg_nodes.specs.Settled.{IsStanding}
-use Rattle.asg_nodes.specs.laws.Trails.{phases_same}
+use Rattle.asg_branching.proofs.Common.{◌≡◌, ℕ, ◌≤◌, length, IfSome, Option, sym, ◌∙◌, subst, arith, Reduced, Problem, entry_at, Rules, IsReducedTo, KeepsTrails, IsStanding, Tree, phases_same, Forest, IsLive, after_phases, square_cell}
 
 -- a square stays that of a part where the region keeps its trails
 pub IsReducedTo-kept : {V : Type 0} (R : Rules V) (F G : Forest V) → KeepsTrails F G → (Y : Problem) (trail : Option ℕ) (index : V) (reduced : Reduced V) → IfSome trail (IsLive F) → IsReducedTo R F Y trail index reduced → IsReducedTo R G Y trail index reduced

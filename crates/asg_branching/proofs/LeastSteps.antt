@@ -1,31 +1,5 @@
 -- The kept node of the least index gives a choice that is new and best of those that weren't given.
-use Rattle.std.proofs.Common.{◌≡◌, ℕ, ◌+◌, ◌*◌, ◌<◌, ◌≤◌, List, [], length, Option, sym, ◌∙◌, ap, subst, arith, ⊎_elim}
-use Rattle.std.specs.Prelude.{IsTrue}
-use Rattle.std.proofs.lemmas.Bool.{cases_lt}
-use Rattle.asg_model.specs.Counts.{placed}
-use Rattle.asg_model.specs.Instances.{IsInstance}
-use Rattle.asg_model.specs.Problem.{Problem}
-use Rattle.asg_model.specs.Shapes.{square_side}
-use Rattle.asg_model.specs.ValidChoice.{IsValid}
-use Rattle.asg_order.specs.Bridge.{choice_fold}
-use Rattle.asg_order.specs.Monoid.{IsValue, IsLe, IsOrderedMonoid}
-use Rattle.asg_order.specs.laws.Orders.{reflexive}
-use Rattle.asg_pool.specs.Forest.{phases_to}
-use Rattle.asg_proof.specs.Frontiers.{IsLeastPart}
-use Rattle.asg_proof.specs.PhaseProofs.{EntersValues, ProvesIndex}
-use Rattle.asg_proof.specs.Phases.{PhaseOf}
-use Rattle.asg_proof.specs.laws.FrontierSteps.{least_valid, least_new, least_best}
-use Rattle.asg_proof.specs.laws.PhaseLists.{index_is_value}
-use Rattle.asg_square.specs.Cells.{square_cell}
-use Rattle.asg_nodes.specs.declared.trees.Tree.{Tree}
-use Rattle.asg_nodes.specs.Entries.{entry_at, is_open_at}
-use Rattle.asg_branching.specs.Expansions.{IsLeastNew}
-use Rattle.asg_nodes.specs.Rules.{Rules}
-use Rattle.asg_branching.specs.Searches.{winner_in, IsBehind, IsKept, AreSlots}
-use Rattle.asg_nodes.specs.Slots.{SlotList, slot_of, slot_at}
-use Rattle.asg_nodes.specs.Trees.{IsTree}
-use Rattle.asg_nodes.specs.laws.OpenNodes.{open_within, open_here}
-use Rattle.asg_nodes.specs.laws.Parts.{part_instance, part_live, part_fold}
+use Rattle.asg_branching.proofs.Common.{◌≡◌, ℕ, ◌+◌, ◌*◌, ◌<◌, ◌≤◌, List, [], length, IsTrue, Option, sym, ap, ◌∙◌, subst, ⊎_elim, arith, cases_lt, IsLeastNew, winner_in, IsBehind, IsKept, AreSlots, placed, IsInstance, Problem, square_side, IsValid, entry_at, is_open_at, Rules, SlotList, slot_of, slot_at, IsTree, Tree, open_within, open_here, part_instance, part_live, part_fold, choice_fold, IsValue, IsLe, IsOrderedMonoid, reflexive, phases_to, EntersValues, ProvesIndex, PhaseOf, index_is_value, IsLeastPart, least_valid, least_new, least_best, square_cell}
 
 module _ {V : Type 0} (R : Rules V) (laws : IsOrderedMonoid R.monoid) (X : Problem) (instance : IsInstance X) (enters : EntersValues R.monoid R.enter X)
     (given : List (List (Option ℕ))) (winner : ℕ → ℕ) (T : Tree V) (part : ℕ → Problem) (tree : IsTree R X given winner (length T.entries.items) T part)

@@ -1,32 +1,10 @@
 -- The children of a node, where none of them can be kept: they are left open.
-use Rattle.std.proofs.Common.{◌≡◌, ℕ, ◌+◌, ◌-◌, ◌<◌, ◌≤◌, inl, List, [], ◌∷◌, ◌++◌, length, refl, sym, ◌∙◌, ap, subst, arith, ⊎_elim}
-use Rattle.std.specs.Prelude.{vec_capacity}
-use Rattle.std.proofs.lemmas.Bool.{cases_lt}
-use Rattle.asg_model.specs.Counts.{placed}
-use Rattle.asg_model.specs.Problem.{Problem}
-use Rattle.asg_order.specs.Monoid.{IsValue, IsOrderedMonoid}
-use Rattle.asg_pool.specs.Forest.{Forest, trail_at}
-use Rattle.asg_proof.specs.Children.{child}
-use Rattle.asg_nodes.specs.declared.entries.Entry.{Entry}
-use Rattle.asg_nodes.specs.declared.entries.State.TheVariants.{Open}
-use Rattle.asg_branching.specs.declared.searches.Search.{Search}
-use Rattle.asg_nodes.specs.declared.trees.Tree.{Tree}
-use Rattle.asg_nodes.specs.Entries.{entry_at, entry_of, child_number}
-use Rattle.asg_branching.specs.Expansions.{IsGrowing, IsLastBehind, last_winner}
-use Rattle.asg_nodes.specs.HallPools.{HallSets, hall_at}
-use Rattle.asg_nodes.specs.Rules.{Rules, Leads, KeepsTrails}
-use Rattle.asg_branching.specs.Searches.{given_of, IsBehind}
-use Rattle.asg_nodes.specs.Slots.{slot_at, AreUpTo}
-use Rattle.asg_nodes.specs.Trees.{given_at}
+use Rattle.asg_branching.proofs.Common.{◌≡◌, ℕ, ◌+◌, ◌-◌, ◌<◌, ◌≤◌, List, [], ◌∷◌, ◌++◌, length, vec_capacity, sym, refl, ap, ◌∙◌, subst, inl, ⊎_elim, arith, cases_lt, IsGrowing, IsLastBehind, last_winner, given_of, IsBehind, Search, AreLive, slots_stay, placed, Problem, entry_at, entry_of, child_number, HallSets, hall_at, Rules, Leads, KeepsTrails, slot_at, AreUpTo, given_at, Entry, Open, Tree, KeepsHalls, entry_before, entry_last, last_greatest, IsValue, IsOrderedMonoid, Forest, trail_at, child}
 use Rattle.asg_branching.proofs.Branched.{leads_child}
 use Rattle.asg_branching.proofs.ChildSearches.{growing_more}
-use Rattle.asg_nodes.specs.laws.ChildSteps.{KeepsHalls}
 use Rattle.asg_branching.proofs.DeskSteps.{memory_with}
-use Rattle.asg_nodes.specs.laws.EntryLists.{entry_before, entry_last}
 use Rattle.asg_branching.proofs.GrowCases.{Raises, given_count, last_less, node_from, node_there, next_number, node_leads, raised_child, next_open}
 use Rattle.asg_branching.proofs.GrowOutcomes.{led_value}
-use Rattle.asg_nodes.specs.laws.SlotLists.{last_greatest}
-use Rattle.asg_branching.specs.laws.SlotSteps.{AreLive, slots_stay}
 
 -- where there is room for no more answers, the index of the last answer's node is behind all slots
 pub behind_last : {V : Type 0} (R : Rules V) → IsOrderedMonoid R.monoid → (X : Problem) (count made : ℕ) (S : Search V) → IsGrowing R X count made S → S.given ≡ S.slots.room → IsLastBehind R.monoid S

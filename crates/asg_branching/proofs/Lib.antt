@@ -1,3 +1,4 @@
+pub mod Common
 mod Branched
 mod AnswerSteps
 mod GrowCases

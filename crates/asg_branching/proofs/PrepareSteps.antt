@@ -1,19 +1,5 @@
 -- The desk before the first child is made.
-use Rattle.std.proofs.Common.{◌≡◌, ℕ, ◌+◌, ◌-◌, ◌*◌, ◌<◌, ◌≤◌, Bool, length, refl, sym, ◌∙◌, ap, subst, arith}
-use Rattle.std.specs.Prelude.{IsTrue, vec_len}
-use Rattle.std.proofs.lemmas.List.Elements.{All-take}
-use Rattle.asg_model.specs.Counts.{placed}
-use Rattle.asg_model.specs.Problem.{Problem}
-use Rattle.asg_model.specs.Shapes.{square_side}
-use Rattle.asg_square.specs.BitTable.{has_bit}
-use Rattle.asg_branching.specs.declared.desks.Desk.{Desk}
-use Rattle.asg_branching.specs.declared.searches.Search.{Search}
-use Rattle.asg_nodes.specs.Entries.{entry_at}
-use Rattle.asg_branching.specs.Expansions.{IsGrowing, IsExpanding, last_winner, fixed_for}
-use Rattle.asg_nodes.specs.Rules.{Rules, IsReducedTo}
-use Rattle.asg_branching.specs.Searches.{winner_in, given_of, IsReady}
-use Rattle.asg_nodes.specs.Settled.{IsRebuilt}
-use Rattle.asg_nodes.specs.Trees.{given_at}
+use Rattle.asg_branching.proofs.Common.{◌≡◌, ℕ, ◌+◌, ◌-◌, ◌*◌, ◌<◌, ◌≤◌, Bool, length, IsTrue, vec_len, sym, refl, ap, ◌∙◌, subst, arith, All-take, has_bit, IsGrowing, IsExpanding, last_winner, fixed_for, winner_in, given_of, IsReady, Desk, Search, placed, Problem, square_side, entry_at, Rules, IsReducedTo, IsRebuilt, given_at}
 use Rattle.asg_branching.proofs.ChildBits.{bits_first}
 use Rattle.asg_branching.proofs.DeskSteps.{memory_with}
 use Rattle.asg_branching.proofs.GrowCases.{node_there, node_side}

@@ -1,20 +1,5 @@
 -- A search before the first child of a node is made, and after the last one.
-use Rattle.std.proofs.Common.{◌≡◌, ℕ, ◌+◌, ◌-◌, ◌*◌, ◌<◌, ◌≤◌, length, ◌∙◌, ap, subst, arith, ⊎_elim}
-use Rattle.std.proofs.lemmas.Bool.{cases_lt}
-use Rattle.asg_model.specs.Counts.{placed}
-use Rattle.asg_model.specs.Problem.{Problem}
-use Rattle.asg_model.specs.Shapes.{square_side}
-use Rattle.asg_branching.specs.declared.desks.Desk.{Desk}
-use Rattle.asg_nodes.specs.declared.entries.State.TheVariants.{Open}
-use Rattle.asg_branching.specs.declared.searches.Search.{Search}
-use Rattle.asg_nodes.specs.Cuts.{AreBitsFor, fixes_cell}
-use Rattle.asg_nodes.specs.Entries.{entry_at, child_number}
-use Rattle.asg_branching.specs.Expansions.{IsGrowing, IsExpanding, last_winner, fixed_for}
-use Rattle.asg_nodes.specs.Rules.{Rules, IsReducedTo}
-use Rattle.asg_branching.specs.Searches.{winner_in, given_of, IsReady, HasMemory}
-use Rattle.asg_nodes.specs.Settled.{IsStanding}
-use Rattle.asg_nodes.specs.Trees.{given_at, IsTree}
-use Rattle.asg_nodes.specs.laws.EntryLists.{add_one_times}
+use Rattle.asg_branching.proofs.Common.{◌≡◌, ℕ, ◌+◌, ◌-◌, ◌*◌, ◌<◌, ◌≤◌, length, ap, ◌∙◌, subst, ⊎_elim, arith, cases_lt, IsGrowing, IsExpanding, last_winner, fixed_for, winner_in, given_of, IsReady, HasMemory, Desk, Search, placed, Problem, square_side, AreBitsFor, fixes_cell, entry_at, child_number, Rules, IsReducedTo, IsStanding, given_at, IsTree, Open, add_one_times}
 use Rattle.asg_branching.proofs.GivenSearches.{count_given}
 
 less_times : (room given k : ℕ) → given < room → (room - given) * k ≡ (room - 1 - given) * k + k

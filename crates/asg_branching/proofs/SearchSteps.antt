@@ -1,28 +1,7 @@
 -- A search after one more child, and after one more answer.
-use Rattle.std.proofs.Common.{◌≡◌, ◌≢◌, ℕ, ◌+◌, ◌<◌, ◌≤◌, List, [], ◌∷◌, ◌++◌, length, Option, refl, sym, ◌∙◌, ap, subst, arith, ⊎_elim}
-use Rattle.std.specs.Prelude.{Contains}
-use Rattle.std.proofs.Math.Seq.{get_or-append_seam}
-use Rattle.std.proofs.lemmas.List.{get_or_append_left}
-use Rattle.std.proofs.lemmas.Bool.{cases_lt}
-use Rattle.std.proofs.lemmas.List.Elements.{Contains-get_or}
-use Rattle.std.proofs.lemmas.List.Quantifiers.{all_pairs_push}
-use Rattle.asg_model.specs.declared.parts.Place.TheVariants.{All as PlaceAll}
-use Rattle.asg_model.specs.Counts.{placed}
-use Rattle.asg_model.specs.Problem.{Problem}
-use Rattle.asg_nodes.specs.declared.entries.Entry.{Entry}
-use Rattle.asg_proof.specs.Children.{child}
-use Rattle.asg_nodes.specs.declared.entries.State.{State}
-use Rattle.asg_nodes.specs.declared.entries.State.TheVariants.{Answered, Open, Empty}
-use Rattle.asg_nodes.specs.declared.slots.Slot.{Slot}
-use Rattle.asg_nodes.specs.declared.trees.Tree.{Tree}
-use Rattle.asg_nodes.specs.Entries.{entry_at, with_state, child_number}
-use Rattle.asg_branching.specs.Expansions.{IsLeastNew}
-use Rattle.asg_nodes.specs.Rules.{Rules, KeepsTrails}
-use Rattle.asg_branching.specs.Searches.{winner_in, IsAnswer, AreSlots, IsSearch}
-use Rattle.asg_nodes.specs.Slots.{SlotList, slot_at}
-use Rattle.asg_nodes.specs.Trees.{given_at, HasState, IsWinner, IsChildOf, IsTree}
-use Rattle.asg_nodes.specs.laws.ChildSteps.{KeepsHalls, IsNextChild, more_children}
+use Rattle.asg_branching.proofs.Common.{◌≡◌, ℕ, ◌+◌, ◌<◌, ◌≤◌, ◌≢◌, List, [], ◌∷◌, ◌++◌, length, Contains, Option, sym, refl, ap, ◌∙◌, subst, ⊎_elim, arith, Contains-get_or, all_pairs_push, cases_lt, get_or-append_seam, get_or_append_left, IsLeastNew, winner_in, IsAnswer, AreSlots, IsSearch, placed, Problem, entry_at, with_state, child_number, Rules, KeepsTrails, SlotList, slot_at, given_at, HasState, IsWinner, IsChildOf, IsTree, Entry, State, Answered, Open, Empty, Slot, Tree, KeepsHalls, IsNextChild, more_children, child}
 use Rattle.asg_branching.proofs.AnswerSteps.{part_now, tree_now, slots_now, old_part, more}
+use Rattle.asg_model.specs.declared.parts.Place.TheVariants.{All as PlaceAll}
 
 -- a tree with other numbers of the nodes with answers that are the same
 pub winners_same : {V : Type 0} (R : Rules V) (X : Problem) (given : List (List (Option ℕ))) (winner other : ℕ → ℕ) (upto : ℕ) (T : Tree V) (part : ℕ → Problem) → ((a : ℕ) → a < length given → other a ≡ winner a) → IsTree R X given winner upto T part → IsTree R X given other upto T part

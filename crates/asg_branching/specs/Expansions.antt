@@ -7,7 +7,7 @@ use Rattle.asg_model.specs.ValidChoice.{IsValid}
 use Rattle.asg_order.specs.Bridge.{choice_fold}
 use Rattle.asg_order.specs.Monoid.{Monoid, IsLe}
 use Rattle.asg_branching.specs.declared.searches.Search.{Search}
-use Rattle.asg_proof.specs.Masks.{keeps_cell}
+use Rattle.asg_rankings.specs.Masks.{keeps_cell}
 use Rattle.asg_nodes.specs.Cuts.{AreBitsFor, fixes_cell}
 use Rattle.asg_nodes.specs.Entries.{entry_at}
 use Rattle.asg_nodes.specs.Rules.{Rules, IsReducedTo}

@@ -15,12 +15,13 @@ ghost use Rattle.asg_nodes.specs.declared.entries.State.TheVariants.{Open, Empty
 use crate::desks::Desk;
 use crate::masked_cells::MaskedCells;
 use crate::searches::Search;
+use asg_bit_rows::BitRows;
 use asg_match::hall_of;
 use asg_model::Instance;
 use asg_nodes::{HallPool, State, Tree, offer, push_child};
 use asg_order::DMonoid;
 use asg_pool::Trail;
-use asg_square::{BitRows, Square};
+use asg_square::Square;
 
 // Writes the Hall set of rows that have too few cells that the bits keep, and gives its place.
 fn write_hall<V: Copy>(

@@ -10,6 +10,7 @@ ghost use Rattle.asg_model.specs.Problem.{Problem};
 ghost use Rattle.asg_model.specs.Sums.{count_below};
 ghost use Rattle.asg_order.specs.Monoid.{IsValue};
 ghost use Rattle.asg_algebra.specs.Branches.{Branches};
+ghost use Rattle.asg_algebra.specs.Stages.{stage_of};
 ghost use Rattle.asg_growth.specs.Masked.{masked_reduced};
 ghost use Rattle.asg_growth.specs.Rest.{IsRestOf};
 ghost use Rattle.asg_pool.specs.Forest.{IsLive};
@@ -26,12 +27,12 @@ use asg_algebra::laws::branch_law;
 use asg_algebra::{Branch, branch_from};
 use asg_match::Matching;
 use asg_model::Instance;
-use asg_model::laws::infeasible_law;
 use asg_nodes::{Slots, State, entry, limit, push_child, put_row, rebuild};
 use asg_order::DMonoid;
 use asg_pool::{Region, Trail};
 use asg_proof::laws::raised_law;
 use asg_square::laws::square_law;
+use asg_values::laws::infeasible_law;
 
 // Whether all slots are in use and no index there is greater than this one.
 fn is_behind<M: DMonoid>(m: &M, slots: &Slots<M::Value>, index: M::Value) -> bool
@@ -86,8 +87,10 @@ fn grow<M: DMonoid>(
     requires region_side { region.old.side ≡ desk.old.work.now.side }
     ensures same { desk.new ≡ record desk.old { trial = desk.new.trial; bench = desk.new.bench } }
     ensures branches { Branches (M.monoid_of m.now) (M.difference m.now)
-        (masked_reduced desk.old.work desk.old.bits.words) (slice_set matching.now row None)
-        desk.new.trial limit region.old region.new trail row desk.new.bench.rows result }
+        (stage_of (masked_reduced desk.old.work desk.old.bits.words)
+        (slice_set matching.now row None) region.old)
+        (stage_of (masked_reduced desk.old.work desk.old.bits.words) desk.new.trial region.new)
+        limit trail row desk.new.bench.rows result }
     ensures trial { length desk.new.trial ≡ length desk.old.trial }
     ensures bench { desk.new.bench.side ≡ desk.old.bench.side }
 {

@@ -2,8 +2,8 @@
 
 use asg_admit::Reduced;
 use asg_algebra::Bench;
+use asg_bit_rows::BitRows;
 use asg_match::Matching;
-use asg_square::BitRows;
 
 /// The square of a node's part after the phases of its trail, the number of the node, which is 0
 /// before there is one, the cells of it that a branch keeps, and the memory of a solver: a

@@ -3,8 +3,9 @@
 ghost use Rattle.std.specs.Prelude.{◌≡◌};
 ghost use Rattle.asg_square.specs.Grid.{IsGrid};
 
+use asg_bit_rows::BitRows;
 use asg_match::Allowed;
-use asg_square::{BitRows, Square};
+use asg_square::Square;
 
 /// The present cells of a square that rows of bits keep.
 #[derive(Drop)]

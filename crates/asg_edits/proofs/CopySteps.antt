@@ -1,8 +1,5 @@
 -- Lists that are copied element by element.
-use Rattle.std.proofs.Common.{◌≡◌, ℕ, ◌+◌, ◌<◌, List, [], ◌∷◌, ◌++◌, length, take, Some, sym, ◌∙◌, arith}
-use Rattle.std.specs.Prelude.{slice_get, slice_set}
-use Rattle.std.proofs.lemmas.List.{take_more, take_more_set}
-use Rattle.std.proofs.lemmas.Option.{get_or_from_slice_get}
+use Rattle.asg_edits.proofs.Common.{◌≡◌, ℕ, ◌+◌, ◌<◌, List, [], ◌∷◌, ◌++◌, length, take, slice_get, slice_set, Some, sym, ◌∙◌, arith, get_or_from_slice_get, take_more, take_more_set}
 
 -- one element more
 pub copied_more : {A : Type 0} (copy list : List A) (k : ℕ) (x : A) → k < length list → length copy ≡ length list → take k copy ≡ take k list → slice_get list k ≡ Some x

@@ -1,17 +1,8 @@
 -- What a session of sums by dual variables does, as an editor sees it.
-use Rattle.std.proofs.Common.{◌≡◌, ◌++◌, true, [], refl, ap, ◌∙◌, arith}
-use Rattle.std.specs.Prelude.{IsTrue}
+use Rattle.asg_edits.proofs.Common.{◌≡◌, true, [], ◌++◌, IsTrue, refl, ap, ◌∙◌, arith, EditorOf, Edits, GoesTo, SettlesTo, seen_by_duals, edited, Problem, Edit, Objective, Sum, SumMax, is_sum_objective, top_of, KeepsFact, KeepsPhases}
 use Rattle.std.proofs.lemmas.List.{append_assoc, length-append}
-use Rattle.asg_model.specs.declared.edits.Edit.{Edit}
-use Rattle.asg_model.specs.declared.objectives.Objective.{Objective}
-use Rattle.asg_model.specs.declared.objectives.Objective.TheVariants.{Sum, SumMax}
-use Rattle.asg_model.specs.Edits.{edited}
-use Rattle.asg_model.specs.Problem.{Problem}
-use Rattle.asg_monoids.specs.Entered.{is_sum_objective, top_of}
 use Rattle.asg_monoids.specs.NarrowObjectives.{is_narrow_objective}
-use Rattle.asg_proof.specs.KeptWords.{KeepsFact, KeepsPhases}
 use Rattle.asg_sum_edits.specs.Sessions.{SumsOf}
-use Rattle.asg_edits.specs.Editors.{EditorOf, Edits, GoesTo, SettlesTo, seen_by_duals}
 use Rattle.asg_edits.proofs.MonoidFacts.{sum_fact}
 
 narrow_is_sum : (objective : Objective) → IsTrue (is_narrow_objective objective) → is_sum_objective objective ≡ true

@@ -1,26 +1,7 @@
 -- What the session of each kind does, as an editor sees it.
-use Rattle.std.proofs.Common.{◌≡◌, ℕ, ◌≤◌, ◌++◌, List, Option, length, map, Result, Ok, Err, refl, ap}
-use Rattle.std.specs.Prelude.{OnOk}
-use Rattle.asg_algebra.specs.Solved.{unmatched}
-use Rattle.asg_model.specs.declared.edits.Edit.{Edit}
-use Rattle.asg_model.specs.declared.objectives.Objective.TheVariants.{TimeCost}
-use Rattle.asg_model.specs.Edits.{edited}
-use Rattle.asg_monoids.specs.declared.peak_kinds.PeakKind.{PeakKind}
-use Rattle.asg_monoids.specs.declared.sum_kinds.SumKind.{SumKind}
+use Rattle.asg_edits.proofs.Common.{◌≡◌, ℕ, ◌≤◌, List, ◌++◌, map, length, OnOk, Ok, Err, Option, Result, refl, ap, unmatched, IsAnswerAt, IsAnswerIn, IsChoiceAt, IsChoiceIn, EditFact, KeepsIn, EditorOf, Edits, GoesTo, editor_of, Sums, Peaks, Times, edited, Edit, TimeCost, bounded_sums, bounded_difference, plain_word, peak_entered, sum_entered, time_entered, graded, graded_difference, graded_word, maxima, maxima_difference, PeakKind, SumKind, Word, PhaseOf, worded, Outcome, SessionOf}
 use Rattle.asg_monoids.specs.declared.time_kinds.TimeKind.{TimeKind}
-use Rattle.asg_monoids.specs.BoundedSums.{bounded_sums, bounded_difference, plain_word}
-use Rattle.asg_monoids.specs.Entered.{peak_entered, sum_entered, time_entered}
-use Rattle.asg_monoids.specs.Grades.{graded, graded_difference, graded_word}
-use Rattle.asg_monoids.specs.Maxima.{maxima, maxima_difference}
-use Rattle.asg_order.specs.declared.words.Word.{Word}
-use Rattle.asg_proof.specs.Phases.{PhaseOf, worded}
-use Rattle.asg_repair.specs.Sessions.{SessionOf}
 use Rattle.asg_edits.specs.declared.sessions.Sessions.{Sessions}
-use Rattle.asg_edits.specs.declared.sessions.Sessions.TheVariants.{Sums, Peaks, Times}
-use Rattle.asg_edits.specs.Edited.{EditFact, KeepsIn}
-use Rattle.asg_edits.specs.Editors.{EditorOf, Edits, GoesTo, editor_of}
-use Rattle.asg_edits.specs.EditOutcomes.{IsAnswerAt, IsAnswerIn, IsChoiceAt, IsChoiceIn}
-use Rattle.asg_proof.specs.declared.outcomes.Outcome.{Outcome}
 use Rattle.asg_edits.proofs.MonoidFacts.{edit_parts, peak_answer, peak_choice, peak_fact, sum_answer, sum_choice, sum_fact, time_answer, time_choice, time_fact}
 
 -- two facts on an answer give a third

@@ -1,3 +1,4 @@
+pub mod Common
 mod CopySteps
 mod DualFacts
 mod EditorFacts

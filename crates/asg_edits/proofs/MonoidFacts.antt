@@ -1,29 +1,12 @@
 -- Facts of a kind's monoid as facts of the objective's.
-use Rattle.std.proofs.Common.{◌≡◌, ℕ, ◌≤◌, ◌^◌, List, Option, Some, None, sym, subst}
-use Rattle.std.specs.Prelude.{IsTrue}
-use Rattle.asg_model.specs.declared.objectives.Objective.{Objective}
-use Rattle.asg_model.specs.declared.objectives.Objective.TheVariants.{Sum, SumMax, SumPair, Capped, Bottleneck, BottleneckMax, TimeCost, Balanced, Lex}
-use Rattle.asg_model.specs.declared.parts.Cost.{Cost}
+use Rattle.asg_edits.proofs.Common.{◌≡◌, ℕ, ◌^◌, ◌≤◌, List, IsTrue, Some, None, Option, sym, subst, IsAnswerAt, IsAnswerIn, IsBestAt, IsBestIn, IsChoiceAt, IsChoiceIn, IsPhases, EditFact, Problem, Objective, Sum, SumMax, SumPair, Capped, Bottleneck, BottleneckMax, TimeCost, Balanced, Lex, Cost, bounded_sums, bounded_difference, plain_word, is_sum_objective, peak_entered, sum_entered, time_entered, top_of, graded, graded_difference, graded_word, maxima, maxima_difference, Monoid, Word, IsRaisedFor, KeepsPhases, PhaseOf, Outcome, Below, Levels, Phases, Windows}
 use Rattle.asg_model.specs.Objectives.{is_bottleneck}
-use Rattle.asg_model.specs.Problem.{Problem}
 use Rattle.asg_model.specs.ValidChoice.{IsValid}
-use Rattle.asg_monoids.specs.BoundedSums.{bounded_sums, bounded_difference, plain_word}
-use Rattle.asg_monoids.specs.Entered.{is_sum_objective, peak_entered, sum_entered, time_entered, top_of}
-use Rattle.asg_monoids.specs.Grades.{graded, graded_difference, graded_word}
-use Rattle.asg_monoids.specs.Maxima.{maxima, maxima_difference}
 use Rattle.asg_monoids.specs.ObjectiveMonoids.{Fact, InMonoidOf}
-use Rattle.asg_order.specs.declared.words.Word.{Word}
-use Rattle.asg_order.specs.Monoid.{Monoid}
 use Rattle.asg_proof.specs.FoldProofs.{ProvesFold, ProvesPhases}
-use Rattle.asg_proof.specs.KeptWords.{IsRaisedFor, KeepsPhases}
-use Rattle.asg_proof.specs.Phases.{PhaseOf}
 use Rattle.asg_proof.specs.Proves.{Proves}
-use Rattle.asg_proof.specs.declared.outcomes.Outcome.{Outcome}
 use Rattle.asg_proof.specs.declared.outcomes.Outcome.TheVariants.{Best, Nothing}
 use Rattle.asg_proof.specs.declared.outcomes.Proof.{Proof}
-use Rattle.asg_proof.specs.declared.outcomes.Proof.TheVariants.{Below, Levels, Phases, Windows}
-use Rattle.asg_edits.specs.Edited.{EditFact}
-use Rattle.asg_edits.specs.EditOutcomes.{IsAnswerAt, IsAnswerIn, IsBestAt, IsBestIn, IsChoiceAt, IsChoiceIn, IsPhases}
 
 -- ---- from the monoid of a kind
 

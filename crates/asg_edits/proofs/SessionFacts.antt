@@ -1,28 +1,10 @@
 -- What a session promises, by words.
-use Rattle.std.proofs.Common.{◌≡◌, ℕ, ◌≤◌, ◌<◌, ◌^◌, ◌++◌, List, length, map, take, Option, Some, None, refl, sym, ap, ◌∙◌, subst, arith}
-use Rattle.std.specs.Prelude.{All}
-use Rattle.std.proofs.lemmas.List.{length-map, map-append, take-map}
-use Rattle.asg_algebra.specs.Solved.{unmatched}
-use Rattle.asg_match.specs.Matching.{column_at}
-use Rattle.asg_model.specs.declared.edits.Edit.{Edit}
-use Rattle.asg_model.specs.declared.objectives.Objective.{Objective}
-use Rattle.asg_model.specs.declared.parts.Cost.{Cost}
-use Rattle.asg_model.specs.Edits.{edited, refusal_of}
-use Rattle.asg_model.specs.Problem.{Problem}
+use Rattle.asg_edits.proofs.Common.{◌≡◌, ℕ, ◌^◌, ◌<◌, ◌≤◌, List, ◌++◌, map, length, take, Some, None, All, Option, sym, refl, ap, ◌∙◌, subst, arith, length-map, map-append, take-map, unmatched, IsBestIn, IsChoiceIn, KeepsIn, Touches, column_at, edited, refusal_of, Problem, Edit, Objective, Cost, Monoid, Word, KeepsFold, PhaseOf, worded, Phases, IsBestBy}
 use Rattle.asg_model.specs.Shapes.{square_side}
-use Rattle.asg_order.specs.declared.words.Word.{Word}
-use Rattle.asg_order.specs.Monoid.{Monoid}
 use Rattle.asg_proof.specs.KeptPhases.{AreKept}
-use Rattle.asg_proof.specs.KeptWords.{KeepsFold}
 use Rattle.asg_proof.specs.PhaseProofs.{IsRaised}
-use Rattle.asg_proof.specs.Phases.{PhaseOf, worded}
 use Rattle.asg_proof.specs.PromisedProofs.{IsPhaseOver}
-use Rattle.asg_proof.specs.declared.outcomes.Proof.TheVariants.{Phases}
-use Rattle.asg_kept_phases.specs.Edited.{Touches}
-use Rattle.asg_repair.specs.Sessions.{IsBestBy}
 use Rattle.asg_square.specs.Cells.{square_cell}
-use Rattle.asg_edits.specs.Edited.{KeepsIn}
-use Rattle.asg_edits.specs.EditOutcomes.{IsBestIn, IsChoiceIn}
 use Rattle.asg_edits.proofs.SureRows.{ClosesColumns, one_lost, one_touched}
 
 module _ {V : Type 0} (M : Monoid V) (difference : V → V → V) (word_of : V → Word) (enter : Cost → V) where

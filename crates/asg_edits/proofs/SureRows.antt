@@ -1,15 +1,8 @@
 -- How many rows lose their column by an edit.
-use Rattle.std.proofs.Common.{◌≡◌, ◌≢◌, ℕ, zero, suc, ◌+◌, ◌≤◌, List, [], ◌∷◌, length, Option, Some, None, is_none, cond, refl, sym, ap, ◌∙◌, arith, unwrap_or}
-use Rattle.std.proofs.lemmas.List.Sums.{sum_by-cons}
-use Rattle.asg_algebra.specs.Solved.{unmatched}
-use Rattle.asg_match.specs.Matching.{column_at}
-use Rattle.asg_model.specs.declared.edits.Edit.{Edit}
-use Rattle.asg_model.specs.declared.edits.Edit.TheVariants.{Cost as SetCost, Forbid, DropRow, DropColumn}
-use Rattle.asg_model.specs.declared.objectives.Objective.{Objective}
-use Rattle.asg_model.specs.Edits.{edited, refusal_of}
+use Rattle.asg_edits.proofs.Common.{◌≡◌, ℕ, zero, suc, ◌+◌, ◌≤◌, cond, ◌≢◌, List, [], ◌∷◌, length, is_none, Some, None, Option, sym, refl, ap, ◌∙◌, arith, sum_by-cons, unmatched, Touches, column_at, edited, refusal_of, Problem, Edit, Objective}
+use Rattle.std.proofs.Common.{unwrap_or}
 use Rattle.asg_model.specs.HallSet.{row_place_of}
-use Rattle.asg_model.specs.Problem.{Problem}
-use Rattle.asg_kept_phases.specs.Edited.{Touches}
+use Rattle.asg_model.specs.declared.edits.Edit.TheVariants.{Cost as SetCost, Forbid, DropRow, DropColumn}
 
 -- 1 for a row without a column
 abbrev bare : Option ℕ → ℕ

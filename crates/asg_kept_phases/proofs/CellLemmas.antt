@@ -1,11 +1,5 @@
 -- A cell that goes through phases, one after the other.
-use Rattle.std.proofs.Common.{◌≡◌, ℕ, suc, ◌<◌, ◌+◌, List, [], ◌∷◌, ◌++◌, length, take, get_or, Option, Some, refl, sym, ◌∙◌, ap, subst, arith}
-use Rattle.std.specs.Prelude.{slice_index}
-use Rattle.asg_order.specs.Monoid.{Monoid, IsValue}
-use Rattle.asg_proof.specs.Phases.{PhaseOf}
-use Rattle.asg_proof.specs.laws.PhaseSteps.{take-step}
-use Rattle.asg_admit.specs.Settled.{AllowsSteps, RefusesStep, settled}
-use Rattle.asg_admit.specs.KeptCells.{cell_settled, cell_after_phases, AllowsPhases, AllowsSoMany}
+use Rattle.asg_kept_phases.proofs.Common.{◌≡◌, ℕ, suc, ◌+◌, ◌<◌, List, [], ◌∷◌, ◌++◌, length, get_or, take, slice_index, Some, Option, sym, refl, ap, ◌∙◌, subst, arith, cell_settled, cell_after_phases, AllowsPhases, AllowsSoMany, AllowsSteps, RefusesStep, settled, Monoid, IsValue, PhaseOf, take-step}
 
 module _ {V : Type 0} (M : Monoid V) (difference : V → V → V) (r k : ℕ) where
   pub cell_after-append : (phases more : List (PhaseOf V)) (cell : Option V) → cell_after_phases M difference (phases ++ more) r k cell ≡ cell_after_phases M difference more r k (cell_after_phases M difference phases r k cell)

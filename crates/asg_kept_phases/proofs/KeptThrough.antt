@@ -1,30 +1,6 @@
 -- What is kept through an edit, counted over the rows that it may touch.
-use Rattle.std.proofs.Common.{◌≡◌, ◌⊎◌, ◌↔◌, ℕ, ◌<◌, ◌≤◌, List, length, Option, None, refl, sym, ◌∙◌, subst, arith, ⊎_elim, inl, inr, ap}
-use Rattle.std.proofs.lemmas.Bool.{cases_lt}
-use Rattle.std.proofs.lemmas.List.{length-map}
-use Rattle.asg_admit.specs.laws.KeptPhases.{kept_so_many}
-use Rattle.asg_model.specs.declared.edits.Edit.{Edit}
-use Rattle.asg_model.specs.declared.objectives.Objective.{Objective}
-use Rattle.asg_model.specs.declared.parts.Cost.{Cost}
-use Rattle.asg_model.specs.Edits.{edited, refusal_of}
-use Rattle.asg_model.specs.Instances.{IsInstance}
-use Rattle.asg_model.specs.Problem.{Problem}
-use Rattle.asg_model.specs.Shapes.{square_side}
-use Rattle.asg_order.specs.Monoid.{Monoid, IsOrderedMonoid}
-use Rattle.asg_pool.specs.Forest.{Forest, phases_of, last_phase}
+use Rattle.asg_kept_phases.proofs.Common.{◌≡◌, ℕ, ◌<◌, ◌≤◌, ◌⊎◌, ◌↔◌, List, length, None, Option, sym, refl, ap, ◌∙◌, subst, inl, inr, ⊎_elim, arith, cases_lt, length-map, kept_so_many, edited_side, AreLeft, places_of, IsAtRow, phases_along, named_touched, untouched_same, NamesPlaces-passed, edited, refusal_of, IsInstance, Problem, square_side, Edit, Objective, Cost, Monoid, IsOrderedMonoid, Forest, phases_of, last_phase, EntersValues, PhaseOf, AreAdmittedPhases, HasValues, HasValues-square_cell, square_cell, column_label}
 use Rattle.asg_proof.specs.KeptPhases.{AreKept}
-use Rattle.asg_proof.specs.PhaseProofs.{EntersValues}
-use Rattle.asg_proof.specs.Phases.{PhaseOf, AreAdmittedPhases}
-use Rattle.asg_proof.specs.Steps.{HasValues}
-use Rattle.asg_proof.specs.laws.Squares.{HasValues-square_cell}
-use Rattle.asg_square.specs.Cells.{square_cell}
-use Rattle.asg_square.specs.Labels.{column_label}
-use Rattle.asg_kept_phases.specs.LeftPhases.{AreLeft}
-use Rattle.asg_kept_phases.specs.NamedPlaces.{places_of, IsAtRow}
-use Rattle.asg_kept_phases.specs.PhasesAlong.{phases_along}
-use Rattle.asg_kept_phases.specs.laws.EditedShapes.{edited_side}
-use Rattle.asg_kept_phases.specs.laws.NamedCells.{named_touched, untouched_same}
-use Rattle.asg_kept_phases.specs.laws.PassedEdits.{NamesPlaces-passed}
 
 module _ {V : Type 0} (M : Monoid V) (difference : V → V → V) where
   kept_from_left : (side : ℕ) (phases : List (PhaseOf V)) (before after : ℕ → ℕ → Option V) (from to n count : ℕ) → n ≡ length phases → AreAdmittedPhases M difference side phases before → AreLeft M difference phases side before after (λ r k. (from ≤ r) × (r < to)) n count → ((r k : ℕ) → r < side → (r < from) ⊎ (to ≤ r) → after r k ≡ before r k) → AreKept M difference side phases after count

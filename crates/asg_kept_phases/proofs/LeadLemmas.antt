@@ -1,16 +1,6 @@
 -- Phases that lead on, one more at the end.
-use Rattle.std.proofs.Common.{◌≡◌, ℕ, suc, ◌<◌, ◌+◌, List, [], ◌∷◌, ◌++◌, length, take, get_or, refl, sym, ◌∙◌, ap, subst, arith}
-use Rattle.asg_order.specs.Monoid.{Monoid, IsOrderedMonoid, fold_of}
+use Rattle.asg_kept_phases.proofs.Common.{◌≡◌, ℕ, suc, ◌+◌, ◌<◌, List, [], ◌∷◌, ◌++◌, length, get_or, take, sym, refl, ap, ◌∙◌, subst, arith, IsReduced, IsPhaseTo, Reduced, same_labels, chained_labels, fewer_admitted, all_taken, LeadsTo, Monoid, IsOrderedMonoid, fold_of, PhaseOf, after_phase, after_phases, IsAdmittedPhase, AreAdmittedPhases, index_of, after_phases-push, AreAdmittedPhases-front, AreAdmittedPhases-back, index_of-push, index_is_value, steps_value, take-step, cell_at}
 use Rattle.asg_order.specs.laws.Products.{neutral_right}
-use Rattle.asg_admit.specs.Reduced.{IsReduced, IsPhaseTo}
-use Rattle.asg_admit.specs.declared.reduced.Reduced.{Reduced}
-use Rattle.asg_proof.specs.Phases.{PhaseOf, after_phase, after_phases, IsAdmittedPhase, AreAdmittedPhases, index_of}
-use Rattle.asg_proof.specs.laws.PhaseLists.{after_phases-push, AreAdmittedPhases-front, AreAdmittedPhases-back, index_of-push, index_is_value, steps_value}
-use Rattle.asg_proof.specs.laws.PhaseSteps.{take-step}
-use Rattle.asg_square.specs.Grid.{cell_at}
-use Rattle.asg_kept_phases.specs.Leads.{LeadsTo}
-use Rattle.asg_kept_phases.specs.laws.KeptLabels.{same_labels, then_labels}
-use Rattle.asg_admit.specs.laws.KeptPhases.{fewer_admitted, all_taken}
 
 module _ {V : Type 0} (M : Monoid V) (laws : IsOrderedMonoid M) (difference : V → V → V) where
   -- no phase leads nowhere
@@ -66,6 +56,6 @@ module _ {V : Type 0} (M : Monoid V) (laws : IsOrderedMonoid M) (difference : V 
                 ∙ ap (λ q. q r k) (sym (after_phases-push M difference (take i phases) phase (cell_at before.now)))
                 ∙ ap (λ list. after_phases M difference list (cell_at before.now) r k) (sym more);
             index = index ∙ ap (λ list. M.product before.index (index_of M list)) (sym more);
-            labels = then_labels before.now middle.now after.now so_far.labels one.labels;
+            labels = chained_labels before.now middle.now after.now so_far.labels one.labels;
             is_reduced = one.reduced;
           }

@@ -1,34 +1,9 @@
 -- Phases lead still to a square of which cells were written, after an edit through which they are
 -- all kept.
-use Rattle.std.proofs.Common.{◌≡◌, ◌⊎◌, ℕ, ◌<◌, ◌≤◌, List, Option, Some, None, refl, sym, ◌∙◌, ap, subst, ⊎_elim, inl, inr, arith}
-use Rattle.std.specs.Prelude.{IsSome}
-use Rattle.std.proofs.lemmas.Bool.{cases_eq, cases_lt}
-use Rattle.std.proofs.lemmas.Option.{none-some, same_Some}
-use Rattle.asg_admit.specs.KeptCells.{AllowsPhases}
-use Rattle.asg_admit.specs.declared.reduced.Reduced.{Reduced}
-use Rattle.asg_admit.specs.laws.KeptPhases.{after_phases-cell, phases_allowed}
-use Rattle.asg_model.specs.declared.objectives.Objective.{Objective}
-use Rattle.asg_model.specs.declared.parts.Cost.{Cost}
-use Rattle.asg_model.specs.Problem.{Problem}
-use Rattle.asg_model.specs.Shapes.{square_side}
+use Rattle.asg_kept_phases.proofs.Common.{◌≡◌, ℕ, ◌<◌, ◌≤◌, ◌⊎◌, List, IsSome, Some, None, Option, sym, refl, ap, ◌∙◌, subst, inl, inr, ⊎_elim, arith, cases_eq, cases_lt, none-some, same_Some, AllowsPhases, AreOfValues, Reduced, HasLabelsOf-kept, after_phases-cell, phases_allowed, admitted_values, AllowTrails, IsLedBut, MendsCells, IsAtRow, phases_in, IsWayTo, Problem, square_side, Objective, Cost, Monoid, IsValue, IsOrderedMonoid, EntersValues, PhaseOf, after_phases, HasValues, HasSide-phases, HasValues-phases, index_is_value, HasSide-cell_at, HasSide-square_cell, HasValues-square_cell, square_cell, IsGrid, cell_at, column_label}
 use Rattle.asg_order.specs.Differences.{HasDifferences}
-use Rattle.asg_order.specs.Monoid.{Monoid, IsValue, IsOrderedMonoid}
-use Rattle.asg_proof.specs.PhaseProofs.{EntersValues}
-use Rattle.asg_proof.specs.Phases.{PhaseOf, after_phases}
-use Rattle.asg_proof.specs.Steps.{HasValues}
-use Rattle.asg_proof.specs.laws.PhaseLists.{HasSide-phases, HasValues-phases, index_is_value}
-use Rattle.asg_proof.specs.laws.Squares.{HasSide-cell_at, HasSide-square_cell, HasValues-square_cell}
-use Rattle.asg_square.specs.Cells.{square_cell}
-use Rattle.asg_square.specs.Grid.{IsGrid, cell_at}
-use Rattle.asg_square.specs.Labels.{column_label}
 use Rattle.asg_kept_phases.specs.declared.phase_chains.PhaseChain.{PhaseChain}
-use Rattle.asg_kept_phases.specs.Mended.{AllowTrails, IsLedBut, MendsCells}
-use Rattle.asg_kept_phases.specs.NamedPlaces.{IsAtRow}
-use Rattle.asg_kept_phases.specs.PhaseChains.{phases_in, IsWayTo}
-use Rattle.asg_kept_phases.specs.PhasesAlong.{AreOfValues}
 use Rattle.asg_kept_phases.specs.Led.{IsLed, MaySolve}
-use Rattle.asg_kept_phases.specs.laws.KeptLabels.{HasLabelsOf-kept}
-use Rattle.asg_kept_phases.specs.laws.PhaseValues.{admitted_values}
 
 none_by : {V : Type 0} (o : Option V) → (IsSome o → ⊥) → o ≡ None
 none_by None not = refl

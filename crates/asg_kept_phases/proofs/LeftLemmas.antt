@@ -1,11 +1,5 @@
 -- What is left over of phases, cell by cell.
-use Rattle.std.proofs.Common.{◌≡◌, ◌⊎◌, ℕ, zero, suc, ◌<◌, ◌≤◌, List, [], ◌∷◌, length, take, Option, Some, None, refl, sym, ap, subst, arith, ⊎_elim, inl, inr, map}
-use Rattle.std.proofs.lemmas.Bool.{cases_lt}
-use Rattle.std.proofs.lemmas.List.{length-take-le}
-use Rattle.asg_order.specs.Monoid.{Monoid}
-use Rattle.asg_proof.specs.Phases.{PhaseOf}
-use Rattle.asg_admit.specs.KeptCells.{AllowsPhases, AllowsSoMany, SomeRefuses, cell_settled}
-use Rattle.asg_kept_phases.specs.LeftPhases.{AllowsOrStaysAt, IsLeftAt, AreLeft}
+use Rattle.asg_kept_phases.proofs.Common.{◌≡◌, ℕ, zero, suc, ◌<◌, ◌≤◌, ◌⊎◌, List, [], ◌∷◌, map, length, take, Some, None, Option, sym, refl, ap, subst, inl, inr, ⊎_elim, arith, length-take-le, cases_lt, AllowsPhases, AllowsSoMany, SomeRefuses, cell_settled, AllowsOrStaysAt, IsLeftAt, AreLeft, Monoid, PhaseOf}
 
 -- a prefix of a prefix
 pub take_twice : {X : Type 0} (xs : List X) (n m : ℕ) → n ≤ m → take n (take m xs) ≡ take n xs

@@ -1,9 +1,9 @@
+pub mod Common
 mod CellLemmas
 mod KeptThrough
 mod LeadLemmas
 mod LedSquares
 mod LeftLemmas
 mod MendLemmas
-mod OverLemmas
 mod TouchedCells
 mod TrailLemmas

@@ -1,15 +1,7 @@
 -- Cells that are written into a square.
-use Rattle.std.proofs.Common.{◌≡◌, ◌⊎◌, ℕ, suc, ◌+◌, ◌*◌, ◌<◌, ◌≤◌, List, [], ◌∷◌, length, take, Option, None, refl, sym, ◌∙◌, subst, arith, ⊎_elim}
-use Rattle.std.specs.Prelude.{slice_set}
-use Rattle.std.proofs.lemmas.Bool.{cases_lt}
-use Rattle.std.proofs.lemmas.List.{take_all}
-use Rattle.asg_order.specs.Monoid.{Monoid}
-use Rattle.asg_proof.specs.Phases.{PhaseOf}
-use Rattle.asg_square.specs.Grid.{Grid, IsGrid, cell_at}
-use Rattle.asg_square.specs.laws.Places.{entry_at-set, place_hit, place_missed}
-use Rattle.asg_admit.specs.KeptCells.{AllowsPhases, AllowsSoMany, cell_after_phases}
-use Rattle.asg_kept_phases.specs.Mended.{MendsCells}
-use Rattle.asg_kept_phases.specs.laws.KeptLabels.{same_labels, then_labels}
+use Rattle.asg_kept_phases.proofs.Common.{◌≡◌, ℕ, suc, ◌+◌, ◌*◌, ◌<◌, ◌≤◌, ◌⊎◌, List, [], ◌∷◌, length, take, slice_set, None, Option, sym, refl, ◌∙◌, subst, ⊎_elim, arith, take_all, cases_lt, AllowsPhases, AllowsSoMany, cell_after_phases, same_labels, chained_labels, MendsCells, Monoid, PhaseOf, Grid, IsGrid, cell_at}
+use Rattle.asg_bit_rows.specs.laws.Places.{place_hit, place_missed}
+use Rattle.asg_cell_tables.specs.laws.Entries.{entry_at-set}
 use Rattle.asg_kept_phases.proofs.LeftLemmas.{fewer_allowed}
 
 module _ {V : Type 0} (M : Monoid V) (difference : V → V → V) where
@@ -50,7 +42,7 @@ module _ {V : Type 0} (M : Monoid V) (difference : V → V → V) where
   -- cells that were written in two steps, each in one of them
   pub MendsCells-both : (phases : List (PhaseOf V)) (after : ℕ → ℕ → Option V) (first second all : ℕ → ℕ → Type 0) (Q R S : Grid V) → ((r k : ℕ) → all r k → first r k ⊎ second r k) → ((r k : ℕ) → first r k → all r k) → ((r k : ℕ) → second r k → all r k) → ((r k : ℕ) → first r k → second r k → ⊥) → MendsCells M difference phases after first Q R → MendsCells M difference phases after second R S → MendsCells M difference phases after all Q S
   MendsCells-both phases after first second all Q R S covers one two apart a b = record {
-    labels = then_labels Q R S a.labels b.labels;
+    labels = chained_labels Q R S a.labels b.labels;
     mended = λ r k hr hk seen.
         ⊎_elim
         (λ (h : first r k). b.others r k (apart r k h) ∙ a.mended r k hr hk h)

@@ -1,36 +1,22 @@
 -- The cells of the square that an edit touches, as they are after it.
-use Rattle.std.proofs.Common.{◌≡◌, ℕ, ◌<◌, Bool, true, false, cond, ◌&&◌, List, length, get_or, map, Option, Some, None, refl, sym, ◌∙◌, ap, subst, arith, unwrap_or}
-use Rattle.std.specs.Prelude.{not, nat_lt, slice_get, ◌==◌}
+use Rattle.asg_kept_phases.proofs.Common.{◌≡◌, ℕ, ◌<◌, Bool, true, false, cond, not, ◌&&◌, List, map, length, get_or, nat_lt, ◌==◌, slice_get, Some, None, Option, option_map, sym, refl, ap, ◌∙◌, subst, arith, lt-ltb, cond-true, length-map, not-false, option_map_or, position-Some, slice_get-get_or, slice_get-map, edited_side, dropped_cell, closed_cell, NamesPlaces-passed, dropped, closed, edited, place_of, with_cell_of, with_row_dropped, with_column_closed, refusal_of, IsInstance, Problem, problem_of, square_side, Edit, Objective, Cost, square_cell, row_label, column_label}
+use Rattle.std.proofs.Common.{unwrap_or}
 use Rattle.std.specs.Cmp.Derive.{both_true}
-use Rattle.std.specs.Option.{option_map, option_map_or}
-use Rattle.std.proofs.lemmas.Bool.{cond-true, lt-ltb, not-false}
-use Rattle.std.proofs.lemmas.List.{length-map}
-use Rattle.std.proofs.lemmas.List.Quantifiers.{position-Some}
-use Rattle.std.proofs.lemmas.Option.{slice_get-get_or, slice_get-map}
-use Rattle.asg_model.specs.declared.edits.Edit.{Edit}
-use Rattle.asg_model.specs.declared.edits.Edit.TheVariants.{Cost as SetCost, Forbid, DropRow, DropColumn}
 use Rattle.asg_model.specs.declared.edits.EditRefusal.TheVariants.{NoMemory}
-use Rattle.asg_model.specs.declared.objectives.Objective.{Objective}
 use Rattle.asg_model.specs.declared.parts.Column.{Column}
-use Rattle.asg_model.specs.declared.parts.Cost.{Cost}
 use Rattle.asg_model.specs.declared.parts.Place.{Place}
-use Rattle.asg_model.specs.declared.parts.Place.TheVariants.{All as PlaceAll, Exactly}
 use Rattle.asg_model.specs.declared.parts.Row.{Row}
 use Rattle.asg_model.specs.Counts.{is_counted, is_counted_by}
-use Rattle.asg_model.specs.Edits.{dropped, closed, edited, place_of, with_cell_of, with_row_dropped, with_column_closed, refusal_of}
 use Rattle.asg_model.specs.HallSet.{row_place_of, column_place_of}
-use Rattle.asg_model.specs.Instances.{IsInstance}
 use Rattle.asg_model.specs.Live.{cost_at, is_active, is_open, live_at}
-use Rattle.asg_model.specs.Problem.{Problem, problem_of}
-use Rattle.asg_model.specs.Shapes.{square_side}
 use Rattle.asg_model.specs.laws.Rows.{no_row, no_column}
-use Rattle.asg_square.specs.Cells.{labelled_cell, square_cell}
-use Rattle.asg_square.specs.Labels.{row_label, column_label}
+use Rattle.asg_cell_tables.specs.LabelledCells.{labelled_cell}
 use Rattle.asg_kept_phases.specs.Edited.{Touches}
-use Rattle.asg_kept_phases.specs.EditedCells.{dropped_cell, closed_cell}
-use Rattle.asg_kept_phases.specs.laws.EditedShapes.{edited_label, edited_side}
-use Rattle.asg_kept_phases.specs.laws.PassedEdits.{NamesPlaces-passed, none_applies}
-use Rattle.asg_kept_phases.specs.laws.WrittenCells.{written_cell}
+use Rattle.asg_kept_phases.specs.laws.EditedLabels.{edited_label}
+use Rattle.asg_edited.specs.laws.Passed.{none_applies}
+use Rattle.asg_edited.specs.laws.WrittenCells.{written_cell}
+use Rattle.asg_model.specs.declared.edits.Edit.TheVariants.{Cost as SetCost, Forbid, DropRow, DropColumn}
+use Rattle.asg_model.specs.declared.parts.Place.TheVariants.{All as PlaceAll, Exactly}
 
 -- a place that is found and passes
 passes_at : (p : ℕ → Bool) (o : Option ℕ) (k : ℕ) → o ≡ Some k → not (option_map_or p o false) ≡ false → p k ≡ true

@@ -17,7 +17,8 @@ use Rattle.asg_square.specs.Cells.{square_cell}
 use Rattle.asg_square.specs.Grid.{Grid, cell_at, HasLabelsOf}
 use Rattle.asg_square.specs.Labels.{column_label}
 use Rattle.asg_kept_phases.specs.NamedPlaces.{IsAtRow}
-use Rattle.asg_kept_phases.specs.PhasesAlong.{phases_along, AreOfValues}
+use Rattle.asg_admit.specs.PhaseValues.{AreOfValues}
+use Rattle.asg_kept_phases.specs.PhasesAlong.{phases_along}
 
 -- each cell that was seen is that of the changed square after the phases, and all others stay
 pub record MendsCells {V : Type 0} (M : Monoid V) (difference : V → V → V)

@@ -1,6 +1,6 @@
 -- The phases of a list of trails, and how far a cell allows them.
-use Rattle.std.specs.Prelude.{◌≡◌, ℕ, List, All, map, take, Option}
-use Rattle.asg_order.specs.Monoid.{Monoid, IsValue}
+use Rattle.std.specs.Prelude.{◌≡◌, ℕ, List, map, take, Option}
+use Rattle.asg_order.specs.Monoid.{Monoid}
 use Rattle.asg_pool.specs.Forest.{Forest, phases_of, last_phase}
 use Rattle.asg_proof.specs.Phases.{PhaseOf}
 use Rattle.asg_kept_phases.specs.declared.kept_cells.Kept.{Kept}
@@ -9,10 +9,6 @@ use Rattle.asg_admit.specs.KeptCells.{AllowsSoMany, cell_after_phases}
 -- the last phase of each of the trails
 abbrev pub phases_along : {V : Type 0} → Forest V → List ℕ → List (PhaseOf V)
 phases_along F trails = map (λ t. last_phase (phases_of F t)) trails
-
--- each step of the phases is a value
-abbrev pub AreOfValues : {V : Type 0} → Monoid V → List (PhaseOf V) → Type 0
-AreOfValues M phases = All (λ phase. All (IsValue M) phase.steps) phases
 
 -- the cell allows so many of the phases and no more, and is this after them
 pub record IsKeptCell {V : Type 0} (M : Monoid V) (difference : V → V → V)

@@ -4,7 +4,8 @@ ghost use Rattle.std.specs.Prelude.{◌≡◌, ◌<◌, ◌≤◌, ℕ, Option, 
 ghost use Rattle.asg_pool.specs.Forest.{IsLive};
 ghost use Rattle.asg_proof.specs.Steps.{HasValues};
 ghost use Rattle.asg_kept_phases.specs.LeftPhases.{IsLeftAt, AreLeft};
-ghost use Rattle.asg_kept_phases.specs.PhasesAlong.{phases_along, AreOfValues};
+ghost use Rattle.asg_admit.specs.PhaseValues.{AreOfValues};
+ghost use Rattle.asg_kept_phases.specs.PhasesAlong.{phases_along};
 
 use crate::kept_cells::kept_cell;
 use asg_order::DMonoid;

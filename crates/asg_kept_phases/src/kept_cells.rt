@@ -4,7 +4,8 @@ ghost use Rattle.std.specs.Prelude.{◌≡◌, ◌<◌, All, Some, IfSome, IsSom
 ghost use Rattle.asg_admit.specs.Settled.{AllowsSteps, RefusesStep, settled};
 ghost use Rattle.asg_order.specs.Monoid.{IsValue};
 ghost use Rattle.asg_pool.specs.Forest.{IsLive, phases_of, last_phase};
-ghost use Rattle.asg_kept_phases.specs.PhasesAlong.{phases_along, AreOfValues, IsKeptCell};
+ghost use Rattle.asg_admit.specs.PhaseValues.{AreOfValues};
+ghost use Rattle.asg_kept_phases.specs.PhasesAlong.{phases_along, IsKeptCell};
 
 use asg_admit::replay_cell;
 use asg_order::DMonoid;

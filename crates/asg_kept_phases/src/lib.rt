@@ -27,7 +27,7 @@ pub use led_squares::follow;
 pub use named_places::{NamedPlaces, is_named, places_of};
 pub use phase_chains::PhaseChain;
 pub use settled_trails::settle_trails;
-pub use written_chains::written_chain;
+pub use written_chains::{written_chain, written_phase, written_trail};
 
 /// There was not enough memory.
 pub type NoMemory = std::alloc::AllocError;

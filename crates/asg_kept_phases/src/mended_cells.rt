@@ -8,8 +8,10 @@ ghost use Rattle.asg_pool.specs.Forest.{IsLive};
 ghost use Rattle.asg_admit.specs.KeptCells.{AllowsPhases, cell_after_phases};
 ghost use Rattle.asg_kept_phases.specs.Mended.{AllowTrails, MendsCells};
 ghost use Rattle.asg_kept_phases.specs.NamedPlaces.{HasColumnsOf};
-ghost use Rattle.asg_kept_phases.specs.PhasesAlong.{phases_along, AreOfValues};
-ghost use Rattle.asg_square.specs.Cells.{labelled_cell, square_cell};
+ghost use Rattle.asg_admit.specs.PhaseValues.{AreOfValues};
+ghost use Rattle.asg_kept_phases.specs.PhasesAlong.{phases_along};
+ghost use Rattle.asg_square.specs.Cells.{square_cell};
+ghost use Rattle.asg_cell_tables.specs.LabelledCells.{labelled_cell};
 ghost use Rattle.asg_square.specs.Labels.{row_label, column_label};
 
 use crate::edited_cells::is_counted;

@@ -1,25 +1,8 @@
 -- Where the copies of a column stand, and rows of bits that keep or lose them.
-use Rattle.std.proofs.Common.{◌≡◌, ℕ, ◌+◌, ◌<◌, ◌≤◌, Bool, true, false, cond, ◌&&◌, ◌||◌, eqb, not, length, get_or, take, Option, Some, None, refl, sym, ◌∙◌, ap, subst, arith, ⊎_elim}
-use Rattle.std.specs.Prelude.{slice_get, sum_by, nat_lt, nat_le}
-use Rattle.std.specs.Option.{option_map_or}
-use Rattle.std.proofs.lemmas.Bool.{cases_lt, eq-eqb, eqb-true, lt-ltb, ltb-true, ltb-false, le-leb, lt-leb, or_right, false≢true}
-use Rattle.std.proofs.lemmas.List.{take_all, take-take}
-use Rattle.std.proofs.lemmas.List.Sums.{sum_by_more, sum_by-take-le}
-use Rattle.std.proofs.lemmas.Option.{slice_get-get_or, slice_get_past, get_or_from_slice_get}
+use Rattle.asg_nodes.proofs.Common.{◌≡◌, ℕ, ◌+◌, ◌<◌, ◌≤◌, Bool, true, false, cond, not, ◌&&◌, ◌||◌, eqb, length, get_or, take, nat_lt, nat_le, slice_get, Some, None, sum_by, Option, sym, refl, ap, ◌∙◌, subst, ⊎_elim, arith, take_all, take-take, ltb-false, ltb-true, lt-ltb, eq-eqb, eqb-true, le-leb, cases_lt, false≢true, get_or_from_slice_get, lt-leb, option_map_or, or_right, slice_get-get_or, slice_get_past, sum_by-take-le, sum_by_more, BitTable, has_bit, is_from_to, PutsColumns, PutsOnly, in_run, out_of_run, same_bool, capacity_at, total_capacity, Problem, takes, is_before, is_copy_of, IsRunOf, keeps_copies, PutsRow, Run, label_is, Grid, HasLabelsOf, copies, first_copy, column_label}
 use Rattle.asg_model.specs.declared.parts.Column.{Column}
-use Rattle.asg_model.specs.Counts.{capacity_at, total_capacity}
-use Rattle.asg_model.specs.Problem.{Problem}
-use Rattle.asg_model.specs.ValidChoice.{takes}
-use Rattle.asg_square.specs.BitTable.{BitTable, has_bit, is_from_to, PutsColumns, PutsOnly}
-use Rattle.asg_square.specs.Grid.{Grid, HasLabelsOf}
-use Rattle.asg_square.specs.Labels.{copies, first_copy, column_label}
 use Rattle.asg_square.specs.laws.Copies.{length-copies, capacity_is}
 use Rattle.asg_square.specs.laws.CopyRuns.{copy_within, copies_run}
-use Rattle.asg_square.specs.laws.Words.{in_run, out_of_run, same_bool}
-use Rattle.asg_nodes.specs.declared.copies.Run.{Run}
-use Rattle.asg_nodes.specs.Copies.{is_before, is_copy_of, IsRunOf}
-use Rattle.asg_nodes.specs.Cuts.{keeps_copies, PutsRow}
-use Rattle.asg_nodes.specs.laws.BitSteps.{label_is}
 
 -- where the copies of the next column begin
 next_copy : (X : Problem) (d : ℕ) → first_copy X (d + 1) ≡ first_copy X d + capacity_at X d

@@ -1,20 +1,6 @@
 -- Squares that lose the cells of a branch, row by row.
-use Rattle.std.proofs.Common.{◌≡◌, ◌≢◌, ℕ, ◌+◌, ◌<◌, ◌≤◌, Bool, true, false, cond, ◌&&◌, eqb, not, List, length, Option, Some, None, refl, sym, ◌∙◌, ap, arith, ⊎_elim}
-use Rattle.std.specs.Prelude.{nat_lt, nat_le, slice_index_or}
-use Rattle.std.specs.Option.{option_map_or}
-use Rattle.std.proofs.lemmas.Option.{slice_get_past}
-use Rattle.std.proofs.lemmas.Bool.{cases_lt, cases_eq, eq-eqb, ne_eqb, lt-ltb, le-ltb, le-leb, lt-leb, false≢true}
+use Rattle.asg_nodes.proofs.Common.{◌≡◌, ℕ, ◌+◌, ◌<◌, ◌≤◌, Bool, true, false, cond, not, ◌&&◌, eqb, ◌≢◌, List, length, nat_lt, nat_le, slice_index_or, Some, None, Option, sym, refl, ap, ◌∙◌, ⊎_elim, arith, le-ltb, lt-ltb, eq-eqb, ne_eqb, le-leb, cases_eq, cases_lt, false≢true, lt-leb, option_map_or, slice_get_past, is_active, Problem, square_side, takes, keeps_copies, label_in, cuts_numbered, label_is, labelled_active, active_labelled, row_number, is_chosen, is_kept_at, keeps_labelled, keeps_cell, Grid, HasLabelsOf, row_label, column_label}
 use Rattle.asg_model.specs.declared.parts.Place.TheVariants.{All as PlaceAll}
-use Rattle.asg_model.specs.Live.{is_active}
-use Rattle.asg_model.specs.Problem.{Problem}
-use Rattle.asg_model.specs.Shapes.{square_side}
-use Rattle.asg_model.specs.ValidChoice.{takes}
-use Rattle.asg_proof.specs.Children.{row_number, is_chosen, is_kept_at}
-use Rattle.asg_proof.specs.Masks.{keeps_labelled, keeps_cell}
-use Rattle.asg_square.specs.Grid.{Grid, HasLabelsOf}
-use Rattle.asg_square.specs.Labels.{row_label, column_label}
-use Rattle.asg_nodes.specs.Cuts.{keeps_copies, label_in, cuts_numbered}
-use Rattle.asg_nodes.specs.laws.BitSteps.{label_is, labelled_active, active_labelled}
 
 -- what is kept once the rows before one were cut
 abbrev pub cut_rows : Problem → List (Option ℕ) → ℕ → ℕ → ℕ → ℕ → Bool

@@ -1,24 +1,7 @@
 -- Squares that lose cells, one after another.
-use Rattle.std.proofs.Common.{◌≡◌, ℕ, ◌+◌, ◌*◌, ◌<◌, Bool, true, false, cond, ◌&&◌, eqb, not, Option, Some, None, refl, sym, ◌∙◌, ap}
-use Rattle.std.specs.Prelude.{IsSome, slice_set}
-use Rattle.asg_admit.specs.Reduced.{KeepsLabels}
-use Rattle.asg_model.specs.Problem.{Problem}
+use Rattle.asg_nodes.proofs.Common.{◌≡◌, ℕ, ◌+◌, ◌*◌, ◌<◌, Bool, true, false, cond, not, ◌&&◌, eqb, IsSome, slice_set, Some, None, Option, sym, refl, ap, ◌∙◌, same_labels, chained_labels, cuts_cell, LosesCells, Grid, IsGrid, cell_at}
 use Rattle.asg_proof.specs.laws.Squares.{HasSide-cell_at}
-use Rattle.asg_square.specs.Grid.{Grid, IsGrid, cell_at, HasLabelsOf}
-use Rattle.asg_square.specs.laws.Places.{entry_at-set}
-use Rattle.asg_nodes.specs.Cuts.{cuts_cell, LosesCells}
-
-pub labels_same : {V : Type 0} (Q : Grid V) → KeepsLabels Q Q
-labels_same Q = record { side = refl; rows = refl; row_labels = refl; column_labels = refl }
-
--- a square that keeps the labels of one has those that it has
-pub labels_kept : {V : Type 0} (Y : Problem) (before after : Grid V) → HasLabelsOf Y before → KeepsLabels before after → HasLabelsOf Y after
-labels_kept Y before after labels keeps = record {
-  side = keeps.side ∙ labels.side;
-  rows = keeps.rows ∙ labels.rows;
-  row_labels = keeps.row_labels ∙ labels.row_labels;
-  column_labels = keeps.column_labels ∙ labels.column_labels;
-}
+use Rattle.asg_cell_tables.specs.laws.Entries.{entry_at-set}
 
 both_masks : {V : Type 0} (a b : Bool) (o : Option V) → cond b (cond a o None) None ≡ cond (a && b) o None
 both_masks true true o = refl
@@ -34,19 +17,14 @@ module _ {V : Type 0} where
   -- nothing was lost
   pub loses_none : (Q : Grid V) (keep : ℕ → ℕ → Bool) → ((r k : ℕ) → keep r k ≡ true) → LosesCells keep Q Q
   loses_none Q keep all = record {
-    labels = labels_same Q;
+    labels = same_labels Q;
     cells = λ r k. sym (ap (λ b. cond b (cell_at Q r k) None) (all r k));
   }
 
   -- first some and then some
   pub loses_both : (A B C : Grid V) (first second : ℕ → ℕ → Bool) → LosesCells first A B → LosesCells second B C → LosesCells (λ r k. first r k && second r k) A C
   loses_both A B C first second ab bc = record {
-    labels = record {
-      side = bc.labels.side ∙ ab.labels.side;
-      rows = bc.labels.rows ∙ ab.labels.rows;
-      row_labels = bc.labels.row_labels ∙ ab.labels.row_labels;
-      column_labels = bc.labels.column_labels ∙ ab.labels.column_labels;
-    };
+    labels = chained_labels A B C ab.labels bc.labels;
     cells = λ r k. bc.cells r k ∙ ap (λ o. cond (second r k) o None) (ab.cells r k) ∙ both_masks (first r k) (second r k) (cell_at A r k);
   }
 
@@ -75,7 +53,7 @@ module _ {V : Type 0} where
 -- nothing was lost where all that isn't kept was absent
 pub loses_absent : {V : Type 0} (Q : Grid V) (keep : ℕ → ℕ → Bool) → ((r k : ℕ) → keep r k ≡ false → cell_at Q r k ≡ None) → LosesCells keep Q Q
 loses_absent {V} Q keep absent = record {
-  labels = labels_same Q;
+  labels = same_labels Q;
   cells = λ r k. by r k (keep r k) refl;
 }
   where

@@ -1,21 +1,5 @@
 -- Squares that lose the present cells of a row at columns that stand side by side, word by word.
-use Rattle.std.proofs.Common.{◌≡◌, ◌↔◌, ℕ, ◌+◌, ◌-◌, ◌*◌, ◌/◌, ◌%◌, ◌<◌, ◌≤◌, Bool, true, false, cond, ◌&&◌, ◌||◌, eqb, not, List, get_or, Option, Some, None, refl, sym, ◌∙◌, ap, subst, arith, ⊎_elim}
-use Rattle.std.specs.Prelude.{nat_lt, nat_le, is_some}
-use Rattle.std.specs.Int.{bit_at}
-use Rattle.std.proofs.lemmas.Bool.{cases_lt, eq-eqb, ne_eqb, eqb-true, lt-ltb, le-ltb, ltb-true, le-leb, lt-leb, and_from, and_parts, or_left, or_right, or_cases, false≢true}
-use Rattle.std.proofs.lemmas.Nat.Bits.{bit_at-zero}
-use Rattle.asg_model.specs.Counts.{total_capacity}
-use Rattle.asg_model.specs.Problem.{Problem}
-use Rattle.asg_square.specs.BitTable.{AreWordsOf, is_bit_set, is_from_to, word_count}
-use Rattle.asg_square.specs.Grid.{Grid, cell_at, HasLabelsOf}
-use Rattle.asg_square.specs.Labels.{column_label}
-use Rattle.asg_square.specs.WordBits.{HasBit}
-use Rattle.asg_square.specs.laws.Bits.{HasBit-without, HasBit-without_other, without_bit}
-use Rattle.asg_square.specs.laws.Words.{bit_in_row, bit_of, of_bit, in_run, out_of_run, run_parts, same_bool}
-use Rattle.asg_nodes.specs.declared.copies.Run.{Run}
-use Rattle.asg_nodes.specs.Copies.{IsRunOf}
-use Rattle.asg_nodes.specs.Cuts.{keeps_copies, label_in, cuts_cell, cuts_word, cuts_between, cuts_row}
-use Rattle.asg_nodes.specs.laws.BitSteps.{label_is}
+use Rattle.asg_nodes.proofs.Common.{◌≡◌, ℕ, ◌+◌, ◌-◌, ◌*◌, ◌/◌, ◌%◌, ◌<◌, ◌≤◌, Bool, true, false, cond, not, ◌&&◌, ◌||◌, eqb, ◌↔◌, List, get_or, is_some, nat_lt, nat_le, Some, None, Option, sym, refl, ap, ◌∙◌, subst, ⊎_elim, arith, ltb-true, le-ltb, lt-ltb, eq-eqb, ne_eqb, eqb-true, le-leb, and_from, and_parts, bit_at, bit_at-zero, cases_lt, false≢true, lt-leb, or_cases, or_left, or_right, AreWordsOf, is_bit_set, is_from_to, word_count, HasBit, HasBit-without, HasBit-without_other, without_bit, bit_in_row, bit_of, of_bit, in_run, out_of_run, run_parts, same_bool, total_capacity, Problem, IsRunOf, keeps_copies, label_in, cuts_cell, cuts_word, cuts_between, cuts_row, Run, label_is, Grid, cell_at, HasLabelsOf, column_label}
 use Rattle.asg_nodes.proofs.CopyLemmas.{alone_keeps, others_keep}
 
 -- ---- the bits of a word from one on and before another

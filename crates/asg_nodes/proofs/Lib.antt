@@ -1,3 +1,4 @@
+pub mod Common
 mod PlaceLemmas
 mod OfferLemmas
 mod PoolLemmas

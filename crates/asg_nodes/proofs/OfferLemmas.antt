@@ -1,10 +1,5 @@
 -- A slot that takes the place of the last one, or that isn't taken.
-use Rattle.std.proofs.Common.{◌≡◌, ◌+◌, ◌-◌, ◌<◌, ◌≤◌, List, [], ◌∷◌, ◌++◌, length, get_or, take, refl, sym, ◌∙◌, ap, subst, arith}
-use Rattle.std.proofs.lemmas.List.{length-take-le, get_or-take, take_all, take_more}
-use Rattle.asg_order.specs.Monoid.{Monoid, IsValue, IsLe, IsLess, IsOrderedMonoid}
-use Rattle.asg_nodes.specs.declared.slots.Slot.{Slot}
-use Rattle.asg_nodes.specs.Slots.{slot_of, slot_at, Ascends, HaveValues, Inserts, Replaces, Refuses}
-use Rattle.asg_nodes.specs.laws.SlotLists.{last_greatest}
+use Rattle.asg_nodes.proofs.Common.{◌≡◌, ◌+◌, ◌-◌, ◌<◌, ◌≤◌, List, [], ◌∷◌, ◌++◌, length, get_or, take, sym, refl, ap, ◌∙◌, subst, arith, length-take-le, take_all, get_or-take, take_more, slot_of, slot_at, Ascends, HaveValues, Inserts, Replaces, Refuses, Slot, last_greatest, Monoid, IsValue, IsLe, IsLess, IsOrderedMonoid}
 
 -- a list that isn't empty ends with an element
 ends_with : {A : Type 0} (xs : List A) (d : A) → 1 ≤ length xs → xs ≡ take (length xs - 1) xs ++ get_or xs (length xs - 1) d ∷ []

@@ -1,11 +1,5 @@
 -- The place of an index among those of slots.
-use Rattle.std.proofs.Common.{◌≡◌, ℕ, ◌+◌, ◌-◌, ◌<◌, ◌≤◌, ⊎_elim, List, [], length, get_or, take, drop, sym, ◌∙◌, subst, arith}
-use Rattle.std.specs.Prelude.{All}
-use Rattle.std.proofs.lemmas.Bool.{cases_lt, false_from_ne_true}
-use Rattle.std.proofs.lemmas.List.{length-take-le, length-drop, get_or-take, get_or-drop, get_or_default}
-use Rattle.asg_order.specs.Monoid.{Monoid, IsValue, IsLe, IsLess, IsOrderedMonoid}
-use Rattle.asg_nodes.specs.declared.slots.Slot.{Slot}
-use Rattle.asg_nodes.specs.Slots.{slot_of, slot_at, Ascends, HaveValues, AreUpTo}
+use Rattle.asg_nodes.proofs.Common.{◌≡◌, ℕ, ◌+◌, ◌-◌, ◌<◌, ◌≤◌, List, [], length, get_or, take, drop, All, sym, ◌∙◌, subst, ⊎_elim, arith, length-drop, length-take-le, get_or-drop, get_or-take, cases_lt, false_from_ne_true, get_or_default, slot_of, slot_at, Ascends, HaveValues, AreUpTo, Slot, Monoid, IsValue, IsLe, IsLess, IsOrderedMonoid}
 
 -- what is strictly less than a value is strictly less than each one that the value is at most
 less_le : {V : Type 0} (M : Monoid V) (laws : IsOrderedMonoid M) (x y z : V) → IsValue M x → IsValue M y → IsValue M z → IsLess M x y → IsLe M y z → IsLess M x z

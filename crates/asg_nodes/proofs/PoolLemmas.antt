@@ -1,11 +1,6 @@
 -- Pieces of a list to which more is appended.
-use Rattle.std.proofs.Common.{◌≡◌, ℕ, ◌+◌, ◌*◌, ◌<◌, ◌≤◌, List, [], ◌∷◌, ◌++◌, length, take, drop, refl, sym, ◌∙◌, ap, subst, arith}
-use Rattle.std.specs.Prelude.{All}
-use Rattle.std.proofs.Math.Seq.{drop-append_seam}
-use Rattle.std.proofs.Math.Nat.{mul-le-mul_right}
-use Rattle.std.proofs.lemmas.List.{length-append, length-drop, drop-append-le, take-append-le, take_all, map-append}
-use Rattle.std.proofs.lemmas.List.Elements.{All-head, All-tail, All-push}
-use Rattle.asg_nodes.specs.HallPools.{IsPool, piece, pieces}
+use Rattle.asg_nodes.proofs.Common.{◌≡◌, ℕ, ◌+◌, ◌*◌, ◌<◌, ◌≤◌, List, [], ◌∷◌, ◌++◌, length, take, drop, All, sym, refl, ap, ◌∙◌, subst, mul-le-mul_right, arith, length-drop, take_all, All-head, All-push, All-tail, drop-append-le, drop-append_seam, map-append, take-append-le, IsPool, piece, pieces}
+use Rattle.std.proofs.lemmas.List.{length-append}
 use Rattle.asg_nodes.specs.laws.EntryLists.{add_one_times}
 
 abbrev IsWithin : List ℕ → ℕ × ℕ → Type 0

@@ -1,26 +1,9 @@
 -- A square that loses the cells of a branch, and to which the phase is applied that a trail has
 -- beyond another one.
-use Rattle.std.proofs.Common.{◌≡◌, ℕ, ◌<◌, Bool, true, false, cond, List, [], ◌∷◌, ◌++◌, Option, Some, None, refl, sym, ◌∙◌, ap, subst, ⊎_elim}
-use Rattle.std.specs.Prelude.{IfSome, option_and_then, option_map, unwrap_or}
-use Rattle.std.proofs.lemmas.Option.{none-some, same_Some}
-use Rattle.asg_model.specs.Problem.{Problem}
-use Rattle.asg_model.specs.Shapes.{square_side}
-use Rattle.asg_order.specs.Monoid.{IsValue, IsOrderedMonoid, fold_of}
-use Rattle.asg_admit.specs.declared.reduced.Reduced.{Reduced}
-use Rattle.asg_pool.specs.Forest.{Forest, Branch, trail_at, phases_of, phases_to, last_phase, IsForest, IsGrown}
+use Rattle.asg_nodes.proofs.Common.{◌≡◌, ℕ, ◌<◌, Bool, true, false, cond, List, [], ◌∷◌, ◌++◌, IfSome, Some, None, Option, option_and_then, unwrap_or, sym, refl, ap, ◌∙◌, subst, ⊎_elim, none-some, same_Some, Reduced, HasLabelsOf-kept, Problem, square_side, LosesCells, IsNext, Rules, Leads, IsReducedTo, reduced_cell, GrewOn, IsOwn, SettlesBy, SettlesOwn, IsValue, IsOrderedMonoid, fold_of, Forest, Branch, trail_at, phases_of, phases_to, last_phase, IsForest, IsGrown, PhaseOf, IsAdmittedPhase, AreAdmittedPhases, after_phase, after_phases, index_of, child, keeps_cell, after_phases-child, square_cell, cell_at}
+use Rattle.std.proofs.Common.{option_map}
 use Rattle.asg_pool.specs.laws.Trails.{last_phase-push}
-use Rattle.asg_proof.specs.Children.{child}
-use Rattle.asg_proof.specs.Masks.{keeps_cell}
-use Rattle.asg_proof.specs.Phases.{PhaseOf, IsAdmittedPhase, AreAdmittedPhases, after_phase, after_phases, index_of}
-use Rattle.asg_proof.specs.laws.MaskedSquares.{after_phases-child}
 use Rattle.asg_proof.specs.laws.PhaseLists.{after_phases-push, AreAdmittedPhases-back, index_of-push}
-use Rattle.asg_square.specs.Cells.{square_cell}
-use Rattle.asg_square.specs.Grid.{cell_at}
-use Rattle.asg_nodes.specs.Cuts.{LosesCells}
-use Rattle.asg_nodes.specs.Entries.{IsNext}
-use Rattle.asg_nodes.specs.Rules.{Rules, Leads, IsReducedTo, reduced_cell, GrewOn}
-use Rattle.asg_nodes.specs.Settled.{IsOwn, SettlesBy, SettlesOwn}
-use Rattle.asg_nodes.proofs.CutLemmas.{labels_kept}
 
 pub kept_value : {V : Type 0} (b : Bool) (o : Option V) (x : V) → cond b o None ≡ Some x → o ≡ Some x
 kept_value true o x e = e
@@ -42,7 +25,7 @@ module _ {V : Type 0} (R : Rules V) (F : Forest V) (Y : Problem) where
   -- the square of a child, from that of its parent's part
   pub cut_child : (f : List (Option ℕ)) (branch : ℕ) (trail : Option ℕ) (index : V) (work after : Reduced V) → IsReducedTo R F Y trail index work → after.index ≡ work.index → LosesCells (keeps_cell Y f branch) work.now after.now → IsReducedTo R F (child Y f branch) trail index after
   cut_child f branch trail index work after to same loses = record {
-    labels = (let l = labels_kept Y work.now after.now to.labels loses.labels in record { side = l.side; rows = l.rows; row_labels = l.row_labels; column_labels = l.column_labels });
+    labels = (let l = HasLabelsOf-kept Y work.now after.now loses.labels to.labels in record { side = l.side; rows = l.rows; row_labels = l.row_labels; column_labels = l.column_labels });
     values = record {
       cells = λ r k x hr hk e.
           let side = loses.labels.side in
@@ -110,7 +93,7 @@ module _ {V : Type 0} (R : Rules V) (F : Forest V) (Y : Problem) where
       by_own (Some t) own after settles =
           let phase = last_phase (phases_of F t) in
           let square = square_cell Y R.monoid.unit R.enter in record {
-            labels = labels_kept Y work.now after.now to.labels settles.labels;
+            labels = HasLabelsOf-kept Y work.now after.now settles.labels to.labels;
             values = settles.reduced;
             cells = λ r k.
                 settles.cells r k

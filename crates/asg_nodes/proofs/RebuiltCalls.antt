@@ -1,22 +1,6 @@
 -- What the calls of a rebuilding know of a node below the root and the node above it.
-use Rattle.std.proofs.Common.{◌≡◌, ℕ, ◌+◌, ◌-◌, ◌<◌, ◌≤◌, List, length, Option, Some, refl, sym, ◌∙◌, ap, subst, arith}
+use Rattle.asg_nodes.proofs.Common.{◌≡◌, ℕ, ◌+◌, ◌-◌, ◌<◌, ◌≤◌, List, length, Some, Option, sym, refl, ap, ◌∙◌, subst, arith, Reduced, Problem, square_side, LosesCells, entry_at, IsNext, Rules, rules_of, IsReducedTo, IsOwn, SettlesOwn, IsStanding, answer_in, given_at, IsTree, Entry, Tree, Monoid, IsOrderedMonoid, phases_of, last_phase, IsForest, IsAdmittedPhase, keeps_cell, answer_at, Grid, HasLabelsOf, cell_at}
 use Rattle.asg_model.specs.declared.parts.Cost.{Cost}
-use Rattle.asg_model.specs.Problem.{Problem}
-use Rattle.asg_model.specs.Shapes.{square_side}
-use Rattle.asg_order.specs.Monoid.{Monoid, IsOrderedMonoid}
-use Rattle.asg_admit.specs.declared.reduced.Reduced.{Reduced}
-use Rattle.asg_pool.specs.Forest.{phases_of, last_phase, IsForest}
-use Rattle.asg_proof.specs.Masks.{keeps_cell}
-use Rattle.asg_proof.specs.Nodes.{answer_at}
-use Rattle.asg_proof.specs.Phases.{IsAdmittedPhase}
-use Rattle.asg_square.specs.Grid.{Grid, HasLabelsOf, cell_at}
-use Rattle.asg_nodes.specs.declared.entries.Entry.{Entry}
-use Rattle.asg_nodes.specs.declared.trees.Tree.{Tree}
-use Rattle.asg_nodes.specs.Cuts.{LosesCells}
-use Rattle.asg_nodes.specs.Entries.{entry_at, IsNext}
-use Rattle.asg_nodes.specs.Rules.{Rules, rules_of, IsReducedTo}
-use Rattle.asg_nodes.specs.Settled.{IsOwn, SettlesOwn, IsStanding, answer_in}
-use Rattle.asg_nodes.specs.Trees.{given_at, IsTree}
 use Rattle.asg_nodes.proofs.RebuiltNodes.{place_of, above, child_is, winner_is, above_less, chosen, labels_above, cut_is, node_admitted, node_settled}
 
 module _ {V : Type 0} (M : Monoid V) (difference : V → V → V) (enter : Cost → V) (X : Problem) (given : List (List (Option ℕ))) (winner : ℕ → ℕ) (upto : ℕ) (T : Tree V) (part : ℕ → Problem)

@@ -1,26 +1,6 @@
 -- The square of the part of a node below the root, from that of the part of the node above it.
-use Rattle.std.proofs.Common.{◌≡◌, ℕ, ◌+◌, ◌*◌, ◌<◌, ◌≤◌, Bool, List, [], ◌∷◌, length, Option, Some, sym, ◌∙◌, ap, subst, arith}
-use Rattle.std.specs.Prelude.{slice_index_or}
-use Rattle.asg_model.specs.Counts.{placed}
-use Rattle.asg_model.specs.Problem.{Problem}
-use Rattle.asg_model.specs.Shapes.{square_side}
-use Rattle.asg_order.specs.Monoid.{Monoid, IsOrderedMonoid}
-use Rattle.asg_admit.specs.declared.reduced.Reduced.{Reduced}
-use Rattle.asg_pool.specs.Forest.{Forest, phases_of, phases_to, last_phase, IsForest}
-use Rattle.asg_proof.specs.Children.{child}
-use Rattle.asg_proof.specs.Masks.{masked, keeps_cell}
-use Rattle.asg_proof.specs.Phases.{PhaseOf, entered_at, staying_at, square_after, after_phase, IsAdmittedPhase, AreAdmittedPhases}
+use Rattle.asg_nodes.proofs.Common.{◌≡◌, ℕ, ◌+◌, ◌*◌, ◌<◌, ◌≤◌, Bool, List, [], ◌∷◌, length, slice_index_or, Some, Option, sym, ap, ◌∙◌, subst, arith, Reduced, placed, Problem, square_side, LosesCells, entry_at, Rules, Leads, IsReducedTo, IsOwn, SettlesOwn, given_at, IsChildOf, IsWinner, IsTree, Entry, Tree, Monoid, IsOrderedMonoid, Forest, phases_of, phases_to, last_phase, IsForest, PhaseOf, entered_at, staying_at, square_after, after_phase, IsAdmittedPhase, AreAdmittedPhases, child, masked, keeps_cell, square_after-masked, square_cell-child, square_cell, HasLabelsOf, cell_at}
 use Rattle.asg_proof.specs.Steps.{IsAdmittedStep}
-use Rattle.asg_proof.specs.laws.MaskedSquares.{square_after-masked, square_cell-child}
-use Rattle.asg_square.specs.Cells.{square_cell}
-use Rattle.asg_square.specs.Grid.{HasLabelsOf, cell_at}
-use Rattle.asg_nodes.specs.declared.entries.Entry.{Entry}
-use Rattle.asg_nodes.specs.declared.trees.Tree.{Tree}
-use Rattle.asg_nodes.specs.Cuts.{LosesCells}
-use Rattle.asg_nodes.specs.Entries.{entry_at}
-use Rattle.asg_nodes.specs.Rules.{Rules, Leads, IsReducedTo}
-use Rattle.asg_nodes.specs.Settled.{IsOwn, SettlesOwn}
-use Rattle.asg_nodes.specs.Trees.{given_at, IsChildOf, IsWinner, IsTree}
 use Rattle.asg_nodes.specs.laws.Parts.{IsPlaced, placed_at, AreBefore, part_rows, part_columns, part_place}
 use Rattle.asg_nodes.proofs.RebuildSteps.{kept_value, cut_child, own_admitted, settled_own}
 use Rattle.asg_nodes.specs.laws.Shapes.{same_keeps, labels_from_part}

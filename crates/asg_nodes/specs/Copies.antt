@@ -4,7 +4,7 @@ use Rattle.std.specs.Option.{option_map_or}
 use Rattle.asg_model.specs.Counts.{total_capacity}
 use Rattle.asg_model.specs.Problem.{Problem}
 use Rattle.asg_model.specs.ValidChoice.{takes}
-use Rattle.asg_square.specs.BitTable.{is_from_to}
+use Rattle.asg_bit_rows.specs.BitTable.{is_from_to}
 use Rattle.asg_square.specs.Labels.{column_label}
 use Rattle.asg_nodes.specs.declared.copies.Run.{Run}
 

@@ -4,9 +4,9 @@ use Rattle.std.specs.Option.{option_map_or}
 use Rattle.asg_admit.specs.Reduced.{KeepsLabels}
 use Rattle.asg_model.specs.Problem.{Problem}
 use Rattle.asg_model.specs.ValidChoice.{takes}
-use Rattle.asg_proof.specs.Children.{row_number, is_chosen}
-use Rattle.asg_proof.specs.Masks.{masked}
-use Rattle.asg_square.specs.BitTable.{BitTable, has_bit, is_from_to}
+use Rattle.asg_rankings.specs.Children.{row_number, is_chosen}
+use Rattle.asg_rankings.specs.Masks.{masked}
+use Rattle.asg_bit_rows.specs.BitTable.{BitTable, has_bit, is_from_to}
 use Rattle.asg_square.specs.Grid.{Grid, cell_at}
 use Rattle.asg_square.specs.Labels.{row_label, column_label}
 

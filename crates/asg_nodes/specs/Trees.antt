@@ -5,8 +5,8 @@ use Rattle.asg_model.specs.declared.bands.Band.TheVariants.{Whole}
 use Rattle.asg_model.specs.Counts.{placed}
 use Rattle.asg_model.specs.HallSet.{IsHall}
 use Rattle.asg_model.specs.Problem.{Problem}
-use Rattle.asg_proof.specs.Children.{child}
-use Rattle.asg_proof.specs.Frontiers.{IsFrontier}
+use Rattle.asg_rankings.specs.Children.{child}
+use Rattle.asg_rankings.specs.Frontiers.{IsFrontier}
 use Rattle.asg_nodes.specs.declared.entries.Entry.{Entry}
 use Rattle.asg_nodes.specs.declared.entries.State.{State}
 use Rattle.asg_nodes.specs.declared.entries.State.TheVariants.{Answered, Open, Empty}

@@ -3,15 +3,16 @@
 ghost use Rattle.std.specs.Prelude.{◌≡◌, ◌<◌, ◌≤◌, ◌*◌, ◌&&◌, ◌||◌, ℕ, nat_le, not, length};
 ghost use Rattle.asg_model.specs.declared.parts.Place.TheVariants.{All as PlaceAll};
 ghost use Rattle.asg_model.specs.Shapes.{square_side};
-ghost use Rattle.asg_proof.specs.Masks.{keeps_cell};
-ghost use Rattle.asg_square.specs.BitTable.{is_bit_set, is_from_to};
+ghost use Rattle.asg_rankings.specs.Masks.{keeps_cell};
+ghost use Rattle.asg_bit_rows.specs.BitTable.{is_bit_set, is_from_to};
 ghost use Rattle.asg_square.specs.Grid.{HasLabelsOf};
 ghost use Rattle.asg_square.specs.Labels.{column_label};
 ghost use Rattle.asg_nodes.specs.Cuts.{keeps_copies, cuts_cell, cuts_word, cuts_between, cuts_row, cuts_numbered, PutsRow, LosesCells};
 
 use crate::copies::{Run, copies_of, end_of_copies};
+use asg_bit_rows::{BitRows, first_bits};
 use asg_model::{Choice, Instance};
-use asg_square::{BitRows, Square, first_bits};
+use asg_square::Square;
 
 // The bits of a word from one on and before another.
 fn bits_between(word: u64, from: u32, to: u32) -> u64

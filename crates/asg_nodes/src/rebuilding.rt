@@ -6,8 +6,8 @@ ghost use Rattle.asg_model.specs.declared.parts.Place.TheVariants.{All as PlaceA
 ghost use Rattle.asg_model.specs.Problem.{Problem};
 ghost use Rattle.asg_admit.specs.Reduced.{IsReduced, IsPhaseTo};
 ghost use Rattle.asg_pool.specs.Forest.{phases_of, last_phase, IsLive};
-ghost use Rattle.asg_proof.specs.Masks.{keeps_cell};
-ghost use Rattle.asg_proof.specs.Nodes.{answer_at};
+ghost use Rattle.asg_rankings.specs.Masks.{keeps_cell};
+ghost use Rattle.asg_rankings.specs.Nodes.{answer_at};
 ghost use Rattle.asg_proof.specs.Phases.{IsAdmittedPhase};
 ghost use Rattle.asg_square.specs.Grid.{cell_at, HasLabelsOf};
 ghost use Rattle.asg_nodes.specs.Cuts.{LosesCells};

@@ -1,7 +1,5 @@
 -- Two values, of which the second one was made.
-use Rattle.std.proofs.Common.{◌≡◌, sym, subst}
-use Rattle.std.specs.Prelude.{Result, Ok, IfOk}
-use Rattle.std.proofs.lemmas.Result.{IfOk-weaker, IfOk-at_ok}
+use Rattle.asg_rank.proofs.Common.{◌≡◌, IfOk, Ok, Result, sym, subst, IfOk-at_ok, IfOk-weaker}
 
 -- what holds of the first one and of each second one that is made holds of both
 pub both_made : {A B E : Type 0} (P : A → B → Type 0) (first : A) (second : Result B E) (result : Result (A × B) E) → IfOk result (λ made. (made.0 ≡ first) × (second ≡ Ok made.1)) → IfOk second (P first) → IfOk result (λ made. P made.0 made.1)

@@ -1,9 +1,5 @@
 -- Exactly one element passes.
-use Rattle.std.proofs.Common.{◌≡◌, ℕ, zero, suc, ◌<◌, Bool, true, false, List, [], ◌∷◌, length, get_or, refl, ap, arith, ⊎_elim}
-use Rattle.std.specs.Prelude.{count_by}
-use Rattle.std.proofs.lemmas.Bool.{cases_Bool}
-use Rattle.std.proofs.lemmas.List.Sums.{sum_by-cons}
-use Rattle.asg_model.specs.Sums.{one}
+use Rattle.asg_rank.proofs.Common.{◌≡◌, ℕ, zero, suc, ◌<◌, Bool, true, false, List, [], ◌∷◌, length, get_or, count_by, refl, ap, ⊎_elim, arith, cases_Bool, sum_by-cons, one}
 
 module _ {X : Type 0} (p : X → Bool) (d : X) where
   count_none : (xs : List X) → ((j : ℕ) → j < length xs → p (get_or xs j d) ≡ false) → count_by p xs ≡ 0

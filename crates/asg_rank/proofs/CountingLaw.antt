@@ -1,24 +1,11 @@
 -- There are at most as many different valid choices as ways to give each active row any column:
 -- each choice is a number with a digit for each row that chooses.
-use Rattle.std.proofs.Common.{◌≡◌, ◌≢◌, ℕ, suc, ◌+◌, ◌*◌, ◌^◌, ◌<◌, ◌≤◌, Bool, true, false, cond, ◌&&◌, List, [], ◌∷◌, length, get_or, map, Option, Some, None, refl, sym, ◌∙◌, ap, subst, arith, ⊎_elim}
-use Rattle.std.specs.Prelude.{All, AllPairs, Contains, IsSome, is_some, count_by}
-use Rattle.std.specs.Option.{option_map_or}
-use Rattle.std.specs.List.{range_with_len}
-use Rattle.std.proofs.Math.Nat.{mul-le-mul_left, pow-suc, pow-zero}
-use Rattle.std.proofs.lemmas.Bool.{cases_lt, cases_Bool, false≢true}
-use Rattle.std.proofs.lemmas.List.{length-map, get_or-map}
-use Rattle.std.proofs.lemmas.List.FromFn.{length-range_with_len}
-use Rattle.std.proofs.lemmas.List.Sums.{sum_by-cons}
-use Rattle.std.proofs.lemmas.Option.{slice_get_past}
-use Rattle.asg_model.specs.declared.parts.Place.TheVariants.{All as PlaceAll}
-use Rattle.asg_model.specs.Counts.{placed}
+use Rattle.asg_rank.proofs.Common.{◌≡◌, ℕ, suc, ◌+◌, ◌*◌, ◌^◌, ◌<◌, ◌≤◌, Bool, true, false, cond, ◌&&◌, ◌≢◌, List, [], ◌∷◌, map, length, get_or, is_some, IsSome, Some, None, All, Contains, count_by, Option, AllPairs, sym, refl, ap, ◌∙◌, subst, ⊎_elim, mul-le-mul_left, pow-suc, arith, cases_Bool, cases_lt, false≢true, get_or-map, length-map, length-range_with_len, option_map_or, pow-zero, range_with_len, slice_get_past, sum_by-cons, placed, Problem, one, IsValid}
 use Rattle.asg_model.specs.Live.{is_active, is_open}
-use Rattle.asg_model.specs.Problem.{Problem}
-use Rattle.asg_model.specs.Sums.{one}
-use Rattle.asg_model.specs.ValidChoice.{IsValid}
 use Rattle.asg_model.specs.laws.Counting.{length-le_contains}
 use Rattle.asg_model.specs.laws.Listing.{Contains-range}
-use Rattle.asg_proof.specs.laws.ChosenRows.{chosen_at, chosen-in_active, none-from_inactive, chooses-from_chosen}
+use Rattle.asg_rankings.specs.laws.ChosenRows.{chosen_at, chosen-in_active, none-from_inactive, chooses-from_chosen}
+use Rattle.asg_model.specs.declared.parts.Place.TheVariants.{All as PlaceAll}
 
 -- the number of a choice of columns below m, the first row's digit last
 abbrev code : ℕ → List (Option ℕ) → ℕ

@@ -1,27 +1,6 @@
 -- What is left where every valid choice was given, or as many as were asked for.
-use Rattle.std.proofs.Common.{◌≡◌, ◌↔◌, ℕ, ◌+◌, ◌-◌, ◌*◌, ◌<◌, ◌≤◌, ◌⊎◌, inl, inr, List, [], length, Option, sym, ◌∙◌, subst, arith, ⊎_elim}
-use Rattle.std.specs.Prelude.{IsTrue, Contains}
-use Rattle.std.proofs.lemmas.Bool.{cases_lt, cases_eq}
-use Rattle.asg_model.specs.declared.parts.Cost.{Cost}
-use Rattle.asg_model.specs.Counts.{placed}
-use Rattle.asg_model.specs.Instances.{IsInstance}
-use Rattle.asg_model.specs.Problem.{Problem}
-use Rattle.asg_model.specs.ValidChoice.{IsValid}
-use Rattle.asg_order.specs.Bridge.{choice_fold}
-use Rattle.asg_order.specs.Monoid.{IsLe, IsOrderedMonoid}
-use Rattle.asg_proof.specs.SearchTrees.{last_answer}
-use Rattle.asg_square.specs.Cells.{IsSquareChoice}
-use Rattle.asg_nodes.specs.declared.entries.State.TheVariants.{Open}
-use Rattle.asg_nodes.specs.declared.trees.Tree.{Tree}
-use Rattle.asg_nodes.specs.Entries.{entry_at, is_open_at}
-use Rattle.asg_rank.specs.Rankings.{IsExhausted}
-use Rattle.asg_rank.specs.Rooms.{answer_room}
-use Rattle.asg_nodes.specs.Rules.{Rules, IsSolved}
-use Rattle.asg_branching.specs.Searches.{winner_in, IsBehind, IsKept, IsSearch}
-use Rattle.asg_nodes.specs.Slots.{SlotList, slot_of, slot_at}
+use Rattle.asg_rank.proofs.Common.{◌≡◌, ℕ, ◌+◌, ◌-◌, ◌*◌, ◌<◌, ◌≤◌, ◌⊎◌, ◌↔◌, List, [], length, IsTrue, Contains, Option, sym, ◌∙◌, subst, inl, inr, ⊎_elim, arith, cases_eq, cases_lt, winner_in, IsBehind, IsKept, IsSearch, placed, IsInstance, Problem, IsValid, Cost, entry_at, is_open_at, Rules, IsSolved, SlotList, slot_of, slot_at, Open, Tree, open_within, open_here, part_instance, part_valid, choice_fold, IsLe, IsOrderedMonoid, IsExhausted, answer_room, last_answer, IsSquareChoice}
 use Rattle.asg_nodes.specs.laws.ChoiceSteps.{some_choice}
-use Rattle.asg_nodes.specs.laws.OpenNodes.{open_within, open_here}
-use Rattle.asg_nodes.specs.laws.Parts.{part_instance, part_valid}
 
 module _ {V : Type 0} (R : Rules V) (X : Problem) (given : List (List (Option ℕ))) (slots : SlotList V) (T : Tree V) (search : IsSearch R X (length T.entries.items) given slots T) where
   -- where no node is kept, there is room for no more answers, or every valid choice was given

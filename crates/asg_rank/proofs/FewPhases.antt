@@ -1,31 +1,9 @@
 -- How many phases the nodes of a tree have, and which of them are open.
-use Rattle.std.proofs.Common.{◌≡◌, ℕ, ◌+◌, ◌-◌, ◌^◌, ◌<◌, ◌≤◌, List, [], ◌∷◌, ◌++◌, length, map, Option, sym, ◌∙◌, ap, subst, arith, ⊎_elim}
-use Rattle.std.specs.Prelude.{All}
-use Rattle.std.proofs.lemmas.Bool.{cases_lt}
-use Rattle.std.proofs.lemmas.List.{length-map}
-use Rattle.std.proofs.lemmas.List.Elements.{All-tail}
-use Rattle.asg_model.specs.Counts.{placed}
-use Rattle.asg_model.specs.Problem.{Problem}
-use Rattle.asg_model.specs.ValidChoice.{IsValid}
-use Rattle.asg_order.specs.declared.words.Word.{Word}
-use Rattle.asg_pool.specs.Forest.{phases_to, IsForest}
-use Rattle.asg_proof.specs.declared.nodes.Mark.TheVariants.{Answered as MarkAnswered}
-use Rattle.asg_proof.specs.declared.nodes.Node.{Node}
-use Rattle.asg_proof.specs.Nodes.{node_at, IsNumber}
-use Rattle.asg_proof.specs.Phases.{worded}
+use Rattle.asg_rank.proofs.Common.{◌≡◌, ℕ, ◌+◌, ◌-◌, ◌^◌, ◌<◌, ◌≤◌, List, [], ◌∷◌, ◌++◌, map, length, All, Option, sym, ap, ◌∙◌, subst, ⊎_elim, arith, All-tail, cases_lt, length-map, words_over, placed, Problem, IsValid, entry_at, child_number, Rules, given_at, IsTree, Entry, State, Answered, Open, Tree, placed_at, Word, phases_to, IsForest, phases_over, worded, HaveFewPhases, LeaveLastOpen, IsWrittenMark, AreWrittenNodes, node_at, IsNumber, Node}
 use Rattle.asg_proof.specs.PromisedProofs.{IsPhaseOver}
-use Rattle.asg_nodes.specs.declared.entries.Entry.{Entry}
-use Rattle.asg_nodes.specs.declared.entries.State.{State}
-use Rattle.asg_nodes.specs.declared.entries.State.TheVariants.{Answered, Open}
-use Rattle.asg_nodes.specs.declared.trees.Tree.{Tree}
-use Rattle.asg_nodes.specs.Entries.{entry_at, child_number}
-use Rattle.asg_rank.specs.Rankings.{HaveFewPhases, LeaveLastOpen}
-use Rattle.asg_nodes.specs.Rules.{Rules}
-use Rattle.asg_nodes.specs.Trees.{given_at, IsTree}
-use Rattle.asg_rank.specs.Written.{IsWrittenMark, AreWrittenNodes}
-use Rattle.asg_nodes.specs.laws.Parts.{placed_at}
-use Rattle.asg_rank.proofs.ToldSteps.{told, phases_over, words_over}
+use Rattle.asg_rank.proofs.ToldSteps.{told}
 use Rattle.asg_rank.proofs.WrittenTrees.{sound_node}
+use Rattle.asg_rankings.specs.declared.nodes.Mark.TheVariants.{Answered as MarkAnswered}
 
 -- what holds of a whole list holds of its end
 All-end : {X : Type 0} (P : X → Type 0) (xs ys : List X) → All P (xs ++ ys) → All P ys

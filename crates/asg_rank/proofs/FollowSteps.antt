@@ -1,15 +1,5 @@
 -- What the next answer is.
-use Rattle.std.proofs.Common.{◌≡◌, ℕ, inl, inr, List, length, Option, refl, sym, ◌∙◌, subst, arith, ⊎_elim}
-use Rattle.std.specs.Prelude.{Contains}
-use Rattle.std.proofs.lemmas.List.{length-take-le}
-use Rattle.asg_model.specs.Problem.{Problem}
-use Rattle.asg_model.specs.ValidChoice.{IsValid}
-use Rattle.asg_rank.specs.declared.ranker.Next.TheVariants.{Answer, Done}
-use Rattle.asg_branching.specs.declared.searches.Search.{Search}
-use Rattle.asg_branching.specs.Expansions.{IsOneMore}
-use Rattle.asg_rank.specs.Rankers.{GivesLeast}
-use Rattle.asg_nodes.specs.Rules.{Rules}
-use Rattle.asg_branching.specs.Searches.{given_of, IsReady}
+use Rattle.asg_rank.proofs.Common.{◌≡◌, ℕ, List, length, Contains, Option, sym, refl, ◌∙◌, subst, inl, inr, ⊎_elim, arith, length-take-le, IsOneMore, given_of, IsReady, Search, Problem, IsValid, Rules, GivesLeast, Answer, Done}
 use Rattle.asg_rank.proofs.EndSteps.{nothing_left}
 
 module _ {V : Type 0} (R : Rules V) (X : Problem) (most : ℕ) where

@@ -1,12 +1,6 @@
 -- A ranker that gives one answer after another until nothing is left to give.
-use Rattle.std.proofs.Common.{◌≡◌, ℕ, ◌-◌, ◌≤◌, List, [], ◌∷◌, ◌++◌, length, length-append, get_or, All, Option, refl, sym, ap, ◌∙◌, subst, arith}
-use Rattle.std.proofs.Math.Seq.{get_or-append_seam}
-use Rattle.std.proofs.lemmas.List.Elements.{All-nil, All-push}
-use Rattle.asg_model.specs.declared.objectives.Objective.{Objective}
-use Rattle.asg_model.specs.ValidChoice.{IsValid}
-use Rattle.asg_proof.specs.Nodes.{answer_at}
-use Rattle.asg_rank.specs.declared.ranker.Next.TheVariants.{Answer, Done}
-use Rattle.asg_rank.specs.Rankings.{Gives, IsExhausted, Ranking}
+use Rattle.asg_rank.proofs.Common.{◌≡◌, ℕ, ◌-◌, ◌≤◌, List, [], ◌∷◌, ◌++◌, length, get_or, All, Option, sym, refl, ap, ◌∙◌, subst, arith, All-nil, All-push, get_or-append_seam, IsValid, Objective, Gives, IsExhausted, Ranking, Answer, Done, answer_at}
+use Rattle.std.proofs.Common.{length-append}
 
 -- so many answers were given since the first state, in which there was none, all of them valid
 pub record Gave {K : Type 0} (first now : Ranking K) (n : ℕ) : Type 0 where

@@ -1,35 +1,5 @@
 -- What a ranker tells once no answer is left.
-use Rattle.std.proofs.Common.{◌≡◌, ◌≢◌, ◌↔◌, ℕ, ◌-◌, ◌^◌, ◌<◌, ◌≤◌, List, length, Option, sym, subst, arith}
-use Rattle.std.specs.Prelude.{All, AllPairs}
-use Rattle.std.proofs.Math.Nat.{mul-le-mul_right}
-use Rattle.asg_model.specs.declared.objectives.Objective.{Objective}
-use Rattle.asg_model.specs.declared.parts.Cost.{Cost}
-use Rattle.asg_model.specs.Counts.{placed}
-use Rattle.asg_model.specs.Instances.{IsInstance}
-use Rattle.asg_model.specs.Limits.{most_cost}
-use Rattle.asg_model.specs.Problem.{Problem}
-use Rattle.asg_model.specs.Refused.{PassesNegative}
-use Rattle.asg_model.specs.Shapes.{square_side}
-use Rattle.asg_model.specs.ValidChoice.{IsValid}
-use Rattle.asg_order.specs.Bridge.{Bridges}
-use Rattle.asg_order.specs.Monoid.{IsOrderedMonoid}
-use Rattle.asg_order.specs.declared.words.Word.{Word}
-use Rattle.asg_pool.specs.Forest.{IsForest}
-use Rattle.asg_proof.specs.declared.nodes.Node.{Node}
-use Rattle.asg_proof.specs.Ranked.{AreListed}
-use Rattle.asg_proof.specs.laws.LiveCosts.{lies_within}
-use Rattle.asg_proof.specs.SearchTrees.{IsSearchTree}
-use Rattle.asg_square.specs.Cells.{IsSquareChoice}
-use Rattle.asg_nodes.specs.declared.entries.State.TheVariants.{Open}
-use Rattle.asg_branching.specs.declared.searches.Search.{Search}
-use Rattle.asg_nodes.specs.Entries.{entry_at, child_number}
-use Rattle.asg_rank.specs.Rooms.{answer_room}
-use Rattle.asg_rank.specs.Rankings.{AreCountable, IsExhausted, HaveFewPhases, LeaveLastOpen}
-use Rattle.asg_nodes.specs.Rules.{Rules}
-use Rattle.asg_branching.specs.Searches.{winner_in, given_of, IsReady}
-use Rattle.asg_nodes.specs.Trees.{given_at}
-use Rattle.asg_nodes.specs.laws.Parts.{room_small}
-use Rattle.asg_rank.specs.Written.{IsTold, AreWrittenNodes}
+use Rattle.asg_rank.proofs.Common.{◌≡◌, ℕ, ◌-◌, ◌^◌, ◌<◌, ◌≤◌, ◌≢◌, ◌↔◌, List, length, All, Option, AllPairs, sym, subst, mul-le-mul_right, arith, winner_in, given_of, IsReady, Search, placed, IsInstance, most_cost, Problem, PassesNegative, square_side, IsValid, Objective, Cost, entry_at, child_number, Rules, given_at, Open, room_small, Bridges, IsOrderedMonoid, Word, IsForest, lies_within, AreCountable, IsExhausted, HaveFewPhases, LeaveLastOpen, answer_room, IsTold, AreWrittenNodes, AreListed, IsSearchTree, Node, IsSquareChoice}
 use Rattle.asg_rank.proofs.FewPhases.{few_phases, last_open}
 use Rattle.asg_rank.proofs.FollowSteps.{counted_ready}
 use Rattle.asg_rank.proofs.RankingSteps.{IsBridged}

@@ -1,3 +1,4 @@
+pub mod Common
 mod CountOne
 mod WrittenTrees
 mod RankingSteps
@@ -6,7 +7,7 @@ mod EndSteps
 mod TreeEnds
 mod ToldSteps
 mod CountingLaw
-mod TrailLists
+mod OwnPhases
 mod NodeSteps
 mod FewPhases
 mod LastTrees

@@ -1,17 +1,7 @@
 -- The nodes of a tree that are written one after another.
-use Rattle.std.proofs.Common.{◌≡◌, ℕ, ◌+◌, ◌-◌, ◌<◌, ◌≤◌, List, [], ◌∷◌, ◌++◌, length, get_or, refl, sym, ◌∙◌, ap, subst, arith, ⊎_elim}
-use Rattle.std.proofs.lemmas.Bool.{cases_lt}
-use Rattle.std.proofs.lemmas.List.{length_push, get_or_at, get_or_append_left, get_or_default}
-use Rattle.std.proofs.lemmas.List.Elements.{All-nil, All-push}
-use Rattle.asg_order.specs.declared.words.Word.{Word}
-use Rattle.asg_proof.specs.declared.nodes.Mark.TheVariants.{Open as MarkOpen}
-use Rattle.asg_proof.specs.declared.nodes.Node.{Node}
-use Rattle.asg_proof.specs.NodeLists.{IsNodePart, AreNodeParts}
-use Rattle.asg_proof.specs.Nodes.{node_at}
-use Rattle.asg_nodes.specs.declared.entries.Entry.{Entry}
-use Rattle.asg_nodes.specs.declared.trees.Tree.{Tree}
-use Rattle.asg_nodes.specs.Entries.{blank, entry_at}
-use Rattle.asg_rank.specs.Written.{IsWrittenNode, PushesNode, AreWrittenNodes}
+use Rattle.asg_rank.proofs.Common.{◌≡◌, ℕ, ◌+◌, ◌-◌, ◌<◌, ◌≤◌, List, [], ◌∷◌, ◌++◌, length, get_or, sym, refl, ap, ◌∙◌, subst, ⊎_elim, arith, All-nil, All-push, cases_lt, get_or_append_left, get_or_at, get_or_default, length_push, blank, entry_at, Entry, Tree, Word, IsWrittenNode, PushesNode, AreWrittenNodes, node_at, Node}
+use Rattle.asg_rankings.specs.NodeLists.{IsNodePart, AreNodeParts}
+use Rattle.asg_rankings.specs.declared.nodes.Mark.TheVariants.{Open as MarkOpen}
 
 -- an entry that was read from a list of the nodes is the node of the next number
 pub entry_here : {V : Type 0} (unit : V) (entries xs : List (Entry V)) (i : ℕ) (x : Entry V) → xs ≡ entries → x ≡ get_or xs i x → i < length xs → entry_at unit entries (i + 1) ≡ x

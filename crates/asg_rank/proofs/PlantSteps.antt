@@ -1,32 +1,7 @@
 -- A search with its root alone.
-use Rattle.std.proofs.Common.{◌≡◌, ℕ, ◌+◌, ◌-◌, ◌*◌, ◌<◌, ◌≤◌, ◌⊎◌, inl, inr, List, [], ◌∷◌, ◌++◌, length, get_or, take, Option, None, refl, sym, ◌∙◌, ap, subst, arith, ⊎_elim}
-use Rattle.std.specs.Prelude.{vec_len, vec_capacity}
-use Rattle.std.proofs.Math.Nat.{mul-le-mul_right}
-use Rattle.std.proofs.Math.Seq.{get_or-append_seam}
-use Rattle.std.proofs.lemmas.List.{length-append}
-use Rattle.asg_model.specs.declared.bands.Band.TheVariants.{Whole}
-use Rattle.asg_model.specs.HallSet.{IsHall}
-use Rattle.asg_model.specs.Counts.{placed}
-use Rattle.asg_model.specs.Problem.{Problem}
-use Rattle.asg_model.specs.Shapes.{square_side}
-use Rattle.asg_model.specs.ValidChoice.{IsValid}
-use Rattle.asg_order.specs.Monoid.{Monoid, IsOrderedMonoid}
-use Rattle.asg_pool.specs.Forest.{Forest, trail_at}
-use Rattle.asg_algebra.specs.declared.solving.Solved.{Solved}
+use Rattle.asg_rank.proofs.Common.{◌≡◌, ℕ, ◌+◌, ◌-◌, ◌*◌, ◌<◌, ◌≤◌, ◌⊎◌, List, [], ◌∷◌, ◌++◌, length, get_or, take, None, vec_len, vec_capacity, Option, sym, refl, ap, ◌∙◌, subst, inl, inr, ⊎_elim, mul-le-mul_right, arith, get_or-append_seam, Solved, winner_in, given_of, AreSlots, IsSearch, IsDesk, IsReady, Search, placed, IsHall, Problem, square_side, IsValid, Whole, entry_at, entry_of, HallSets, hall_at, Rules, Leads, IsSolved, IsReducedTo, SlotList, slot_of, Inserts, Replaces, Refuses, Offers, HasState, IsNode, IsRoot, IsTree, HasRoomFor, Entry, Open, Empty, Tree, open_within, open_here, Monoid, IsOrderedMonoid, Forest, trail_at, IsPlantable, length-append}
 use Rattle.asg_branching.specs.declared.desks.Desk.{Desk}
-use Rattle.asg_nodes.specs.declared.entries.Entry.{Entry}
-use Rattle.asg_nodes.specs.declared.entries.State.TheVariants.{Open, Empty}
-use Rattle.asg_branching.specs.declared.searches.Search.{Search}
 use Rattle.asg_nodes.specs.declared.slots.Slot.{Slot}
-use Rattle.asg_nodes.specs.declared.trees.Tree.{Tree}
-use Rattle.asg_nodes.specs.Entries.{entry_at, entry_of}
-use Rattle.asg_nodes.specs.HallPools.{HallSets, hall_at}
-use Rattle.asg_rank.specs.Opening.{IsPlantable}
-use Rattle.asg_nodes.specs.Rules.{Rules, Leads, IsSolved, IsReducedTo}
-use Rattle.asg_branching.specs.Searches.{winner_in, given_of, AreSlots, IsSearch, IsDesk, IsReady}
-use Rattle.asg_nodes.specs.Slots.{SlotList, slot_of, Inserts, Replaces, Refuses, Offers}
-use Rattle.asg_nodes.specs.Trees.{HasState, IsNode, IsRoot, IsTree, HasRoomFor}
-use Rattle.asg_nodes.specs.laws.OpenNodes.{open_within, open_here}
 use Rattle.asg_branching.specs.laws.SlotSteps.{slots_stay, slots_offered}
 
 -- a tree with its root alone

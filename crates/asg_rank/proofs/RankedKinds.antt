@@ -1,30 +1,11 @@
 -- What a ranking in the monoid of a kind gives is what a ranking by its objective gives.
-use Rattle.std.proofs.Common.{◌≡◌, ℕ, ◌-◌, ◌^◌, ◌≤◌, List, [], Option, length, arith, subst}
-use Rattle.std.specs.Prelude.{All, IsTrue, true}
-use Rattle.asg_model.specs.declared.objectives.Objective.{Objective}
-use Rattle.asg_model.specs.declared.objectives.Objective.TheVariants.{Sum, SumMax, SumPair, Capped, Bottleneck, BottleneckMax, TimeCost}
-use Rattle.asg_model.specs.declared.parts.Cost.{Cost}
-use Rattle.asg_model.specs.Instances.{IsInstance}
+use Rattle.asg_rank.proofs.Common.{◌≡◌, ℕ, ◌-◌, ◌^◌, ◌≤◌, true, List, [], length, IsTrue, All, Option, subst, arith, IsInstance, Problem, PassesNegative, IsValid, Objective, Sum, SumMax, SumPair, Capped, Bottleneck, BottleneckMax, TimeCost, Cost, bounded_sums, bounded_difference, narrow_top, plain_word, cost_reach, is_sum_objective, peak_entered, sum_entered, time_entered, top_of, graded, graded_difference, graded_word, maxima, maxima_difference, choice_fold, Monoid, Word, lies_within, IsOutcomeIn, IsRankOutcome, IsSearchTree, last_answer, Node}
 use Rattle.asg_model.specs.Objectives.{is_bottleneck}
-use Rattle.asg_model.specs.Problem.{Problem}
-use Rattle.asg_model.specs.Refused.{PassesNegative}
-use Rattle.asg_model.specs.ValidChoice.{IsValid}
-use Rattle.asg_monoids.specs.BoundedSums.{bounded_sums, bounded_difference, narrow_top, plain_word}
-use Rattle.asg_monoids.specs.Entered.{cost_reach, is_sum_objective, peak_entered, sum_entered, time_entered, top_of}
-use Rattle.asg_monoids.specs.Grades.{graded, graded_difference, graded_word}
-use Rattle.asg_monoids.specs.Maxima.{maxima, maxima_difference}
 use Rattle.asg_monoids.specs.NarrowObjectives.{is_narrow_objective}
 use Rattle.asg_narrow_kinds.specs.laws.NarrowOrders.{narrow_product}
-use Rattle.asg_order.specs.declared.words.Word.{Word}
-use Rattle.asg_order.specs.Bridge.{choice_fold}
-use Rattle.asg_order.specs.Monoid.{Monoid}
-use Rattle.asg_proof.specs.declared.nodes.Node.{Node}
-use Rattle.asg_proof.specs.laws.LiveCosts.{lies_within}
-use Rattle.asg_proof.specs.SearchTrees.{IsSearchTree, last_answer}
-use Rattle.asg_proof.specs.TreeProofs.{IsPeakTree, IsSumTree, ProvesRanking}
+use Rattle.asg_rankings.specs.TreeProofs.{IsPeakTree, IsSumTree, ProvesRanking}
 use Rattle.asg_rank.specs.declared.rankings.RankOutcome.{RankOutcome}
 use Rattle.asg_rank.specs.declared.rankings.RankOutcome.TheVariants.{Listed, Nothing}
-use Rattle.asg_rank.specs.RankOutcomes.{IsOutcomeIn, IsRankOutcome}
 
 -- search trees of valid answers prove rankings by the objective
 abbrev TreesProve : {V : Type 0} → Monoid V → (V → V → V) → (V → Word) → (Cost → V) → Objective → Problem → ℕ → Type 0

@@ -1,38 +1,8 @@
 -- What a ranker gives: its next answer, and the Hall set of its root.
-use Rattle.std.proofs.Common.{◌≡◌, ◌≢◌, ◌↔◌, ℕ, ◌-◌, ◌^◌, ◌<◌, ◌≤◌, List, [], length, get_or, take, Option, refl, sym, ◌∙◌, ap, subst, arith}
-use Rattle.std.specs.Prelude.{All, AllPairs}
-use Rattle.std.proofs.lemmas.List.{get_or_default, get_or-take}
-use Rattle.asg_model.specs.declared.bands.Band.TheVariants.{Whole}
-use Rattle.asg_model.specs.declared.objectives.Objective.{Objective}
-use Rattle.asg_model.specs.declared.parts.Cost.{Cost}
-use Rattle.asg_model.specs.declared.parts.Place.TheVariants.{All as PlaceAll}
-use Rattle.asg_model.specs.Counts.{placed}
-use Rattle.asg_model.specs.HallSet.{IsHall}
-use Rattle.asg_model.specs.Instances.{IsInstance}
-use Rattle.asg_model.specs.Problem.{Problem}
-use Rattle.asg_model.specs.ValidChoice.{IsValid}
-use Rattle.asg_order.specs.Bridge.{Bridges}
-use Rattle.asg_order.specs.Monoid.{IsOrderedMonoid}
-use Rattle.asg_proof.specs.Nodes.{answer_at}
-use Rattle.asg_proof.specs.laws.LiveCosts.{lies_within}
-use Rattle.asg_square.specs.Cells.{IsSquareChoice}
-use Rattle.asg_nodes.specs.declared.entries.Entry.{Entry}
-use Rattle.asg_nodes.specs.declared.entries.State.{State}
-use Rattle.asg_nodes.specs.declared.entries.State.TheVariants.{Answered, Open, Empty}
-use Rattle.asg_rank.specs.declared.ranker.Next.{Next}
-use Rattle.asg_branching.specs.declared.searches.Search.{Search}
-use Rattle.asg_nodes.specs.Entries.{blank, entry_at}
-use Rattle.asg_rank.specs.Rankers.{GivesLeast}
-use Rattle.asg_nodes.specs.HallPools.{HallSets}
-use Rattle.asg_rank.specs.Rankings.{Gives, IsExhausted}
-use Rattle.asg_rank.specs.Rooms.{answer_room}
-use Rattle.asg_nodes.specs.Rules.{Rules}
-use Rattle.asg_branching.specs.Searches.{winner_in, given_of, IsReady}
-use Rattle.asg_rank.specs.Rankers.{IsRanker}
-use Rattle.asg_nodes.specs.Trees.{given_at, HasState, NamesHall, hall_in}
+use Rattle.asg_rank.proofs.Common.{◌≡◌, ℕ, ◌-◌, ◌^◌, ◌<◌, ◌≤◌, ◌≢◌, ◌↔◌, List, [], length, get_or, take, All, Option, AllPairs, sym, refl, ap, ◌∙◌, subst, arith, get_or-take, get_or_default, winner_in, given_of, IsReady, Search, placed, IsHall, IsInstance, Problem, IsValid, Whole, Objective, Cost, blank, entry_at, HallSets, Rules, given_at, HasState, NamesHall, hall_in, Entry, State, Answered, Open, Empty, AreBefore, part_valid, Bridges, IsOrderedMonoid, lies_within, GivesLeast, IsRanker, Gives, IsExhausted, answer_room, Next, answer_at, IsSquareChoice}
 use Rattle.asg_rank.proofs.EndSteps.{none_kept, open_behind}
-use Rattle.asg_nodes.specs.laws.Parts.{AreBefore, part_valid}
 use Rattle.asg_rank.proofs.RankingSteps.{IsBridged, gives}
+use Rattle.asg_model.specs.declared.parts.Place.TheVariants.{All as PlaceAll}
 
 -- node number 1, whatever stands for none
 pub first_entry : {V : Type 0} (u w : V) (entries : List (Entry V)) → 1 ≤ length entries → entry_at u entries 1 ≡ entry_at w entries 1

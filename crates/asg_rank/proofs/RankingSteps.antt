@@ -1,25 +1,5 @@
 -- What the next answer is, by the objective.
-use Rattle.std.proofs.Common.{◌≡◌, ◌≢◌, ◌↔◌, ℕ, ◌+◌, ◌-◌, ◌^◌, ◌<◌, ◌≤◌, inl, inr, List, [], ◌∷◌, ◌++◌, length, get_or, Option, sym, ◌∙◌, ap, subst, arith, ⊎_elim}
-use Rattle.std.specs.Prelude.{All, AllPairs, Contains}
-use Rattle.std.proofs.Math.Seq.{get_or-append_seam}
-use Rattle.std.proofs.lemmas.Bool.{false≢true}
-use Rattle.std.proofs.lemmas.List.{length-append, get_or_append_left, get_or_default}
-use Rattle.std.proofs.lemmas.List.Elements.{Contains-get_or}
-use Rattle.asg_model.specs.declared.objectives.Objective.{Objective}
-use Rattle.asg_model.specs.Counts.{placed}
-use Rattle.asg_model.specs.Problem.{Problem}
-use Rattle.asg_model.specs.ValidChoice.{IsValid}
-use Rattle.asg_order.specs.Bridge.{choice_fold}
-use Rattle.asg_order.specs.Monoid.{IsLe, IsLess}
-use Rattle.asg_proof.specs.Nodes.{answer_at}
-use Rattle.asg_proof.specs.Ranked.{IsBetterChoice, IsNextBest}
-use Rattle.asg_rank.specs.declared.ranker.Next.{Next}
-use Rattle.asg_rank.specs.declared.ranker.Next.TheVariants.{Answer, Done}
-use Rattle.asg_branching.specs.Expansions.{IsLeastNew}
-use Rattle.asg_rank.specs.Rankers.{GivesLeast}
-use Rattle.asg_rank.specs.Rankings.{Gives}
-use Rattle.asg_rank.specs.Rooms.{answer_room}
-use Rattle.asg_nodes.specs.Rules.{Rules}
+use Rattle.asg_rank.proofs.Common.{◌≡◌, ℕ, ◌+◌, ◌-◌, ◌^◌, ◌<◌, ◌≤◌, ◌≢◌, ◌↔◌, List, [], ◌∷◌, ◌++◌, length, get_or, All, Contains, Option, AllPairs, sym, ap, ◌∙◌, subst, inl, inr, ⊎_elim, arith, Contains-get_or, false≢true, get_or-append_seam, get_or_append_left, get_or_default, IsLeastNew, placed, Problem, IsValid, Objective, Rules, choice_fold, IsLe, IsLess, GivesLeast, Gives, answer_room, Next, Answer, Done, answer_at, IsBetterChoice, IsNextBest, length-append}
 
 -- the bridge between better choices and lesser products, of an instance
 abbrev pub IsBridged : {V : Type 0} → Rules V → Objective → Problem → Type 0

@@ -1,45 +1,23 @@
 -- What the solved square of an instance shows of the root of a search.
-use Rattle.std.proofs.Common.{◌≡◌, ℕ, ◌+◌, ◌-◌, ◌*◌, ◌<◌, ◌≤◌, Bool, true, false, cond, List, Option, Some, None, refl, sym, ◌∙◌, ap, subst, arith, ⊎_elim, is_some}
-use Rattle.std.specs.Prelude.{IsSome}
-use Rattle.std.proofs.lemmas.Bool.{cases_lt}
-use Rattle.asg_model.specs.declared.bands.Band.TheVariants.{Whole}
-use Rattle.asg_model.specs.declared.objectives.Objective.{Objective}
-use Rattle.asg_model.specs.declared.parts.Cost.{Cost}
-use Rattle.asg_model.specs.declared.parts.Place.TheVariants.{All as PlaceAll}
-use Rattle.asg_model.specs.Counts.{placed}
-use Rattle.asg_model.specs.Instances.{IsInstance}
-use Rattle.asg_model.specs.Limits.{most_cost, most_side}
-use Rattle.asg_model.specs.Problem.{Problem}
-use Rattle.asg_model.specs.Refused.{PassesNegative}
-use Rattle.asg_model.specs.Shapes.{square_side}
+use Rattle.asg_rank.proofs.Common.{◌≡◌, ℕ, ◌+◌, ◌-◌, ◌*◌, ◌<◌, ◌≤◌, Bool, true, false, cond, List, is_some, IsSome, Some, None, Option, sym, refl, ap, ◌∙◌, subst, ⊎_elim, arith, cases_lt, Solved, IsRankable, HasMemory, Search, placed, IsInstance, most_cost, most_side, Problem, PassesNegative, square_side, Whole, Objective, Cost, AreBitsFor, Rules, Leads, IsSolved, IsReducedTo, reduced_cell, IsValue, IsOrderedMonoid, phases_to, AreAdmittedPhases, after_phases, index_of, IsRootOf, IsBlank, IsPlantable, root_in, IsSolvedRoot, IsInstanceRoot, enters_values, square_cell, IsPresent}
 use Rattle.asg_match.specs.Deficient.{IsDeficient}
 use Rattle.asg_match.specs.HallSets.{AllowsCells}
 use Rattle.asg_match.specs.Matching.{IsPerfect}
 use Rattle.asg_order.specs.Entering.{MayEnter}
-use Rattle.asg_order.specs.Monoid.{IsValue, IsOrderedMonoid}
-use Rattle.asg_pool.specs.Forest.{phases_to}
-use Rattle.asg_proof.specs.Phases.{AreAdmittedPhases, after_phases, index_of}
 use Rattle.asg_proof.specs.laws.PhaseLists.{is_some-phases, index_is_value, HasSide-phases}
 use Rattle.asg_proof.specs.laws.Squares.{HasSide-square_cell}
-use Rattle.asg_square.specs.BitTable.{BitTable}
-use Rattle.asg_square.specs.Cells.{square_cell, IsPresent}
+use Rattle.asg_bit_rows.specs.BitTable.{BitTable}
 use Rattle.asg_square.specs.Grid.{Grid, cell_at, HasLabelsOf, IsSquareOf}
 use Rattle.asg_square.specs.Masked.{keeps, masked_grid}
 use Rattle.asg_square.specs.Presence.{has_cell}
 use Rattle.asg_square.specs.laws.Masks.{cell_at-masked}
-use Rattle.asg_algebra.specs.declared.solving.Solved.{Solved}
 use Rattle.asg_algebra.specs.declared.solving.Solved.TheVariants.{Perfect, Short}
 use Rattle.asg_algebra.specs.Ended.{last_of}
 use Rattle.asg_growth.specs.Growing.{IsAbsorbed}
 use Rattle.asg_roots.specs.declared.roots.Root.{Root}
-use Rattle.asg_branching.specs.declared.searches.Search.{Search}
-use Rattle.asg_nodes.specs.Cuts.{AreBitsFor}
-use Rattle.asg_rank.specs.Opening.{IsRootOf, IsBlank, IsPlantable, root_in}
-use Rattle.asg_roots.specs.Roots.{IsSolvedRoot, IsInstanceRoot}
-use Rattle.asg_roots.specs.laws.InstanceRoots.{enters_values}
-use Rattle.asg_nodes.specs.Rules.{Rules, Leads, IsSolved, IsReducedTo, reduced_cell}
-use Rattle.asg_branching.specs.Searches.{IsRankable, HasMemory}
 use Rattle.asg_nodes.specs.laws.BitSteps.{keeps_by}
+use Rattle.asg_admit.specs.laws.KeptLabels.{HasLabelsOf-kept}
+use Rattle.asg_model.specs.declared.parts.Place.TheVariants.{All as PlaceAll}
 
 none_outside : {V : Type 0} (o : Option V) → (IsSome o → ⊥) → None ≡ o
 none_outside None not = refl
@@ -65,14 +43,7 @@ module _ {V : Type 0} (R : Rules V) (laws : IsOrderedMonoid R.monoid) (X : Probl
 
     pub root_labels : HasLabelsOf X root.reduced.now
     root_labels =
-        let was = subst (HasLabelsOf X) (sym is.start) square.labels in
-        let kept = is.lead.labels in
-        record {
-          side = kept.side ∙ was.side;
-          rows = kept.rows ∙ was.rows;
-          row_labels = kept.row_labels ∙ was.row_labels;
-          column_labels = kept.column_labels ∙ was.column_labels;
-        }
+        HasLabelsOf-kept X is.before.now root.reduced.now is.lead.labels (subst (HasLabelsOf X) (sym is.start) square.labels)
 
     root_admitted : AreAdmittedPhases R.monoid R.difference (square_side X) (phases_to root.region last) first
     root_admitted =

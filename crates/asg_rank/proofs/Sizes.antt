@@ -1,17 +1,9 @@
 -- How much a ranking takes, by its work.
-use Rattle.std.proofs.Common.{◌≡◌, ℕ, ◌+◌, ◌-◌, ◌*◌, ◌^◌, ◌<◌, ◌≤◌, length, sym, ap, subst, arith}
-use Rattle.std.proofs.Math.Nat.{mul-le-mul_left, mul-le-mul_right}
-use Rattle.std.proofs.lemmas.List.Sums.{count_by-le-length}
+use Rattle.asg_rank.proofs.Common.{◌≡◌, ℕ, ◌+◌, ◌-◌, ◌*◌, ◌^◌, ◌<◌, ◌≤◌, length, sym, ap, subst, mul-le-mul_right, mul-le-mul_left, arith, count_by-le-length, active_count, total_capacity, placed, placed_by, IsInstance, IsPlaceInRange, Problem, square_side, side_by, ranking_work, answer_room}
 use Rattle.asg_model.specs.declared.parts.Place.{Place}
-use Rattle.asg_model.specs.declared.parts.Place.TheVariants.{All as PlaceAll, Exactly}
 use Rattle.asg_model.specs.declared.parts.Row.{Row}
-use Rattle.asg_model.specs.Counts.{active_count, total_capacity, placed, placed_by}
-use Rattle.asg_model.specs.Instances.{IsInstance, IsPlaceInRange}
-use Rattle.asg_model.specs.Problem.{Problem}
-use Rattle.asg_model.specs.Shapes.{square_side, side_by}
-use Rattle.asg_rank.specs.Rankings.{ranking_work}
-use Rattle.asg_rank.specs.Rooms.{answer_room}
 use Rattle.asg_nodes.specs.laws.EntryLists.{add_one_times}
+use Rattle.asg_model.specs.declared.parts.Place.TheVariants.{All as PlaceAll, Exactly}
 
 module _ (X : Problem) (instance : IsInstance X) where
   -- no more rows are placed than there are

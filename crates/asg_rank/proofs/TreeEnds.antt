@@ -1,35 +1,9 @@
 -- The tree at the end of a ranking.
-use Rattle.std.proofs.Common.{◌≡◌, ◌≢◌, ◌↔◌, ℕ, ◌+◌, ◌-◌, ◌*◌, ◌^◌, ◌<◌, ◌≤◌, List, [], length, Option, refl, sym, subst, arith}
-use Rattle.std.specs.Prelude.{All, AllPairs}
-use Rattle.std.proofs.lemmas.List.{get_or_default}
-use Rattle.asg_model.specs.declared.objectives.Objective.{Objective}
-use Rattle.asg_model.specs.declared.parts.Cost.{Cost}
-use Rattle.asg_model.specs.Counts.{placed}
-use Rattle.asg_model.specs.Instances.{IsInstance}
-use Rattle.asg_model.specs.Problem.{Problem}
-use Rattle.asg_model.specs.ValidChoice.{IsValid}
-use Rattle.asg_order.specs.Bridge.{choice_fold}
-use Rattle.asg_order.specs.Monoid.{IsLe, IsOrderedMonoid}
-use Rattle.asg_order.specs.declared.words.Word.{Word}
-use Rattle.asg_proof.specs.declared.nodes.Mark.TheVariants.{Open as MarkOpen}
-use Rattle.asg_proof.specs.declared.nodes.Node.{Node}
-use Rattle.asg_proof.specs.Nodes.{node_at, IsNumber, answer_at}
-use Rattle.asg_proof.specs.Ranked.{AreListed, IsBetterChoice}
-use Rattle.asg_proof.specs.SearchTrees.{last_answer, MayStayOpen, IsSearchTree}
-use Rattle.asg_square.specs.Cells.{IsSquareChoice}
-use Rattle.asg_nodes.specs.declared.trees.Tree.{Tree}
-use Rattle.asg_nodes.specs.Entries.{entry_at}
-use Rattle.asg_rank.specs.Rankings.{IsExhausted}
-use Rattle.asg_rank.specs.Rooms.{answer_room}
-use Rattle.asg_nodes.specs.Rules.{Rules}
-use Rattle.asg_branching.specs.Searches.{winner_in, IsSearch}
-use Rattle.asg_nodes.specs.Slots.{SlotList, slot_at}
-use Rattle.asg_nodes.specs.Trees.{given_at}
-use Rattle.asg_rank.specs.Written.{AreWrittenNodes}
+use Rattle.asg_rank.proofs.Common.{◌≡◌, ℕ, ◌+◌, ◌-◌, ◌*◌, ◌^◌, ◌<◌, ◌≤◌, ◌≢◌, ◌↔◌, List, [], length, All, Option, AllPairs, sym, refl, subst, arith, get_or_default, winner_in, IsSearch, placed, IsInstance, Problem, IsValid, Objective, Cost, entry_at, Rules, SlotList, slot_at, given_at, Tree, part_valid, choice_fold, IsLe, IsOrderedMonoid, Word, IsExhausted, answer_room, AreWrittenNodes, node_at, IsNumber, answer_at, AreListed, IsBetterChoice, last_answer, MayStayOpen, IsSearchTree, Node, IsSquareChoice}
 use Rattle.asg_rank.proofs.EndSteps.{none_kept, open_behind, last_le}
 use Rattle.asg_rank.proofs.RankingSteps.{IsBridged, at_number, not_better, all_asked}
 use Rattle.asg_rank.proofs.WrittenTrees.{sound_node, given_node, has_trail, state_of_open}
-use Rattle.asg_nodes.specs.laws.Parts.{part_valid}
+use Rattle.asg_rankings.specs.declared.nodes.Mark.TheVariants.{Open as MarkOpen}
 
 module _ {V : Type 0} (R : Rules V) (laws : IsOrderedMonoid R.monoid) (word_of : V → Word) (X : Problem) (instance : IsInstance X) (count : ℕ) (given : List (List (Option ℕ))) (slots : SlotList V) (T : Tree V)
     (search : IsSearch R X (length T.entries.items) given slots T) (some : 1 ≤ length given) (few : length given ≤ count) (room_is : slots.room ≡ answer_room X count) (fits : length slots.used ≤ slots.room) (done : IsExhausted X count given)

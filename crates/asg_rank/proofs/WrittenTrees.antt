@@ -1,36 +1,10 @@
 -- The nodes that are written of a tree are a search tree.
-use Rattle.std.proofs.Common.{◌≡◌, ℕ, zero, suc, ◌+◌, ◌-◌, ◌*◌, ◌<◌, ◌≤◌, Bool, true, false, ◌&&◌, eqb, List, [], ◌++◌, length, get_or, map, Option, None, refl, sym, ◌∙◌, ap, subst, arith, ⊎_elim}
-use Rattle.std.proofs.lemmas.Bool.{cases_lt, eq-eqb, eqb-true, and_parts, and_from, false≢true}
-use Rattle.std.proofs.lemmas.List.{append-nil, append_cancel_left, map-append}
-use Rattle.std.proofs.Math.Nat.{mul-le-mul_right}
-use Rattle.asg_model.specs.declared.bands.Band.TheVariants.{Whole}
-use Rattle.asg_model.specs.Counts.{placed}
-use Rattle.asg_model.specs.HallSet.{IsHall}
-use Rattle.asg_model.specs.Problem.{Problem}
-use Rattle.asg_model.specs.Shapes.{square_side}
-use Rattle.asg_model.specs.ValidChoice.{IsValid}
-use Rattle.asg_order.specs.declared.words.Word.{Word}
-use Rattle.asg_pool.specs.Forest.{phases_to}
-use Rattle.asg_proof.specs.Children.{child}
-use Rattle.asg_proof.specs.declared.nodes.Mark.{Mark}
-use Rattle.asg_proof.specs.declared.nodes.Mark.TheVariants.{Answered as MarkAnswered, Open as MarkOpen}
-use Rattle.asg_proof.specs.declared.nodes.Node.{Node}
-use Rattle.asg_proof.specs.Nodes.{node_at, IsNumber, answer_number, answer_at, node_answer, node_instance, node_trail}
-use Rattle.asg_proof.specs.Phases.{PhaseOf, worded, AreAdmittedPhases}
-use Rattle.asg_proof.specs.SearchTrees.{is_answered, IsBelowParent, child_count, HasAnswer, HasTrail, IsMarked, IsSoundNode, IsGiven}
-use Rattle.asg_proof.specs.laws.NodeInstances.{instances_are, node_trail-child}
-use Rattle.asg_square.specs.Cells.{square_cell}
-use Rattle.asg_nodes.specs.declared.entries.Entry.{Entry}
-use Rattle.asg_nodes.specs.declared.entries.State.{State}
-use Rattle.asg_nodes.specs.declared.entries.State.TheVariants.{Answered, Open, Empty}
-use Rattle.asg_nodes.specs.declared.trees.Tree.{Tree}
-use Rattle.asg_nodes.specs.Entries.{entry_at, child_number}
-use Rattle.asg_nodes.specs.HallPools.{hall_at}
-use Rattle.asg_nodes.specs.Rules.{Rules}
-use Rattle.asg_nodes.specs.Trees.{given_at, HasState, HasNoPhases, IsTree}
-use Rattle.asg_rank.specs.Written.{AreOwn, IsWrittenMark, IsWrittenNode, AreWrittenNodes}
+use Rattle.asg_rank.proofs.Common.{◌≡◌, ℕ, zero, suc, ◌+◌, ◌-◌, ◌*◌, ◌<◌, ◌≤◌, Bool, true, false, ◌&&◌, eqb, List, [], ◌++◌, map, length, get_or, None, Option, sym, refl, ap, ◌∙◌, subst, ⊎_elim, append-nil, mul-le-mul_right, arith, eq-eqb, eqb-true, and_from, and_parts, append_cancel_left, cases_lt, false≢true, map-append, placed, IsHall, Problem, square_side, IsValid, Whole, entry_at, child_number, hall_at, Rules, given_at, HasState, HasNoPhases, IsTree, Entry, State, Answered, Open, Empty, Tree, placed_at, Word, phases_to, PhaseOf, worded, AreAdmittedPhases, AreOwn, IsWrittenMark, IsWrittenNode, AreWrittenNodes, node_at, IsNumber, answer_number, answer_at, node_answer, node_instance, node_trail, is_answered, IsBelowParent, child_count, HasAnswer, HasTrail, IsMarked, IsSoundNode, IsGiven, Node, square_cell}
+use Rattle.asg_rankings.specs.Children.{child}
+use Rattle.asg_rankings.specs.declared.nodes.Mark.{Mark}
+use Rattle.asg_rankings.specs.laws.NodeInstances.{instances_are, node_trail-child}
 use Rattle.asg_rank.proofs.CountOne.{count_one}
-use Rattle.asg_nodes.specs.laws.Parts.{placed_at}
+use Rattle.asg_rankings.specs.declared.nodes.Mark.TheVariants.{Answered as MarkAnswered, Open as MarkOpen}
 
 module _ {V : Type 0} (R : Rules V) (word_of : V → Word) (X : Problem) (given : List (List (Option ℕ))) (winner : ℕ → ℕ) (T : Tree V) (part : ℕ → Problem)
     (tree : IsTree R X given winner (length T.entries.items) T part) (valid : (a : ℕ) → a < length given → IsValid (part (winner a)) (given_at given a))

@@ -9,10 +9,10 @@ use Rattle.asg_model.specs.ValidChoice.{IsValid}
 use Rattle.asg_model.specs.declared.parts.Cost.{Cost}
 use Rattle.asg_order.specs.declared.words.Word.{Word}
 use Rattle.asg_order.specs.Monoid.{Monoid}
-use Rattle.asg_proof.specs.declared.nodes.Node.{Node}
-use Rattle.asg_proof.specs.Ranked.{AreListed}
-use Rattle.asg_proof.specs.SearchTrees.{IsSearchTree}
-use Rattle.asg_proof.specs.TreeProofs.{ProvesRanking}
+use Rattle.asg_rankings.specs.declared.nodes.Node.{Node}
+use Rattle.asg_rankings.specs.Ranked.{AreListed}
+use Rattle.asg_rankings.specs.SearchTrees.{IsSearchTree}
+use Rattle.asg_rankings.specs.TreeProofs.{ProvesRanking}
 use Rattle.asg_rank.specs.declared.rankings.RankOutcome.{RankOutcome}
 use Rattle.asg_rank.specs.declared.rankings.RankOutcome.TheVariants.{Listed, Nothing}
 use Rattle.asg_rank.specs.Rankings.{AreCountable, HaveFewPhases, LeaveLastOpen}

@@ -4,11 +4,11 @@ use Rattle.asg_model.specs.declared.objectives.Objective.{Objective}
 use Rattle.asg_model.specs.Problem.{Problem}
 use Rattle.asg_model.specs.Shapes.{square_side}
 use Rattle.asg_model.specs.ValidChoice.{IsValid}
-use Rattle.asg_proof.specs.declared.nodes.Mark.TheVariants.{Answered, Open}
-use Rattle.asg_proof.specs.declared.nodes.Node.{Node}
-use Rattle.asg_proof.specs.Nodes.{node_at, IsNumber}
+use Rattle.asg_rankings.specs.declared.nodes.Mark.TheVariants.{Answered, Open}
+use Rattle.asg_rankings.specs.declared.nodes.Node.{Node}
+use Rattle.asg_rankings.specs.Nodes.{node_at, IsNumber}
 use Rattle.asg_proof.specs.PromisedProofs.{IsPhaseOver}
-use Rattle.asg_proof.specs.Ranked.{IsNextBest}
+use Rattle.asg_rankings.specs.Ranked.{IsNextBest}
 use Rattle.asg_rank.specs.declared.ranker.Next.{Next}
 use Rattle.asg_rank.specs.declared.ranker.Next.TheVariants.{Answer, Done}
 use Rattle.asg_rank.specs.declared.ranker.RankRefusal.{RankRefusal}

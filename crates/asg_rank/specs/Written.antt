@@ -1,24 +1,21 @@
 -- What is written of the nodes of a tree.
-use Rattle.std.specs.Prelude.{◌≡◌, ℕ, ◌<◌, ◌≤◌, ◌^◌, List, [], ◌++◌, ◌∷◌, length, map, All, IfSome, Option, Some, None}
-use Rattle.asg_order.specs.Monoid.{Monoid, IsValue}
+use Rattle.std.specs.Prelude.{◌≡◌, ℕ, ◌<◌, ◌≤◌, ◌^◌, List, [], ◌++◌, ◌∷◌, length, map, IfSome, Option}
+use Rattle.asg_admit.specs.PhaseValues.{AreOfValues}
+use Rattle.asg_order.specs.Monoid.{Monoid}
 use Rattle.asg_order.specs.declared.words.Word.{Word}
-use Rattle.asg_pool.specs.Forest.{Forest, IsLive, parent_of, phases_to}
+use Rattle.asg_pool.specs.Forest.{Forest, IsLive, phases_to}
 use Rattle.asg_proof.specs.Phases.{PhaseOf, worded}
-use Rattle.asg_proof.specs.declared.nodes.Mark.{Mark}
-use Rattle.asg_proof.specs.declared.nodes.Mark.TheVariants.{Answered as MarkAnswered, Open as MarkOpen, Empty as MarkEmpty}
-use Rattle.asg_proof.specs.declared.nodes.Node.{Node}
-use Rattle.asg_proof.specs.NodeLists.{IsNodePart}
-use Rattle.asg_proof.specs.Nodes.{node_at}
+use Rattle.asg_rankings.specs.declared.nodes.Mark.{Mark}
+use Rattle.asg_rankings.specs.declared.nodes.Mark.TheVariants.{Answered as MarkAnswered, Open as MarkOpen, Empty as MarkEmpty}
+use Rattle.asg_rankings.specs.declared.nodes.Node.{Node}
+use Rattle.asg_rankings.specs.NodeLists.{IsNodePart}
+use Rattle.asg_rankings.specs.Nodes.{node_at}
 use Rattle.asg_nodes.specs.declared.entries.Entry.{Entry}
 use Rattle.asg_nodes.specs.declared.entries.State.{State}
 use Rattle.asg_nodes.specs.declared.entries.State.TheVariants.{Answered, Open, Empty}
 use Rattle.asg_nodes.specs.declared.trees.Tree.{Tree}
 use Rattle.asg_nodes.specs.Entries.{entry_at, IsNext}
 use Rattle.asg_nodes.specs.HallPools.{HallSets, hall_at}
-
--- each step of the phases is a value
-abbrev pub AreOfValues : {V : Type 0} → Monoid V → List (PhaseOf V) → Type 0
-AreOfValues M phases = All (λ phase. All (IsValue M) phase.steps) phases
 
 -- the phases of a trail beyond those of the one before, with each step as its word: at most one
 pub record AreOwn {V : Type 0} (word_of : V → Word) (F : Forest V) (before trail : Option ℕ)
@@ -27,13 +24,6 @@ pub record AreOwn {V : Type 0} (word_of : V → Word) (F : Forest V) (before tra
   pub one : length own ≤ 1
   pub list : phases_to F trail ≡ phases_to F before ++ own
   pub words : written ≡ map (worded word_of) own
-
--- the trails on the way from one back to the first: their last phases are the phases of that trail,
--- from the last on
-abbrev pub AreTrailsTo : {V : Type 0} → Forest V → Option ℕ → List ℕ → Type 0
-AreTrailsTo F None trails = trails ≡ []
-AreTrailsTo F (Some t) [] = ⊥
-AreTrailsTo F (Some t) (u ∷ rest) = (u ≡ t) × IsLive F t × AreTrailsTo F (parent_of F t) rest
 
 -- the Hall set of an empty node is there
 abbrev pub IsStateOf : HallSets → State → Type 0

@@ -11,9 +11,10 @@ use crate::NoMemory;
 use crate::pairs::both;
 use asg_admit::Reduced;
 use asg_algebra::Bench;
+use asg_bit_rows::BitRows;
 use asg_branching::Desk;
 use asg_match::Matching;
-use asg_square::{BitRows, Square};
+use asg_square::Square;
 use std::alloc::Global;
 
 // Places for the ids of a Hall set, one more than an instance may have rows.

@@ -23,13 +23,13 @@ use crate::trees::tree_memory;
 use asg_algebra::Solved;
 use asg_branching::{Search, close_child};
 use asg_match::Matching;
-use asg_model::laws::infeasible_law;
 use asg_model::{Choice, Instance};
 use asg_nodes::{Entry, HallPool, Slots, State, Tree, offer, push_child};
 use asg_order::{DMonoid, Kind, Ordered};
 use asg_roots::{Root, RootGuess, instance_root};
 use asg_square::Square;
 use asg_square::laws::square_law;
+use asg_values::laws::infeasible_law;
 use std::alloc::Global;
 
 /// The memory of a search: the nodes of its tree and their Hall sets, the choices of answers and

@@ -8,9 +8,9 @@ ghost use Rattle.asg_model.specs.HallSet.{IsHall};
 ghost use Rattle.asg_model.specs.Limits.{most_cost, most_side};
 ghost use Rattle.asg_model.specs.Refused.{PassesNegative};
 ghost use Rattle.asg_model.specs.Shapes.{square_side};
-ghost use Rattle.asg_proof.specs.Nodes.{answer_at};
-ghost use Rattle.asg_proof.specs.Ranked.{AreListed};
-ghost use Rattle.asg_proof.specs.SearchTrees.{IsSearchTree};
+ghost use Rattle.asg_rankings.specs.Nodes.{answer_at};
+ghost use Rattle.asg_rankings.specs.Ranked.{AreListed};
+ghost use Rattle.asg_rankings.specs.SearchTrees.{IsSearchTree};
 ghost use Rattle.asg_nodes.specs.Rules.{rules_of};
 ghost use Rattle.asg_branching.specs.Searches.{IsReady, given_of};
 ghost use Rattle.asg_rank.specs.Rankers.{GivesLeast};
@@ -28,7 +28,7 @@ use asg_branching::{Search, follow, give};
 use asg_model::{Choice, Instance};
 use asg_nodes::root_hall;
 use asg_order::{DMonoid, Kind, Ordered};
-use asg_proof::Nodes;
+use asg_rankings::Nodes;
 use asg_roots::RootGuess;
 use asg_square::laws::square_law;
 use std::alloc::Global;
@@ -154,7 +154,7 @@ where
     K::M: RootGuess,
 {
     /// A ranker of the first `count` choices of an instance. All rows are placed, the side of its
-    /// square is at most 2,000, the objective refuses no live cost (`asg_model::negative`), at
+    /// square is at most 2,000, the objective refuses no live cost (`asg_values::negative`), at
     /// least one choice is asked for, and the kind's reach is at least the cost limit. The errors:
     /// the count times the rows times the side is above 4,000,000, or want of memory. All memory is
     /// taken here. Few phases that solve the root are guessed first and tested (`asg_duals`); where

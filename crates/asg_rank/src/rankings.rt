@@ -18,8 +18,9 @@ use asg_model::{Instance, Objective};
 use asg_monoids::{PeakKind, SumKind, TimeKind};
 use asg_narrow_kinds::NarrowKind;
 use asg_order::Kind;
-use asg_proof::ranking_laws::tree_tops_law;
-use asg_proof::{Ids, Nodes};
+use asg_proof::Ids;
+use asg_rankings::Nodes;
+use asg_rankings::laws::tree_tops_law;
 use asg_roots::RootGuess;
 use std::alloc::Global;
 
@@ -132,7 +133,7 @@ where
 /// valid ones where they are fewer, with the tree that proves the ranking: each of its nodes but
 /// the root has at most one phase beyond those of its parent. Where no choice is valid, a Hall set
 /// of the whole instance. The objective is any but `Balanced` and `Lex`, it refuses no live cost of
-/// the instance (`asg_model::negative`), all rows are placed, the side is at most 2,000, and at
+/// the instance (`asg_values::negative`), all rows are placed, the side is at most 2,000, and at
 /// least one choice is asked for. The sums of `sum` and `sum-max` are taken in 64 bits. The errors:
 /// the count times the rows times the side is above 4,000,000, or want of memory.
 pub fn ranking(

@@ -1,52 +1,22 @@
 //! The search tree as documents have it.
 
-ghost use Rattle.std.specs.Prelude.{◌≡◌, ◌≤◌, ◌<◌, ◌^◌, ℕ, [], All, length, map, IfOk, IfSome};
-ghost use Rattle.asg_order.specs.Monoid.{IsValue};
-ghost use Rattle.asg_pool.specs.Forest.{IsLive, phases_to, phases_of, last_phase};
-ghost use Rattle.asg_proof.specs.NodeLists.{AreNodeParts, IsMarkPart, IsNodePart};
-ghost use Rattle.asg_proof.specs.Phases.{worded, ArePhases, IsPhase};
+ghost use Rattle.std.specs.Prelude.{◌≡◌, ◌≤◌, ◌<◌, ℕ, [], length, IfOk};
+ghost use Rattle.asg_pool.specs.Forest.{phases_to};
+ghost use Rattle.asg_rankings.specs.NodeLists.{AreNodeParts, IsMarkPart, IsNodePart};
 ghost use Rattle.asg_nodes.specs.Entries.{entry_at, IsNext};
-ghost use Rattle.asg_rank.specs.Written.{AreOfValues, AreOwn, AreTrailsTo, IsStateOf, IsWrittenMark};
+ghost use Rattle.asg_admit.specs.PhaseValues.{AreOfValues};
+ghost use Rattle.asg_rank.specs.Written.{AreOwn, IsStateOf, IsWrittenMark};
 ghost use Rattle.asg_rank.specs.Written.{IsTold, IsWrittenOwn, IsWrittenNode, AreWrittenNodes};
 ghost use Rattle.asg_rank.specs.Written.{PushesNode};
 
 use crate::NoMemory;
+use asg_kept_phases::{written_phase, written_trail};
 use asg_nodes::{Entry, HallPool, State, Tree, entry, own_trail};
 use asg_order::Written;
 use asg_pool::{Region, Trail};
-use asg_proof::{Ids, Mark, Node, Nodes, Phases, StepWords, WrittenPhase};
+use asg_proof::{Ids, Phases};
+use asg_rankings::{Mark, Node, Nodes};
 use std::alloc::Global;
-
-// The steps as words, in order.
-fn step_words<M: Written>(alloc: Global, m: &M, steps: &[M::Value]) -> Result<StepWords, NoMemory>
-    requires { All (IsValue (M.monoid_of m.now)) steps.now }
-    ensures { IfOk result (λ words. words ≡ map (M.word_of m.now) steps.now) }
-{
-    let mut written = StepWords::none(alloc);
-    'steps: for step in steps {
-        written.push(m.to_word(*step))?;
-    }
-    Ok(written)
-}
-
-// The last phase of a trail, with each step as its word.
-fn written_phase<M: Written>(
-    alloc: Global,
-    m: &M,
-    region: &Region<M::Value>,
-    trail: Trail,
-) -> Result<WrittenPhase, NoMemory>
-    requires live { IsLive region.now trail }
-    requires values { All (IsValue (M.monoid_of m.now)) (last_phase (phases_of region.now trail)).steps }
-    ensures words { IfOk result (λ phase. phase
-        ≡ worded (M.word_of m.now) (last_phase (phases_of region.now trail))) }
-    ensures phase { IfOk result IsPhase }
-{
-    let words = step_words(alloc, m, region.steps(trail))?;
-    let enters = Vec::from_slice(alloc, region.enters(trail))?;
-    let leaves = Vec::from_slice(alloc, region.leaves(trail))?;
-    WrittenPhase::of(words, enters, leaves)
-}
 
 // The phase that a trail has beyond the one before it, if it has one, with each step as its word.
 fn own_phases<M: Written>(
@@ -66,80 +36,6 @@ fn own_phases<M: Written>(
     };
     let mut phases = Vec::new(alloc);
     phases.push(written_phase(alloc, m, region, own)?)?;
-    let listed = Phases::from_vec(phases)?;
-    Ok(listed)
-}
-
-// The trails on the way from one back to the first.
-fn trails_to<V: Copy>(
-    alloc: Global,
-    region: &Region<V>,
-    last: Option<Trail>,
-) -> Result<Vec<Trail>, NoMemory>
-    requires { IfSome last (IsLive region.now) }
-    ensures { IfOk result (λ trails. AreTrailsTo region.now last trails.items) }
-{
-    let mut trails = Vec::new(alloc);
-    let mut next = last;
-    'trails: while let Some(trail) = next {
-        trails.push(trail)?;
-        next = region.parent(trail);
-    }
-    Ok(trails)
-}
-
-// How many phases lead to a trail.
-fn phase_count<V: Copy>(region: &Region<V>, last: Option<Trail>) -> u32
-    requires { IfSome last (IsLive region.now) }
-    ensures { result ≡ length (phases_to region.now last) }
-{
-    match last {
-        Some(trail) => region.len(trail),
-        None => 0,
-    }
-}
-
-// Puts all phases of a trail into an empty list, with each step as its word. The error is want of
-// memory.
-fn push_phases<M: Written>(
-    alloc: Global,
-    m: &M,
-    region: &Region<M::Value>,
-    last: &Option<Trail>,
-    phases: &mut Vec<WrittenPhase>,
-) -> Result<(), NoMemory>
-    requires none { phases.old.items ≡ [] }
-    requires live { IfSome last.now (IsLive region.now) }
-    requires values { AreOfValues (M.monoid_of m.now) (phases_to region.now last.now) }
-    ensures words { IfOk result (λ _. phases.new.items
-        ≡ map (worded (M.word_of m.now)) (phases_to region.now last.now)) }
-    ensures kept { IfOk result (λ _. ArePhases phases.new.items) }
-{
-    let _spare = region.spare();
-    let trails = trails_to(alloc, region, *last)?;
-    'trails: for k in 0..trails.len() {
-        let trail = trails[trails.len() - 1 - k];
-        phases.push(written_phase(alloc, m, region, trail)?)?;
-    }
-    Ok(())
-}
-
-// All phases of a trail, with each step as its word. They can be counted in 32 bits.
-fn all_phases<M: Written>(
-    alloc: Global,
-    m: &M,
-    region: &Region<M::Value>,
-    last: Option<Trail>,
-) -> Result<Phases, NoMemory>
-    requires live { IfSome last (IsLive region.now) }
-    requires values { AreOfValues (M.monoid_of m.now) (phases_to region.now last) }
-    ensures phases { IfOk result (λ phases. phases
-        ≡ map (worded (M.word_of m.now)) (phases_to region.now last)) }
-    ensures fits { IfOk result (λ phases. length phases < 2 ^ 32) }
-{
-    let count = phase_count(region, last);
-    let mut phases = Vec::with_capacity(alloc, count as usize)?;
-    push_phases(alloc, m, region, &last, &mut phases)?;
     let listed = Phases::from_vec(phases)?;
     Ok(listed)
 }
@@ -172,7 +68,7 @@ fn node_phases<M: Written>(
         here.now) }
 {
     if here.parent == 0 {
-        return all_phases(alloc, m, &tree.region, here.trail);
+        return written_trail(alloc, m, &tree.region, here.trail);
     }
     let before = entry(&tree.entries, here.parent);
     own_phases(alloc, m, &tree.region, before.trail, here.trail)

@@ -1,25 +1,6 @@
 -- What is known when a session answers.
-use Rattle.std.proofs.Common.{◌≡◌, ℕ, ◌<◌, List, length, Option, is_some, ap, subst}
-use Rattle.std.specs.Prelude.{slice_index}
-use Rattle.asg_growth.specs.Growing.{IsAbsorbed}
-use Rattle.asg_match.specs.HallSets.{GivesHallSets}
-use Rattle.asg_match.specs.Matching.{IsPerfect, Matches}
-use Rattle.asg_model.specs.declared.bands.Band.TheVariants.{Whole}
-use Rattle.asg_model.specs.declared.parts.Cost.{Cost}
-use Rattle.asg_model.specs.HallSet.{IsHall}
-use Rattle.asg_model.specs.Instances.{IsInstance}
-use Rattle.asg_model.specs.Problem.{Problem}
-use Rattle.asg_model.specs.ValidChoice.{IsValid}
-use Rattle.asg_order.specs.Bridge.{choice_fold}
-use Rattle.asg_order.specs.Monoid.{Monoid}
-use Rattle.asg_proof.specs.PhaseProofs.{EntersValues, ProvesIndex}
-use Rattle.asg_proof.specs.Phases.{PhaseOf}
-use Rattle.asg_admit.specs.declared.reduced.Reduced.{Reduced}
-use Rattle.asg_square.specs.Cells.{IsPresent}
-use Rattle.asg_square.specs.Grid.{cell_at, grid_choice, IsValidWithin}
+use Rattle.asg_repair.proofs.Common.{◌≡◌, ℕ, ◌<◌, List, length, is_some, slice_index, Option, ap, subst, Reduced, IsAbsorbed, IsLed, GivesHallSets, IsPerfect, Matches, IsHall, IsInstance, Problem, IsValid, Whole, Cost, choice_fold, Monoid, EntersValues, ProvesIndex, PhaseOf, IsBestBy, IsPresent, cell_at, grid_choice, IsValidWithin}
 use Rattle.asg_repair.specs.Answers.{IsWrittenBy}
-use Rattle.asg_repair.specs.Sessions.{IsBestBy}
-use Rattle.asg_kept_phases.specs.Led.{IsLed}
 use Rattle.asg_repair.proofs.UnmatchedLemmas.{unmatched_none}
 
 -- absorbed cells are present

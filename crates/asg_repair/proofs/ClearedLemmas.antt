@@ -1,7 +1,5 @@
 -- A matching in which rows lose the columns whose cells are named.
-use Rattle.std.proofs.Common.{◌≡◌, ℕ, ◌+◌, ◌<◌, List, length, Option, refl, ◌∙◌, arith, subst, ⊎_elim}
-use Rattle.std.proofs.lemmas.Bool.{cases_lt}
-use Rattle.asg_match.specs.Matching.{Matches}
+use Rattle.asg_repair.proofs.Common.{◌≡◌, ℕ, ◌+◌, ◌<◌, List, length, Option, refl, ◌∙◌, subst, ⊎_elim, arith, cases_lt, Matches}
 
 -- the rows below a place lost the columns whose cells are named, and all else stays
 pub record IsCleared (is_named : ℕ → ℕ → Type 0) (before after : List (Option ℕ)) (rows : ℕ) : Type 0 where

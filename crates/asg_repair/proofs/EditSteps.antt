@@ -1,34 +1,9 @@
 -- What a session keeps through an edit.
-use Rattle.std.proofs.Common.{◌≡◌, ℕ, ◌<◌, ◌≤◌, Bool, true, false, ◌||◌, List, length, take, Option, Some, None, refl, sym, ap, subst, ◌∙◌, ⊎_elim, arith}
-use Rattle.std.specs.Prelude.{nat_lt, replicate}
-use Rattle.std.proofs.lemmas.Bool.{cases_lt, false≢true, lt-ltb}
-use Rattle.std.proofs.lemmas.Bool.Decides.{nat_tests}
-use Rattle.std.proofs.lemmas.List.{take_all, length-take-le, length-replicate}
+use Rattle.asg_repair.proofs.Common.{◌≡◌, ℕ, ◌<◌, ◌≤◌, Bool, true, false, ◌||◌, List, length, take, replicate, nat_lt, Some, None, Option, sym, refl, ap, ◌∙◌, subst, ⊎_elim, arith, length-take-le, take_all, lt-ltb, cases_lt, false≢true, length-replicate, nat_tests, after_phases-cell, edited_side, PassesNegative-edited, Touches, NamesPlaces, MaySolve, places_of, IsNamed, label_at, HasColumnsOf, NamedPlaces, column_at, Matches, IsMatching, edited, refusal_of, IsInstance, Problem, square_side, Edit, Objective, Cost, MayEnter, Monoid, IsValue, PhaseOf, IsClearedOf, AreAbsorbedAfter, IsSized, sure_columns, Work, square_cell, Grid}
 use Rattle.asg_admit.specs.KeptCells.{cell_after_phases}
-use Rattle.asg_admit.specs.laws.KeptPhases.{after_phases-cell}
-use Rattle.asg_match.specs.Matching.{column_at, Matches, IsMatching}
-use Rattle.asg_model.specs.declared.edits.Edit.{Edit}
-use Rattle.asg_model.specs.declared.objectives.Objective.{Objective}
-use Rattle.asg_model.specs.declared.parts.Cost.{Cost}
-use Rattle.asg_model.specs.Edits.{edited, refusal_of}
-use Rattle.asg_model.specs.Instances.{IsInstance}
-use Rattle.asg_model.specs.Problem.{Problem}
-use Rattle.asg_model.specs.Shapes.{square_side}
-use Rattle.asg_order.specs.Entering.{MayEnter}
-use Rattle.asg_order.specs.Monoid.{Monoid, IsValue}
-use Rattle.asg_proof.specs.Phases.{PhaseOf}
-use Rattle.asg_square.specs.Cells.{square_cell}
-use Rattle.asg_square.specs.Grid.{Grid}
 use Rattle.asg_square.specs.Labels.{column_label}
-use Rattle.asg_kept_phases.specs.declared.named_places.NamedPlaces.{NamedPlaces}
-use Rattle.asg_kept_phases.specs.Edited.{Touches, NamesPlaces}
-use Rattle.asg_repair.specs.declared.works.Work.{Work}
-use Rattle.asg_kept_phases.specs.NamedPlaces.{places_of, IsNamed, label_at, HasColumnsOf}
-use Rattle.asg_repair.specs.ClearedRows.{IsClearedOf}
-use Rattle.asg_repair.specs.Sessions.{AreAbsorbedAfter, IsSized, sure_columns}
-use Rattle.asg_kept_phases.specs.Led.{MaySolve}
-use Rattle.asg_repair.proofs.EditedCosts.{EntersValues-edited, PassesNegative-edited}
-use Rattle.asg_kept_phases.specs.laws.EditedShapes.{HasColumnsOf-edited, edited_side}
+use Rattle.asg_repair.proofs.EditedCosts.{EntersValues-edited}
+use Rattle.asg_kept_phases.specs.laws.EditedLabels.{HasColumnsOf-edited}
 use Rattle.asg_kept_phases.specs.laws.NamedCells.{label_of_column, named_touched, touched_named, untouched_same}
 
 -- the edited instance may be solved

@@ -1,35 +1,6 @@
 -- What a session keeps is kept by an edit.
-use Rattle.std.proofs.Common.{◌≡◌, ℕ, ◌≤◌, Bool, true, false, ◌||◌, ◌&&◌, length, take, Some, None, sym, ap, subst, ◌∙◌, arith}
-use Rattle.std.specs.Prelude.{nat_eq, nat_lt}
-use Rattle.std.proofs.lemmas.Bool.{and_parts, eqb-true}
-use Rattle.std.proofs.lemmas.List.{take_all}
-use Rattle.asg_match.specs.Matching.{column_at}
-use Rattle.asg_model.specs.declared.edits.Edit.{Edit}
-use Rattle.asg_model.specs.declared.objectives.Objective.{Objective}
-use Rattle.asg_model.specs.declared.parts.Cost.{Cost}
-use Rattle.asg_model.specs.Edits.{edited, refusal_of}
-use Rattle.asg_model.specs.Instances.{IsInstance}
-use Rattle.asg_model.specs.Problem.{Problem}
-use Rattle.asg_model.specs.Shapes.{square_side}
-use Rattle.asg_order.specs.Entering.{MayEnter}
-use Rattle.asg_order.specs.Monoid.{Monoid, IsValue}
-use Rattle.asg_proof.specs.KeptPhases.{AreKept}
-use Rattle.asg_proof.specs.Phases.{AreAdmittedPhases}
-use Rattle.asg_square.specs.Cells.{square_cell}
-use Rattle.asg_repair.specs.declared.answers.AnswerRoom.{AnswerRoom}
-use Rattle.asg_repair.specs.declared.answers.Given.TheVariants.{Open}
-use Rattle.asg_kept_phases.specs.declared.named_places.NamedPlaces.{NamedPlaces}
-use Rattle.asg_kept_phases.specs.declared.phase_chains.PhaseChain.{PhaseChain}
-use Rattle.asg_repair.specs.declared.works.Work.{Work}
-use Rattle.asg_kept_phases.specs.Edited.{Touches, NamesPlaces}
-use Rattle.asg_kept_phases.specs.Mended.{IsLedBut}
-use Rattle.asg_kept_phases.specs.NamedPlaces.{places_of}
-use Rattle.asg_repair.specs.ClearedRows.{IsClearedOf}
-use Rattle.asg_kept_phases.specs.PhaseChains.{phases_in, IsCutTo, IsPrepared}
-use Rattle.asg_repair.specs.Sessions.{AreAbsorbedAfter, IsGiven, IsSession, IsSized, ids_in, sure_columns}
-use Rattle.asg_kept_phases.specs.Led.{IsLed}
+use Rattle.asg_repair.proofs.Common.{◌≡◌, ℕ, ◌≤◌, Bool, true, false, ◌&&◌, ◌||◌, length, take, nat_eq, nat_lt, Some, None, sym, ap, ◌∙◌, subst, arith, take_all, eqb-true, and_parts, edited_rows, edited_side, Touches, NamesPlaces, IsLed, IsLedBut, places_of, phases_in, IsCutTo, IsPrepared, NamedPlaces, PhaseChain, column_at, edited, refusal_of, IsInstance, Problem, square_side, Edit, Objective, Cost, MayEnter, Monoid, IsValue, AreKept, AreAdmittedPhases, IsClearedOf, AreAbsorbedAfter, IsGiven, IsSession, IsSized, ids_in, sure_columns, AnswerRoom, Open, Work, square_cell}
 use Rattle.asg_repair.proofs.EditSteps.{MaySolve-edited, absorbed_edited, column_kept, length-sure, still_whole, sure_kept, uncut}
-use Rattle.asg_kept_phases.specs.laws.EditedShapes.{edited_rows, edited_side}
 use Rattle.asg_kept_phases.specs.laws.LedEdits.{IsLedBut-edited}
 use Rattle.asg_kept_phases.specs.laws.PassedEdits.{NamesPlaces-passed}
 

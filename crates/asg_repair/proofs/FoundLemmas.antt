@@ -1,18 +1,5 @@
 -- A session whose answer was found.
-use Rattle.std.proofs.Common.{◌≡◌, ◌≢◌, ℕ, true, false, refl, sym, subst}
-use Rattle.std.proofs.lemmas.Bool.{false≢true}
-use Rattle.asg_model.specs.declared.objectives.Objective.{Objective}
-use Rattle.asg_model.specs.declared.parts.Cost.{Cost}
-use Rattle.asg_model.specs.Problem.{Problem}
-use Rattle.asg_model.specs.Shapes.{square_side}
-use Rattle.asg_order.specs.Monoid.{Monoid}
-use Rattle.asg_kept_phases.specs.PhaseChains.{phases_in, IsPhaseChain}
-use Rattle.asg_repair.specs.Sessions.{AreAbsorbed, AreAbsorbedAfter, AreTogether, ids_in, IsAnswerRoom, IsGiven, IsSession, IsSized}
-use Rattle.asg_kept_phases.specs.Led.{IsLed, MaySolve}
-use Rattle.asg_repair.specs.declared.answers.AnswerRoom.{AnswerRoom}
-use Rattle.asg_repair.specs.declared.answers.Given.TheVariants.{Open}
-use Rattle.asg_kept_phases.specs.declared.phase_chains.PhaseChain.{PhaseChain}
-use Rattle.asg_repair.specs.declared.works.Work.{Work}
+use Rattle.asg_repair.proofs.Common.{◌≡◌, ℕ, true, false, ◌≢◌, sym, refl, subst, false≢true, IsLed, MaySolve, phases_in, IsPhaseChain, PhaseChain, Problem, square_side, Objective, Cost, Monoid, AreAbsorbed, AreAbsorbedAfter, AreTogether, ids_in, IsAnswerRoom, IsGiven, IsSession, IsSized, AnswerRoom, Open, Work}
 use Rattle.asg_repair.proofs.SessionLemmas.{AreAbsorbedAfter-led}
 
 module _ {V : Type 0} (M : Monoid V) (difference : V → V → V) (enter : Cost → V) (X : Problem) (before after : Work V) (chain : PhaseChain V)

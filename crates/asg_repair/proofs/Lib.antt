@@ -1,3 +1,4 @@
+pub mod Common
 mod FoundLemmas
 mod SolvedLemmas
 mod AnswerLemmas

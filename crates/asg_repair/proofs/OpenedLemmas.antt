@@ -1,26 +1,9 @@
 -- What the solved square of an instance shows of what a session is opened with.
-use Rattle.std.proofs.Common.{◌≡◌, ℕ, ◌+◌, ◌≤◌, List, [], length, Option, Some, None, refl, sym, ◌∙◌, ap, subst, arith, unwrap_or}
-use Rattle.std.specs.Prelude.{true, slice_index_or}
-use Rattle.std.specs.Option.{option_map, option_and_then}
-use Rattle.asg_admit.specs.Reduced.{IsReduced}
-use Rattle.asg_algebra.specs.Ended.{last_of}
-use Rattle.asg_model.specs.declared.parts.Cost.{Cost}
-use Rattle.asg_model.specs.Problem.{Problem}
-use Rattle.asg_model.specs.Shapes.{square_side}
-use Rattle.asg_order.specs.Monoid.{Monoid, IsOrderedMonoid}
-use Rattle.asg_pool.specs.Forest.{Branch, Forest, parent_of, phases_to}
-use Rattle.asg_proof.specs.PhaseProofs.{EntersValues}
-use Rattle.asg_proof.specs.Phases.{PhaseOf}
+use Rattle.asg_repair.proofs.Common.{◌≡◌, ℕ, ◌+◌, ◌≤◌, true, List, [], length, slice_index_or, Some, None, Option, option_map, sym, refl, ap, ◌∙◌, subst, arith, IsReduced, last_of, IsChain, IsLed, IsWayTo, Problem, square_side, Cost, Monoid, IsOrderedMonoid, Branch, Forest, parent_of, phases_to, EntersValues, PhaseOf, IsOpened, AreAbsorbed, Opened, instance_side, IsSquareOf}
+use Rattle.std.proofs.Common.{unwrap_or}
+use Rattle.std.specs.Option.{option_and_then}
 use Rattle.asg_roots.specs.declared.roots.Root.{Root}
-use Rattle.asg_roots.specs.laws.InstanceRoots.{instance_side}
 use Rattle.asg_roots.specs.Roots.{IsInstanceRoot}
-use Rattle.asg_square.specs.Grid.{IsSquareOf}
-use Rattle.asg_kept_phases.specs.Chains.{IsChain}
-use Rattle.asg_repair.specs.declared.opening.Opened.{Opened}
-use Rattle.asg_repair.specs.Opening.{IsOpened}
-use Rattle.asg_kept_phases.specs.PhaseChains.{IsWayTo}
-use Rattle.asg_repair.specs.Sessions.{AreAbsorbed}
-use Rattle.asg_kept_phases.specs.Led.{IsLed}
 use Rattle.asg_repair.proofs.PushLemmas.{IsLinked, IsLinked-all}
 use Rattle.asg_repair.proofs.SessionLemmas.{IsLed-filled, IsLed-more}
 

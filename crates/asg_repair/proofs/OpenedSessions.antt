@@ -1,17 +1,5 @@
 -- A session as it is opened.
-use Rattle.std.proofs.Common.{◌≡◌, ℕ, refl, sym, subst, true, false}
-use Rattle.std.proofs.lemmas.Bool.{false≢true}
-use Rattle.asg_model.specs.declared.objectives.Objective.{Objective}
-use Rattle.asg_model.specs.declared.parts.Cost.{Cost}
-use Rattle.asg_model.specs.Problem.{Problem}
-use Rattle.asg_order.specs.Monoid.{Monoid}
-use Rattle.asg_repair.specs.declared.answers.AnswerRoom.{AnswerRoom}
-use Rattle.asg_repair.specs.declared.answers.Given.TheVariants.{Open}
-use Rattle.asg_repair.specs.declared.opening.Opened.{Opened}
-use Rattle.asg_repair.specs.Opening.{IsOpened}
-use Rattle.asg_kept_phases.specs.PhaseChains.{phases_in}
-use Rattle.asg_repair.specs.Sessions.{IsSession, IsAnswerRoom, IsGiven, ids_in}
-use Rattle.asg_kept_phases.specs.Led.{MaySolve}
+use Rattle.asg_repair.proofs.Common.{◌≡◌, ℕ, true, false, sym, refl, subst, false≢true, MaySolve, phases_in, Problem, Objective, Cost, Monoid, IsOpened, IsSession, IsAnswerRoom, IsGiven, ids_in, AnswerRoom, Open, Opened}
 use Rattle.asg_repair.proofs.SessionLemmas.{AreAbsorbedAfter-led}
 
 -- what was opened, with room for answers of which none was given

@@ -1,12 +1,6 @@
 -- Chains of trails on which phases are pushed.
-use Rattle.std.proofs.Common.{◌≡◌, ◌≢◌, ◌⊎◌, ℕ, List, [], ◌∷◌, Option, Some, None, refl, sym, ◌∙◌, ap, subst, ⊎_elim, inl, inr}
-use Rattle.std.specs.Prelude.{IfSome, option_and_then}
-use Rattle.std.proofs.lemmas.Bool.{cases_eq}
-use Rattle.asg_algebra.specs.Solved.{IsPush, ArePushed}
-use Rattle.asg_pool.specs.Forest.{Branch, Forest, trail_at, IsLive, IsLeaf, IsForest, IsGrown, parent_of}
+use Rattle.asg_repair.proofs.Common.{◌≡◌, ℕ, ◌≢◌, ◌⊎◌, List, [], ◌∷◌, IfSome, Some, None, Option, option_and_then, sym, refl, ap, ◌∙◌, subst, inl, inr, ⊎_elim, cases_eq, IsPush, ArePushed, IsChain, Branch, Forest, trail_at, IsLive, IsLeaf, IsForest, IsGrown, parent_of, PhaseOf}
 use Rattle.asg_pool.specs.laws.Trails.{live_differs, IsLive-kept, IsLive-pushed}
-use Rattle.asg_proof.specs.Phases.{PhaseOf}
-use Rattle.asg_kept_phases.specs.Chains.{IsChain}
 
 -- a chain in which each trail grew on a live one
 pub record IsLinked {V : Type 0} (F : Forest V) (last : Option ℕ) : Type 0 where

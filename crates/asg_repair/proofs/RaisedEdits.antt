@@ -1,20 +1,5 @@
 -- Where an edit raises or removes live cells all phases are kept.
-use Rattle.std.proofs.Common.{◌≡◌, ℕ, List, length, take, Option, subst, arith}
-use Rattle.std.proofs.lemmas.List.{take_all}
-use Rattle.asg_admit.specs.laws.KeptPhases.{kept_all, kept_once}
-use Rattle.asg_model.specs.declared.edits.Edit.{Edit}
-use Rattle.asg_model.specs.declared.parts.Cost.{Cost}
-use Rattle.asg_model.specs.Edits.{edited}
-use Rattle.asg_model.specs.Problem.{Problem}
-use Rattle.asg_model.specs.Shapes.{square_side}
-use Rattle.asg_order.specs.Monoid.{Monoid, IsOrderedMonoid}
-use Rattle.asg_proof.specs.KeptPhases.{AreKept}
-use Rattle.asg_proof.specs.PhaseProofs.{EntersValues, IsRaised}
-use Rattle.asg_proof.specs.Phases.{PhaseOf, AreAdmittedPhases}
-use Rattle.asg_proof.specs.Steps.{HasValues, AreRaised}
-use Rattle.asg_proof.specs.laws.Squares.{HasValues-square_cell}
-use Rattle.asg_square.specs.Cells.{square_cell}
-use Rattle.asg_kept_phases.specs.laws.EditedShapes.{edited_side}
+use Rattle.asg_repair.proofs.Common.{◌≡◌, ℕ, List, length, take, Option, subst, arith, take_all, kept_all, kept_once, edited_side, edited, Problem, square_side, Edit, Cost, Monoid, IsOrderedMonoid, AreKept, EntersValues, IsRaised, PhaseOf, AreAdmittedPhases, HasValues, AreRaised, HasValues-square_cell, square_cell}
 
 -- phases that are admitted from a square are so where its cells were raised or removed
 abbrev pub StayAdmitted : {V : Type 0} → Monoid V → (V → V → V) → Type 0

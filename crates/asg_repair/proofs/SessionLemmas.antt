@@ -1,25 +1,6 @@
 -- What phases lead to where more were added.
-use Rattle.std.proofs.Common.{◌≡◌, ℕ, ◌<◌, ◌≤◌, List, [], ◌∷◌, ◌++◌, length, Option, Some, None, is_some, refl, sym, ◌∙◌, ap, subst}
-use Rattle.std.specs.Prelude.{IsSome}
-use Rattle.asg_admit.specs.declared.reduced.Reduced.{Reduced}
-use Rattle.asg_algebra.specs.Solved.{LeadTo, ArePushed, unmatched}
-use Rattle.asg_model.specs.declared.parts.Cost.{Cost}
-use Rattle.asg_model.specs.Problem.{Problem}
-use Rattle.asg_model.specs.Shapes.{square_side}
-use Rattle.asg_order.specs.Monoid.{Monoid, IsValue, IsOrderedMonoid}
-use Rattle.asg_proof.specs.PhaseProofs.{EntersValues}
-use Rattle.asg_proof.specs.laws.Squares.{HasValues-square_cell}
-use Rattle.asg_pool.specs.Forest.{Forest}
-use Rattle.asg_proof.specs.Phases.{PhaseOf, AreAdmittedPhases, after_phases, index_of}
-use Rattle.asg_proof.specs.laws.PhaseLists.{after_phases-append, AreAdmittedPhases-append, index_is_value, index_of-append}
-use Rattle.asg_square.specs.Cells.{square_cell}
-use Rattle.asg_square.specs.Grid.{Grid, cell_at, IsSquareOf}
-use Rattle.asg_match.specs.Matching.{column_at, Matches, IsMatching, AllAllowed}
-use Rattle.asg_growth.specs.Growing.{IsAbsorbed}
-use Rattle.asg_kept_phases.specs.Leads.{LeadsTo}
-use Rattle.asg_kept_phases.specs.Led.{IsLed}
-use Rattle.asg_kept_phases.specs.laws.KeptLabels.{HasLabelsOf-kept}
-use Rattle.asg_repair.specs.Sessions.{AreAbsorbed, AreAbsorbedAfter}
+use Rattle.asg_repair.proofs.Common.{◌≡◌, ℕ, ◌<◌, ◌≤◌, List, [], ◌∷◌, ◌++◌, length, is_some, IsSome, Some, None, Option, sym, refl, ap, ◌∙◌, subst, Reduced, LeadTo, ArePushed, unmatched, IsAbsorbed, LeadsTo, IsLed, column_at, Matches, IsMatching, AllAllowed, Problem, square_side, Cost, Monoid, IsValue, IsOrderedMonoid, Forest, EntersValues, PhaseOf, AreAdmittedPhases, after_phases, index_of, after_phases-append, AreAdmittedPhases-append, index_is_value, index_of-append, HasValues-square_cell, AreAbsorbed, AreAbsorbedAfter, square_cell, Grid, cell_at, IsSquareOf}
+use Rattle.asg_admit.specs.laws.KeptLabels.{HasLabelsOf-kept}
 use Rattle.asg_repair.proofs.UnmatchedLemmas.{unmatched-kept}
 
 -- pushes keep the side

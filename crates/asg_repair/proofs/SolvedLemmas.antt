@@ -1,19 +1,6 @@
 -- What a session keeps where its phases are solved on.
-use Rattle.std.proofs.Common.{◌≡◌, ℕ, ◌<◌, false, ◌++◌, length, Option, sym, ◌∙◌, ap, subst}
-use Rattle.std.proofs.lemmas.Bool.{false≢true}
-use Rattle.asg_algebra.specs.Solved.{HasSolved}
-use Rattle.asg_model.specs.declared.parts.Cost.{Cost}
-use Rattle.asg_model.specs.Problem.{Problem}
-use Rattle.asg_model.specs.Shapes.{square_side}
-use Rattle.asg_order.specs.Monoid.{Monoid, IsOrderedMonoid}
-use Rattle.asg_pool.specs.Forest.{IsForest, phases_to}
-use Rattle.asg_kept_phases.specs.Chains.{IsChain}
-use Rattle.asg_kept_phases.specs.PhaseChains.{phases_in, IsPhaseChain}
-use Rattle.asg_kept_phases.specs.Led.{IsLed}
+use Rattle.asg_repair.proofs.Common.{◌≡◌, ℕ, ◌<◌, false, ◌++◌, length, Option, sym, ap, ◌∙◌, subst, false≢true, HasSolved, IsChain, IsLed, phases_in, IsPhaseChain, PhaseChain, Problem, square_side, Cost, Monoid, IsOrderedMonoid, IsForest, phases_to, AreAbsorbed, IsSized, Work}
 use Rattle.asg_kept_phases.specs.laws.KeptLabels.{HasColumnsOf-kept}
-use Rattle.asg_repair.specs.Sessions.{AreAbsorbed, IsSized}
-use Rattle.asg_kept_phases.specs.declared.phase_chains.PhaseChain.{PhaseChain}
-use Rattle.asg_repair.specs.declared.works.Work.{Work}
 use Rattle.asg_repair.proofs.PushLemmas.{IsLinked-forest, IsLinked-all}
 use Rattle.asg_repair.proofs.SessionLemmas.{IsLed-more, pushed_side}
 

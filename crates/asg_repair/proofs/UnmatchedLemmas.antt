@@ -1,11 +1,5 @@
 -- How many rows have no column.
-use Rattle.std.proofs.Common.{◌≡◌, ℕ, zero, suc, ◌+◌, ◌<◌, ◌≤◌, Bool, true, false, List, [], ◌∷◌, length, Option, Some, None, cond, refl, arith}
-use Rattle.std.specs.Prelude.{IsSome, is_none, replicate}
-use Rattle.std.proofs.lemmas.Bool.{false≢true}
-use Rattle.std.proofs.lemmas.List.Sums.{sum_by-append, count_by-le-length}
-use Rattle.asg_algebra.specs.Solved.{unmatched}
-use Rattle.asg_match.specs.Matching.{IsMatched}
-use Rattle.asg_repair.specs.Sessions.{sure_columns}
+use Rattle.asg_repair.proofs.Common.{◌≡◌, ℕ, zero, suc, ◌+◌, ◌<◌, ◌≤◌, Bool, true, false, cond, List, [], ◌∷◌, length, replicate, is_none, IsSome, Some, None, Option, refl, arith, count_by-le-length, false≢true, sum_by-append, unmatched, IsMatched, sure_columns}
 
 -- at most all rows
 pub unmatched-le : (m : List (Option ℕ)) → unmatched m ≤ length m

@@ -1,10 +1,5 @@
 -- What solving a square from the unit on shows.
-use Rattle.std.proofs.Common.{◌≡◌, ℕ, ◌≤◌, List, [], ◌∷◌, length, replicate, cond, Option, Some, None, refl, sym, ◌∙◌, ap, subst, arith}
-use Rattle.std.specs.Prelude.{IfOk, IfSome, Result, is_none}
-use Rattle.std.proofs.lemmas.Option.{IfSome_then}
-use Rattle.std.proofs.lemmas.Result.{IfOk-weaker}
-use Rattle.std.proofs.lemmas.List.{length-replicate}
-use Rattle.std.proofs.lemmas.List.Folds.{sum_by-replicate}
+use Rattle.asg_roots.proofs.Common.{◌≡◌, ℕ, ◌≤◌, cond, List, [], ◌∷◌, length, replicate, is_none, IfSome, IfOk, Some, None, Option, Result, sym, refl, ap, ◌∙◌, subst, arith, IfOk-weaker, IfSome_then, length-replicate, sum_by-replicate, HasValues, IsSolvedRoot, IsInstanceRoot, root_of, Grid, cell_at, IsSquareOf}
 use Rattle.asg_model.specs.declared.parts.Cost.{Cost}
 use Rattle.asg_model.specs.Problem.{Problem}
 use Rattle.asg_order.specs.Monoid.{Monoid, IsValue, IsOrderedMonoid}
@@ -12,8 +7,6 @@ use Rattle.asg_match.specs.Matching.{Matches}
 use Rattle.asg_match.specs.laws.Matchings.{Matches-empty}
 use Rattle.asg_pool.specs.Forest.{Forest, phases_to}
 use Rattle.asg_proof.specs.Phases.{PhaseOf}
-use Rattle.asg_proof.specs.Steps.{HasValues}
-use Rattle.asg_square.specs.Grid.{Grid, cell_at, IsSquareOf}
 use Rattle.asg_admit.specs.Reduced.{IsReduced}
 use Rattle.asg_admit.specs.declared.reduced.Reduced.{Reduced}
 use Rattle.asg_algebra.specs.declared.square_solvers.SolvedSquare.{SolvedSquare}
@@ -21,7 +14,6 @@ use Rattle.asg_algebra.specs.Ended.{EndsIn, last_of}
 use Rattle.asg_algebra.specs.Solved.{ArePushed, LeadTo, HasSolved, unmatched}
 use Rattle.asg_roots.specs.declared.roots.Root.{Root}
 use Rattle.asg_roots.specs.declared.workplaces.Workplace.{Workplace}
-use Rattle.asg_roots.specs.Roots.{IsSolvedRoot, IsInstanceRoot, root_of}
 use Rattle.asg_roots.specs.Workplaces.{IsFresh}
 
 -- phases that are pushed keep the side of the region

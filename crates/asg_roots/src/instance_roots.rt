@@ -116,7 +116,7 @@ where
 /// Solves the square of an instance, its live costs entered into the monoid of a kind, from the
 /// unit on, in a region with so many records for phases, at least one for each row of the square.
 /// The side of the square is at most 2,000, the objective refuses no live cost
-/// (`asg_model::negative`), and the kind's reach is at least the cost limit. The error is want of
+/// (`asg_values::negative`), and the kind's reach is at least the cost limit. The error is want of
 /// memory.
 ///
 /// Few phases are guessed first and tested; where these don't pass, the engine solves the square

@@ -1,30 +1,14 @@
 -- What was found goes on to hold where a cell got a cost.
-use Rattle.std.proofs.Common.{◌≡◌, ◌≢◌, ℕ, zero, suc, ◌+◌, ◌≤◌, Bool, true, false, cond, ◌&&◌, List, length, get_or, replicate, Option, Some, None, refl, sym, ap, subst, ◌∙◌, ⊎_elim, arith, unwrap_or}
-use Rattle.std.specs.Prelude.{IsSome, IsTrue, filter_map, slice_get, slice_index, sum, sum_by}
-use Rattle.std.specs.List.{range_with_len}
-use Rattle.std.specs.Option.{option_and_then}
-use Rattle.std.proofs.lemmas.Bool.{cases_eq, false≢true}
-use Rattle.std.proofs.lemmas.List.{length-replicate}
-use Rattle.asg_model.specs.declared.edits.Edit.TheVariants.{Cost as SetCost}
-use Rattle.asg_model.specs.declared.objectives.Objective.{Objective}
-use Rattle.asg_model.specs.declared.objectives.Value.TheVariants.{One}
-use Rattle.asg_model.specs.declared.parts.Cost.{Cost}
+use Rattle.asg_sum_edits.proofs.Common.{◌≡◌, ℕ, zero, suc, ◌+◌, ◌≤◌, Bool, true, false, cond, ◌&&◌, ◌≢◌, List, length, get_or, replicate, IsSome, IsTrue, slice_get, slice_index, Some, None, sum_by, sum, Option, filter_map, sym, refl, ap, ◌∙◌, subst, ⊎_elim, arith, cases_eq, false≢true, length-replicate, range_with_len, IsInstance, cost_at, is_active, is_open, live_at, Problem, IsValid, choice_value, costs_of, value_of, Objective, One, Cost, sum_entered, is_narrow_objective, Follows, IsSession, AreAbove, IsBestSum, IsOneToOne, chosen_sum, option_and_then}
+use Rattle.std.proofs.Common.{unwrap_or}
 use Rattle.asg_model.specs.Edits.{edited, place_of, with_cell_of}
 use Rattle.asg_model.specs.HallSet.{row_place_of, column_place_of}
-use Rattle.asg_model.specs.Instances.{IsInstance}
 use Rattle.asg_model.specs.Limits.{most_side}
-use Rattle.asg_model.specs.Live.{cost_at, is_active, is_open, live_at}
-use Rattle.asg_model.specs.Problem.{Problem}
 use Rattle.asg_model.specs.Shapes.{square_side}
-use Rattle.asg_model.specs.ValidChoice.{IsValid}
-use Rattle.asg_model.specs.Values.{choice_value, costs_of, value_of}
-use Rattle.asg_monoids.specs.Entered.{sum_entered}
-use Rattle.asg_monoids.specs.NarrowObjectives.{is_narrow_objective}
 use Rattle.asg_sum_edits.specs.declared.founds.Found.{Found}
-use Rattle.asg_sum_edits.specs.Sessions.{Follows, IsSession}
-use Rattle.asg_sum_edits.specs.SumDuals.{AreAbove, IsBestSum, IsOneToOne, chosen_sum}
 use Rattle.asg_sum_edits.proofs.LeastLaw.{least_is_best}
-use Rattle.asg_sum_edits.proofs.PutCells.{put_here, put_other}
+use Rattle.asg_edited.specs.laws.WrittenCells.{other_cell, put_here}
+use Rattle.asg_model.specs.declared.edits.Edit.TheVariants.{Cost as SetCost}
 
 of_cond : (b : Bool) (o : Option Cost) (x : Cost) → cond b o None ≡ Some x → o ≡ Some x
 of_cond true o x e = e
@@ -46,7 +30,7 @@ module _ (X : Problem) (row col r c : ℕ) (cost : Cost) (at_row : row_place_of 
   other_live : (s d : ℕ) → ((s ≡ r) × (d ≡ c) → ⊥) → live_at Y s d ≡ live_at X s d
   other_live s d other =
       ap (λ o. cond (is_active X s && is_open X d) o None)
-      (put_other (place_of X row col) s d (λ same. other (sym same.0 ∙ row_is, sym same.1 ∙ column_is)) cost X.cells)
+      (other_cell (place_of X row col) s d (λ same. other (sym same.0 ∙ row_is, sym same.1 ∙ column_is)) X.cells (Some cost))
 
   here_live : (s d : ℕ) (x : Cost) → s ≡ r → d ≡ c → live_at Y s d ≡ Some x → x ≡ cost
   here_live s d x e f live =

@@ -1,38 +1,13 @@
 -- A valid choice that comes to no more than the dual variables say is best.
-use Rattle.std.proofs.Common.{◌≡◌, ℕ, zero, suc, ◌+◌, ◌<◌, ◌≤◌, min, Bool, true, false, cond, List, [], ◌∷◌, length, map, get_or, Option, Some, None, refl, ap, subst, ◌∙◌, ⊎_elim, arith}
-use Rattle.std.specs.Prelude.{All, IsTrue, IfSome, IsSome, is_some, count_by, filter_map, option_to_list, slice_get, sum, sum_by}
-use Rattle.std.specs.List.{range_with_len}
-use Rattle.std.specs.Option.{option_and_then, option_map_or}
-use Rattle.std.proofs.lemmas.Bool.{cases_lt, eq-eqb}
-use Rattle.std.proofs.lemmas.Bool.Decides.{nat_tests}
-use Rattle.std.proofs.lemmas.List.Elements.{All-head, All-tail}
-use Rattle.std.proofs.lemmas.List.Sums.{sum_by-cons, sum_by-append, sum-map, count_by-le-length}
-use Rattle.std.proofs.lemmas.Option.{get_or_from_slice_get}
-use Rattle.asg_model.specs.declared.objectives.Objective.{Objective}
-use Rattle.asg_model.specs.declared.objectives.Objective.TheVariants.{Sum, SumMax}
-use Rattle.asg_model.specs.declared.parts.Column.{Column}
-use Rattle.asg_model.specs.declared.parts.Cost.{Cost}
+use Rattle.asg_sum_edits.proofs.Common.{◌≡◌, ℕ, zero, suc, ◌+◌, ◌<◌, ◌≤◌, min, Bool, true, false, cond, List, [], ◌∷◌, map, length, get_or, is_some, IfSome, IsSome, IsTrue, slice_get, Some, None, All, sum_by, sum, count_by, Option, option_to_list, filter_map, refl, ap, ◌∙◌, subst, ⊎_elim, arith, eq-eqb, All-head, All-tail, cases_lt, count_by-le-length, get_or_from_slice_get, nat_tests, option_map_or, range_with_len, sum-map, sum_by-append, sum_by-cons, capacity_at, IsInstance, live_at, Problem, IsValid, takes, chosen_cost, costs_of, Objective, Sum, SumMax, Column, Cost, cost_reach, is_sum_objective, sum_entered, top_of, is_narrow_objective, bounded_fold, sums_keep_order, Bridges-from_KeepsOrder, lies_within, AreAbove, IsOneToOne, IsSingle, chosen_sum, option_and_then}
 use Rattle.asg_model.specs.Best.{IsBest}
-use Rattle.asg_model.specs.Counts.{capacity_at}
-use Rattle.asg_model.specs.Instances.{IsInstance}
 use Rattle.asg_model.specs.laws.Counting.{sum_below-add, sum_below-exchange, sum_below-le, sum_by-below, term-le-sum_below}
 use Rattle.asg_model.specs.laws.Listing.{filter_map-range_more}
-use Rattle.asg_model.specs.Live.{live_at}
-use Rattle.asg_model.specs.Problem.{Problem}
 use Rattle.asg_model.specs.Refused.{PassesNegative, is_refused}
 use Rattle.asg_model.specs.Sums.{count_below, one, sum_below}
-use Rattle.asg_model.specs.ValidChoice.{IsValid, takes}
-use Rattle.asg_model.specs.Values.{chosen_cost, costs_of}
 use Rattle.asg_monoids.specs.BoundedSums.{bounded_sums}
-use Rattle.asg_monoids.specs.Entered.{cost_reach, is_sum_objective, sum_entered, top_of}
-use Rattle.asg_monoids.specs.laws.SumFolds.{bounded_fold}
-use Rattle.asg_monoids.specs.laws.SumOrders.{sums_keep_order}
-use Rattle.asg_monoids.specs.NarrowObjectives.{is_narrow_objective}
 use Rattle.asg_order.specs.Bridge.{choice_fold}
-use Rattle.asg_order.specs.laws.ChosenCosts.{Bridges-from_KeepsOrder}
 use Rattle.asg_order.specs.Monoid.{IsLess}
-use Rattle.asg_proof.specs.laws.LiveCosts.{lies_within}
-use Rattle.asg_sum_edits.specs.SumDuals.{AreAbove, IsOneToOne, IsSingle, chosen_sum}
 
 -- where all of a list are there, each is
 all_some : (g : List (Option ℕ)) → count_by is_some g ≡ length g → (r : ℕ) → r < length g → (c : ℕ) × (slice_get g r ≡ Some (Some c))

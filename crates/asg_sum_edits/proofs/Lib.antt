@@ -1,4 +1,4 @@
+pub mod Common
 pub mod EditedFound
 pub mod LeastLaw
-pub mod PutCells
 pub mod TestFacts

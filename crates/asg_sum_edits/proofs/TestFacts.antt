@@ -1,28 +1,5 @@
 -- What the tests of a guess show.
-use Rattle.std.proofs.Common.{◌≡◌, ℕ, zero, suc, ◌+◌, ◌*◌, ◌<◌, ◌≤◌, Bool, true, false, cond, ◌&&◌, List, [], ◌∷◌, length, get_or, Option, Some, None, refl, sym, ap, subst, ◌∙◌, arith, ℤ, pos, ◌+ℤ◌, ◌-ℤ◌}
-use Rattle.std.specs.Prelude.{IsTrue, slice_get, slice_index, slice_index_or, sum, ◌≤ℤ◌}
-use Rattle.std.specs.Option.{option_map_or}
-use Rattle.std.specs.Ordering.{int_eq}
-use Rattle.std.proofs.lemmas.Bool.{and_parts, false≢true}
-use Rattle.std.proofs.lemmas.Int.{ints}
-use Rattle.asg_model.specs.declared.objectives.Objective.{Objective}
-use Rattle.asg_model.specs.declared.objectives.Objective.TheVariants.{Sum, SumMax}
-use Rattle.asg_model.specs.declared.objectives.Value.TheVariants.{One}
-use Rattle.asg_model.specs.declared.parts.Column.{Column}
-use Rattle.asg_model.specs.declared.parts.Cost.{Cost}
-use Rattle.asg_model.specs.Instances.{IsInstance}
-use Rattle.asg_model.specs.Live.{cost_at, is_active, is_open, live_at}
-use Rattle.asg_model.specs.Problem.{Problem}
-use Rattle.asg_model.specs.Table.{AreRowParts, absent, table_cost}
-use Rattle.asg_model.specs.ValidChoice.{IsValid}
-use Rattle.asg_model.specs.Values.{choice_value, costs_of, first_parts, total}
-use Rattle.asg_monoids.specs.Entered.{cost_reach, sum_entered}
-use Rattle.asg_monoids.specs.laws.SumFolds.{sum_shifted, sum_turned}
-use Rattle.asg_monoids.specs.laws.SumOrders.{near_a}
-use Rattle.asg_monoids.specs.NarrowObjectives.{is_narrow_objective}
-use Rattle.asg_order.specs.laws.ChosenCosts.{costs_may_enter, length-costs_of}
-use Rattle.asg_proof.specs.laws.LiveCosts.{lies_within}
-use Rattle.asg_sum_edits.specs.SumDuals.{AreFirstsAbove, IsOneToOne, IsRowAbove, chosen_sum, first_entered, number_of}
+use Rattle.asg_sum_edits.proofs.Common.{◌≡◌, ℕ, zero, suc, ◌+◌, ◌*◌, ◌<◌, ◌≤◌, Bool, true, false, cond, ◌&&◌, List, [], ◌∷◌, length, get_or, ℤ, pos, ◌+ℤ◌, ◌-ℤ◌, ◌≤ℤ◌, IsTrue, slice_get, slice_index, slice_index_or, Some, None, sum, Option, int_eq, sym, refl, ap, ◌∙◌, subst, arith, and_parts, false≢true, ints, option_map_or, IsInstance, cost_at, is_active, is_open, live_at, Problem, AreRowParts, absent, table_cost, IsValid, choice_value, costs_of, first_parts, total, Objective, Sum, SumMax, One, Column, Cost, cost_reach, sum_entered, is_narrow_objective, sum_shifted, sum_turned, near_a, costs_may_enter, length-costs_of, lies_within, AreFirstsAbove, IsOneToOne, IsRowAbove, chosen_sum, first_entered, number_of}
 use Rattle.asg_sum_edits.proofs.LeastLaw.{narrow_passes}
 
 -- ---- rows

@@ -15,7 +15,8 @@ use crate::founds::Found;
 use crate::guesses::Guess;
 use crate::row_tests::{MOST_AMOUNT, rows_are_held};
 use asg_model::limits::MOST_COST;
-use asg_model::{Choice, Column, Instance, Objective, RowRoom, Value, is_valid, value};
+use asg_model::{Choice, Column, Instance, Objective, RowRoom, Value};
+use asg_values::{is_valid, value};
 use std::alloc::Global;
 
 // Whether each column takes one row at most.

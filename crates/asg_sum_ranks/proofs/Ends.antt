@@ -1,11 +1,6 @@
 -- The first and the last answer of branches that are a ranking.
-use Rattle.std.proofs.Common.{◌≡◌, ℕ, zero, suc, ◌-◌, ◌<◌, List, [], ◌∷◌, Option, Some, length, map, get_or, refl, sym, ap, ◌∙◌, arith}
-use Rattle.std.proofs.lemmas.List.{same_lists, get_or_default, length-map}
-use Rattle.asg_model.specs.declared.objectives.Objective.{Objective}
-use Rattle.asg_model.specs.Problem.{Problem}
-use Rattle.asg_proof.specs.Ranked.{IsRanking}
-use Rattle.asg_dual_bounds.specs.Numbers.{choice_of}
-use Rattle.asg_sum_ranks.specs.Branches.{Branch, columns_of, answers_of, answer_at}
+use Rattle.asg_sum_ranks.proofs.Common.{◌≡◌, ℕ, zero, suc, ◌-◌, ◌<◌, List, [], ◌∷◌, map, length, get_or, Some, Option, sym, refl, ap, ◌∙◌, arith, get_or_default, length-map, same_lists, choice_of, Problem, Objective, Branch, columns_of, answers_of, answer_at}
+use Rattle.asg_rankings.specs.Ranked.{IsRanking}
 use Rattle.asg_sum_ranks.specs.RankedSums.{AreEnds}
 use Rattle.asg_sum_ranks.proofs.Rankings.{answer_of}
 

@@ -1,3 +1,4 @@
+pub mod Common
 pub mod Splits
 pub mod Rankings
 pub mod Ends

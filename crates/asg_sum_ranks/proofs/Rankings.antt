@@ -1,11 +1,6 @@
 -- Branches whose sums ascend and whose children are shut are a ranking.
-use Rattle.std.proofs.Common.{◌≡◌, ℕ, zero, suc, ◌+◌, ◌-◌, ◌<◌, ◌≤◌, List, [], ◌∷◌, length, get_or, refl, sym, ap, subst, inl, inr, ◌∙◌, arith, Contains}
-use Rattle.std.proofs.lemmas.List.{get_or_default, length-map}
-use Rattle.asg_model.specs.declared.objectives.Objective.{Objective}
-use Rattle.asg_model.specs.Problem.{Problem}
-use Rattle.asg_dual_bounds.specs.Numbers.{IsAnswer, sum_at}
+use Rattle.asg_sum_ranks.proofs.Common.{◌≡◌, ℕ, zero, suc, ◌+◌, ◌-◌, ◌<◌, ◌≤◌, List, [], ◌∷◌, length, get_or, Contains, sym, refl, ap, ◌∙◌, subst, inl, inr, arith, get_or_default, length-map, IsAnswer, sum_at, Problem, Objective, Branch, columns_of, answers_of, answer_at, AreBranches, AreShut, SumsTo}
 use Rattle.asg_dual_bounds.specs.SumRankings.{IsSumRanking}
-use Rattle.asg_sum_ranks.specs.Branches.{Branch, columns_of, answers_of, answer_at, AreBranches, AreShut, SumsTo}
 use Rattle.asg_sum_ranks.proofs.Splits.{SplitLaw, IsSplit, split_upto}
 
 -- the answers in turn

@@ -1,11 +1,5 @@
 -- Branches split the answers: each is a branch's own or in one child that no branch is of.
-use Rattle.std.proofs.Common.{◌≡◌, ◌≢◌, ℕ, zero, suc, ◌<◌, ◌≤◌, ◌⊎◌, List, [], ◌∷◌, length, slice_index, refl, sym, ap, subst, inl, inr, ◌∙◌, arith, Contains}
-use Rattle.std.proofs.lemmas.Bool.{cases_eq}
-use Rattle.asg_model.specs.declared.objectives.Objective.{Objective}
-use Rattle.asg_model.specs.Problem.{Problem}
-use Rattle.asg_dual_bounds.specs.Numbers.{IsAnswer}
-use Rattle.asg_dual_bounds.specs.Parts.{Part, IsIn, child_part}
-use Rattle.asg_sum_ranks.specs.Branches.{Branch, branch_at, answer_at, part_at, child_at, AreBranches, IsGiven}
+use Rattle.asg_sum_ranks.proofs.Common.{◌≡◌, ℕ, zero, suc, ◌<◌, ◌≤◌, ◌≢◌, ◌⊎◌, List, [], ◌∷◌, length, slice_index, Contains, sym, refl, ap, ◌∙◌, subst, inl, inr, arith, cases_eq, IsAnswer, Part, IsIn, child_part, Problem, Objective, Branch, branch_at, answer_at, part_at, child_at, AreBranches, IsGiven}
 
 -- the law of splitting
 pub record SplitLaw : Type 0 where

@@ -1,14 +1,5 @@
 -- Branches one after the other, and what is in their parts.
-use Rattle.std.proofs.Common.{◌≡◌, ℕ, suc, ◌+◌, ◌<◌, ◌≤◌, List, [], ◌∷◌, length, get_or, slice_index, refl, sym, ap, subst, inl, inr, ◌∙◌, arith, Contains}
-use Rattle.std.proofs.lemmas.Bool.{cases_eq}
-use Rattle.std.proofs.lemmas.List.{get_or_default, same_lists}
-use Rattle.asg_model.specs.declared.objectives.Objective.{Objective}
-use Rattle.asg_model.specs.Problem.{Problem}
-use Rattle.asg_dual_bounds.specs.Bounds.{Duals, AreAbove, IsDualBound, IsRowGap, IsColumnGap}
-use Rattle.asg_dual_bounds.specs.Views.{IsChildGap}
-use Rattle.asg_dual_bounds.specs.Numbers.{IsAnswer, sum_at}
-use Rattle.asg_dual_bounds.specs.Parts.{Part, IsIn, child_part}
-use Rattle.asg_sum_ranks.specs.Branches.{Branch, branch_at, answer_at, part_at, child_at, IsSound, IsChild, AreBranches, HaveGaps, IsShut, SumsTo}
+use Rattle.asg_sum_ranks.proofs.Common.{◌≡◌, ℕ, suc, ◌+◌, ◌<◌, ◌≤◌, List, [], ◌∷◌, length, get_or, slice_index, Contains, sym, refl, ap, ◌∙◌, subst, inl, inr, arith, cases_eq, get_or_default, same_lists, Duals, AreAbove, IsDualBound, IsRowGap, IsColumnGap, IsAnswer, sum_at, Part, IsIn, child_part, IsChildGap, Problem, Objective, Branch, branch_at, answer_at, part_at, child_at, IsSound, IsChild, AreBranches, HaveGaps, IsShut, SumsTo}
 
 pub first_branches : (objective : Objective) (X : Problem) (branches : List Branch)
     → (branch_at branches 0).row ≡ 0 → (branch_at branches 0).banned ≡ []

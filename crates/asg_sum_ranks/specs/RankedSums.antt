@@ -2,9 +2,9 @@
 use Rattle.std.specs.Prelude.{◌≡◌, ℕ, Option, List, length}
 use Rattle.asg_model.specs.declared.objectives.Objective.{Objective}
 use Rattle.asg_model.specs.Problem.{Problem}
-use Rattle.asg_proof.specs.Nodes.{answer_at}
-use Rattle.asg_proof.specs.Ranked.{IsRanking}
-use Rattle.asg_proof.specs.SearchTrees.{last_answer}
+use Rattle.asg_rankings.specs.Nodes.{answer_at}
+use Rattle.asg_rankings.specs.Ranked.{IsRanking}
+use Rattle.asg_rankings.specs.SearchTrees.{last_answer}
 
 -- these choices are the first and the last of a ranking of as many as were asked for
 pub record AreEnds (objective : Objective) (X : Problem) (count : ℕ) (first last : List (Option ℕ))

@@ -117,7 +117,7 @@ fn searched(alloc: Global, ground: &Ground<'_>, count: usize) -> Result<Option<F
 
 /// The first and the last answer of a ranking of so many choices by `sum` or `sum-max`; `None`
 /// where the instance isn't plain, has fewer choices, or where what was found isn't shown to be a
-/// ranking. The objective refuses no live cost of the instance (`asg_model::negative`), and the
+/// ranking. The objective refuses no live cost of the instance (`asg_values::negative`), and the
 /// side is at most 2,000. The error is want of memory.
 ///
 /// Each answer parts what is left [Murty 1968], one shortest path finds the best answer of a part,

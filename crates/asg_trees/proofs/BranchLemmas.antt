@@ -1,7 +1,6 @@
 -- Nodes that have the branches of their parent in order.
-use Rattle.std.proofs.Common.{◌≡◌, ℕ, ◌+◌, ◌<◌, ◌≤◌, eqb, leb, ap, arith, ⊎_elim}
+use Rattle.asg_trees.proofs.Common.{◌≡◌, ℕ, ◌+◌, ◌<◌, ◌≤◌, eqb, leb, ap, ⊎_elim, arith, eq-eqb, ne_eqb, le-leb, cases_eq, cases_lt, lt-leb}
 use Rattle.asg_model.specs.Sums.{one}
-use Rattle.std.proofs.lemmas.Bool.{cases_eq, cases_lt, eq-eqb, le-leb, lt-leb, ne_eqb}
 
 -- 1 for a branch from 1 up to a number, else 0
 abbrev pub one_upto : ℕ → ℕ → ℕ

@@ -1,15 +1,6 @@
 -- Choices that one list of numbers says.
-use Rattle.std.proofs.Common.{◌≡◌, ℕ, zero, suc, ◌+◌, ◌*◌, ◌<◌, ◌≤◌, ◌^◌, List, [], ◌∷◌, ◌++◌, length, take, drop, map, get_or, Option, Some, None, refl, sym, ap, ◌∙◌, arith, ◌-◌}
-use Rattle.std.specs.Prelude.{All, IfSome, slice_get}
-use Rattle.std.proofs.Math.Nat.{le-mul_of_pos_right, suc-mul}
-use Rattle.std.proofs.lemmas.List.{append_assoc, drop-append-le, drop-drop, get_or-map, length-append, length-drop, length-map, length-take-le, map_more, same_lists, take-append-le, take_all}
-use Rattle.std.proofs.lemmas.List.Sums.{count_by-le-length}
-use Rattle.std.proofs.lemmas.Option.{get_or_from_slice_get, slice_get_within}
-use Rattle.asg_model.specs.Instances.{IsInstance}
-use Rattle.asg_model.specs.Live.{cost_at, is_active, is_open}
-use Rattle.asg_model.specs.Problem.{Problem}
-use Rattle.asg_model.specs.ValidChoice.{IsValid}
-use Rattle.asg_trees.specs.ChoiceLists.{AreNumbersOf, choices_in, chosen_by, number_of}
+use Rattle.asg_trees.proofs.Common.{◌≡◌, ℕ, zero, suc, ◌+◌, ◌-◌, ◌*◌, ◌^◌, ◌<◌, ◌≤◌, List, [], ◌∷◌, ◌++◌, map, length, get_or, take, drop, IfSome, slice_get, Some, None, All, Option, sym, refl, ap, ◌∙◌, suc-mul, le-mul_of_pos_right, arith, length-drop, length-take-le, take_all, drop-drop, count_by-le-length, drop-append-le, get_or-map, get_or_from_slice_get, length-map, map_more, same_lists, slice_get_within, take-append-le, IsInstance, cost_at, is_active, is_open, Problem, IsValid, AreNumbersOf, choices_in, chosen_by, number_of}
+use Rattle.std.proofs.lemmas.List.{append_assoc, length-append}
 use Rattle.asg_trees.proofs.NodeFacts.{column-from_open, live_open}
 
 -- ---- numbers

@@ -1,14 +1,5 @@
 -- Nodes below another, and what is tallied of them.
-use Rattle.std.proofs.Common.{◌≡◌, ◌≢◌, ◌⊎◌, ℕ, zero, suc, ◌+◌, ◌<◌, ◌≤◌, true, false, List, length, inl, inr, refl, sym, subst, ◌∙◌, arith, ⊎_elim}
-use Rattle.std.proofs.lemmas.Bool.{false≢true, cases_lt, cases_eq}
-use Rattle.asg_proof.specs.declared.nodes.Node.{Node}
-use Rattle.asg_proof.specs.Nodes.{node_at}
-use Rattle.asg_proof.specs.SearchTrees.{is_answered}
-use Rattle.asg_trees.specs.Descents.{AreSettledBelow, AreSettledBelowEach, AreSettledBut, IsBelow, IsBelowWithin, LeadsOn}
-use Rattle.asg_trees.specs.Groups.{IsNextWith, parent_keys}
-use Rattle.asg_trees.specs.Tallies.{Falls, HavePlaces, IsFair, IsSettled, IsTallied, IsTalliedBy, IsWholeTally, judged_before}
-use Rattle.asg_trees.specs.Trees.{TreeOf}
-use Rattle.asg_trees.specs.declared.verdicts.Tally.{Tally}
+use Rattle.asg_trees.proofs.Common.{◌≡◌, ℕ, zero, suc, ◌+◌, ◌<◌, ◌≤◌, true, false, ◌≢◌, ◌⊎◌, List, length, sym, refl, ◌∙◌, subst, inl, inr, ⊎_elim, arith, cases_eq, cases_lt, false≢true, node_at, is_answered, Node, AreSettledBelow, AreSettledBelowEach, AreSettledBut, IsBelow, IsBelowWithin, LeadsOn, IsNextWith, parent_keys, Falls, HavePlaces, IsFair, IsSettled, IsTallied, IsTalliedBy, IsWholeTally, judged_before, TreeOf, Tally}
 use Rattle.asg_trees.proofs.SiblingLemmas.{before_some, before_upto, below_root, between, gone_through, next_within}
 
 -- a node below another is its child, or below a child of it

@@ -1,40 +1,10 @@
 -- From the square of a node's parent to that of the node.
-use Rattle.std.proofs.Common.{◌≡◌, ℕ, ◌+◌, ◌<◌, ◌≤◌, true, List, [], ◌++◌, Option, None, Some, refl, sym, ap, subst, ◌∙◌, arith, ⊎_elim}
-use Rattle.std.specs.Option.{option_map}
-use Rattle.std.specs.Prelude.{IfSome}
-use Rattle.std.proofs.lemmas.Bool.{cases_lt}
-use Rattle.asg_model.specs.Counts.{placed}
-use Rattle.asg_model.specs.Problem.{Problem}
-use Rattle.asg_model.specs.Shapes.{square_side}
-use Rattle.asg_order.specs.declared.words.Word.{Word}
-use Rattle.asg_order.specs.Monoid.{Monoid, IsOrderedMonoid, IsValue}
-use Rattle.asg_square.specs.BitTable.{BitTable, has_bit}
-use Rattle.asg_square.specs.Cells.{square_cell}
-use Rattle.asg_square.specs.Grid.{Grid, cell_at}
-use Rattle.asg_square.specs.Masked.{masked_grid}
-use Rattle.std.proofs.Math.Path.{fun_ext}
-use Rattle.asg_proof.specs.Masks.{keeps_cell}
-use Rattle.asg_proof.specs.Nodes.{node_answer, node_at, node_trail}
-use Rattle.asg_proof.specs.Phases.{PhaseOf, AreAdmittedPhases, after_phases, index_of}
-use Rattle.asg_proof.specs.SearchTrees.{AreAdmittedWords, HasPlace, HasTrail, IsMarked, is_answered}
-use Rattle.asg_proof.specs.declared.nodes.Mark.{Mark}
-use Rattle.asg_proof.specs.declared.nodes.Mark.TheVariants.{Answered, Open, Empty}
-use Rattle.asg_proof.specs.laws.PhaseLists.{after_phases-append, index_is_value}
-use Rattle.asg_admit.specs.declared.reduced.Reduced.{Reduced}
-use Rattle.asg_admit.specs.Reduced.{KeepsLabels}
-use Rattle.asg_replays.specs.Replays.{AreAdmittedFrom, AreReplayed, IsStart}
-use Rattle.asg_order.specs.Words.{HasWords}
-use Rattle.asg_kept_cells.specs.Kept.{HasSize, IsMaskOf, KeepsAll}
-use Rattle.asg_replays.specs.WholeLists.{HaveIndex}
-use Rattle.asg_kept_cells.specs.MaskedPhases.{HaveIndexAfter}
-use Rattle.asg_trees.specs.Tallies.{HavePlaces}
-use Rattle.asg_trees.specs.Trails.{IsTrailSquare, StandsAbove, StandsAt}
-use Rattle.asg_trees.specs.Trees.{IsSound, TreeOf, instance_at}
+use Rattle.asg_trees.proofs.Common.{◌≡◌, ℕ, ◌+◌, ◌<◌, ◌≤◌, true, List, [], ◌++◌, IfSome, Some, None, Option, option_map, sym, refl, ap, ◌∙◌, subst, ⊎_elim, arith, cases_lt, fun_ext, KeepsLabels, Reduced, BitTable, has_bit, HasSize, IsMaskOf, KeepsAll, HaveIndexAfter, masked_by, placed, Problem, square_side, Monoid, IsOrderedMonoid, IsValue, HasWords, Word, PhaseOf, AreAdmittedPhases, after_phases, index_of, after_phases-append, index_is_value, keeps_cell, node_answer, node_at, node_trail, AreAdmittedWords, HasPlace, HasTrail, IsMarked, is_answered, Mark, Answered, Open, Empty, AreAdmittedFrom, AreReplayed, IsStart, HaveIndex, square_cell, Grid, cell_at, masked_grid, HavePlaces, IsTrailSquare, StandsAbove, StandsAt, IsSound, TreeOf, instance_at}
 use Rattle.asg_trees.proofs.MaskedTrails.{child_square, trail_side}
-use Rattle.asg_kept_cells.specs.laws.KeptSquares.{masked_by}
 use Rattle.asg_trees.proofs.NodeBounds.{instance_child, trail_child}
 use Rattle.asg_trees.proofs.NodeFacts.{keeps_cell-node, side-of_node}
 use Rattle.asg_trees.proofs.OwnTrails.{own_of, whole_index, whole_of}
+use Rattle.asg_admit.specs.laws.KeptLabels.{HasLabelsOf-kept}
 
 module _ {V : Type 0} (T : TreeOf V) where
   -- a square with the same labels and cells as one after a trail is one
@@ -66,12 +36,7 @@ module _ {V : Type 0} (T : TreeOf V) where
       let o : AreAdmittedFrom T.monoid T.difference T.word_of before.now.side (cell_at before.now) own = record { phases = led.phases; written = led.written; admitted = led.admitted } in
       record {
         admitted = whole_of T Y trail own before.now before.index s o;
-        labels = record {
-          side = led.labels.side ∙ s.labels.side;
-          rows = led.labels.rows ∙ s.labels.rows;
-          row_labels = led.labels.row_labels ∙ s.labels.row_labels;
-          column_labels = led.labels.column_labels ∙ s.labels.column_labels;
-        };
+        labels = HasLabelsOf-kept Y before.now after.now led.labels s.labels;
         cells = led.cells
             ∙ ap (after_phases T.monoid T.difference led.phases) s.cells
             ∙ sym (after_phases-append T.monoid T.difference s.admitted.phases led.phases (square_cell Y T.monoid.unit T.enter));

@@ -1,15 +1,5 @@
 -- Numbers that are grouped by a key, one after another, the greatest first.
-use Rattle.std.proofs.Common.{◌≡◌, ◌≢◌, ℕ, zero, suc, ◌+◌, ◌-◌, ◌<◌, ◌≤◌, Bool, true, false, cond, List, [], length, get_or, set, refl, sym, ap, subst, ◌∙◌, arith, ⊎_elim, take}
-use Rattle.std.specs.Prelude.{nat_lt, count_by}
-use Rattle.std.proofs.lemmas.Bool.{cases_lt, cases_eq, lt-ltb, le-ltb}
-use Rattle.std.proofs.lemmas.List.{get_or-set_same, get_or-set_other, length-set, length-map, get_or-map}
-use Rattle.std.proofs.lemmas.List.Sums.{count_by_more_no}
-use Rattle.asg_proof.specs.declared.nodes.Node.{Node}
-use Rattle.asg_proof.specs.declared.nodes.Mark.TheVariants.{Answered, Open, Empty}
-use Rattle.asg_proof.specs.declared.nodes.Mark.{Mark}
-use Rattle.asg_proof.specs.SearchTrees.{IsGiven}
-use Rattle.asg_proof.specs.Nodes.{answer_number, node_at}
-use Rattle.asg_trees.specs.Groups.{AreGroupsAbove, IsNextWith, answer_keys, key_at, linked_first, linked_next, parent_keys}
+use Rattle.asg_trees.proofs.Common.{◌≡◌, ℕ, zero, suc, ◌+◌, ◌-◌, ◌<◌, ◌≤◌, Bool, true, false, cond, ◌≢◌, List, [], length, get_or, take, set, nat_lt, count_by, sym, refl, ap, ◌∙◌, subst, ⊎_elim, arith, length-set, get_or-set_other, get_or-set_same, le-ltb, lt-ltb, cases_eq, cases_lt, count_by_more_no, get_or-map, length-map, answer_number, node_at, IsGiven, Mark, Answered, Open, Empty, Node, AreGroupsAbove, IsNextWith, answer_keys, key_at, linked_first, linked_next, parent_keys}
 
 -- ---- one number more
 

@@ -1,3 +1,4 @@
+pub mod Common
 pub mod NodeBounds
 pub mod MaskedTrails
 pub mod OwnTrails

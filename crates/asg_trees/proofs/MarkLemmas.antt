@@ -1,43 +1,11 @@
 -- What is judged of a node by its mark, on the kept cells of its parent's square, is what is asked
 -- of it.
-use Rattle.std.proofs.Common.{◌≡◌, ℕ, ◌-◌, ◌≤◌, List, [], ◌++◌, length, Option, Some, None, refl, sym, ap, subst, ◌∙◌, arith, is_some}
-use Rattle.std.proofs.lemmas.List.Elements.{All-get_or}
-use Rattle.asg_model.specs.declared.bands.Band.TheVariants.{Whole}
-use Rattle.asg_model.specs.declared.parts.Place.TheVariants.{All as PlaceAll}
-use Rattle.asg_model.specs.Counts.{placed}
-use Rattle.asg_model.specs.HallSet.{IsHall}
-use Rattle.asg_model.specs.Problem.{Problem}
-use Rattle.asg_model.specs.ValidChoice.{IsValid}
-use Rattle.asg_model.specs.laws.Rows.{is_active-from_live}
-use Rattle.asg_order.specs.declared.words.Word.{Word}
-use Rattle.asg_order.specs.Bridge.{choice_fold}
-use Rattle.asg_order.specs.Monoid.{IsLe, IsOrderedMonoid}
-use Rattle.asg_order.specs.Words.{HasWords}
-use Rattle.asg_square.specs.BitTable.{BitTable}
-use Rattle.asg_square.specs.Cells.{square_cell}
-use Rattle.asg_square.specs.Grid.{Grid, HasLabelsOf, cell_at}
-use Rattle.asg_square.specs.HallColumns.{OutnumberColumns, TellsCells}
-use Rattle.asg_square.specs.Masked.{masked_grid}
-use Rattle.asg_square.specs.Presence.{has_cell}
+use Rattle.asg_trees.proofs.Common.{◌≡◌, ℕ, ◌-◌, ◌≤◌, List, [], ◌++◌, length, is_some, Some, None, Option, sym, refl, ap, ◌∙◌, subst, arith, All-get_or, BitTable, ChoosesKept, kept_cells, AreAdmittedWithin, placed, IsHall, Problem, IsValid, Whole, is_active-from_live, choice_fold, IsLe, IsOrderedMonoid, HasWords, Word, PhaseOf, index_of, index_is_value, is_some-phases, answer_at, node_at, node_trail, AreAdmittedWords, HasPlace, HasTrail, IsMarked, MayStayOpen, last_answer, Mark, Answered, Open, Empty, IsInstance-node, place-of_node, square_cell, Grid, HasLabelsOf, cell_at, OutnumberColumns, TellsCells, masked_grid, has_cell, IsBounded, JudgesMark, MarkHolds, Judges, IsTrailSquare, IsLastProduct, IsReady, IsSound, TreeOf, instance_at, Judgement, AtFault, LeftOpen, Fine}
 use Rattle.asg_square.specs.laws.HallColumns.{hall_by_square}
-use Rattle.asg_proof.specs.declared.nodes.Mark.{Mark}
-use Rattle.asg_proof.specs.declared.nodes.Mark.TheVariants.{Answered, Open, Empty}
-use Rattle.asg_proof.specs.Nodes.{answer_at, node_at, node_trail}
-use Rattle.asg_proof.specs.Phases.{PhaseOf, index_of}
-use Rattle.asg_proof.specs.SearchTrees.{AreAdmittedWords, HasPlace, HasTrail, IsMarked, MayStayOpen, last_answer}
-use Rattle.asg_proof.specs.laws.NodeInstances.{IsInstance-node, place-of_node}
-use Rattle.asg_proof.specs.laws.PhaseLists.{index_is_value, is_some-phases}
 use Rattle.asg_trees.specs.declared.judged_trees.Tree.{Tree}
-use Rattle.asg_trees.specs.declared.verdicts.Judgement.{Judgement}
-use Rattle.asg_trees.specs.declared.verdicts.Judgement.TheVariants.{AtFault, LeftOpen, Fine}
-use Rattle.asg_kept_cells.specs.Kept.{ChoosesKept, kept_cells}
-use Rattle.asg_kept_cells.specs.MaskedPhases.{AreAdmittedWithin}
-use Rattle.asg_trees.specs.Marks.{IsBounded, JudgesMark, MarkHolds}
-use Rattle.asg_trees.specs.Tallies.{Judges}
-use Rattle.asg_trees.specs.Trails.{IsTrailSquare}
-use Rattle.asg_trees.specs.Trees.{IsLastProduct, IsReady, IsSound, TreeOf, instance_at}
 use Rattle.asg_trees.proofs.NodeFacts.{active-of_node, chooses-from_live, columns-from_node, columns-to_node, live-from_kept, valid-to_node}
 use Rattle.asg_trees.proofs.OwnTrails.{own_index, own_of, whole_index, whole_of}
+use Rattle.asg_model.specs.declared.parts.Place.TheVariants.{All as PlaceAll}
 
 module _ {V : Type 0} (T : TreeOf V) (tree : Tree V) (ready : IsReady T tree) (laws : IsOrderedMonoid T.monoid) (value_of : Word → Option V) (spelled : HasWords T.monoid T.word_of value_of)
     (presence : (X : Problem) (r k : ℕ) → is_some (square_cell X T.monoid.unit T.enter r k) ≡ has_cell X Whole r k)
@@ -199,7 +167,7 @@ module _ {V : Type 0} (T : TreeOf V) (tree : Tree V) (ready : IsReady T tree) (l
       faulty_of mark e none = λ sound. none (holds_from mark (subst Marked e sound.marked))
 
       -- a judgement of a node's mark is one of the node
-      pub judged : (mark : Mark) → (node_at T.nodes n).mark ≡ mark → (judgement : Judgement) → JudgesMark T.monoid T.difference T.word_of T.problem T.answers T.nodes last Q kept before n mark judgement → Judges T n judgement
+      pub judged : (mark : Mark) → (node_at T.nodes n).mark ≡ mark → (judgement : Judgement) → JudgesMark T.monoid T.difference T.word_of (record { problem = T.problem; answers = T.answers; nodes = T.nodes; last = last }) Q kept before n mark judgement → Judges T n judgement
       judged (Answered a) e AtFault h = faulty_of (Answered a) e h
       judged (Answered a) e LeftOpen h = absurd h
       judged (Answered a) e Fine h = (sound_of (Answered a) e h, λ opened. absurd (cc (e, opened)))

@@ -1,25 +1,9 @@
 -- Phases on squares from which cells are taken out, and the square of a child after its parent's
 -- trail.
-use Rattle.std.proofs.Common.{◌≡◌, ℕ, ◌<◌, Bool, List, [], ◌∷◌, length, get_or, Option, sym, ap, subst, ◌∙◌}
-use Rattle.asg_model.specs.Problem.{Problem}
-use Rattle.asg_model.specs.Shapes.{square_side}
-use Rattle.asg_order.specs.declared.words.Word.{Word}
-use Rattle.asg_order.specs.Monoid.{Monoid}
-use Rattle.asg_square.specs.BitTable.{BitTable, has_bit}
-use Rattle.asg_square.specs.Cells.{square_cell}
-use Rattle.asg_square.specs.Grid.{Grid, cell_at}
-use Rattle.asg_square.specs.Masked.{masked_grid}
-use Rattle.asg_proof.specs.Children.{child}
-use Rattle.asg_proof.specs.Masks.{masked, keeps_cell}
-use Rattle.asg_proof.specs.Phases.{PhaseOf, entered_at, staying_at, square_after, after_phase, IsAdmittedPhase, AreAdmittedPhases}
+use Rattle.asg_trees.proofs.Common.{◌≡◌, ℕ, ◌<◌, Bool, List, [], ◌∷◌, length, get_or, Option, sym, ap, ◌∙◌, subst, BitTable, has_bit, HasSize, from_kept, masked_by, Problem, square_side, Monoid, Word, PhaseOf, entered_at, staying_at, square_after, after_phase, IsAdmittedPhase, AreAdmittedPhases, HasSide-phases, child, masked, keeps_cell, square_cell, Grid, cell_at, masked_grid, IsTrailSquare, TreeOf}
 use Rattle.asg_proof.specs.Steps.{IsAdmittedStep, HasSide}
-use Rattle.asg_proof.specs.laws.MaskedSquares.{square_after-masked, square_cell-child, after_phases-child}
-use Rattle.asg_proof.specs.laws.PhaseLists.{HasSide-phases}
+use Rattle.asg_rankings.specs.laws.MaskedSquares.{square_after-masked, square_cell-child, after_phases-child}
 use Rattle.asg_proof.specs.laws.Squares.{HasSide-square_cell}
-use Rattle.asg_kept_cells.specs.Kept.{HasSize}
-use Rattle.asg_kept_cells.specs.laws.KeptSquares.{from_kept, masked_by}
-use Rattle.asg_trees.specs.Trees.{TreeOf}
-use Rattle.asg_trees.specs.Trails.{IsTrailSquare}
 
 module _ {V : Type 0} (M : Monoid V) (difference : V → V → V) (side : ℕ) (keep : ℕ → ℕ → Bool) where
   step-masked : (entered staying : ℕ → Bool) (c : V) (square : ℕ → ℕ → Option V) → IsAdmittedStep M side entered staying c square → IsAdmittedStep M side entered staying c (masked keep square)

@@ -1,29 +1,12 @@
 -- Search trees by sums in 64 bits are search trees of `sum` and `sum-max`.
-use Rattle.std.proofs.Common.{◌≡◌, ℕ, ◌-◌, ◌<◌, ◌≤◌, ◌^◌, true, List, [], length, Option, arith, refl, sym, is_some}
-use Rattle.std.specs.Prelude.{All, IsTrue}
-use Rattle.std.proofs.lemmas.List.Elements.{All-get_or}
-use Rattle.std.proofs.lemmas.List.Sums.{count_by-le-length}
+use Rattle.asg_trees.proofs.Common.{◌≡◌, ℕ, ◌-◌, ◌^◌, ◌<◌, ◌≤◌, true, List, [], length, is_some, IsTrue, All, Option, sym, refl, arith, All-get_or, count_by-le-length, IsInstance, most_rows, Problem, IsValid, Cost, bounded_sums, bounded_difference, plain_word, narrow_top, is_sum_objective, cost_reach, sum_entered, costs_fold, choice_fold, Word, lies_within, IsSearchTree, last_answer, Node, TellsRanking, Tree}
 use Rattle.asg_model.specs.declared.objectives.Objective.{Objective}
 use Rattle.asg_model.specs.declared.objectives.Objective.TheVariants.{Sum, SumMax}
-use Rattle.asg_model.specs.declared.parts.Cost.{Cost}
-use Rattle.asg_model.specs.Instances.{IsInstance}
-use Rattle.asg_model.specs.Limits.{most_rows}
-use Rattle.asg_model.specs.Problem.{Problem}
 use Rattle.asg_model.specs.Refused.{PassesNegative}
-use Rattle.asg_model.specs.ValidChoice.{IsValid}
 use Rattle.asg_model.specs.Values.{costs_of}
-use Rattle.asg_monoids.specs.BoundedSums.{bounded_sums, bounded_difference, plain_word, narrow_top}
-use Rattle.asg_monoids.specs.Entered.{is_sum_objective, cost_reach, sum_entered}
 use Rattle.asg_monoids.specs.NarrowObjectives.{is_narrow_objective}
-use Rattle.asg_order.specs.declared.words.Word.{Word}
-use Rattle.asg_order.specs.Bridge.{costs_fold, choice_fold}
 use Rattle.asg_order.specs.Entering.{MayEnter}
 use Rattle.asg_order.specs.laws.ChosenCosts.{costs_may_enter, length-costs_of}
-use Rattle.asg_proof.specs.declared.nodes.Node.{Node}
-use Rattle.asg_proof.specs.SearchTrees.{IsSearchTree, last_answer}
-use Rattle.asg_proof.specs.laws.LiveCosts.{lies_within}
-use Rattle.asg_trees.specs.declared.verdicts.TreeVerdict.TheVariants.{Tree}
-use Rattle.asg_trees.specs.Judged.{TellsRanking}
 
 -- sums of so few entered costs are the same by both tops
 abbrev pub FoldsNarrow : Objective → Type 0

@@ -1,11 +1,5 @@
 -- The instance and the trail of a node, where the nodes up to it have their places.
-use Rattle.std.proofs.Common.{◌≡◌, ℕ, zero, suc, ◌<◌, ◌≤◌, cond, List, [], ◌++◌, Option, refl, sym, ◌∙◌, ap, arith, ⊎_elim}
-use Rattle.std.specs.Prelude.{nat_le}
-use Rattle.std.proofs.lemmas.Bool.{le-leb, lt-leb, cond-true, cond-false, cases_lt}
-use Rattle.asg_model.specs.Problem.{Problem}
-use Rattle.asg_proof.specs.Children.{child}
-use Rattle.asg_proof.specs.declared.nodes.Node.{Node}
-use Rattle.asg_proof.specs.Nodes.{node_at, node_answer, instance_within, node_instance, trail_within, node_trail}
+use Rattle.asg_trees.proofs.Common.{◌≡◌, ℕ, zero, suc, ◌<◌, ◌≤◌, cond, List, [], ◌++◌, nat_le, Option, sym, refl, ap, ◌∙◌, ⊎_elim, arith, le-leb, cases_lt, cond-false, cond-true, lt-leb, Problem, child, node_at, node_answer, instance_within, node_instance, trail_within, node_trail, Node}
 
 module _ (nodes : List Node) (last : ℕ) (falls : (m : ℕ) → 1 < m → m ≤ last → (node_at nodes m).parent < m) where
   module _ (X : Problem) (answers : List (List (Option ℕ))) where

@@ -1,39 +1,13 @@
 -- What the instance of a node has of the whole one: labels, numbers, counted rows, and valid
 -- choices.
-use Rattle.std.proofs.Common.{◌≡◌, ℕ, ◌+◌, ◌<◌, ◌≤◌, Bool, true, false, ◌&&◌, cond, List, length, Option, Some, None, refl, sym, ap, subst, ◌∙◌, arith, is_some, get_or, ⊎_elim}
-use Rattle.std.specs.Prelude.{IsSome, nat_lt}
-use Rattle.std.specs.Option.{option_map_or}
-use Rattle.std.proofs.lemmas.Bool.{false≢true, cases_lt, lt-ltb}
-use Rattle.std.proofs.lemmas.List.Elements.{All-get_or}
-use Rattle.std.proofs.lemmas.Option.{slice_get_past}
-use Rattle.std.proofs.lemmas.List.FromFn.{get_or-map-range_with_len}
-use Rattle.asg_model.specs.declared.bands.Band.TheVariants.{Whole}
+use Rattle.asg_trees.proofs.Common.{◌≡◌, ℕ, ◌+◌, ◌<◌, ◌≤◌, Bool, true, false, cond, ◌&&◌, List, length, get_or, is_some, IsSome, nat_lt, Some, None, Option, sym, refl, ap, ◌∙◌, subst, ⊎_elim, arith, lt-ltb, All-get_or, cases_lt, false≢true, get_or-map-range_with_len, option_map_or, slice_get_past, ChoosesKept, HasKept, capacity_at, is_counted_by, is_live_within, IsInstance, most_capacity, cost_at, is_active, is_open, live_at, Problem, square_side, Chooses, IsValid, Whole, Cost, is_active-from_live, row-from_active, no_column, child, keeps_cell, node_instance, Node, kept-within, Grid, HasLabelsOf, cell_at, OutnumberColumns, masked_grid, has_cell}
 use Rattle.asg_model.specs.declared.parts.Column.{Column}
-use Rattle.asg_model.specs.declared.parts.Cost.{Cost}
-use Rattle.asg_model.specs.declared.parts.Place.TheVariants.{All as PlaceAll}
-use Rattle.asg_model.specs.Counts.{capacity_at, is_counted_by}
-use Rattle.asg_model.specs.HallSet.{is_live_within}
-use Rattle.asg_model.specs.Instances.{IsInstance}
-use Rattle.asg_model.specs.Live.{cost_at, is_active, is_open, live_at}
-use Rattle.asg_model.specs.Limits.{most_capacity}
-use Rattle.asg_model.specs.Problem.{Problem}
-use Rattle.asg_model.specs.Shapes.{square_side}
-use Rattle.asg_model.specs.ValidChoice.{Chooses, IsValid}
-use Rattle.asg_model.specs.laws.Rows.{is_active-from_live, row-from_active, no_column}
-use Rattle.asg_square.specs.Grid.{Grid, HasLabelsOf, cell_at}
-use Rattle.asg_square.specs.HallColumns.{OutnumberColumns}
 use Rattle.asg_square.specs.Labels.{column_label, first_copy, row_label}
-use Rattle.asg_square.specs.Masked.{masked_grid}
-use Rattle.asg_square.specs.Presence.{has_cell, is_labelled_within}
+use Rattle.asg_cell_tables.specs.LabelledCells.{is_labelled_within}
 use Rattle.asg_square.specs.laws.Copies.{capacity_is, copy_below, label_at}
 use Rattle.asg_square.specs.laws.Rows.{copies_within, rows_within}
-use Rattle.asg_proof.specs.Children.{child}
-use Rattle.asg_proof.specs.Masks.{keeps_cell}
-use Rattle.asg_proof.specs.Nodes.{node_instance}
-use Rattle.asg_proof.specs.declared.nodes.Node.{Node}
-use Rattle.asg_proof.specs.laws.ChildCells.{live-from_child}
-use Rattle.asg_proof.specs.laws.NodeInstances.{kept-within}
-use Rattle.asg_kept_cells.specs.Kept.{ChoosesKept, HasKept}
+use Rattle.asg_rankings.specs.laws.ChildCells.{live-from_child}
+use Rattle.asg_model.specs.declared.parts.Place.TheVariants.{All as PlaceAll}
 
 some_is : {A : Type 0} (o : Option A) → IsSome o → (x : A) × (o ≡ Some x)
 some_is None h = absurd (cc h)

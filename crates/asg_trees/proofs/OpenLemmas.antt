@@ -1,17 +1,5 @@
 -- Whether an open node may be open, by the index of its trail.
-use Rattle.std.proofs.Common.{◌≡◌, ◌↔◌, Bool, true, false, cond, List, Option, Some, refl, sym, ap, subst, ◌∙◌}
-use Rattle.std.proofs.lemmas.Bool.{false≢true}
-use Rattle.asg_order.specs.declared.words.Word.{Word}
-use Rattle.asg_order.specs.Monoid.{Monoid, IsLe}
-use Rattle.asg_order.specs.Words.{HasWords}
-use Rattle.asg_square.specs.BitTable.{BitTable}
-use Rattle.asg_square.specs.Grid.{Grid, cell_at}
-use Rattle.asg_square.specs.Masked.{masked_grid}
-use Rattle.asg_proof.specs.Phases.{PhaseOf, index_of}
-use Rattle.asg_replays.specs.laws.PhaseWords.{phases-once}
-use Rattle.asg_trees.specs.declared.verdicts.Judgement.TheVariants.{LeftOpen, Fine}
-use Rattle.asg_kept_cells.specs.MaskedPhases.{HaveIndexAfter}
-use Rattle.asg_trees.specs.Marks.{JudgesOpen}
+use Rattle.asg_trees.proofs.Common.{◌≡◌, Bool, true, false, cond, ◌↔◌, List, Some, Option, sym, refl, ap, ◌∙◌, subst, false≢true, BitTable, HaveIndexAfter, Monoid, IsLe, HasWords, Word, PhaseOf, index_of, phases-once, Grid, cell_at, masked_grid, JudgesOpen, LeftOpen, Fine}
 
 module _ {V : Type 0} (M : Monoid V) (difference : V → V → V) (word_of : V → Word) (value_of : Word → Option V) (spelled : HasWords M word_of value_of) (Q : Grid V) (kept : BitTable) (before : V) (words : List (PhaseOf Word)) where
   -- words have one index

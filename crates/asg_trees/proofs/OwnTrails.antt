@@ -1,21 +1,5 @@
 -- A trail and phases of a node's own after it.
-use Rattle.std.proofs.Common.{◌≡◌, ℕ, List, ◌++◌, length, take, drop, map, Option, sym, ap, subst, ◌∙◌}
-use Rattle.std.proofs.Math.Seq.{take-append_seam, drop-append_seam}
-use Rattle.std.proofs.lemmas.List.{map-append, take-append-drop, take-map, drop-map}
-use Rattle.asg_model.specs.Problem.{Problem}
-use Rattle.asg_model.specs.Shapes.{square_side}
-use Rattle.asg_order.specs.declared.words.Word.{Word}
-use Rattle.asg_order.specs.Monoid.{Monoid, IsOrderedMonoid}
-use Rattle.asg_order.specs.Words.{HasWords}
-use Rattle.asg_square.specs.Cells.{square_cell}
-use Rattle.asg_square.specs.Grid.{Grid, cell_at}
-use Rattle.asg_proof.specs.Phases.{PhaseOf, worded, after_phases, AreAdmittedPhases, index_of}
-use Rattle.asg_proof.specs.SearchTrees.{AreAdmittedWords}
-use Rattle.asg_proof.specs.laws.PhaseLists.{AreAdmittedPhases-append, AreAdmittedPhases-back, AreAdmittedPhases-front, index_of-append}
-use Rattle.asg_replays.specs.Replays.{AreAdmittedFrom}
-use Rattle.asg_replays.specs.laws.PhaseWords.{phases-once}
-use Rattle.asg_trees.specs.Trees.{TreeOf}
-use Rattle.asg_trees.specs.Trails.{IsTrailSquare}
+use Rattle.asg_trees.proofs.Common.{◌≡◌, ℕ, List, ◌++◌, map, length, take, drop, Option, sym, ap, ◌∙◌, subst, take-append-drop, drop-append_seam, drop-map, map-append, take-append_seam, take-map, Problem, square_side, Monoid, IsOrderedMonoid, HasWords, Word, PhaseOf, worded, after_phases, AreAdmittedPhases, index_of, AreAdmittedPhases-append, AreAdmittedPhases-back, AreAdmittedPhases-front, index_of-append, AreAdmittedWords, AreAdmittedFrom, phases-once, square_cell, Grid, cell_at, IsTrailSquare, TreeOf}
 
 module _ {V : Type 0} (T : TreeOf V) (Y : Problem) (trail own : List (PhaseOf Word)) (Q : Grid V) (index : V) (s : IsTrailSquare T Y trail Q index) where
   abbrev M : Monoid V

@@ -1,18 +1,6 @@
 -- The nodes that name a parent, one after another.
-use Rattle.std.proofs.Common.{◌≡◌, ◌≢◌, ◌⊎◌, ℕ, ◌+◌, ◌-◌, ◌<◌, ◌≤◌, Bool, true, false, ◌&&◌, cond, eqb, List, length, take, get_or, inl, inr, refl, sym, ap, subst, ◌∙◌, arith, ⊎_elim}
-use Rattle.std.specs.Prelude.{count_by}
-use Rattle.std.proofs.lemmas.Bool.{cases_lt, cases_eq, eq-eqb, ne_eqb, cond-true, cond-false}
-use Rattle.std.proofs.lemmas.List.{take_all}
-use Rattle.std.proofs.lemmas.List.Sums.{count_by_more_no, count_by_more_yes}
-use Rattle.asg_proof.specs.declared.nodes.Node.{Node}
-use Rattle.asg_proof.specs.Nodes.{node_at}
-use Rattle.asg_proof.specs.SearchTrees.{HasPlace, child_count}
+use Rattle.asg_trees.proofs.Common.{◌≡◌, ℕ, ◌+◌, ◌-◌, ◌<◌, ◌≤◌, Bool, true, false, cond, ◌&&◌, eqb, ◌≢◌, ◌⊎◌, List, length, get_or, take, count_by, sym, refl, ap, ◌∙◌, subst, inl, inr, ⊎_elim, arith, take_all, eq-eqb, ne_eqb, cases_eq, cases_lt, cond-false, cond-true, count_by_more_no, count_by_more_yes, node_at, HasPlace, child_count, Node, AreGroups, IsNextWith, key_at, parent_keys, IsFair, IsJudged, IsTallied, Judges, judged_before, with_judgement, TreeOf, Judgement, Tally}
 use Rattle.asg_trees.specs.declared.groups.Groups.{Groups}
-use Rattle.asg_trees.specs.declared.verdicts.Judgement.{Judgement}
-use Rattle.asg_trees.specs.declared.verdicts.Tally.{Tally}
-use Rattle.asg_trees.specs.Groups.{AreGroups, IsNextWith, key_at, parent_keys}
-use Rattle.asg_trees.specs.Tallies.{IsFair, IsJudged, IsTallied, Judges, judged_before, with_judgement}
-use Rattle.asg_trees.specs.Trees.{TreeOf}
 use Rattle.asg_trees.proofs.GroupLemmas.{count_skip, no_node, parent_count, parent_key}
 use Rattle.asg_trees.proofs.TallyLemmas.{tally_fewer, tally_more}
 

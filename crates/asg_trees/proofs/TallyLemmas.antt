@@ -1,21 +1,5 @@
 -- The tally of a tree, node by node, and the verdict at its end.
-use Rattle.std.proofs.Common.{◌≡◌, ◌⊎◌, ℕ, ◌+◌, ◌<◌, ◌≤◌, ◌-◌, min, cond, true, [], length, Option, Some, None, refl, sym, subst, arith, ⊎_elim}
-use Rattle.std.specs.Prelude.{All, IfSome}
-use Rattle.std.proofs.lemmas.Bool.{cases_lt, le-leb, lt-leb}
-use Rattle.std.proofs.lemmas.List.Elements.{All-get_or}
-use Rattle.asg_model.specs.ValidChoice.{IsValid}
-use Rattle.asg_proof.specs.declared.nodes.Mark.{Mark}
-use Rattle.asg_proof.specs.declared.nodes.Mark.TheVariants.{Answered, Open, Empty}
-use Rattle.asg_proof.specs.Nodes.{IsNumber, answer_number, node_answer, node_at}
-use Rattle.asg_proof.specs.SearchTrees.{IsMarked, is_answered}
-use Rattle.asg_trees.specs.declared.verdicts.Judgement.{Judgement}
-use Rattle.asg_trees.specs.declared.verdicts.Judgement.TheVariants.{AtFault, LeftOpen, Fine}
-use Rattle.asg_trees.specs.declared.verdicts.Tally.{Tally}
-use Rattle.asg_trees.specs.declared.verdicts.TreeVerdict.{TreeVerdict}
-use Rattle.asg_trees.specs.declared.verdicts.TreeVerdict.TheVariants.{Tree, FaultAt, OpenAt}
-use Rattle.asg_trees.specs.Judged.{AreGiven, IsLacking, TellsTree, conclusion, conclusion_sound}
-use Rattle.asg_trees.specs.Tallies.{Falls, HavePlaces, IsFair, IsTalliedBy, IsWholeTally, Judges, with_judgement}
-use Rattle.asg_trees.specs.Trees.{IsOpenWrongly, IsSound, MayBeOpen, TreeOf}
+use Rattle.asg_trees.proofs.Common.{◌≡◌, ℕ, ◌+◌, ◌-◌, ◌<◌, ◌≤◌, min, true, cond, ◌⊎◌, [], length, IfSome, Some, None, All, Option, sym, refl, subst, ⊎_elim, arith, le-leb, All-get_or, cases_lt, lt-leb, IsValid, IsNumber, answer_number, node_answer, node_at, IsMarked, is_answered, Mark, Answered, Open, Empty, AreGiven, IsLacking, TellsTree, conclusion, conclusion_sound, Falls, HavePlaces, IsFair, IsTalliedBy, IsWholeTally, Judges, with_judgement, IsOpenWrongly, IsSound, MayBeOpen, TreeOf, Judgement, AtFault, LeftOpen, Fine, Tally, TreeVerdict, Tree, FaultAt, OpenAt}
 
 -- a judgement lets no number rise
 pub falls_with : (tally : Tally) (c : ℕ) (judgement : Judgement) → c < tally.fault → Falls tally (with_judgement tally c judgement)

@@ -1,8 +1,8 @@
 -- Nodes below another, and what is tallied of them.
 use Rattle.std.specs.Prelude.{◌≡◌, ◌≢◌, ◌⊎◌, ℕ, zero, suc, ◌<◌, ◌≤◌, IsTrue, List}
-use Rattle.asg_proof.specs.declared.nodes.Node.{Node}
-use Rattle.asg_proof.specs.Nodes.{node_at}
-use Rattle.asg_proof.specs.SearchTrees.{is_answered}
+use Rattle.asg_rankings.specs.declared.nodes.Node.{Node}
+use Rattle.asg_rankings.specs.Nodes.{node_at}
+use Rattle.asg_rankings.specs.SearchTrees.{is_answered}
 use Rattle.asg_trees.specs.declared.verdicts.Tally.{Tally}
 use Rattle.asg_trees.specs.Tallies.{IsSettled}
 use Rattle.asg_trees.specs.Trees.{TreeOf}

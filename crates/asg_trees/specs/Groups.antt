@@ -1,7 +1,7 @@
 -- Numbers, which count from 1, grouped by a key: by the parent that a node names, or by its answer.
 use Rattle.std.specs.Prelude.{◌≡◌, ◌≢◌, ℕ, ◌+◌, ◌-◌, ◌<◌, ◌≤◌, nat_lt, if◌then◌else◌, List, length, map, slice_index, slice_set}
-use Rattle.asg_proof.specs.declared.nodes.Node.{Node}
-use Rattle.asg_proof.specs.Nodes.{answer_number}
+use Rattle.asg_rankings.specs.declared.nodes.Node.{Node}
+use Rattle.asg_rankings.specs.Nodes.{answer_number}
 use Rattle.asg_trees.specs.declared.groups.Groups.{Groups}
 
 -- the key of a number

@@ -7,10 +7,10 @@ use Rattle.asg_model.specs.Problem.{Problem}
 use Rattle.asg_monoids.specs.ObjectiveMonoids.{InMonoidOf}
 use Rattle.asg_order.specs.declared.words.Word.{Word}
 use Rattle.asg_order.specs.Monoid.{Monoid}
-use Rattle.asg_proof.specs.declared.nodes.Node.{Node}
-use Rattle.asg_proof.specs.Nodes.{IsNumber}
-use Rattle.asg_proof.specs.SearchTrees.{IsSoundNode, IsGiven, IsSearchTree}
-use Rattle.asg_proof.specs.TreeFaults.{IsAtFault, LacksNode, IsLeftOpen}
+use Rattle.asg_rankings.specs.declared.nodes.Node.{Node}
+use Rattle.asg_rankings.specs.Nodes.{IsNumber}
+use Rattle.asg_rankings.specs.SearchTrees.{IsSoundNode, IsGiven, IsSearchTree}
+use Rattle.asg_rankings.specs.TreeFaults.{IsAtFault, LacksNode, IsLeftOpen}
 use Rattle.asg_trees.specs.declared.verdicts.Tally.{Tally}
 use Rattle.asg_trees.specs.declared.verdicts.TreeVerdict.{TreeVerdict}
 use Rattle.asg_trees.specs.declared.verdicts.TreeVerdict.TheVariants.{Tree, FaultAt, NodeLacks, OpenAt}

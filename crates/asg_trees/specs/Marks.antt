@@ -5,15 +5,16 @@ use Rattle.asg_model.specs.Counts.{placed}
 use Rattle.asg_model.specs.Problem.{Problem}
 use Rattle.asg_order.specs.declared.words.Word.{Word}
 use Rattle.asg_order.specs.Monoid.{Monoid, IsLe}
-use Rattle.asg_square.specs.BitTable.{BitTable}
+use Rattle.asg_bit_rows.specs.BitTable.{BitTable}
 use Rattle.asg_square.specs.Grid.{Grid}
 use Rattle.asg_square.specs.HallColumns.{OutnumberColumns}
-use Rattle.asg_proof.specs.declared.nodes.Mark.{Mark}
-use Rattle.asg_proof.specs.declared.nodes.Mark.TheVariants.{Answered, Open, Empty}
-use Rattle.asg_proof.specs.declared.nodes.Node.{Node}
-use Rattle.asg_proof.specs.Nodes.{answer_at, answer_number, node_at}
+use Rattle.asg_rankings.specs.declared.nodes.Mark.{Mark}
+use Rattle.asg_rankings.specs.declared.nodes.Mark.TheVariants.{Answered, Open, Empty}
+use Rattle.asg_rankings.specs.declared.nodes.Node.{Node}
+use Rattle.asg_rankings.specs.Nodes.{answer_at, answer_number, node_at}
 use Rattle.asg_proof.specs.Phases.{PhaseOf}
-use Rattle.asg_proof.specs.SearchTrees.{child_count}
+use Rattle.asg_rankings.specs.SearchTrees.{child_count}
+use Rattle.asg_trees.specs.declared.judged_trees.Tree.{Tree}
 use Rattle.asg_trees.specs.declared.verdicts.Judgement.{Judgement}
 use Rattle.asg_trees.specs.declared.verdicts.Judgement.TheVariants.{AtFault, LeftOpen, Fine}
 use Rattle.asg_kept_cells.specs.Kept.{ChoosesKept, kept_cells}
@@ -61,13 +62,29 @@ JudgesOther Holds AtFault = ¬ Holds
 JudgesOther Holds LeftOpen = ⊥
 JudgesOther Holds Fine = Holds
 
+-- a tree as its nodes' marks are judged: the instance, the answers, the nodes, and the product of
+-- the last answer, where as many are listed as were asked for
+pub record MarkedTree (V : Type 0) : Type 0 where
+  pub problem : Problem
+  pub answers : List (List (Option ℕ))
+  pub nodes : List Node
+  pub last : Option V
+
+abbrev pub marked_tree : {V : Type 0} → Tree V → MarkedTree V
+marked_tree tree = record {
+  problem = tree.inst.now;
+  answers = tree.answers.now;
+  nodes = tree.nodes.now;
+  last = tree.last;
+}
+
 -- a judgement of a node with this mark tells whether what the mark asks holds, and, where it is
 -- open, whether it may be
-abbrev pub JudgesMark : {V : Type 0} → Monoid V → (V → V → V) → (V → Word) → Problem → List (List (Option ℕ))
-    → List Node → Option V → Grid V → BitTable → V → ℕ → Mark → Judgement → Type 0
-JudgesMark M difference word_of X answers nodes last Q kept before n (Answered a) judgement =
-    JudgesOther (MarkHolds M difference word_of X answers nodes Q kept n (Answered a)) judgement
-JudgesMark M difference word_of X answers nodes last Q kept before n Open judgement =
-    JudgesOpen M difference word_of last Q kept before (node_at nodes n).own judgement
-JudgesMark M difference word_of X answers nodes last Q kept before n (Empty rows) judgement =
-    JudgesOther (MarkHolds M difference word_of X answers nodes Q kept n (Empty rows)) judgement
+abbrev pub JudgesMark : {V : Type 0} → Monoid V → (V → V → V) → (V → Word) → MarkedTree V → Grid V → BitTable → V
+    → ℕ → Mark → Judgement → Type 0
+JudgesMark M difference word_of T Q kept before n (Answered a) judgement =
+    JudgesOther (MarkHolds M difference word_of T.problem T.answers T.nodes Q kept n (Answered a)) judgement
+JudgesMark M difference word_of T Q kept before n Open judgement =
+    JudgesOpen M difference word_of T.last Q kept before (node_at T.nodes n).own judgement
+JudgesMark M difference word_of T Q kept before n (Empty rows) judgement =
+    JudgesOther (MarkHolds M difference word_of T.problem T.answers T.nodes Q kept n (Empty rows)) judgement

@@ -2,9 +2,9 @@
 -- be.
 use Rattle.std.specs.Prelude.{◌≡◌, ℕ, ◌+◌, ◌<◌, ◌≤◌, ◌==◌, min, if◌then◌else◌, List, length}
 use Rattle.asg_model.specs.Counts.{placed}
-use Rattle.asg_proof.specs.declared.nodes.Node.{Node}
-use Rattle.asg_proof.specs.Nodes.{node_at}
-use Rattle.asg_proof.specs.SearchTrees.{HasPlace}
+use Rattle.asg_rankings.specs.declared.nodes.Node.{Node}
+use Rattle.asg_rankings.specs.Nodes.{node_at}
+use Rattle.asg_rankings.specs.SearchTrees.{HasPlace}
 use Rattle.asg_trees.specs.declared.verdicts.Judgement.{Judgement}
 use Rattle.asg_trees.specs.declared.verdicts.Judgement.TheVariants.{AtFault, LeftOpen, Fine}
 use Rattle.asg_trees.specs.declared.verdicts.Tally.{Tally}

@@ -6,11 +6,11 @@ use Rattle.asg_order.specs.Monoid.{IsValue}
 use Rattle.asg_square.specs.Cells.{square_cell}
 use Rattle.asg_square.specs.Grid.{Grid, HasLabelsOf, cell_at}
 use Rattle.asg_square.specs.Masked.{masked_grid}
-use Rattle.asg_square.specs.BitTable.{BitTable}
+use Rattle.asg_bit_rows.specs.BitTable.{BitTable}
 use Rattle.asg_proof.specs.Phases.{PhaseOf, after_phases, index_of}
-use Rattle.asg_proof.specs.SearchTrees.{AreAdmittedWords}
+use Rattle.asg_rankings.specs.SearchTrees.{AreAdmittedWords}
 use Rattle.asg_proof.specs.Steps.{HasValues}
-use Rattle.asg_proof.specs.Nodes.{node_at, node_trail}
+use Rattle.asg_rankings.specs.Nodes.{node_at, node_trail}
 use Rattle.asg_admit.specs.declared.reduced.Reduced.{Reduced}
 use Rattle.asg_kept_cells.specs.Kept.{KeepsOtherRows}
 use Rattle.asg_trees.specs.Trees.{IsSound, TreeOf, instance_at}

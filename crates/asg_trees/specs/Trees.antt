@@ -11,11 +11,11 @@ use Rattle.asg_model.specs.ValidChoice.{IsValid}
 use Rattle.asg_order.specs.declared.words.Word.{Word}
 use Rattle.asg_order.specs.Bridge.{choice_fold}
 use Rattle.asg_order.specs.Monoid.{Monoid, IsValue}
-use Rattle.asg_proof.specs.declared.nodes.Mark.TheVariants.{Open}
-use Rattle.asg_proof.specs.declared.nodes.Node.{Node}
-use Rattle.asg_proof.specs.Nodes.{node_at, node_instance}
+use Rattle.asg_rankings.specs.declared.nodes.Mark.TheVariants.{Open}
+use Rattle.asg_rankings.specs.declared.nodes.Node.{Node}
+use Rattle.asg_rankings.specs.Nodes.{node_at, node_instance}
 use Rattle.asg_proof.specs.PhaseProofs.{EntersValues}
-use Rattle.asg_proof.specs.SearchTrees.{IsSoundNode, MayStayOpen, last_answer}
+use Rattle.asg_rankings.specs.SearchTrees.{IsSoundNode, MayStayOpen, last_answer}
 use Rattle.asg_trees.specs.declared.judged_trees.Tree.{Tree}
 use Rattle.asg_trees.specs.Groups.{AreGroups, answer_keys, parent_keys}
 

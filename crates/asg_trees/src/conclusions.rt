@@ -7,7 +7,7 @@ ghost use Rattle.asg_trees.specs.Judged.{AreGiven, IsLacking, conclusion, conclu
 use crate::choice_lists::Choices;
 use crate::groups::Groups;
 use crate::verdicts::{Tally, TreeVerdict};
-use asg_proof::Node;
+use asg_rankings::Node;
 
 /// The first answer that has no node.
 pub(crate) fn first_lacking(given: &Groups, nodes: &[Node], answers: &Choices) -> Option<usize>

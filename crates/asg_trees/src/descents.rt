@@ -5,8 +5,8 @@
 //! of answers has binary digits, and one.
 
 ghost use Rattle.std.specs.Prelude.{◌≡◌, ◌≢◌, ◌+◌, ◌<◌, ◌≤◌, IsTrue, IfOk, length};
-ghost use Rattle.asg_proof.specs.Nodes.{node_at};
-ghost use Rattle.asg_proof.specs.SearchTrees.{is_answered};
+ghost use Rattle.asg_rankings.specs.Nodes.{node_at};
+ghost use Rattle.asg_rankings.specs.SearchTrees.{is_answered};
 ghost use Rattle.asg_trees.specs.Descents.{AreSettledBelow, AreSettledBelowEach};
 ghost use Rattle.asg_kept_cells.specs.Kept.{KeepsOtherRows};
 ghost use Rattle.asg_trees.specs.Tallies.{Falls, IsFair, IsTallied, IsTalliedBy, IsWholeTally};
@@ -21,8 +21,8 @@ use crate::paths::go_down;
 use crate::siblings::judge_children;
 use crate::verdicts::Tally;
 use asg_admit::Reduced;
+use asg_bit_rows::BitRows;
 use asg_order::{Kind, Ordered};
-use asg_square::BitRows;
 use std::alloc::Global;
 
 // Judges the nodes below a child of a node, where it has an answer and isn't the one that takes over

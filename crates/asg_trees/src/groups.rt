@@ -5,7 +5,7 @@ ghost use Rattle.asg_trees.specs.Groups.{AreGroups, answer_keys, linked_first, l
 
 use crate::NoMemory;
 use crate::node_parts::{answer_number, parent_number};
-use asg_proof::Node;
+use asg_rankings::Node;
 use std::alloc::{AllocError, Global};
 
 /// Of the numbers from 1 on the first of each key, and behind each number the next of its key; 0

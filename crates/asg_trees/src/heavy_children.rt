@@ -6,7 +6,7 @@ ghost use Rattle.asg_trees.specs.Descents.{LeadsOn};
 use crate::NoMemory;
 use crate::groups::Groups;
 use crate::node_parts::{answer_of, has_answer, parent_of};
-use asg_proof::Node;
+use asg_rankings::Node;
 use std::alloc::Global;
 
 /// By the number of a node's answer, the child with most answered nodes below it; 0 where none is

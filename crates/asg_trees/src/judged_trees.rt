@@ -3,7 +3,7 @@
 use crate::choice_lists::Choices;
 use crate::groups::Groups;
 use asg_model::Instance;
-use asg_proof::Node;
+use asg_rankings::Node;
 
 /// An instance, answers, of which so many were asked for, and nodes that are judged. The nodes are
 /// grouped by the parents that they name and by their answers. The product of the last answer is

@@ -5,25 +5,27 @@ ghost use Rattle.asg_model.specs.declared.parts.Place.TheVariants.{All as PlaceA
 ghost use Rattle.asg_model.specs.Limits.{most_side};
 ghost use Rattle.asg_model.specs.Shapes.{square_side};
 ghost use Rattle.asg_order.specs.Monoid.{IsLe, IsValue};
-ghost use Rattle.asg_proof.specs.Nodes.{node_at};
+ghost use Rattle.asg_rankings.specs.Nodes.{node_at};
 ghost use Rattle.asg_proof.specs.Steps.{HasValues};
-ghost use Rattle.asg_proof.specs.declared.nodes.Mark.TheVariants.{Answered, Open};
+ghost use Rattle.asg_rankings.specs.declared.nodes.Mark.TheVariants.{Answered, Open};
 ghost use Rattle.asg_square.specs.Grid.{cell_at};
 ghost use Rattle.asg_square.specs.HallColumns.{OutnumberColumns};
 ghost use Rattle.asg_trees.specs.Groups.{AreGroups, answer_keys, parent_keys};
 ghost use Rattle.asg_kept_cells.specs.Kept.{HasSize, kept_cells};
 ghost use Rattle.asg_kept_cells.specs.MaskedPhases.{HaveIndexAfter};
-ghost use Rattle.asg_trees.specs.Marks.{JudgesMark, JudgesOpen, MarkHolds};
+ghost use Rattle.asg_trees.specs.Marks.{marked_tree, JudgesMark, JudgesOpen, MarkHolds};
 
 use crate::NoMemory;
 use crate::judged_trees::Tree;
 use crate::node_parts::{mark_of, own_of};
 use crate::own_answers::has_own_answer;
 use crate::verdicts::Judgement;
+use asg_bit_rows::BitRows;
 use asg_kept_cells::{chooses_kept, outnumber, told_index};
 use asg_order::{Ordered, Written};
-use asg_proof::{Mark, WrittenPhase};
-use asg_square::{BitRows, Square};
+use asg_proof::WrittenPhase;
+use asg_rankings::Mark;
+use asg_square::Square;
 use std::alloc::Global;
 
 // Whether the product of the last answer, if as many are listed as were asked for, is at most an
@@ -187,8 +189,7 @@ pub(crate) fn judge_mark<M: Written>(
     requires from { 1 ≤ n }
     requires upto { n ≤ length tree.now.nodes.now }
     ensures { IfOk result (JudgesMark (M.monoid_of m.now) (M.difference m.now) (M.word_of m.now)
-        tree.now.inst.now tree.now.answers.now tree.now.nodes.now tree.now.last square.now kept.now
-        before n (node_at tree.now.nodes.now n).mark) }
+        (marked_tree tree.now) square.now kept.now before n (node_at tree.now.nodes.now n).mark) }
 {
     match mark_of(tree.nodes, n) {
         Mark::Answered(answer) => {

@@ -1,10 +1,11 @@
 //! The parts of nodes, by number.
 
 ghost use Rattle.std.specs.Prelude.{◌≡◌, ◌≤◌, length};
-ghost use Rattle.asg_proof.specs.Nodes.{answer_number, node_at};
-ghost use Rattle.asg_proof.specs.SearchTrees.{is_answered};
+ghost use Rattle.asg_rankings.specs.Nodes.{answer_number, node_at};
+ghost use Rattle.asg_rankings.specs.SearchTrees.{is_answered};
 
-use asg_proof::{Mark, Node, WrittenPhase};
+use asg_proof::WrittenPhase;
+use asg_rankings::{Mark, Node};
 
 /// The parent that a node names.
 #[inline]

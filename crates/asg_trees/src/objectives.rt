@@ -12,7 +12,7 @@ ghost use Rattle.asg_model.specs.ValidChoice.{IsValid};
 ghost use Rattle.asg_monoids.specs.BoundedSums.{bounded_sums, bounded_difference, plain_word, narrow_top};
 ghost use Rattle.asg_monoids.specs.Entered.{is_sum_objective, sum_entered};
 ghost use Rattle.asg_monoids.specs.NarrowObjectives.{is_narrow_objective};
-ghost use Rattle.asg_proof.specs.Nodes.{node_at};
+ghost use Rattle.asg_rankings.specs.Nodes.{node_at};
 ghost use Rattle.asg_replays.specs.Replays.{AreReplayed};
 ghost use Rattle.asg_trees.specs.Judged.{TellsRanking, TellsTree};
 
@@ -26,8 +26,8 @@ use asg_model::{Instance, Objective};
 use asg_monoids::laws::narrow_sums;
 use asg_monoids::{PeakKind, SumKind, TimeKind};
 use asg_narrow_kinds::NarrowKind;
-use asg_proof::Node;
-use asg_proof::ranking_laws::tree_tops_law;
+use asg_rankings::Node;
+use asg_rankings::laws::tree_tops_law;
 use asg_replays::{has_long, narrow_led, start};
 use std::alloc::Global;
 

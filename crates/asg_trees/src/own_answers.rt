@@ -1,14 +1,14 @@
 //! Answers of nodes, and their branches.
 
 ghost use Rattle.std.specs.Prelude.{◌≡◌, ◌↔◌, ◌==◌, ◌≤◌, ℕ, IsTrue, if◌then◌else◌, length};
-ghost use Rattle.asg_proof.specs.Nodes.{answer_number, node_at};
-ghost use Rattle.asg_proof.specs.SearchTrees.{child_count};
+ghost use Rattle.asg_rankings.specs.Nodes.{answer_number, node_at};
+ghost use Rattle.asg_rankings.specs.SearchTrees.{child_count};
 ghost use Rattle.asg_trees.specs.Groups.{AreGroups, answer_keys, parent_keys};
 ghost use Rattle.asg_trees.specs.Marks.{HasOwnAnswer};
 
 use crate::groups::Groups;
 use crate::node_parts::branch_of;
-use asg_proof::Node;
+use asg_rankings::Node;
 
 // 1 where the branch of a node is this one, else 0.
 fn one_of(nodes: &[Node], n: usize, branch: u32) -> usize

@@ -1,8 +1,8 @@
 //! The square of a node, from that of its parent.
 
 ghost use Rattle.std.specs.Prelude.{◌≡◌, ◌+◌, ◌<◌, ◌≤◌, IsTrue, IfOk, length};
-ghost use Rattle.asg_proof.specs.Nodes.{answer_number, node_answer, node_at};
-ghost use Rattle.asg_proof.specs.SearchTrees.{is_answered};
+ghost use Rattle.asg_rankings.specs.Nodes.{answer_number, node_answer, node_at};
+ghost use Rattle.asg_rankings.specs.SearchTrees.{is_answered};
 ghost use Rattle.asg_trees.specs.Tallies.{HavePlaces};
 ghost use Rattle.asg_trees.specs.Trails.{IsAt};
 ghost use Rattle.asg_trees.specs.Trees.{IsReady, IsSound, tree_by};
@@ -12,11 +12,11 @@ use crate::choice_lists::Choices;
 use crate::judged_trees::Tree;
 use crate::node_parts::{answer_of, branch_of, own_of, parent_of};
 use asg_admit::Reduced;
+use asg_bit_rows::BitRows;
 use asg_kept_cells::{lead_by, make_mask, take_out};
 use asg_model::Choice;
 use asg_order::{Kind, Ordered};
-use asg_proof::Node;
-use asg_square::BitRows;
+use asg_rankings::Node;
 use std::alloc::Global;
 
 /// The answer of a node. The error is want of memory.

@@ -1,10 +1,10 @@
 //! The places of nodes: the parents and the branches that they name.
 
 ghost use Rattle.std.specs.Prelude.{◌↔◌, ◌+◌, ◌<◌, ◌≤◌, ℕ, IsTrue, length};
-ghost use Rattle.asg_proof.specs.SearchTrees.{HasPlace, IsBelowParent};
+ghost use Rattle.asg_rankings.specs.SearchTrees.{HasPlace, IsBelowParent};
 
 use crate::node_parts::{branch_of, has_answer, parent_of};
-use asg_proof::Node;
+use asg_rankings::Node;
 
 // Whether a node names a parent before it that has an answer, and one of so many branches.
 fn is_below_parent(nodes: &[Node], branches: u32, n: usize) -> bool

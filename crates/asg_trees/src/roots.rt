@@ -2,7 +2,7 @@
 
 ghost use Rattle.std.specs.Prelude.{◌≡◌, ◌<◌, IfOk, IfSome};
 ghost use Rattle.std.specs.Option.{option_map};
-ghost use Rattle.asg_proof.specs.Nodes.{node_at};
+ghost use Rattle.asg_rankings.specs.Nodes.{node_at};
 ghost use Rattle.asg_replays.specs.Replays.{AreReplayed, IsStart};
 ghost use Rattle.asg_replays.specs.WholeLists.{HaveIndex};
 ghost use Rattle.asg_square.specs.Grid.{cell_at};
@@ -17,9 +17,9 @@ use crate::node_parts::own_of;
 use crate::tallies::tally_node;
 use crate::verdicts::Tally;
 use asg_admit::Reduced;
+use asg_bit_rows::BitRows;
 use asg_kept_cells::stand_after;
 use asg_order::{Kind, Ordered};
-use asg_square::BitRows;
 use std::alloc::Global;
 
 // The index of a square, if it is known.

@@ -1,8 +1,8 @@
 //! The nodes that name one parent, judged on its square.
 
 ghost use Rattle.std.specs.Prelude.{◌≡◌, ◌+◌, ◌<◌, ◌≤◌, IsTrue, IfOk, length};
-ghost use Rattle.asg_proof.specs.Nodes.{node_answer, node_at};
-ghost use Rattle.asg_proof.specs.SearchTrees.{is_answered};
+ghost use Rattle.asg_rankings.specs.Nodes.{node_answer, node_at};
+ghost use Rattle.asg_rankings.specs.SearchTrees.{is_answered};
 ghost use Rattle.asg_kept_cells.specs.Kept.{IsFront, IsMaskOf, KeepsOtherRows};
 ghost use Rattle.asg_trees.specs.Tallies.{Falls, HavePlaces, IsFair, IsTallied, TalliesNode};
 ghost use Rattle.asg_trees.specs.Trails.{IsAt, StandsAt};
@@ -15,10 +15,10 @@ use crate::paths::answer_at;
 use crate::tallies::tally_node;
 use crate::verdicts::Tally;
 use asg_admit::Reduced;
+use asg_bit_rows::BitRows;
 use asg_kept_cells::{Front, make_mask, move_mask};
 use asg_model::Choice;
 use asg_order::{Kind, Ordered};
-use asg_square::BitRows;
 use std::alloc::Global;
 
 // Judges a node on its parent's square and tallies it: bits that another branch of the parent's

@@ -2,7 +2,7 @@
 
 ghost use Rattle.std.specs.Prelude.{◌≡◌, ◌+◌, ◌≤◌, IfOk, IfSome, length};
 ghost use Rattle.asg_model.specs.Shapes.{square_side};
-ghost use Rattle.asg_proof.specs.Nodes.{node_at};
+ghost use Rattle.asg_rankings.specs.Nodes.{node_at};
 ghost use Rattle.asg_proof.specs.Steps.{HasValues};
 ghost use Rattle.asg_square.specs.Grid.{cell_at};
 ghost use Rattle.asg_kept_cells.specs.Kept.{HasSize};
@@ -15,9 +15,10 @@ use crate::NoMemory;
 use crate::judged_trees::Tree;
 use crate::marks::judge_mark;
 use crate::verdicts::{Judgement, Tally};
+use asg_bit_rows::BitRows;
 use asg_order::{Kind, Ordered};
+use asg_square::Square;
 use asg_square::laws::square_law;
-use asg_square::{BitRows, Square};
 use std::alloc::Global;
 
 // The tally with a judgement of a node.

@@ -7,7 +7,7 @@ ghost use Rattle.asg_model.specs.Refused.{PassesNegative};
 ghost use Rattle.asg_model.specs.Shapes.{square_side};
 ghost use Rattle.asg_model.specs.ValidChoice.{IsValid};
 ghost use Rattle.asg_order.specs.Entering.{LiesWithin};
-ghost use Rattle.asg_proof.specs.Nodes.{node_at};
+ghost use Rattle.asg_rankings.specs.Nodes.{node_at};
 ghost use Rattle.asg_replays.specs.Replays.{AreReplayed, IsStart};
 ghost use Rattle.asg_trees.specs.Judged.{TellsTree};
 ghost use Rattle.asg_trees.specs.Trees.{IsLastProduct, IsReady, tree_by};
@@ -25,7 +25,7 @@ use asg_admit::Reduced;
 use asg_kept_cells::whole_mask;
 use asg_model::Instance;
 use asg_order::{Kind, Ordered};
-use asg_proof::Node;
+use asg_rankings::Node;
 use asg_replays::{chosen_fold, start};
 use std::alloc::Global;
 

@@ -10,9 +10,9 @@ use Rattle.asg_model.specs.Live.{is_active}
 use Rattle.asg_model.specs.Problem.{Problem}
 use Rattle.asg_model.specs.Shapes.{square_side}
 use Rattle.asg_model.specs.Sums.{count_below}
-use Rattle.asg_proof.specs.Children.{row_number, is_chosen, is_kept_at}
-use Rattle.asg_proof.specs.Masks.{keeps_labelled, keeps_cell}
-use Rattle.asg_square.specs.BitTable.{BitTable, has_bit, word_count, is_bit_set}
+use Rattle.asg_rankings.specs.Children.{row_number, is_chosen, is_kept_at}
+use Rattle.asg_rankings.specs.Masks.{keeps_labelled, keeps_cell}
+use Rattle.asg_bit_rows.specs.BitTable.{BitTable, has_bit, word_count, is_bit_set}
 use Rattle.asg_square.specs.Grid.{Grid, HasLabelsOf}
 use Rattle.asg_square.specs.Labels.{row_label, column_label}
 use Rattle.asg_square.specs.Masked.{keeps}

@@ -9,7 +9,7 @@ use Rattle.asg_model.specs.Counts.{placed}
 use Rattle.asg_model.specs.Problem.{Problem}
 use Rattle.asg_model.specs.ValidChoice.{IsValid}
 use Rattle.asg_pool.specs.Forest.{Forest}
-use Rattle.asg_proof.specs.Frontiers.{IsFrontier}
+use Rattle.asg_rankings.specs.Frontiers.{IsFrontier}
 use Rattle.asg_nodes.specs.declared.entries.Entry.{Entry}
 use Rattle.asg_nodes.specs.declared.entries.State.{State}
 use Rattle.asg_nodes.specs.declared.entries.State.TheVariants.{Answered, Open, Empty}

@@ -12,10 +12,10 @@ use Rattle.asg_model.specs.Problem.{Problem}
 use Rattle.asg_model.specs.ValidChoice.{IsValid}
 use Rattle.asg_order.specs.Bridge.{choice_fold}
 use Rattle.asg_order.specs.Monoid.{Monoid}
-use Rattle.asg_proof.specs.Children.{child}
-use Rattle.asg_proof.specs.laws.ChildCells.{IsInstance-child}
-use Rattle.asg_proof.specs.laws.ChildFolds.{live-in_child, choice_fold-child}
-use Rattle.asg_proof.specs.laws.Partition.{IsValid-from_child}
+use Rattle.asg_rankings.specs.Children.{child}
+use Rattle.asg_rankings.specs.laws.ChildCells.{IsInstance-child}
+use Rattle.asg_rankings.specs.laws.ChildFolds.{live-in_child, choice_fold-child}
+use Rattle.asg_rankings.specs.laws.Partition.{IsValid-from_child}
 use Rattle.asg_nodes.specs.Entries.{child_number}
 use Rattle.asg_nodes.specs.Trees.{given_at, AreParts}
 

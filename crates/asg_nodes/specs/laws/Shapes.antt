@@ -3,7 +3,7 @@
 use Rattle.std.proofs.Common.{◌≡◌, ℕ, List, Option, sym, ap, subst}
 use Rattle.asg_model.specs.Problem.{Problem, problem_of}
 use Rattle.asg_model.specs.Shapes.{square_side}
-use Rattle.asg_proof.specs.Masks.{keeps_cell}
+use Rattle.asg_rankings.specs.Masks.{keeps_cell}
 use Rattle.asg_square.specs.Grid.{Grid, HasLabelsOf}
 
 module _ (X Y : Problem) (rows : Y.rows ≡ X.rows) (columns : Y.columns ≡ X.columns) (place : Y.place ≡ X.place) where

@@ -1,5 +1,4 @@
-use Rattle.std.proofs.Common.{◌≤◌, length, sym, arith}
-use Rattle.std.proofs.lemmas.List.{length-take-le}
+use Rattle.asg_branching.proofs.Common.{◌≤◌, length, sym, arith, length-take-le}
 use Rattle.asg_branching.proofs.child_nodes.write_hall.Goals as goal
 
 pub slice_bounds-push-end : goal.slice_bounds-push-end

@@ -1,10 +1,7 @@
-use Rattle.std.proofs.Common.{◌+◌, ◌-◌, length, sym, ◌∙◌, ap, arith}
-use Rattle.std.specs.Prelude.{None, slice_index_or}
-use Rattle.asg_nodes.specs.Rules.{rules_of}
+use Rattle.asg_branching.proofs.Common.{◌+◌, ◌-◌, length, slice_index_or, None, sym, ap, ◌∙◌, arith, row-from_active, rules_of}
 use Rattle.asg_branching.proofs.ChildBits.{chosen_is, last_same, lost_expanding, fixed_expanding, bit_row_here, labels_here}
 use Rattle.asg_branching.proofs.GrowCases.{given_count}
 use Rattle.asg_branching.proofs.GrowStarts.{last_choice}
-use Rattle.asg_model.specs.laws.Rows.{row-from_active}
 use Rattle.asg_branching.proofs.children.add_child.Goals as goal
 
 pub overflow_sub-search : goal.overflow_sub-search

@@ -1,8 +1,4 @@
-use Rattle.std.proofs.Common.{◌≤◌, length, sym, ◌∙◌, ap, subst, arith}
-use Rattle.asg_order.specs.Monoid.{IsValue}
-use Rattle.asg_nodes.specs.Entries.{entry_at}
-use Rattle.asg_nodes.specs.Rules.{rules_of}
-use Rattle.asg_branching.specs.Searches.{IsBehind}
+use Rattle.asg_branching.proofs.Common.{◌≤◌, length, sym, ap, ◌∙◌, subst, arith, IsBehind, entry_at, rules_of, IsValue}
 use Rattle.asg_branching.proofs.GrowCases.{node_from, node_there, node_leads}
 use Rattle.asg_branching.proofs.GrowOutcomes.{led_value}
 use Rattle.asg_branching.proofs.GrowStarts.{last_used}

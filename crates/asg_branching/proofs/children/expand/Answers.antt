@@ -1,8 +1,4 @@
-use Rattle.std.proofs.Common.{◌≡◌, length, refl, sym, ◌∙◌, ap, arith}
-use Rattle.asg_model.specs.Live.{is_active}
-use Rattle.asg_model.specs.Sums.{count_below}
-use Rattle.asg_branching.specs.Expansions.{fixed_for}
-use Rattle.asg_nodes.specs.Rules.{rules_of}
+use Rattle.asg_branching.proofs.Common.{◌≡◌, length, sym, refl, ap, ◌∙◌, arith, fixed_for, is_active, count_below, rules_of}
 use Rattle.asg_branching.proofs.ActiveRows.{active_total}
 use Rattle.asg_branching.proofs.PrepareSteps.{ready_expanded}
 use Rattle.asg_branching.proofs.children.expand.Goals as goal

@@ -1,10 +1,4 @@
-use Rattle.std.proofs.Common.{◌≡◌, ℕ}
-use Rattle.asg_model.specs.declared.parts.Cost.{Cost}
-use Rattle.asg_model.specs.Live.{is_active}
-use Rattle.asg_model.specs.Sums.{count_below}
-use Rattle.asg_branching.specs.Expansions.{IsGrowing, IsExpanding, fixed_for}
-use Rattle.asg_nodes.specs.Rules.{rules_of}
-use Rattle.asg_branching.specs.Searches.{given_of}
+use Rattle.asg_branching.proofs.Common.{◌≡◌, ℕ, IsGrowing, IsExpanding, fixed_for, given_of, is_active, count_below, Cost, rules_of}
 use Rattle.asg_branching.proofs.children.expand.Given as goal
 
 -- the children of the rows so far were made

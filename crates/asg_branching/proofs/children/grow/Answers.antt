@@ -1,10 +1,4 @@
-use Rattle.std.proofs.Common.{◌≡◌, length, sym, ◌∙◌, ap, subst, arith}
-use Rattle.std.specs.Prelude.{None, slice_set}
-use Rattle.std.proofs.lemmas.List.{get_or-set_same, length-set}
-use Rattle.asg_algebra.specs.Branches.{Branches}
-use Rattle.asg_growth.specs.Masked.{masked_reduced}
-use Rattle.asg_growth.specs.Rest.{IsRestOf}
-use Rattle.asg_match.specs.Matching.{column_at}
+use Rattle.asg_branching.proofs.Common.{◌≡◌, length, slice_set, None, sym, ap, ◌∙◌, subst, arith, length-set, get_or-set_same, Branches, stage_of, masked_reduced, IsRestOf, column_at}
 use Rattle.asg_branching.proofs.GrowStarts.{branch_length}
 use Rattle.asg_branching.proofs.children.grow.Goals as goal
 
@@ -46,8 +40,8 @@ returns-clause-branches g c =
     let D = c.args.desk.now in
     let m_is = c.clear.ensures ∙ ap (λ t. slice_set t c.args.row None) c.take.ensures in
     let words = c.words.ensures.words in
-    subst (λ t. Branches M (g.M.DMonoid.difference m) (masked_reduced D.work D.bits.words) t c.branch_from.new.matching c.args.limit c.args.region.now c.branch_from.new.region c.args.trail c.args.row c.branch_from.new.bench.rows c.branch_from.result) m_is
-    (subst (λ w. Branches M (g.M.DMonoid.difference m) (masked_reduced D.work w) c.clear.new.self c.branch_from.new.matching c.args.limit c.args.region.now c.branch_from.new.region c.args.trail c.args.row c.branch_from.new.bench.rows c.branch_from.result) words c.branch_from.ensures.branches)
+    subst (λ t. Branches M (g.M.DMonoid.difference m) (stage_of (masked_reduced D.work D.bits.words) t c.args.region.now) (stage_of (masked_reduced D.work D.bits.words) c.branch_from.new.matching c.branch_from.new.region) c.args.limit c.args.trail c.args.row c.branch_from.new.bench.rows c.branch_from.result) m_is
+    (subst (λ w. Branches M (g.M.DMonoid.difference m) (stage_of (masked_reduced D.work w) c.clear.new.self c.args.region.now) (stage_of (masked_reduced D.work w) c.branch_from.new.matching c.branch_from.new.region) c.args.limit c.args.trail c.args.row c.branch_from.new.bench.rows c.branch_from.result) words c.branch_from.ensures.branches)
 
 pub returns-clause-trial : goal.returns-clause-trial
 returns-clause-trial g c =
@@ -58,5 +52,5 @@ returns-clause-trial g c =
     let rows : length matching ≡ D.work.now.side = c.requires.rest.matching_side in
     let m_is = c.clear.ensures ∙ ap (λ t. slice_set t c.args.row None) c.take.ensures in
     let before : length c.clear.new.self ≡ length matching = ap length m_is ∙ length-set matching c.args.row None in
-    branch_length M (g.M.DMonoid.difference m) (masked_reduced D.work c.words.result.now) c.clear.new.self c.branch_from.new.matching c.args.limit c.args.region.now c.branch_from.new.region c.args.trail c.args.row c.branch_from.new.bench.rows c.branch_from.result (before ∙ rows) c.branch_from.ensures.branches
+    branch_length M (g.M.DMonoid.difference m) (stage_of (masked_reduced D.work c.words.result.now) c.clear.new.self c.args.region.now) (stage_of (masked_reduced D.work c.words.result.now) c.branch_from.new.matching c.branch_from.new.region) c.args.limit c.args.trail c.args.row c.branch_from.new.bench.rows c.branch_from.result (before ∙ rows) c.branch_from.ensures.branches
     ∙ before ∙ sym c.requires.trial

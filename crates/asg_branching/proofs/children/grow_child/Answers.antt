@@ -1,30 +1,13 @@
-use Rattle.std.proofs.Common.{◌≡◌, ◌+◌, ◌≤◌, length, refl, sym, ◌∙◌, ap, subst, arith}
+use Rattle.asg_branching.proofs.Common.{◌≡◌, ℕ, ◌+◌, ◌≤◌, List, [], ◌∷◌, ◌++◌, length, IfSome, vec_len, sym, refl, ap, ◌∙◌, subst, arith, IsExpanding, kept_for, given_of, Desk, IsRestOf, GivesHallSets, Matches, square_side, entry_at, rules_of, IsValue, IsLive, IsPresent, cell_at, HasLabelsOf, masked_grid}
 use Rattle.asg_model.specs.Limits.{most_side}
-use Rattle.asg_model.specs.Shapes.{square_side}
-use Rattle.asg_order.specs.Monoid.{IsValue}
-use Rattle.asg_nodes.specs.Entries.{entry_at}
-use Rattle.asg_nodes.specs.Rules.{rules_of}
 use Rattle.asg_branching.proofs.ActiveRows.{active_less}
 use Rattle.asg_branching.proofs.DeskSteps.{desk_grown, desk_closed}
 use Rattle.asg_branching.proofs.GrowCases.{node_from, node_there, node_leads}
 use Rattle.asg_branching.proofs.GrowEnds.{ends_still, ends_left, ends_kept, ends_empty}
-use Rattle.asg_branching.proofs.GrowOutcomes.{led_value}
+use Rattle.asg_branching.proofs.GrowOutcomes.{led_value, limit_value}
 use Rattle.asg_branching.proofs.GrowStarts.{last_used, few_nodes, few_children, node_fits, phase_fits, hall_fits, start_rest, start_side, start_rows, start_row, start_kept}
-use Rattle.std.proofs.Common.{ℕ, List, [], ◌∷◌, ◌++◌}
-use Rattle.std.specs.Prelude.{IfSome, vec_len}
-use Rattle.asg_growth.specs.Rest.{IsRestOf}
 use Rattle.asg_match.specs.Deficient.{IsDeficient}
-use Rattle.asg_match.specs.HallSets.{GivesHallSets}
-use Rattle.asg_match.specs.Matching.{Matches}
-use Rattle.asg_pool.specs.Forest.{IsLive}
-use Rattle.asg_square.specs.Cells.{IsPresent}
-use Rattle.asg_square.specs.Grid.{cell_at, HasLabelsOf}
-use Rattle.asg_square.specs.Masked.{masked_grid}
-use Rattle.asg_branching.specs.declared.desks.Desk.{Desk}
-use Rattle.asg_branching.specs.Expansions.{IsExpanding, kept_for}
-use Rattle.asg_branching.specs.Searches.{given_of}
 use Rattle.asg_branching.proofs.ChildBits.{labels_here}
-use Rattle.asg_branching.proofs.GrowOutcomes.{limit_value}
 use Rattle.asg_branching.proofs.children.grow_child.Goals as goal
 
 pub overflow_sub-place : goal.overflow_sub-place
@@ -187,7 +170,7 @@ pub close_child-requires-clause-short : goal.close_child-requires-clause-short
 close_child-requires-clause-short g c =
     let s = c.in-Short.ensures.same in
     let d = c.grow-grown.new.desk in
-    subst (λ (x : Desk _). IsDeficient (IsPresent (cell_at (masked_grid x.work.now x.bits.words))) x.work.now.side d.bench.rows) (sym s) c.in-Short.ensures.branches.2
+    subst (λ (x : Desk _). IsDeficient (IsPresent (cell_at (masked_grid x.work.now x.bits.words))) x.work.now.side d.bench.rows) (sym s) c.in-Short.ensures.branches.1
 
 pub close_child-requires-clause-ids : goal.close_child-requires-clause-ids
 close_child-requires-clause-ids g c =
@@ -290,4 +273,4 @@ returns-in-Short-clause-expanding g c =
     let sets = subst (λ (d : Desk _). (set : List ℕ) × (c.close_child.new.tree.halls ≡ record S.tree.halls { sets = S.tree.halls.sets ++ set ∷ [] }) × GivesHallSets X (IsPresent (cell_at (masked_grid d.work.now d.bits.words))) set) grow.same close.sets in
     ends_empty R laws raises X count made S expanding less c.node-node.result c.entry-parent.result n_is x_is c.close_child.new.tree c.close_child.new.desk close.capacity
     (desk_closed (square_side X) desk c.close_child.new.desk S.desk stays close.same close.ids)
-    c.infeasible_law.ensures c.square_law.ensures.presence close.entries (close.region ∙ grow.branches.1) sets
+    c.infeasible_law.ensures c.square_law.ensures.presence close.entries (close.region ∙ ap (λ s. s.forest) grow.branches.0) sets

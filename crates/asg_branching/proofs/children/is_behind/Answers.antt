@@ -1,5 +1,4 @@
-use Rattle.std.proofs.Common.{sym, ◌∙◌}
-use Rattle.std.specs.Prelude.{Some}
+use Rattle.asg_branching.proofs.Common.{Some, sym, ◌∙◌}
 use Rattle.asg_branching.proofs.GrowOutcomes.{behind_limit}
 use Rattle.asg_branching.proofs.children.is_behind.Goals as goal
 

@@ -1,10 +1,4 @@
-use Rattle.std.proofs.Common.{◌≡◌, ◌-◌, ◌≤◌, length, refl, sym, ◌∙◌, ap, subst, arith}
-use Rattle.asg_model.specs.Counts.{placed}
-use Rattle.asg_nodes.specs.Entries.{entry_at}
-use Rattle.asg_branching.specs.Expansions.{IsGrowing}
-use Rattle.asg_nodes.specs.Rules.{rules_of}
-use Rattle.asg_branching.specs.Searches.{IsBehind}
-use Rattle.asg_nodes.specs.Slots.{slot_at}
+use Rattle.asg_branching.proofs.Common.{◌≡◌, ◌-◌, ◌≤◌, length, sym, refl, ap, ◌∙◌, subst, arith, IsGrowing, IsBehind, placed, entry_at, rules_of, slot_at}
 use Rattle.asg_branching.proofs.GrowCases.{node_from, node_there}
 use Rattle.asg_branching.proofs.GrowStarts.{last_used, node_fits, few_left}
 use Rattle.asg_branching.proofs.LeftChildren.{left_next, open_next, parent_next}

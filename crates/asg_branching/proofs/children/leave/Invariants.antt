@@ -1,11 +1,4 @@
-use Rattle.std.proofs.Common.{◌≡◌, ℕ, ◌+◌, ◌-◌, ◌<◌, ◌≤◌}
-use Rattle.asg_model.specs.declared.parts.Cost.{Cost}
-use Rattle.asg_model.specs.Counts.{placed}
-use Rattle.asg_nodes.specs.declared.entries.State.TheVariants.{Open}
-use Rattle.asg_nodes.specs.Entries.{entry_at, child_number}
-use Rattle.asg_branching.specs.Expansions.{IsGrowing}
-use Rattle.asg_nodes.specs.Rules.{rules_of}
-use Rattle.asg_branching.specs.Searches.{given_of}
+use Rattle.asg_branching.proofs.Common.{◌≡◌, ℕ, ◌+◌, ◌-◌, ◌<◌, ◌≤◌, IsGrowing, given_of, placed, Cost, entry_at, child_number, rules_of, Open}
 use Rattle.asg_branching.proofs.children.leave.Given as goal
 
 -- the children so far were made, and each is open

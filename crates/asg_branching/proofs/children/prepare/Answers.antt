@@ -1,11 +1,4 @@
-use Rattle.std.proofs.Common.{◌+◌, ◌*◌, ◌≤◌, length, take, refl, sym, ◌∙◌, subst, arith}
-use Rattle.std.specs.Vec.{with_items}
-use Rattle.asg_model.specs.Counts.{placed}
-use Rattle.asg_nodes.specs.Entries.{entry_at}
-use Rattle.asg_nodes.specs.Rules.{rules_of, IsReducedTo}
-use Rattle.asg_branching.specs.Searches.{winner_in, given_of}
-use Rattle.asg_nodes.specs.Settled.{IsRebuilt}
-use Rattle.asg_nodes.specs.Trees.{IsTree}
+use Rattle.asg_branching.proofs.Common.{◌+◌, ◌*◌, ◌≤◌, length, take, sym, refl, ◌∙◌, subst, arith, with_items, winner_in, given_of, placed, entry_at, rules_of, IsReducedTo, IsRebuilt, IsTree}
 use Rattle.asg_branching.proofs.GrowCases.{node_from, node_there}
 use Rattle.asg_branching.proofs.GrowStarts.{last_used}
 use Rattle.asg_branching.proofs.PrepareSteps.{root_base, rebuilt_here, prepared}

@@ -1,9 +1,5 @@
-use Rattle.std.proofs.Common.{◌≡◌, ◌+◌, sym, ◌∙◌, ap, arith}
-use Rattle.asg_model.specs.Live.{is_active}
-use Rattle.asg_model.specs.Sums.{count_below}
-use Rattle.asg_nodes.specs.Rules.{rules_of}
+use Rattle.asg_branching.proofs.Common.{◌≡◌, ◌+◌, cond, sym, ap, ◌∙◌, arith, is_active, count_below, rules_of}
 use Rattle.asg_branching.proofs.GrowStarts.{few_children}
-use Rattle.std.proofs.Common.{cond}
 use Rattle.asg_nodes.specs.laws.BitSteps.{count_more}
 use Rattle.asg_branching.proofs.ActiveRows.{active_less}
 use Rattle.asg_branching.proofs.children.visit_row.Goals as goal

@@ -1,15 +1,4 @@
-use Rattle.std.proofs.Common.{◌≡◌, ◌+◌, length, refl, sym, ◌∙◌, ap, subst, arith}
-use Rattle.std.specs.Vec.{with_item, with_items}
-use Rattle.std.proofs.lemmas.List.{with_items_is}
-use Rattle.asg_match.specs.Matching.{IsPerfect}
-use Rattle.asg_square.specs.Cells.{IsPresent}
-use Rattle.asg_square.specs.Grid.{cell_at}
-use Rattle.asg_nodes.specs.declared.entries.State.TheVariants.{Answered}
-use Rattle.asg_branching.specs.declared.searches.Search.{Search}
-use Rattle.asg_branching.specs.Chosen.{IsChosenBy}
-use Rattle.asg_nodes.specs.Entries.{with_state}
-use Rattle.asg_nodes.specs.Rules.{rules_of}
-use Rattle.asg_nodes.specs.laws.Parts.{room_small}
+use Rattle.asg_branching.proofs.Common.{◌≡◌, ◌+◌, length, sym, refl, ap, ◌∙◌, subst, arith, with_item, with_items, with_items_is, IsChosenBy, Search, IsPerfect, with_state, rules_of, Answered, room_small, IsPresent, cell_at}
 use Rattle.asg_branching.proofs.GivenAnswers.{node_from, node_upto, perfect_base, chosen_over, given_answer, given_least, memory_given}
 use Rattle.asg_branching.proofs.GivenSearches.{growing_now, one_more}
 use Rattle.asg_branching.proofs.giving.give.Goals as goal

@@ -1,5 +1,4 @@
-use Rattle.std.proofs.Common.{◌+◌, ◌∙◌, ap, arith, length, take}
-use Rattle.std.proofs.lemmas.List.{length-set}
+use Rattle.asg_edits.proofs.Common.{◌+◌, length, take, ap, ◌∙◌, arith, length-set}
 use Rattle.asg_edits.proofs.CopySteps.{copied_more}
 use Rattle.asg_edits.proofs.choice_copies.copied.Goals as goal
 

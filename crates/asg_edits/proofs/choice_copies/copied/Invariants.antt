@@ -1,4 +1,4 @@
-use Rattle.std.proofs.Common.{◌≡◌, length, take}
+use Rattle.asg_edits.proofs.Common.{◌≡◌, length, take}
 use Rattle.asg_edits.proofs.choice_copies.copied.Given as goal
 
 -- the rows so far choose alike

@@ -1,4 +1,4 @@
-use Rattle.asg_algebra.specs.Solved.{unmatched}
+use Rattle.asg_edits.proofs.Common.{unmatched}
 use Rattle.asg_edits.proofs.SessionFacts.{more_words}
 use Rattle.asg_edits.proofs.chosen_sessions.choose_session.Goals as goal
 

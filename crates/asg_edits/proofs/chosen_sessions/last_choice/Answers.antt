@@ -1,5 +1,4 @@
-use Rattle.std.proofs.Common.{sym, subst}
-use Rattle.asg_repair.specs.Sessions.{IsBestBy}
+use Rattle.asg_edits.proofs.Common.{sym, subst, IsBestBy}
 use Rattle.asg_edits.proofs.SessionFacts.{IsChoiceIn-by}
 use Rattle.asg_edits.proofs.chosen_sessions.last_choice.Goals as goal
 

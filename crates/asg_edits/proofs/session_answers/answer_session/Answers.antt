@@ -1,4 +1,4 @@
-use Rattle.asg_algebra.specs.Solved.{unmatched}
+use Rattle.asg_edits.proofs.Common.{unmatched}
 use Rattle.asg_edits.proofs.SessionFacts.{more_words}
 use Rattle.asg_edits.proofs.session_answers.answer_session.Goals as goal
 

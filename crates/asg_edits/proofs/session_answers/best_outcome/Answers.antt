@@ -1,5 +1,4 @@
-use Rattle.std.proofs.Common.{arith, sym, subst}
-use Rattle.asg_repair.specs.Sessions.{IsBestBy}
+use Rattle.asg_edits.proofs.Common.{sym, subst, arith, IsBestBy}
 use Rattle.asg_edits.proofs.SessionFacts.{IsBestIn-by}
 use Rattle.asg_edits.proofs.session_answers.best_outcome.Goals as goal
 

@@ -1,9 +1,4 @@
-use Rattle.std.proofs.Common.{ap, refl, sym, subst}
-use Rattle.std.proofs.lemmas.Result.{IfOk-weaker}
-use Rattle.asg_monoids.specs.declared.peak_kinds.PeakKind.{PeakKind}
-use Rattle.asg_monoids.specs.declared.sum_kinds.SumKind.{SumKind}
-use Rattle.asg_edits.specs.declared.sessions.Sessions.TheVariants.{Sums, Peaks, Times}
-use Rattle.asg_edits.specs.Editors.{GoesTo, editor_of}
+use Rattle.asg_edits.proofs.Common.{sym, refl, ap, subst, IfOk-weaker, GoesTo, editor_of, Sums, Peaks, Times, PeakKind, SumKind}
 use Rattle.asg_edits.proofs.EditorFacts.{IsAnsweredBy, goes_to, peaks_answered, sums_answered, times_answered}
 use Rattle.asg_edits.proofs.sessions.answer_sessions.Goals as goal
 

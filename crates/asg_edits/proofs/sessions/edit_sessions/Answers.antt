@@ -1,7 +1,4 @@
-use Rattle.std.proofs.Common.{sym, subst}
-use Rattle.std.specs.Prelude.{OnOk}
-use Rattle.asg_edits.specs.declared.sessions.Sessions.TheVariants.{Sums, Peaks, Times, Duals}
-use Rattle.asg_edits.specs.Editors.{Edits, editor_of}
+use Rattle.asg_edits.proofs.Common.{OnOk, sym, subst, Edits, editor_of, Sums, Peaks, Times, Duals}
 use Rattle.asg_edits.proofs.EditorFacts.{on_ok, peaks_edited, sums_edited, times_edited}
 use Rattle.asg_edits.proofs.DualFacts.{duals_edited}
 use Rattle.asg_edits.proofs.sessions.edit_sessions.Goals as goal

@@ -1,11 +1,4 @@
-use Rattle.std.proofs.Common.{◌≤◌, ◌∙◌, sym, subst, arith, length}
-use Rattle.std.specs.Prelude.{All, Some}
-use Rattle.std.proofs.lemmas.List.{length-map, length-take-le}
-use Rattle.std.proofs.lemmas.List.Elements.{All-take}
-use Rattle.asg_order.specs.Monoid.{IsValue}
-use Rattle.asg_pool.specs.Forest.{phases_of, last_phase}
-use Rattle.asg_admit.specs.KeptCells.{AllowsSoMany}
-use Rattle.asg_kept_phases.specs.PhasesAlong.{phases_along, AreOfValues}
+use Rattle.asg_kept_phases.proofs.Common.{◌≤◌, length, Some, All, sym, ◌∙◌, subst, arith, length-take-le, All-take, length-map, AllowsSoMany, AreOfValues, phases_along, IsValue, phases_of, last_phase}
 use Rattle.asg_kept_phases.proofs.LeftLemmas.{map_take, IsLeftAt-absent, IsLeftAt-present}
 use Rattle.asg_kept_phases.proofs.changed_cells.kept_at.Goals as goal
 

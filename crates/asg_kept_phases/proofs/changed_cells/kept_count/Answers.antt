@@ -1,6 +1,4 @@
-use Rattle.std.proofs.Common.{◌≡◌, ◌<◌, ◌≤◌, ◌⊎◌, ◌+◌, ℕ, arith, inl, inr, ⊎_elim, length}
-use Rattle.std.proofs.lemmas.Bool.{cases_lt}
-use Rattle.asg_kept_phases.specs.PhasesAlong.{phases_along}
+use Rattle.asg_kept_phases.proofs.Common.{◌≡◌, ℕ, ◌+◌, ◌<◌, ◌≤◌, ◌⊎◌, length, inl, inr, ⊎_elim, arith, cases_lt, phases_along}
 use Rattle.asg_kept_phases.proofs.LeftLemmas.{AreLeft-none, AreLeft-more}
 use Rattle.asg_kept_phases.proofs.changed_cells.kept_count.Goals as goal
 

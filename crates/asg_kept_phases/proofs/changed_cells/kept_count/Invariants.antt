@@ -1,6 +1,4 @@
-use Rattle.std.proofs.Common.{◌<◌, ◌≤◌, length}
-use Rattle.asg_kept_phases.specs.LeftPhases.{AreLeft}
-use Rattle.asg_kept_phases.specs.PhasesAlong.{phases_along}
+use Rattle.asg_kept_phases.proofs.Common.{◌<◌, ◌≤◌, length, AreLeft, phases_along}
 use Rattle.asg_kept_phases.proofs.changed_cells.kept_count.Given as goal
 
 abbrev pub invariant-loop-r : goal.invariant-loop-r

@@ -1,6 +1,4 @@
-use Rattle.std.proofs.Common.{◌≡◌, ◌<◌}
-use Rattle.asg_kept_phases.specs.LeftPhases.{AreLeft}
-use Rattle.asg_kept_phases.specs.PhasesAlong.{phases_along}
+use Rattle.asg_kept_phases.proofs.Common.{◌≡◌, ◌<◌, AreLeft, phases_along}
 use Rattle.asg_kept_phases.proofs.changed_cells.kept_in_row.Given as goal
 
 abbrev pub invariant-loop-k : goal.invariant-loop-k

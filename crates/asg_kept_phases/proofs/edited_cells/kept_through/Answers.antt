@@ -1,15 +1,5 @@
-use Rattle.std.proofs.Common.{◌≡◌, ◌∙◌, ◌≤◌, ◌<◌, length, sym, subst}
-use Rattle.std.specs.Prelude.{IfSome}
-use Rattle.asg_model.specs.Edits.{edited, named_row}
-use Rattle.asg_model.specs.Shapes.{square_side}
-use Rattle.asg_proof.specs.Steps.{HasValues}
-use Rattle.asg_square.specs.Cells.{square_cell}
-use Rattle.asg_kept_phases.specs.LeftPhases.{AreLeft}
-use Rattle.asg_kept_phases.specs.NamedPlaces.{IsAtRow}
-use Rattle.asg_kept_phases.specs.PhaseChains.{phases_in}
-use Rattle.asg_kept_phases.specs.PhasesAlong.{phases_along, AreOfValues}
+use Rattle.asg_kept_phases.proofs.Common.{◌≡◌, ◌<◌, ◌≤◌, length, IfSome, sym, ◌∙◌, subst, AreOfValues, admitted_values, AreLeft, IsAtRow, phases_in, phases_along, edited, named_row, square_side, HasValues, square_cell}
 use Rattle.asg_kept_phases.specs.laws.LedEdits.{row_of_square}
-use Rattle.asg_kept_phases.specs.laws.PhaseValues.{admitted_values}
 use Rattle.asg_kept_phases.proofs.KeptThrough.{edited_values, kept_of_rows}
 use Rattle.asg_kept_phases.proofs.edited_cells.kept_through.Goals as goal
 

@@ -1,11 +1,5 @@
 -- The phase of the next trail is the next phase.
-use Rattle.std.proofs.Common.{◌≡◌, refl, get_or, sym, subst, ap, ◌∙◌, arith}
-use Rattle.std.specs.Prelude.{All, slice_index}
-use Rattle.std.proofs.lemmas.List.{get_or-map, get_or_default, length-map}
-use Rattle.asg_admit.specs.Settled.{AllowsSteps, RefusesStep, settled}
-use Rattle.asg_order.specs.Monoid.{IsValue}
-use Rattle.asg_pool.specs.Forest.{phases_of, last_phase}
-use Rattle.asg_kept_phases.specs.PhasesAlong.{phases_along}
+use Rattle.asg_kept_phases.proofs.Common.{◌≡◌, get_or, slice_index, All, sym, refl, ap, ◌∙◌, subst, arith, get_or-map, get_or_default, length-map, AllowsSteps, RefusesStep, settled, phases_along, IsValue, phases_of, last_phase}
 use Rattle.asg_kept_phases.proofs.CellLemmas.{IsThrough-next, IsThrough-end}
 use Rattle.asg_kept_phases.proofs.kept_cells.kept_cell.Goals as goal
 

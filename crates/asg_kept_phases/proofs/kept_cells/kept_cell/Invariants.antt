@@ -1,4 +1,4 @@
-use Rattle.asg_kept_phases.specs.PhasesAlong.{phases_along}
+use Rattle.asg_kept_phases.proofs.Common.{phases_along}
 use Rattle.asg_kept_phases.proofs.CellLemmas.{IsThrough}
 use Rattle.asg_kept_phases.proofs.kept_cells.kept_cell.Given as goal
 

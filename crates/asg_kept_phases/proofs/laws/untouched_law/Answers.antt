@@ -1,4 +1,4 @@
-use Rattle.asg_kept_phases.specs.laws.NamedCells.{untouched_same}
+use Rattle.asg_kept_phases.proofs.Common.{untouched_same}
 use Rattle.asg_kept_phases.proofs.laws.untouched_law.Goals as goal
 
 pub returns : goal.returns

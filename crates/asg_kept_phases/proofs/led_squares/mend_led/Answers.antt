@@ -1,13 +1,5 @@
-use Rattle.std.proofs.Common.{◌≡◌, ◌<◌, Some, refl, sym, ◌∙◌, subst}
-use Rattle.asg_model.specs.Shapes.{square_side}
-use Rattle.asg_square.specs.Cells.{square_cell}
-use Rattle.asg_square.specs.Labels.{column_label}
-use Rattle.asg_kept_phases.specs.Mended.{AllowTrails, MendsCells}
-use Rattle.asg_kept_phases.specs.NamedPlaces.{IsAtRow}
-use Rattle.asg_kept_phases.specs.PhaseChains.{phases_in}
-use Rattle.asg_kept_phases.specs.PhasesAlong.{phases_along}
+use Rattle.asg_kept_phases.proofs.Common.{◌≡◌, ◌<◌, Some, sym, refl, ◌∙◌, subst, AllowTrails, MendsCells, IsAtRow, phases_in, phases_along, HasColumnsOf-kept, square_side, square_cell, column_label}
 use Rattle.asg_kept_phases.proofs.LedSquares.{AllowTrails-led, IsLed-mended}
-use Rattle.asg_kept_phases.specs.laws.KeptLabels.{HasColumnsOf-kept}
 use Rattle.asg_kept_phases.proofs.led_squares.mend_led.Goals as goal
 
 pub mend_named-requires-clause-may : goal.mend_named-requires-clause-may

@@ -1,11 +1,5 @@
-use Rattle.std.proofs.Common.{◌≡◌, ◌≤◌, ◌<◌, Some, sym, subst, arith}
-use Rattle.std.specs.Prelude.{IfSome}
-use Rattle.asg_model.specs.Shapes.{square_side}
-use Rattle.asg_kept_phases.specs.NamedPlaces.{IsAtRow}
-use Rattle.asg_kept_phases.specs.PhasesAlong.{phases_along}
+use Rattle.asg_kept_phases.proofs.Common.{◌≡◌, ◌<◌, ◌≤◌, IfSome, Some, sym, subst, arith, IsAtRow, phases_along, square_side, square_cell, column_label}
 use Rattle.asg_kept_phases.proofs.MendLemmas.{MendsCells-same}
-use Rattle.asg_square.specs.Cells.{square_cell}
-use Rattle.asg_square.specs.Labels.{column_label}
 use Rattle.asg_kept_phases.proofs.led_squares.mend_named.Goals as goal
 
 pub rows_at-seen-requires : goal.rows_at-seen-requires

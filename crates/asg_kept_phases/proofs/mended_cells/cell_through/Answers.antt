@@ -1,6 +1,4 @@
-use Rattle.std.proofs.Common.{◌∙◌, sym, ap, subst, Some}
-use Rattle.asg_admit.specs.KeptCells.{AllowsPhases, cell_after_phases}
-use Rattle.asg_kept_phases.specs.PhasesAlong.{phases_along}
+use Rattle.asg_kept_phases.proofs.Common.{Some, sym, ap, ◌∙◌, subst, AllowsPhases, cell_after_phases, phases_along}
 use Rattle.asg_kept_phases.proofs.MendLemmas.{absent_after, allows_all}
 use Rattle.asg_kept_phases.proofs.mended_cells.cell_through.Goals as goal
 

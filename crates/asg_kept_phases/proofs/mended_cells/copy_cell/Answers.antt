@@ -1,5 +1,4 @@
-use Rattle.std.proofs.Common.{◌∙◌, sym, subst}
-use Rattle.std.specs.Prelude.{IfSome}
+use Rattle.asg_kept_phases.proofs.Common.{IfSome, sym, ◌∙◌, subst}
 use Rattle.asg_order.specs.Entering.{MayEnter}
 use Rattle.asg_proof.specs.laws.LiveCosts.{costs_may_enter}
 use Rattle.asg_kept_phases.proofs.mended_cells.copy_cell.Goals as goal

@@ -1,11 +1,5 @@
-use Rattle.std.proofs.Common.{◌≡◌, ◌∙◌, ◌<◌, sym, subst, Some, None}
-use Rattle.std.proofs.lemmas.Bool.{false≢true}
-use Rattle.std.proofs.lemmas.Option.{get_or_from_slice_get}
-use Rattle.asg_square.specs.Cells.{square_cell}
-use Rattle.asg_square.specs.Labels.{column_label}
-use Rattle.asg_kept_phases.specs.PhasesAlong.{phases_along}
+use Rattle.asg_kept_phases.proofs.Common.{◌≡◌, ◌<◌, Some, None, sym, ◌∙◌, subst, false≢true, get_or_from_slice_get, phases_along, label_of_column, square_cell, column_label}
 use Rattle.asg_kept_phases.proofs.MendLemmas.{MendsCells-set, MendsCells-same, MendsCells-none}
-use Rattle.asg_kept_phases.specs.laws.NamedCells.{label_of_column}
 use Rattle.asg_kept_phases.proofs.mended_cells.mend_at.Goals as goal
 
 pub copy_through-cell-requires-clause-label : goal.copy_through-cell-requires-clause-label

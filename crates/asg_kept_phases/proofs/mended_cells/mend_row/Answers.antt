@@ -1,9 +1,4 @@
-use Rattle.std.proofs.Common.{◌≡◌, ◌<◌, ◌≤◌, ◌⊎◌, ◌+◌, ℕ, Some, arith, inl, inr, ⊎_elim}
-use Rattle.std.proofs.lemmas.Bool.{cases_lt}
-use Rattle.asg_square.specs.Cells.{square_cell}
-use Rattle.asg_square.specs.Labels.{column_label}
-use Rattle.asg_kept_phases.specs.PhasesAlong.{phases_along}
-use Rattle.asg_kept_phases.specs.laws.KeptLabels.{HasColumnsOf-kept}
+use Rattle.asg_kept_phases.proofs.Common.{◌≡◌, ℕ, ◌+◌, ◌<◌, ◌≤◌, ◌⊎◌, Some, inl, inr, ⊎_elim, arith, cases_lt, phases_along, HasColumnsOf-kept, square_cell, column_label}
 use Rattle.asg_kept_phases.proofs.MendLemmas.{MendsCells-both, MendsCells-none, MendsCells-same}
 use Rattle.asg_kept_phases.proofs.mended_cells.mend_row.Goals as goal
 

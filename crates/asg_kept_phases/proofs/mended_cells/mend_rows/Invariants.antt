@@ -1,9 +1,4 @@
-use Rattle.std.proofs.Common.{◌≡◌, ◌≤◌, ◌<◌}
-use Rattle.std.specs.Prelude.{Some}
-use Rattle.asg_square.specs.Cells.{square_cell}
-use Rattle.asg_square.specs.Labels.{column_label}
-use Rattle.asg_kept_phases.specs.Mended.{MendsCells}
-use Rattle.asg_kept_phases.specs.PhasesAlong.{phases_along}
+use Rattle.asg_kept_phases.proofs.Common.{◌≡◌, ◌<◌, ◌≤◌, Some, MendsCells, phases_along, square_cell, column_label}
 use Rattle.asg_kept_phases.proofs.mended_cells.mend_rows.Given as goal
 
 abbrev pub invariant-loop-r : goal.invariant-loop-r

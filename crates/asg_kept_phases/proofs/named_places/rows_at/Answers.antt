@@ -1,5 +1,4 @@
-use Rattle.std.proofs.Common.{◌≡◌, arith, sym, subst}
-use Rattle.asg_kept_phases.specs.NamedPlaces.{IsAtRow}
+use Rattle.asg_kept_phases.proofs.Common.{◌≡◌, sym, subst, arith, IsAtRow}
 use Rattle.asg_kept_phases.proofs.named_places.rows_at.Goals as goal
 
 pub returns-in-Some-clause-rows : goal.returns-in-Some-clause-rows

@@ -1,8 +1,5 @@
-use Rattle.std.proofs.Common.{◌≡◌, ◌∙◌, ◌∷◌, [], ap, sym, subst, arith, length, reverse}
-use Rattle.std.specs.Prelude.{IfSome}
-use Rattle.std.proofs.lemmas.List.{reverse-append}
-use Rattle.asg_pool.specs.Forest.{IsLive, phases_of, phases_to}
-use Rattle.asg_kept_phases.proofs.TrailLemmas.{IsOnTheWay, IsOnTheWay-next, parent_shorter}
+use Rattle.asg_kept_phases.proofs.Common.{◌≡◌, [], ◌∷◌, reverse, length, IfSome, sym, ap, ◌∙◌, subst, arith, reverse-append, IsLive, phases_of, phases_to, parent_shorter}
+use Rattle.asg_kept_phases.proofs.TrailLemmas.{IsOnTheWay, IsOnTheWay-next}
 use Rattle.asg_kept_phases.proofs.phase_chains.tell_way.Goals as goal
 
 pub push_reserved-requires : goal.push_reserved-requires

@@ -1,6 +1,4 @@
-use Rattle.std.proofs.Common.{◌+◌, ◌≤◌, length}
-use Rattle.std.specs.Prelude.{vec_len, vec_capacity}
-use Rattle.asg_pool.specs.Forest.{phases_to}
+use Rattle.asg_kept_phases.proofs.Common.{◌+◌, ◌≤◌, length, vec_len, vec_capacity, phases_to}
 use Rattle.asg_kept_phases.proofs.TrailLemmas.{IsOnTheWay}
 use Rattle.asg_kept_phases.proofs.phase_chains.tell_way.Given as goal
 

@@ -1,6 +1,4 @@
-use Rattle.std.proofs.Common.{◌≡◌, ◌∙◌, ◌+◌, ◌-◌, ◌≤◌, ℕ, ap, sym, arith, length, take, refl}
-use Rattle.std.proofs.lemmas.List.{length-take-le, take_all}
-use Rattle.asg_pool.specs.Forest.{phases_to}
+use Rattle.asg_kept_phases.proofs.Common.{◌≡◌, ℕ, ◌+◌, ◌-◌, ◌≤◌, length, take, sym, refl, ap, ◌∙◌, arith, length-take-le, take_all, phases_to}
 use Rattle.asg_kept_phases.proofs.LeftLemmas.{take_twice}
 use Rattle.asg_kept_phases.proofs.released_trails.release_to.Goals as goal
 

@@ -1,5 +1,4 @@
-use Rattle.std.proofs.Common.{◌≡◌, ◌≤◌, ◌+◌, ◌-◌, length, take}
-use Rattle.asg_pool.specs.Forest.{phases_to}
+use Rattle.asg_kept_phases.proofs.Common.{◌≡◌, ◌+◌, ◌-◌, ◌≤◌, length, take, phases_to}
 use Rattle.asg_kept_phases.specs.Chains.{IsChain}
 use Rattle.asg_kept_phases.proofs.released_trails.release_to.Given as goal
 

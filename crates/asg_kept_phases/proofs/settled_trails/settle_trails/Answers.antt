@@ -1,10 +1,4 @@
-use Rattle.std.proofs.Common.{◌≡◌, get_or, sym, subst, ap, ◌∙◌, arith, refl}
-use Rattle.std.proofs.lemmas.List.{get_or-map, get_or_default, length-map}
-use Rattle.asg_admit.specs.Reduced.{IsPhaseTo}
-use Rattle.asg_proof.specs.Phases.{IsAdmittedPhase}
-use Rattle.asg_pool.specs.Forest.{phases_of, last_phase}
-use Rattle.asg_square.specs.Grid.{cell_at}
-use Rattle.asg_kept_phases.specs.PhasesAlong.{phases_along}
+use Rattle.asg_kept_phases.proofs.Common.{◌≡◌, get_or, sym, refl, ap, ◌∙◌, subst, arith, get_or-map, get_or_default, length-map, IsPhaseTo, phases_along, phases_of, last_phase, IsAdmittedPhase, cell_at}
 use Rattle.asg_kept_phases.proofs.LeadLemmas.{LeadsTo-none, LeadsTo-next, next_admitted}
 use Rattle.asg_kept_phases.proofs.settled_trails.settle_trails.Goals as goal
 

@@ -1,6 +1,4 @@
-use Rattle.std.proofs.Common.{◌≡◌, length, take}
-use Rattle.asg_kept_phases.specs.Leads.{LeadsTo}
-use Rattle.asg_kept_phases.specs.PhasesAlong.{phases_along}
+use Rattle.asg_kept_phases.proofs.Common.{◌≡◌, length, take, LeadsTo, phases_along}
 use Rattle.asg_kept_phases.proofs.settled_trails.settle_trails.Given as goal
 
 abbrev pub invariant-loop-i : goal.invariant-loop-i

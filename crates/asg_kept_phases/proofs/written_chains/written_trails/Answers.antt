@@ -1,11 +1,4 @@
-use Rattle.std.proofs.Common.{◌≡◌, ◌∙◌, ◌+◌, ◌∷◌, [], ◌++◌, get_or, map, take, sym, subst, ap, arith}
-use Rattle.std.specs.Prelude.{All}
-use Rattle.std.proofs.lemmas.List.{get_or-map, get_or_default, length-map, map-append, take_more}
-use Rattle.std.proofs.lemmas.List.Elements.{All-push}
-use Rattle.asg_order.specs.Monoid.{IsValue}
-use Rattle.asg_pool.specs.Forest.{phases_of, last_phase}
-use Rattle.asg_proof.specs.Phases.{ArePhases, IsPhase, worded}
-use Rattle.asg_kept_phases.specs.PhasesAlong.{phases_along}
+use Rattle.asg_kept_phases.proofs.Common.{◌≡◌, ◌+◌, [], ◌∷◌, ◌++◌, map, get_or, take, All, sym, ap, ◌∙◌, subst, arith, All-push, get_or-map, get_or_default, length-map, map-append, take_more, phases_along, IsValue, phases_of, last_phase, ArePhases, IsPhase, worded}
 use Rattle.asg_kept_phases.proofs.written_chains.written_trails.Goals as goal
 
 pub written_phase-requires-clause-values : goal.written_phase-requires-clause-values

@@ -1,6 +1,4 @@
-use Rattle.std.proofs.Common.{◌≡◌, take, map}
-use Rattle.asg_proof.specs.Phases.{ArePhases, worded}
-use Rattle.asg_kept_phases.specs.PhasesAlong.{phases_along}
+use Rattle.asg_kept_phases.proofs.Common.{◌≡◌, map, take, phases_along, ArePhases, worded}
 use Rattle.asg_kept_phases.proofs.written_chains.written_trails.Given as goal
 
 abbrev pub invariant-loop-i : goal.invariant-loop-i

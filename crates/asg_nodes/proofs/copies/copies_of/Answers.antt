@@ -1,5 +1,4 @@
-use Rattle.std.proofs.Common.{◌≡◌, ◌+◌, Some, None, sym, subst, rules}
-use Rattle.asg_nodes.specs.Copies.{IsRunOf}
+use Rattle.asg_nodes.proofs.Common.{◌≡◌, ◌+◌, Some, None, sym, subst, rules, IsRunOf}
 use Rattle.asg_nodes.proofs.CopyLemmas.{run_of_none, run_of_column}
 use Rattle.asg_nodes.proofs.copies.copies_of.Goals as goal
 

@@ -1,5 +1,4 @@
-use Rattle.std.proofs.Common.{length, ◌∙◌, ap}
-use Rattle.asg_square.specs.Labels.{first_copy}
+use Rattle.asg_nodes.proofs.Common.{length, ap, ◌∙◌, first_copy}
 use Rattle.asg_nodes.proofs.CopyLemmas.{end_is}
 use Rattle.asg_nodes.proofs.copies.end_of_copies.Goals as goal
 

@@ -1,6 +1,5 @@
-use Rattle.std.proofs.Common.{◌≡◌, ◌+◌, ◌-◌, ◌/◌, ◌<◌, true, false, sym, ◌∙◌, arith}
+use Rattle.asg_nodes.proofs.Common.{◌≡◌, ◌+◌, ◌-◌, ◌/◌, ◌<◌, true, false, sym, ◌∙◌, arith, is_before}
 use Rattle.asg_square.specs.laws.Rows.{copies_within}
-use Rattle.asg_nodes.specs.Copies.{is_before}
 use Rattle.asg_nodes.proofs.CopyLemmas.{first_within, stands_before, stands_from}
 use Rattle.asg_nodes.proofs.copies.first_copy.Goals as goal
 

@@ -1,7 +1,4 @@
-use Rattle.std.proofs.Common.{◌-◌, ◌≤◌}
-use Rattle.asg_model.specs.Problem.{Problem}
-use Rattle.asg_square.specs.Grid.{HasLabelsOf}
-use Rattle.asg_square.specs.Labels.{first_copy}
+use Rattle.asg_nodes.proofs.Common.{◌-◌, ◌≤◌, Problem, HasLabelsOf, first_copy}
 use Rattle.asg_nodes.proofs.copies.first_copy.Given as goal
 
 -- the copies begin between both

@@ -1,7 +1,4 @@
-use Rattle.std.proofs.Common.{not, ◌&&◌, ◌∙◌, ap}
-use Rattle.std.specs.Prelude.{bit_and}
-use Rattle.asg_square.specs.BitTable.{is_bit_set}
-use Rattle.asg_square.specs.laws.Words.{is_and, is_without}
+use Rattle.asg_nodes.proofs.Common.{not, ◌&&◌, bit_and, ap, ◌∙◌, is_bit_set, is_and, is_without}
 use Rattle.asg_nodes.proofs.CutWords.{between_bit}
 use Rattle.asg_nodes.proofs.cuts.bits_between.Goals as goal
 

@@ -1,6 +1,4 @@
-use Rattle.std.proofs.Common.{◌+◌, ◌/◌, ◌≤◌, ◌&&◌, arith}
-use Rattle.asg_square.specs.BitTable.{word_count}
-use Rattle.asg_nodes.specs.Cuts.{cuts_word, cuts_between}
+use Rattle.asg_nodes.proofs.Common.{◌+◌, ◌/◌, ◌≤◌, ◌&&◌, arith, word_count, cuts_word, cuts_between}
 use Rattle.asg_nodes.proofs.CutLemmas.{loses_none, loses_both, loses_same}
 use Rattle.asg_nodes.proofs.CutWords.{cut_upto, cut_no_words, cut_next_word, cut_all_words}
 use Rattle.asg_nodes.proofs.cuts.cut_between.Goals as goal

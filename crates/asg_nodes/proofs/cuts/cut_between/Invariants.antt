@@ -1,4 +1,4 @@
-use Rattle.asg_nodes.specs.Cuts.{LosesCells}
+use Rattle.asg_nodes.proofs.Common.{LosesCells}
 use Rattle.asg_nodes.proofs.CutWords.{cut_upto}
 use Rattle.asg_nodes.proofs.cuts.cut_between.Given as goal
 

@@ -1,18 +1,12 @@
-use Rattle.std.proofs.Common.{◌≡◌, ◌+◌, ◌<◌, ◌&&◌, true, cond, None, sym, ◌∙◌, ap, subst, arith}
-use Rattle.std.proofs.lemmas.Option.{get_or_from_slice_get}
-use Rattle.asg_model.specs.Live.{is_active}
-use Rattle.asg_model.specs.Sums.{count_below}
-use Rattle.asg_proof.specs.Masks.{keeps_cell}
-use Rattle.asg_nodes.specs.Cuts.{cuts_numbered, LosesCells}
+use Rattle.asg_nodes.proofs.Common.{◌≡◌, ◌+◌, ◌<◌, true, cond, ◌&&◌, None, sym, ap, ◌∙◌, subst, arith, get_or_from_slice_get, HasLabelsOf-kept, is_active, count_below, cuts_numbered, LosesCells, count_more, keeps_cell}
 use Rattle.asg_nodes.proofs.CutBranches.{cut_rows, idle_next, active_next, cut_end}
-use Rattle.asg_nodes.specs.laws.BitSteps.{count_more}
-use Rattle.asg_nodes.proofs.CutLemmas.{labels_kept, loses_both, loses_same}
+use Rattle.asg_nodes.proofs.CutLemmas.{loses_both, loses_same}
 use Rattle.asg_nodes.proofs.cuts.cut_branch.Goals as goal
 use Rattle.asg_nodes.proofs.cuts.cut_branch.Goals.{then-is_active, else-is_active}
 
 pub cut_numbered-requires-clause-labels : goal.cut_numbered-requires-clause-labels
 cut_numbered-requires-clause-labels g c =
-    labels_kept c.args.inst.now c.args.square.now c.rows.square c.requires.labels c.rows.invariant.cut.labels
+    HasLabelsOf-kept c.args.inst.now c.args.square.now c.rows.square c.rows.invariant.cut.labels c.requires.labels
 
 pub rows-preserved : goal.rows-preserved
 rows-preserved g c =
@@ -36,7 +30,7 @@ rows-preserved g c =
             cut =
                 subst (LosesCells (cut_rows X f branch (row + 1)) Q) (sym w.square-is)
                 (loses_same Q w.cut_numbered.new.square (λ r k. cut_rows X f branch row r k && cuts_numbered now row w.get.result (count_below (is_active X) row + 1) branch r k) (cut_rows X f branch (row + 1)) c.side.ensures.grid
-                (λ r k hr hk. active_next X c.requires.place f branch row active now (labels_kept X Q now c.requires.labels i.cut.labels) w.get.result is r k (subst (λ n. k < n) c.requires.labels.side hk))
+                (λ r k hr hk. active_next X c.requires.place f branch row active now (HasLabelsOf-kept X Q now i.cut.labels c.requires.labels) w.get.result is r k (subst (λ n. k < n) c.requires.labels.side hk))
                 (loses_both Q now w.cut_numbered.new.square (cut_rows X f branch row) (cuts_numbered now row w.get.result (count_below (is_active X) row + 1) branch) i.cut one));
           }
       | else-is_active w ↦

@@ -1,7 +1,4 @@
-use Rattle.std.proofs.Common.{◌≡◌, ◌≤◌}
-use Rattle.asg_model.specs.Live.{is_active}
-use Rattle.asg_model.specs.Sums.{count_below}
-use Rattle.asg_nodes.specs.Cuts.{LosesCells}
+use Rattle.asg_nodes.proofs.Common.{◌≡◌, ◌≤◌, is_active, count_below, LosesCells}
 use Rattle.asg_nodes.proofs.CutBranches.{cut_rows}
 use Rattle.asg_nodes.proofs.cuts.cut_branch.Given as goal
 

@@ -1,5 +1,4 @@
-use Rattle.std.proofs.Common.{sym, subst}
-use Rattle.asg_nodes.specs.Cuts.{cuts_cell, LosesCells}
+use Rattle.asg_nodes.proofs.Common.{sym, subst, cuts_cell, LosesCells}
 use Rattle.asg_nodes.proofs.CutLemmas.{loses_cell}
 use Rattle.asg_nodes.proofs.cuts.cut_cell.Goals as goal
 

@@ -1,5 +1,4 @@
-use Rattle.std.proofs.Common.{◌&&◌, true, false, sym, subst}
-use Rattle.asg_nodes.specs.Cuts.{cuts_between, cuts_row, LosesCells}
+use Rattle.asg_nodes.proofs.Common.{true, false, ◌&&◌, sym, subst, cuts_between, cuts_row, LosesCells}
 use Rattle.asg_nodes.proofs.CutLemmas.{loses_both, loses_same}
 use Rattle.asg_nodes.proofs.CutWords.{alone_row, lost_row}
 use Rattle.asg_nodes.proofs.cuts.cut_row.Goals as goal

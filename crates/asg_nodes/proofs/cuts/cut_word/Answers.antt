@@ -1,10 +1,4 @@
-use Rattle.std.proofs.Common.{◌≡◌, ◌+◌, ◌*◌, ◌<◌, ◌&&◌, w64, arith}
-use Rattle.std.specs.Int.{trailing_zeros}
-use Rattle.std.proofs.Math.Facts.{Fits-lt-pow}
-use Rattle.asg_square.specs.BitTable.{word_count}
-use Rattle.asg_square.specs.laws.Bits.{bit_below, HasBit-trailing_zeros, HasBit-without, without_bit, without_bit-lt}
-use Rattle.asg_square.specs.laws.Words.{run_parts}
-use Rattle.asg_nodes.specs.Cuts.{cuts_cell, cuts_word}
+use Rattle.asg_nodes.proofs.Common.{◌≡◌, ◌+◌, ◌*◌, ◌<◌, ◌&&◌, arith, w64, Fits-lt-pow, trailing_zeros, word_count, bit_below, HasBit-trailing_zeros, HasBit-without, without_bit, without_bit-lt, run_parts, cuts_cell, cuts_word}
 use Rattle.asg_nodes.proofs.CutLemmas.{loses_absent, loses_both, loses_same}
 use Rattle.asg_nodes.proofs.CutWords.{cut_but, bits_run, bit_absent, cut_bit, cut_all_bits}
 use Rattle.asg_nodes.proofs.cuts.cut_word.Goals as goal

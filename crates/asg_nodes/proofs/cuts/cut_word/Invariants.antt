@@ -1,7 +1,4 @@
-use Rattle.std.proofs.Common.{◌≡◌, ℕ, ◌+◌, ◌*◌, true}
-use Rattle.asg_square.specs.BitTable.{is_from_to}
-use Rattle.asg_square.specs.WordBits.{HasBit}
-use Rattle.asg_nodes.specs.Cuts.{LosesCells}
+use Rattle.asg_nodes.proofs.Common.{◌≡◌, ℕ, ◌+◌, ◌*◌, true, is_from_to, HasBit, LosesCells}
 use Rattle.asg_nodes.proofs.CutWords.{cut_but}
 use Rattle.asg_nodes.proofs.cuts.cut_word.Given as goal
 

@@ -1,8 +1,4 @@
-use Rattle.std.proofs.Common.{ℕ, true, false, ◌||◌, not, sym, ◌∙◌, ap, subst}
-use Rattle.std.specs.Prelude.{nat_le}
-use Rattle.asg_square.specs.BitTable.{is_from_to}
-use Rattle.asg_square.specs.Labels.{column_label}
-use Rattle.asg_nodes.specs.Cuts.{keeps_copies, PutsRow}
+use Rattle.asg_nodes.proofs.Common.{ℕ, true, false, not, ◌||◌, nat_le, sym, ap, ◌∙◌, subst, is_from_to, keeps_copies, PutsRow, column_label}
 use Rattle.asg_nodes.proofs.CopyLemmas.{alone_keeps, others_keep, puts_same}
 use Rattle.asg_nodes.proofs.cuts.put_row.Goals as goal
 

@@ -1,6 +1,4 @@
-use Rattle.std.proofs.Common.{◌≡◌, ◌<◌, ◌≤◌, length, sym, ◌∙◌, subst, arith}
-use Rattle.asg_nodes.specs.Entries.{entry_at}
-use Rattle.asg_nodes.specs.Rules.{rules_of, IsReducedTo}
+use Rattle.asg_nodes.proofs.Common.{◌≡◌, ◌<◌, ◌≤◌, length, sym, ◌∙◌, subst, arith, entry_at, rules_of, IsReducedTo}
 use Rattle.asg_nodes.proofs.RebuiltCalls.{parent_less, parent_from, parent_upto, stands_above, side_is}
 use Rattle.asg_nodes.proofs.rebuilding.+rebuild.Goals as goal
 

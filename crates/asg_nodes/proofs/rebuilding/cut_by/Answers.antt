@@ -1,10 +1,4 @@
-use Rattle.std.proofs.Common.{◌≡◌, ◌-◌, ◌<◌, [], length, get_or, sym, ◌∙◌, ap, subst, arith}
-use Rattle.std.proofs.lemmas.List.{get_or_default}
-use Rattle.std.proofs.lemmas.List.Elements.{All-get_or}
-use Rattle.asg_proof.specs.Masks.{keeps_cell}
-use Rattle.asg_proof.specs.Nodes.{answer_at}
-use Rattle.asg_nodes.specs.Cuts.{LosesCells}
-use Rattle.asg_nodes.specs.Settled.{answer_in}
+use Rattle.asg_nodes.proofs.Common.{◌≡◌, ◌-◌, ◌<◌, [], length, get_or, sym, ap, ◌∙◌, subst, arith, All-get_or, get_or_default, LosesCells, answer_in, keeps_cell, answer_at}
 use Rattle.asg_nodes.proofs.rebuilding.cut_by.Goals as goal
 
 pub cut_branch-requires-clause-over : goal.cut_branch-requires-clause-over

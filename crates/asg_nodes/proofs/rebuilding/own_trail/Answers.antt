@@ -1,5 +1,4 @@
-use Rattle.std.proofs.Common.{◌≢◌, inr, Option, Some, None, ℕ, refl, rules}
-use Rattle.asg_nodes.specs.Settled.{IsOwn}
+use Rattle.asg_nodes.proofs.Common.{ℕ, ◌≢◌, Some, None, Option, refl, inr, rules, IsOwn}
 use Rattle.asg_nodes.proofs.rebuilding.own_trail.Goals as goal
 
 -- a trail that isn't the one before is its own, if it is one

@@ -1,5 +1,4 @@
-use Rattle.std.proofs.Common.{◌≡◌, ◌<◌, ◌≤◌, length, sym, ◌∙◌, ap, subst}
-use Rattle.asg_nodes.specs.Entries.{entry_at}
+use Rattle.asg_nodes.proofs.Common.{◌≡◌, ◌<◌, ◌≤◌, length, sym, ap, ◌∙◌, subst, entry_at}
 use Rattle.asg_nodes.proofs.RebuiltCalls.{above_from, above_upto, answer_from, answer_upto, next_is, labels_are, left_reduced, own_is_admitted, own_is_settled}
 use Rattle.asg_nodes.proofs.rebuilding.step_down.Goals as goal
 

@@ -1,8 +1,4 @@
-use Rattle.std.proofs.Common.{◌≡◌, ◌-◌, ◌≤◌, length, sym, ◌∙◌, ap, subst, arith}
-use Rattle.std.specs.Prelude.{[]}
-use Rattle.asg_order.specs.Monoid.{IsValue}
-use Rattle.asg_nodes.specs.Slots.{slot_of, slot_at, AreUpTo}
-use Rattle.asg_nodes.specs.laws.SlotLists.{last_greatest}
+use Rattle.asg_nodes.proofs.Common.{◌≡◌, ◌-◌, ◌≤◌, [], length, sym, ap, ◌∙◌, subst, arith, slot_of, slot_at, AreUpTo, last_greatest, IsValue}
 use Rattle.asg_nodes.proofs.slots.limit.Goals as goal
 
 pub returns : goal.returns

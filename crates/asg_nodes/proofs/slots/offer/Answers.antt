@@ -1,7 +1,4 @@
-use Rattle.std.proofs.Common.{◌≡◌, ◌-◌, inl, inr, length, refl, sym, ◌∙◌, ap, subst, arith}
-use Rattle.std.specs.Prelude.{[]}
-use Rattle.asg_order.specs.Monoid.{IsValue, IsLe, IsLess}
-use Rattle.asg_nodes.specs.Slots.{SlotList, slot_of, slot_at, Ascends}
+use Rattle.asg_nodes.proofs.Common.{◌≡◌, ◌-◌, [], length, sym, refl, ap, ◌∙◌, subst, inl, inr, arith, SlotList, slot_of, slot_at, Ascends, IsValue, IsLe, IsLess}
 use Rattle.asg_nodes.proofs.OfferLemmas.{ascends_before_last, replaced, refused}
 use Rattle.asg_nodes.proofs.slots.offer.Goals as goal
 

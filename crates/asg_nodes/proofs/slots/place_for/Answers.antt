@@ -1,7 +1,4 @@
-use Rattle.std.proofs.Common.{◌+◌, ◌-◌, ◌/◌, ◌<◌, length, refl, sym, subst, arith}
-use Rattle.std.specs.Prelude.{[]}
-use Rattle.asg_order.specs.Monoid.{IsValue, IsLe, IsLess}
-use Rattle.asg_nodes.specs.Slots.{slot_of}
+use Rattle.asg_nodes.proofs.Common.{◌+◌, ◌-◌, ◌/◌, ◌<◌, [], length, sym, refl, subst, arith, slot_of, IsValue, IsLe, IsLess}
 use Rattle.asg_nodes.proofs.PlaceLemmas.{upto_slot, above_slot}
 use Rattle.asg_nodes.proofs.slots.place_for.Goals as goal
 

@@ -1,7 +1,4 @@
-use Rattle.std.proofs.Common.{◌-◌, ◌≤◌, length, take, drop}
-use Rattle.std.specs.Prelude.{All}
-use Rattle.asg_order.specs.Monoid.{IsLess}
-use Rattle.asg_nodes.specs.Slots.{AreUpTo}
+use Rattle.asg_nodes.proofs.Common.{◌-◌, ◌≤◌, length, take, drop, All, AreUpTo, IsLess}
 use Rattle.asg_nodes.proofs.slots.place_for.Given as goal
 
 -- the place lies between the two

@@ -1,7 +1,4 @@
-use Rattle.std.proofs.Common.{◌≡◌, sym, ◌∙◌, ap, subst, ⊎_elim}
-use Rattle.asg_nodes.specs.declared.entries.Entry.{Entry}
-use Rattle.asg_nodes.specs.Entries.{entry_at}
-use Rattle.asg_nodes.specs.Trees.{NamesHall}
+use Rattle.asg_nodes.proofs.Common.{◌≡◌, sym, ap, ◌∙◌, subst, ⊎_elim, entry_at, NamesHall, Entry}
 use Rattle.asg_nodes.proofs.trees.root_hall.Goals as goal
 
 pub get-requires : goal.get-requires

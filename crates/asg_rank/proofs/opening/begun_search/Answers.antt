@@ -1,6 +1,4 @@
-use Rattle.std.proofs.Common.{sym, ◌∙◌, subst}
-use Rattle.asg_roots.specs.Roots.{IsInstanceRoot}
-use Rattle.asg_roots.specs.laws.InstanceRoots.{instance_side}
+use Rattle.asg_rank.proofs.Common.{sym, ◌∙◌, subst, IsInstanceRoot, instance_side}
 use Rattle.asg_rank.proofs.RootSteps.{root_is}
 use Rattle.asg_rank.proofs.opening.begun_search.Goals as goal
 

@@ -1,9 +1,4 @@
-use Rattle.std.proofs.Common.{◌≡◌, ◌*◌, true, length, refl, sym, ◌∙◌, ap, subst, arith}
-use Rattle.asg_model.specs.Counts.{placed}
-use Rattle.asg_nodes.specs.Cuts.{AreBitsFor}
-use Rattle.asg_nodes.specs.HallPools.{HallSets}
-use Rattle.asg_branching.specs.Searches.{IsDesk}
-use Rattle.asg_nodes.specs.Slots.{SlotList}
+use Rattle.asg_rank.proofs.Common.{◌≡◌, ◌*◌, true, length, sym, refl, ap, ◌∙◌, subst, arith, IsDesk, placed, AreBitsFor, HallSets, SlotList}
 use Rattle.asg_rank.proofs.opening.blank_search.Goals as goal
 
 pub returns-clause-blank : goal.returns-clause-blank

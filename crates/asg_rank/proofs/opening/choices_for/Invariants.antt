@@ -1,5 +1,4 @@
-use Rattle.std.proofs.Common.{◌≡◌, length}
-use Rattle.std.specs.Prelude.{All}
+use Rattle.asg_rank.proofs.Common.{◌≡◌, length, All}
 use Rattle.asg_rank.proofs.opening.choices_for.Given as goal
 
 -- so many choices over the rows

@@ -1,8 +1,4 @@
-use Rattle.std.proofs.Common.{take, sym, ◌∙◌, ap, subst, arith}
-use Rattle.asg_rank.specs.Opening.{IsPlantable}
-use Rattle.asg_rank.specs.Rooms.{most_work}
-use Rattle.asg_nodes.specs.Rules.{rules_of}
-use Rattle.asg_branching.specs.Searches.{IsReady}
+use Rattle.asg_rank.proofs.Common.{take, sym, ap, ◌∙◌, subst, arith, IsReady, rules_of, IsPlantable, most_work}
 use Rattle.asg_rank.proofs.RootSteps.{rankable_by, plantable}
 use Rattle.asg_rank.proofs.Sizes.{room_work}
 use Rattle.asg_rank.proofs.opening.open_search.Goals as goal

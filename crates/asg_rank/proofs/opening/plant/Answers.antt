@@ -1,9 +1,4 @@
-use Rattle.std.proofs.Common.{length, [], ◌∷◌, ◌++◌, None, refl, sym, ◌∙◌, ap, subst, arith}
-use Rattle.asg_model.specs.declared.bands.Band.TheVariants.{Whole}
-use Rattle.asg_nodes.specs.declared.entries.State.TheVariants.{Empty}
-use Rattle.asg_nodes.specs.Entries.{entry_of}
-use Rattle.asg_rank.specs.Opening.{IsRootOf}
-use Rattle.asg_nodes.specs.Rules.{rules_of}
+use Rattle.asg_rank.proofs.Common.{[], ◌∷◌, ◌++◌, length, None, sym, refl, ap, ◌∙◌, subst, arith, Whole, entry_of, rules_of, Empty, IsRootOf}
 use Rattle.asg_rank.proofs.PlantSteps.{room_some, no_used, entry_fits, hall_fits, best_ready, closed_ready}
 use Rattle.asg_rank.proofs.opening.plant.Goals as goal
 

@@ -1,5 +1,4 @@
-use Rattle.std.proofs.Common.{◌≡◌, ◌-◌, ◌*◌, ap, arith}
-use Rattle.asg_model.specs.Counts.{placed}
+use Rattle.asg_rank.proofs.Common.{◌≡◌, ◌-◌, ◌*◌, ap, arith, placed}
 use Rattle.asg_rank.proofs.Sizes.{children_fit, rest_few}
 use Rattle.asg_rank.proofs.opening.record_count.Goals as goal
 

@@ -1,7 +1,4 @@
-use Rattle.std.proofs.Common.{arith}
-use Rattle.asg_rank.specs.Opening.{IsMemory}
-use Rattle.asg_roots.specs.Roots.{IsInstanceRoot}
-use Rattle.asg_roots.specs.laws.InstanceRoots.{instance_side}
+use Rattle.asg_rank.proofs.Common.{arith, IsMemory, IsInstanceRoot, instance_side}
 use Rattle.asg_rank.proofs.BothMade.{both_made, first_made}
 use Rattle.asg_rank.proofs.opening.root_and_memory.Goals as goal
 

@@ -1,5 +1,4 @@
-use Rattle.std.proofs.Common.{◌∙◌, arith}
-use Rattle.asg_nodes.specs.Rules.{rules_of}
+use Rattle.asg_rank.proofs.Common.{◌∙◌, arith, rules_of}
 use Rattle.asg_rank.proofs.FollowSteps.{counted_ready, done_least, answered_least}
 use Rattle.asg_rank.proofs.ranker.advance.Goals as goal
 

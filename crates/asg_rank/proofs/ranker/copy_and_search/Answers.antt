@@ -1,7 +1,4 @@
-use Rattle.std.proofs.Common.{◌≡◌, []}
-use Rattle.asg_nodes.specs.Rules.{rules_of}
-use Rattle.asg_branching.specs.Searches.{IsReady, given_of}
-use Rattle.asg_rank.specs.Rooms.{answer_room}
+use Rattle.asg_rank.proofs.Common.{◌≡◌, [], IsReady, given_of, rules_of, answer_room}
 use Rattle.asg_rank.proofs.BothMade.{first_made, second_made}
 use Rattle.asg_rank.proofs.ranker.copy_and_search.Goals as goal
 

@@ -1,4 +1,4 @@
-use Rattle.std.proofs.Common.{◌-◌, length}
+use Rattle.asg_rank.proofs.Common.{◌-◌, length}
 use Rattle.asg_rank.proofs.GivenAll.{Gave}
 use Rattle.asg_rank.proofs.rankings.give_all.Given as goal
 

@@ -1,5 +1,4 @@
-use Rattle.std.proofs.Common.{sym, subst}
-use Rattle.asg_rank.specs.RankOutcomes.{IsRankingIn}
+use Rattle.asg_rank.proofs.Common.{sym, subst, IsRankingIn}
 use Rattle.asg_rank.proofs.rankings.ranked_outcome.Goals as goal
 
 pub returns : goal.returns

@@ -1,12 +1,4 @@
-use Rattle.std.proofs.Common.{sym, subst}
-use Rattle.std.proofs.lemmas.Result.{IfOk-weaker}
-use Rattle.asg_model.specs.Refused.{PassesNegative}
-use Rattle.asg_monoids.specs.BoundedSums.{bounded_sums, bounded_difference, narrow_top, plain_word}
-use Rattle.asg_monoids.specs.Entered.{peak_entered, sum_entered, time_entered}
-use Rattle.asg_monoids.specs.Grades.{graded, graded_difference, graded_word}
-use Rattle.asg_monoids.specs.Maxima.{maxima, maxima_difference}
-use Rattle.asg_model.specs.declared.objectives.Objective.TheVariants.{TimeCost}
-use Rattle.asg_rank.specs.RankOutcomes.{IsOutcomeIn, IsRankOutcome}
+use Rattle.asg_rank.proofs.Common.{sym, subst, IfOk-weaker, PassesNegative, TimeCost, bounded_sums, bounded_difference, narrow_top, plain_word, peak_entered, sum_entered, time_entered, graded, graded_difference, graded_word, maxima, maxima_difference, IsOutcomeIn, IsRankOutcome}
 use Rattle.asg_rank.proofs.RankedKinds.{narrow_outcome, sum_outcome, peak_outcome, time_outcome}
 use Rattle.asg_rank.proofs.rankings.ranking.Goals as goal
 

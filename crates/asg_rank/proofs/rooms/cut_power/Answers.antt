@@ -1,6 +1,4 @@
-use Rattle.std.proofs.Common.{◌≡◌, ℕ, zero, suc, ◌+◌, ◌*◌, ◌^◌, ◌<◌, ◌≤◌, min, sym, ◌∙◌, ap, arith, ⊎_elim}
-use Rattle.std.proofs.Math.Nat.{pow-suc, le-mul_of_pos_right}
-use Rattle.std.proofs.lemmas.Bool.{cases_lt}
+use Rattle.asg_rank.proofs.Common.{◌≡◌, ℕ, zero, suc, ◌+◌, ◌*◌, ◌^◌, ◌<◌, ◌≤◌, min, sym, ap, ◌∙◌, ⊎_elim, pow-suc, le-mul_of_pos_right, arith, cases_lt}
 use Rattle.asg_rank.proofs.rooms.cut_power.Goals as goal
 
 -- a product of a number that is cut is the product, cut

@@ -1,4 +1,4 @@
-use Rattle.std.proofs.Common.{◌≡◌, ◌≤◌, ◌^◌, min}
+use Rattle.asg_rank.proofs.Common.{◌≡◌, ◌^◌, ◌≤◌, min}
 use Rattle.asg_rank.proofs.rooms.cut_power.Given as goal
 
 -- the power so far, cut

@@ -1,4 +1,4 @@
-use Rattle.std.proofs.Common.{arith}
+use Rattle.asg_rank.proofs.Common.{arith}
 use Rattle.asg_rank.proofs.Sizes.{few_children}
 use Rattle.asg_rank.proofs.trees.most_nodes.Goals as goal
 

@@ -1,4 +1,4 @@
-use Rattle.std.proofs.Common.{refl}
+use Rattle.asg_rank.proofs.Common.{refl}
 use Rattle.asg_rank.proofs.Sizes.{few_children, few_nodes}
 use Rattle.asg_rank.proofs.trees.tree_memory.Goals as goal
 

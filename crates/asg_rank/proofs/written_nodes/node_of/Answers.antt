@@ -1,4 +1,4 @@
-use Rattle.std.proofs.Common.{arith}
+use Rattle.asg_rank.proofs.Common.{arith}
 use Rattle.asg_rank.proofs.written_nodes.node_of.Goals as goal
 
 pub returns-clause-part : goal.returns-clause-part

@@ -1,8 +1,5 @@
-use Rattle.std.proofs.Common.{◌≡◌, ◌∷◌, ◌++◌, [], sym, ◌∙◌, ap, subst}
-use Rattle.asg_pool.specs.Forest.{phases_of, phases_to, last_phase}
-use Rattle.asg_proof.specs.Phases.{worded}
-use Rattle.asg_rank.specs.Written.{AreOfValues, AreOwn}
-use Rattle.asg_rank.proofs.TrailLists.{last_values, own_one}
+use Rattle.asg_rank.proofs.Common.{◌≡◌, [], ◌∷◌, ◌++◌, sym, ap, ◌∙◌, subst, AreOfValues, phases_of, phases_to, last_phase, worded, AreOwn}
+use Rattle.asg_rank.proofs.OwnPhases.{last_values, own_one}
 use Rattle.asg_rank.proofs.written_nodes.own_phases.Goals as goal
 
 pub written_phase-requires-clause-values : goal.written_phase-requires-clause-values

@@ -1,5 +1,4 @@
-use Rattle.std.proofs.Common.{◌≡◌, ◌+◌, length, sym, ap, subst, arith}
-use Rattle.asg_rank.specs.Written.{IsTold}
+use Rattle.asg_rank.proofs.Common.{◌≡◌, ◌+◌, length, sym, ap, subst, arith, IsTold}
 use Rattle.asg_rank.proofs.NodeSteps.{AreFirstNodes, entry_here, nodes_first, nodes_more, nodes_all}
 use Rattle.asg_rank.proofs.written_nodes.push_nodes.Goals as goal
 

@@ -1,8 +1,5 @@
-use Rattle.std.proofs.Common.{List, Option, ℕ, sym, subst}
-use Rattle.asg_algebra.specs.Ended.{EndsIn}
-use Rattle.asg_square.specs.Grid.{cell_at}
+use Rattle.asg_repair.proofs.Common.{ℕ, List, Option, sym, subst, EndsIn, IsBestBy, IsGiven, ids_in, cell_at}
 use Rattle.asg_repair.specs.declared.answers.Given.{Given}
-use Rattle.asg_repair.specs.Sessions.{IsBestBy, IsGiven, ids_in}
 use Rattle.asg_repair.proofs.AnswerLemmas.{BestLaw, HallLaw, best_written, present_perfect}
 use Rattle.asg_repair.proofs.answers.give.Goals as goal
 

@@ -1,8 +1,4 @@
-use Rattle.std.proofs.Common.{sym, ◌∙◌, ap, subst, length, take}
-use Rattle.std.proofs.lemmas.List.{with_items_is}
-use Rattle.asg_match.specs.HallSets.{GivesHallSets}
-use Rattle.asg_square.specs.Cells.{IsPresent}
-use Rattle.asg_square.specs.Grid.{cell_at}
+use Rattle.asg_repair.proofs.Common.{length, take, sym, ap, ◌∙◌, subst, with_items_is, GivesHallSets, IsPresent, cell_at}
 use Rattle.asg_repair.proofs.answers.give_hall.Goals as goal
 
 pub returns-clause-hall : goal.returns-clause-hall

@@ -1,7 +1,4 @@
-use Rattle.std.proofs.Common.{sym, subst}
-use Rattle.asg_model.specs.Shapes.{square_side}
-use Rattle.asg_proof.specs.Phases.{AreAdmittedPhases}
-use Rattle.asg_square.specs.Cells.{square_cell}
+use Rattle.asg_repair.proofs.Common.{sym, subst, square_side, AreAdmittedPhases, square_cell}
 use Rattle.asg_repair.proofs.EditedCosts.{EntersValues-edited}
 use Rattle.asg_repair.proofs.applied_edits.edit_instance.Goals as goal
 

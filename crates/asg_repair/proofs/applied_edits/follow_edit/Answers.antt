@@ -1,6 +1,4 @@
-use Rattle.std.proofs.Common.{is_some, sym, subst, ◌∙◌}
-use Rattle.std.proofs.lemmas.Bool.{and_parts}
-use Rattle.asg_kept_phases.specs.Mended.{IsLedBut}
+use Rattle.asg_repair.proofs.Common.{is_some, sym, ◌∙◌, subst, and_parts, IsLedBut}
 use Rattle.asg_repair.proofs.applied_edits.follow_edit.Goals as goal
 
 pub follow-requires-clause-led : goal.follow-requires-clause-led

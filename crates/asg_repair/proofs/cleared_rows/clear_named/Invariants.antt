@@ -1,4 +1,4 @@
-use Rattle.asg_kept_phases.specs.NamedPlaces.{IsNamed, label_at}
+use Rattle.asg_repair.proofs.Common.{IsNamed, label_at}
 use Rattle.asg_repair.proofs.ClearedLemmas.{IsCleared}
 use Rattle.asg_repair.proofs.cleared_rows.clear_named.Given as goal
 

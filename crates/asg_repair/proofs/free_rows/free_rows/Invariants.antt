@@ -1,5 +1,4 @@
-use Rattle.std.proofs.Common.{◌≡◌, take}
-use Rattle.asg_algebra.specs.Solved.{unmatched}
+use Rattle.asg_repair.proofs.Common.{◌≡◌, take, unmatched}
 use Rattle.asg_repair.proofs.free_rows.free_rows.Given as goal
 
 abbrev pub invariant-loop-r : goal.invariant-loop-r

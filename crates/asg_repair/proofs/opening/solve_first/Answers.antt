@@ -1,7 +1,4 @@
-use Rattle.std.proofs.Common.{◌≡◌, ◌∙◌, ◌+◌, ◌≤◌, length, sym, subst, ap}
-use Rattle.asg_admit.specs.Reduced.{IsReduced}
-use Rattle.asg_roots.specs.laws.InstanceRoots.{enters_values}
-use Rattle.asg_repair.specs.Sessions.{AreAbsorbed}
+use Rattle.asg_repair.proofs.Common.{◌≡◌, ◌+◌, ◌≤◌, length, sym, ap, ◌∙◌, subst, IsReduced, AreAbsorbed, enters_values}
 use Rattle.asg_repair.proofs.OpenedLemmas.{root_reduced, root_matching, root_opened}
 use Rattle.asg_repair.proofs.opening.solve_first.Goals as goal
 

@@ -1,10 +1,5 @@
-use Rattle.std.proofs.Common.{ℕ, [], sym, subst}
-use Rattle.std.proofs.lemmas.Option.{IfSome_then}
-use Rattle.asg_model.specs.Live.{live_at}
-use Rattle.asg_order.specs.Monoid.{IsValue}
-use Rattle.asg_square.specs.Grid.{IsSquareOf}
+use Rattle.asg_repair.proofs.Common.{ℕ, [], sym, subst, IfSome_then, IsLed, live_at, IsValue, IsSquareOf}
 use Rattle.asg_proof.specs.laws.LiveCosts.{costs_may_enter}
-use Rattle.asg_kept_phases.specs.Led.{IsLed}
 use Rattle.asg_repair.proofs.SessionLemmas.{IsLed-filled}
 use Rattle.asg_repair.proofs.refilled_squares.refill.Goals as goal
 

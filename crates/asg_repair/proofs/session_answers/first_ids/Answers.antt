@@ -1,5 +1,4 @@
-use Rattle.std.proofs.Common.{sym}
-use Rattle.std.proofs.lemmas.List.{take_all}
+use Rattle.asg_repair.proofs.Common.{sym, take_all}
 use Rattle.asg_repair.proofs.session_answers.first_ids.Goals as goal
 
 pub returns-else-count-ids : goal.returns-else-count-ids

@@ -1,5 +1,4 @@
-use Rattle.std.proofs.Common.{◌∙◌, sym}
-use Rattle.asg_kept_phases.specs.PhaseChains.{phases_in}
+use Rattle.asg_repair.proofs.Common.{sym, ◌∙◌, phases_in}
 use Rattle.asg_repair.proofs.SessionLemmas.{AreAbsorbed-pruned, absorbed-led}
 use Rattle.asg_repair.proofs.works.lead.Goals as goal
 

@@ -1,5 +1,4 @@
-use Rattle.asg_growth.specs.Growing.{IsAbsorbed}
-use Rattle.asg_square.specs.Grid.{cell_at}
+use Rattle.asg_repair.proofs.Common.{IsAbsorbed, cell_at}
 use Rattle.asg_repair.proofs.SessionLemmas.{pruned_fewer}
 use Rattle.asg_repair.proofs.works.prune_work.Goals as goal
 

@@ -1,14 +1,8 @@
-use Rattle.std.proofs.Common.{◌∙◌, ap, sym, subst}
-use Rattle.asg_growth.specs.Growing.{IsAbsorbed}
-use Rattle.asg_match.specs.Matching.{AllAllowed}
-use Rattle.asg_square.specs.Grid.{cell_at}
-use Rattle.asg_kept_phases.specs.Leads.{LeadsTo}
-use Rattle.asg_kept_phases.specs.PhaseChains.{phases_in}
+use Rattle.asg_repair.proofs.Common.{sym, ap, ◌∙◌, subst, IsAbsorbed, LeadsTo, IsLed, phases_in, AllAllowed, cell_at}
 use Rattle.asg_kept_phases.specs.PhasesAlong.{phases_along}
-use Rattle.asg_kept_phases.specs.Led.{IsLed}
 use Rattle.asg_repair.proofs.SessionLemmas.{IsLed-leads, absorbed-led}
-use Rattle.asg_repair.proofs.works.rebuild.Goals as goal
 use Rattle.asg_repair.proofs.works.rebuild.Given.{Over}
+use Rattle.asg_repair.proofs.works.rebuild.Goals as goal
 
 -- the phases led to the square before it was pruned
 led_before : (g : Over) (c : goal.After-prune_work g) → let m = g.K.Kind.monoid c.args.kind.now in IsLed (g.K.M.Ordered.monoid_of m) (g.K.M.DMonoid.difference m) (g.K.Kind.entered c.args.kind.now) c.args.inst.now (phases_in c.args.phases.now) c.settle_trails.new.reduced

@@ -1,11 +1,8 @@
-use Rattle.std.proofs.Common.{◌∙◌, arith, refl, false}
-use Rattle.asg_algebra.specs.Ended.{last_of}
-use Rattle.asg_kept_phases.specs.declared.phase_chains.PhaseChain.{PhaseChain}
-use Rattle.asg_repair.specs.declared.works.Work.{Work}
+use Rattle.asg_repair.proofs.Common.{false, refl, ◌∙◌, arith, last_of, PhaseChain, Work}
 use Rattle.asg_repair.proofs.SolvedLemmas.{IsSized-solved, AreAbsorbed-solved, side-solved, IsPhaseChain-solved, phases-solved, IsLed-solved}
 use Rattle.asg_repair.proofs.UnmatchedLemmas.{unmatched-le}
-use Rattle.asg_repair.proofs.works.solve_on.Goals as goal
 use Rattle.asg_repair.proofs.works.solve_on.Given.{Over}
+use Rattle.asg_repair.proofs.works.solve_on.Goals as goal
 
 pub solve_with-ended-requires-clause-spare : goal.solve_with-ended-requires-clause-spare
 solve_with-ended-requires-clause-spare g c =

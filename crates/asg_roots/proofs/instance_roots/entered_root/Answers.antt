@@ -1,10 +1,4 @@
-use Rattle.std.proofs.Common.{sym, subst, arith}
-use Rattle.std.specs.Prelude.{IfOk}
-use Rattle.std.proofs.lemmas.Result.{IfOk-weaker}
-use Rattle.asg_proof.specs.Steps.{HasValues}
-use Rattle.asg_square.specs.Grid.{cell_at}
-use Rattle.asg_roots.specs.Roots.{IsInstanceRoot, IsSolvedRoot}
-use Rattle.asg_roots.specs.laws.InstanceRoots.{enters_values, square_values}
+use Rattle.asg_roots.proofs.Common.{IfOk, sym, subst, arith, IfOk-weaker, HasValues, IsInstanceRoot, IsSolvedRoot, enters_values, square_values, cell_at}
 use Rattle.asg_roots.proofs.RootSteps.{root_of_instance}
 use Rattle.asg_roots.proofs.instance_roots.entered_root.Goals as goal
 

@@ -1,9 +1,4 @@
-use Rattle.std.proofs.Common.{sym, subst, arith}
-use Rattle.std.specs.Prelude.{IfOk, IfSome}
-use Rattle.asg_proof.specs.Steps.{HasValues}
-use Rattle.asg_square.specs.Grid.{cell_at}
-use Rattle.asg_roots.specs.Roots.{IsInstanceRoot, IsSolvedRoot}
-use Rattle.asg_roots.specs.laws.InstanceRoots.{enters_values, square_values}
+use Rattle.asg_roots.proofs.Common.{IfSome, IfOk, sym, subst, arith, HasValues, IsInstanceRoot, IsSolvedRoot, enters_values, square_values, cell_at}
 use Rattle.asg_roots.proofs.RootSteps.{IfOk-weaker_some, root_of_instance}
 use Rattle.asg_roots.proofs.instance_roots.hinted_entered_root.Goals as goal
 

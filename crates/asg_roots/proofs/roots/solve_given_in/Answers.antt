@@ -1,4 +1,4 @@
-use Rattle.std.proofs.Common.{◌≡◌, refl, arith}
+use Rattle.asg_roots.proofs.Common.{◌≡◌, refl, arith}
 use Rattle.asg_roots.proofs.RootSteps.{empty_side, found_root, unit_reduced, unmatched_cells, unmatched_rows}
 use Rattle.asg_roots.proofs.roots.solve_given_in.Goals as goal
 

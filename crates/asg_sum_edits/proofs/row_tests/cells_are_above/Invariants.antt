@@ -1,8 +1,4 @@
-use Rattle.std.proofs.Common.{◌≡◌, ℕ, ◌+◌, ◌<◌, ◌≤◌, Some}
-use Rattle.std.specs.Prelude.{slice_index, slice_index_or}
-use Rattle.asg_model.specs.declared.parts.Cost.{Cost}
-use Rattle.asg_model.specs.Table.{absent, table_cost}
-use Rattle.asg_monoids.specs.Entered.{sum_entered}
+use Rattle.asg_sum_edits.proofs.Common.{◌≡◌, ℕ, ◌+◌, ◌<◌, ◌≤◌, slice_index, slice_index_or, Some, absent, table_cost, Cost, sum_entered}
 use Rattle.asg_sum_edits.proofs.row_tests.cells_are_above.Given as goal
 
 -- the costs of the columns so far are at least the fall

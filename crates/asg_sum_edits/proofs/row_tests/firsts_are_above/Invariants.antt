@@ -1,7 +1,4 @@
-use Rattle.std.proofs.Common.{ℕ, ◌+◌, ◌<◌, ◌≤◌}
-use Rattle.std.specs.Prelude.{IsTrue, slice_index, slice_index_or}
-use Rattle.asg_model.specs.Table.{absent}
-use Rattle.asg_sum_edits.specs.SumDuals.{first_entered}
+use Rattle.asg_sum_edits.proofs.Common.{ℕ, ◌+◌, ◌<◌, ◌≤◌, IsTrue, slice_index, slice_index_or, absent, first_entered}
 use Rattle.asg_sum_edits.proofs.row_tests.firsts_are_above.Given as goal
 
 -- the columns so far are at least the fall

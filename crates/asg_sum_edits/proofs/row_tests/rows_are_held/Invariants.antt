@@ -1,6 +1,4 @@
-use Rattle.std.proofs.Common.{ℕ, ◌<◌}
-use Rattle.std.specs.Prelude.{slice_index}
-use Rattle.asg_sum_edits.specs.SumDuals.{IsRowAbove}
+use Rattle.asg_sum_edits.proofs.Common.{ℕ, ◌<◌, slice_index, IsRowAbove}
 use Rattle.asg_sum_edits.proofs.row_tests.rows_are_held.Given as goal
 
 -- the rows so far hold

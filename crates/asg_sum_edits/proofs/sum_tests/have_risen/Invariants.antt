@@ -1,6 +1,4 @@
-use Rattle.std.proofs.Common.{ℕ, ◌<◌, ◌≤◌}
-use Rattle.std.specs.Prelude.{slice_index}
-use Rattle.asg_sum_edits.specs.SumDuals.{most_amount}
+use Rattle.asg_sum_edits.proofs.Common.{ℕ, ◌<◌, ◌≤◌, slice_index, most_amount}
 use Rattle.asg_sum_edits.proofs.sum_tests.have_risen.Given as goal
 
 -- the numbers so far are no less than before, and not too great

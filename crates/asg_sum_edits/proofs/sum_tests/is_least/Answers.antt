@@ -1,8 +1,4 @@
-use Rattle.std.proofs.Common.{length, subst, pos, ◌+ℤ◌}
-use Rattle.std.proofs.lemmas.Int.{to_z-of_z}
-use Rattle.std.specs.Int.{w128}
-use Rattle.std.specs.Prelude.{sum, ◌≤ℤ◌}
-use Rattle.asg_sum_edits.specs.SumDuals.{number_of}
+use Rattle.asg_sum_edits.proofs.Common.{length, pos, ◌+ℤ◌, ◌≤ℤ◌, sum, subst, to_z-of_z, w128, number_of}
 use Rattle.asg_sum_edits.proofs.TestFacts.{balanced}
 use Rattle.asg_sum_edits.proofs.sum_tests.is_least.Goals as goal
 

@@ -1,5 +1,4 @@
-use Rattle.std.proofs.Common.{◌≡◌, ◌*◌, ◌≤◌, ◌^◌, take}
-use Rattle.std.specs.Prelude.{sum}
+use Rattle.asg_sum_edits.proofs.Common.{◌≡◌, ◌*◌, ◌^◌, ◌≤◌, take, sum}
 use Rattle.asg_sum_edits.proofs.sum_tests.total.Given as goal
 
 -- the total so far is the sum of the numbers so far, each below 2^64

@@ -1,4 +1,4 @@
-use Rattle.std.proofs.Common.{◌≡◌, ℕ, ◌<◌, get_or}
+use Rattle.asg_sum_ranks.proofs.Common.{◌≡◌, ℕ, ◌<◌, get_or}
 use Rattle.asg_sum_ranks.proofs.branch_tests.agrees.Given as goal
 
 abbrev pub invariant-rows : goal.invariant-rows

@@ -1,4 +1,4 @@
-use Rattle.std.proofs.Common.{◌≡◌, ℕ, ◌+◌, ◌<◌, get_or}
+use Rattle.asg_sum_ranks.proofs.Common.{◌≡◌, ℕ, ◌+◌, ◌<◌, get_or}
 use Rattle.asg_sum_ranks.proofs.branch_tests.is_behind.Given as goal
 
 abbrev pub invariant-others : goal.invariant-others

@@ -1,5 +1,4 @@
-use Rattle.std.proofs.Common.{arith, ◌∙◌}
-use Rattle.std.proofs.lemmas.List.{get_or_default}
+use Rattle.asg_sum_ranks.proofs.Common.{◌∙◌, arith, get_or_default}
 use Rattle.asg_sum_ranks.proofs.branch_tests.is_free.Goals as goal
 
 pub returns : goal.returns

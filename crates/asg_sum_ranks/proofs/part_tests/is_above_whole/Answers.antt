@@ -1,5 +1,4 @@
-use Rattle.std.proofs.Common.{subst}
-use Rattle.asg_dual_bounds.specs.Bounds.{AreAbove}
+use Rattle.asg_sum_ranks.proofs.Common.{subst, AreAbove}
 use Rattle.asg_sum_ranks.proofs.part_tests.is_above_whole.Goals as goal
 
 pub returns : goal.returns

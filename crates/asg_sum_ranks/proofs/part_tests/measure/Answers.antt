@@ -1,6 +1,4 @@
-use Rattle.std.proofs.Common.{ap, ◌∙◌}
-use Rattle.asg_dual_bounds.specs.Views.{part_of, duals_of}
-use Rattle.asg_sum_ranks.specs.Branches.{Branch, columns_of}
+use Rattle.asg_sum_ranks.proofs.Common.{ap, ◌∙◌, part_of, duals_of, Branch, columns_of}
 use Rattle.asg_sum_ranks.proofs.Steps.{gaps_by}
 use Rattle.asg_sum_ranks.proofs.part_tests.measure.Goals as goal
 

@@ -1,4 +1,4 @@
-use Rattle.std.proofs.Common.{arith}
+use Rattle.asg_sum_ranks.proofs.Common.{arith}
 use Rattle.asg_sum_ranks.proofs.Ends.{is_choice}
 use Rattle.asg_sum_ranks.proofs.ranking_ends.choice.Goals as goal
 

@@ -1,4 +1,4 @@
-use Rattle.std.proofs.Common.{◌≡◌, ℕ, ◌<◌, Option, Some, length, get_or}
+use Rattle.asg_sum_ranks.proofs.Common.{◌≡◌, ℕ, ◌<◌, length, get_or, Some, Option}
 use Rattle.asg_sum_ranks.proofs.ranking_ends.choice.Given as goal
 
 abbrev pub invariant-rows : goal.invariant-rows

@@ -1,6 +1,4 @@
-use Rattle.std.proofs.Common.{ap, ◌∙◌}
-use Rattle.asg_dual_bounds.specs.Numbers.{choice_of}
-use Rattle.asg_sum_ranks.specs.Branches.{answers_of, columns_of}
+use Rattle.asg_sum_ranks.proofs.Common.{ap, ◌∙◌, choice_of, answers_of, columns_of}
 use Rattle.asg_sum_ranks.proofs.Ends.{ends_are}
 use Rattle.asg_sum_ranks.proofs.ranking_ends.ends_of.Goals as goal
 

@@ -1,4 +1,4 @@
-use Rattle.std.proofs.Common.{◌≤◌, arith, length}
+use Rattle.asg_sum_ranks.proofs.Common.{◌≤◌, length, arith}
 use Rattle.asg_sum_ranks.proofs.Rankings.{ranking}
 use Rattle.asg_sum_ranks.proofs.Splits.{SplitLaw}
 use Rattle.asg_sum_ranks.proofs.ranking_tests.is_ranking.Goals as goal

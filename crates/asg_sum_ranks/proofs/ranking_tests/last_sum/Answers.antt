@@ -1,6 +1,4 @@
-use Rattle.std.proofs.Common.{◌≡◌, length, ap, subst, arith, ◌∙◌}
-use Rattle.asg_dual_bounds.specs.Numbers.{sum_at}
-use Rattle.asg_sum_ranks.specs.Branches.{columns_of, SumsTo}
+use Rattle.asg_sum_ranks.proofs.Common.{◌≡◌, length, ap, ◌∙◌, subst, arith, sum_at, columns_of, SumsTo}
 use Rattle.asg_sum_ranks.proofs.Steps.{sums_one, sums_more}
 use Rattle.asg_sum_ranks.proofs.ranking_tests.last_sum.Goals as goal
 

@@ -1,4 +1,4 @@
-use Rattle.asg_sum_ranks.specs.Branches.{SumsTo}
+use Rattle.asg_sum_ranks.proofs.Common.{SumsTo}
 use Rattle.asg_sum_ranks.proofs.ranking_tests.last_sum.Given as goal
 
 abbrev pub invariant-branches : goal.invariant-branches

@@ -1,7 +1,4 @@
-use Rattle.std.proofs.Common.{arith}
-use Rattle.asg_model.specs.declared.objectives.Objective.TheVariants.{SumMax}
-use Rattle.asg_monoids.specs.Entered.{cost_reach}
-use Rattle.asg_proof.specs.laws.LiveCosts.{costs_may_enter}
+use Rattle.asg_sum_ranks.proofs.Common.{arith, SumMax, cost_reach, costs_may_enter}
 use Rattle.asg_sum_ranks.proofs.roots.sum_max_square.Goals as goal
 
 pub of-requires-clause-enters : goal.of-requires-clause-enters

@@ -1,6 +1,4 @@
-use Rattle.std.proofs.Common.{arith, subst, inl, inr}
-use Rattle.std.proofs.lemmas.Bool.{cases_eq}
-use Rattle.asg_sum_ranks.specs.Branches.{AreShut}
+use Rattle.asg_sum_ranks.proofs.Common.{subst, inl, inr, arith, cases_eq, AreShut}
 use Rattle.asg_sum_ranks.proofs.shut_tests.are_all_shut.Goals as goal
 
 pub branches-preserved : goal.branches-preserved

@@ -1,5 +1,4 @@
-use Rattle.std.proofs.Common.{ℕ, ◌<◌}
-use Rattle.asg_sum_ranks.specs.Branches.{AreShut}
+use Rattle.asg_sum_ranks.proofs.Common.{ℕ, ◌<◌, AreShut}
 use Rattle.asg_sum_ranks.proofs.shut_tests.are_all_shut.Given as goal
 
 abbrev pub invariant-branches : goal.invariant-branches

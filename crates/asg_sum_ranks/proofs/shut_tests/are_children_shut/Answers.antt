@@ -1,7 +1,4 @@
-use Rattle.std.proofs.Common.{◌≡◌, ◌≤◌, length, sym, ap, subst, inr, arith, ◌∙◌}
-use Rattle.asg_dual_bounds.specs.Bounds.{IsDualBound}
-use Rattle.asg_dual_bounds.specs.Numbers.{sum_at}
-use Rattle.asg_sum_ranks.specs.Branches.{Branch, answer_at, branch_at, part_at}
+use Rattle.asg_sum_ranks.proofs.Common.{◌≡◌, ◌≤◌, length, sym, ap, ◌∙◌, subst, inr, arith, IsDualBound, sum_at, Branch, answer_at, branch_at, part_at}
 use Rattle.asg_sum_ranks.proofs.shut_tests.are_children_shut.Goals as goal
 
 pub returns-then-least-bound : goal.returns-then-least-bound

@@ -1,5 +1,4 @@
-use Rattle.std.proofs.Common.{◌≡◌, ◌≤◌, ◌<◌, length, ap, arith, ◌∙◌}
-use Rattle.asg_sum_ranks.specs.Branches.{Branch, branch_at}
+use Rattle.asg_sum_ranks.proofs.Common.{◌≡◌, ◌<◌, ◌≤◌, length, ap, ◌∙◌, arith, Branch, branch_at}
 use Rattle.asg_sum_ranks.proofs.Steps.{shut_more}
 use Rattle.asg_sum_ranks.proofs.shut_tests.are_shut_by.Goals as goal
 

@@ -1,5 +1,4 @@
-use Rattle.std.proofs.Common.{ℕ, ◌<◌, ◌≤◌}
-use Rattle.asg_sum_ranks.specs.Branches.{branch_at, IsShut}
+use Rattle.asg_sum_ranks.proofs.Common.{ℕ, ◌<◌, ◌≤◌, branch_at, IsShut}
 use Rattle.asg_sum_ranks.proofs.shut_tests.are_shut_by.Given as goal
 
 abbrev pub invariant-children : goal.invariant-children

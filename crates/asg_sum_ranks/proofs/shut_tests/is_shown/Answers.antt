@@ -1,6 +1,4 @@
-use Rattle.std.proofs.Common.{◌≤◌, arith}
-use Rattle.asg_dual_bounds.specs.Numbers.{sum_at}
-use Rattle.asg_sum_ranks.specs.Branches.{child_at}
+use Rattle.asg_sum_ranks.proofs.Common.{◌≤◌, arith, sum_at, child_at}
 use Rattle.asg_sum_ranks.proofs.shut_tests.is_shown.Goals as goal
 
 pub returns-then-least-bound : goal.returns-then-least-bound

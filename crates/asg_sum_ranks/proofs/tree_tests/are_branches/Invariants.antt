@@ -1,4 +1,4 @@
-use Rattle.asg_sum_ranks.specs.Branches.{AreBranches}
+use Rattle.asg_sum_ranks.proofs.Common.{AreBranches}
 use Rattle.asg_sum_ranks.proofs.tree_tests.are_branches.Given as goal
 
 abbrev pub invariant-branches : goal.invariant-branches

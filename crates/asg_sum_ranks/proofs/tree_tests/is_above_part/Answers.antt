@@ -1,6 +1,4 @@
-use Rattle.std.proofs.Common.{◌<◌, sym, ap, subst, arith, ◌∙◌}
-use Rattle.asg_dual_bounds.specs.Bounds.{AreAbove}
-use Rattle.asg_sum_ranks.specs.Branches.{Branch, branch_at, part_at, child_at}
+use Rattle.asg_sum_ranks.proofs.Common.{◌<◌, sym, ap, ◌∙◌, subst, arith, AreAbove, Branch, branch_at, part_at, child_at}
 use Rattle.asg_sum_ranks.proofs.Steps.{same_part}
 use Rattle.asg_sum_ranks.proofs.tree_tests.is_above_part.Goals as goal
 

@@ -1,6 +1,4 @@
-use Rattle.std.proofs.Common.{ap, subst, ◌∙◌}
-use Rattle.asg_dual_bounds.specs.Numbers.{IsAnswer}
-use Rattle.asg_sum_ranks.specs.Branches.{columns_of}
+use Rattle.asg_sum_ranks.proofs.Common.{ap, ◌∙◌, subst, IsAnswer, columns_of}
 use Rattle.asg_sum_ranks.proofs.Steps.{next_branches}
 use Rattle.asg_sum_ranks.proofs.tree_tests.is_branch.Goals as goal
 

@@ -1,7 +1,4 @@
-use Rattle.std.proofs.Common.{ap, sym, subst, ◌∙◌}
-use Rattle.asg_dual_bounds.specs.Bounds.{AreAbove}
-use Rattle.asg_dual_bounds.specs.Numbers.{IsAnswer}
-use Rattle.asg_sum_ranks.specs.Branches.{Branch, columns_of, part_at}
+use Rattle.asg_sum_ranks.proofs.Common.{sym, ap, ◌∙◌, subst, AreAbove, IsAnswer, Branch, columns_of, part_at}
 use Rattle.asg_sum_ranks.proofs.Steps.{empty, first_branches}
 use Rattle.asg_sum_ranks.proofs.tree_tests.is_root.Goals as goal
 

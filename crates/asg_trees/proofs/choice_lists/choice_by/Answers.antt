@@ -1,4 +1,4 @@
-use Rattle.std.proofs.Common.{arith}
+use Rattle.asg_trees.proofs.Common.{arith}
 use Rattle.asg_trees.proofs.ChoiceLemmas.{is_chosen}
 use Rattle.asg_trees.proofs.choice_lists.choice_by.Goals as goal
 

@@ -1,5 +1,4 @@
-use Rattle.std.proofs.Common.{◌≡◌, ℕ, ◌<◌, Option, length, get_or}
-use Rattle.asg_trees.specs.ChoiceLists.{chosen_by}
+use Rattle.asg_trees.proofs.Common.{◌≡◌, ℕ, ◌<◌, length, get_or, Option, chosen_by}
 use Rattle.asg_trees.proofs.choice_lists.choice_by.Given as goal
 
 -- the rows so far choose what their numbers say

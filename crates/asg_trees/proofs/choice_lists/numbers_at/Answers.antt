@@ -1,5 +1,4 @@
-use Rattle.std.proofs.Common.{◌*◌, Some, map, take, drop, ap, ◌∙◌, arith}
-use Rattle.asg_trees.specs.ChoiceLists.{chosen_by}
+use Rattle.asg_trees.proofs.Common.{◌*◌, map, take, drop, Some, ap, ◌∙◌, arith, chosen_by}
 use Rattle.asg_trees.proofs.ChoiceLemmas.{choice_at}
 use Rattle.asg_trees.proofs.choice_lists.numbers_at.Goals as goal
 

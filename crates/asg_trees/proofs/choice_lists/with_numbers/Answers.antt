@@ -1,4 +1,4 @@
-use Rattle.std.proofs.Common.{◌++◌, ◌∷◌, [], ap, ◌∙◌}
+use Rattle.asg_trees.proofs.Common.{[], ◌∷◌, ◌++◌, ap, ◌∙◌}
 use Rattle.asg_trees.proofs.ChoiceLemmas.{column_fits, numbers_more}
 use Rattle.asg_trees.proofs.choice_lists.with_numbers.Goals as goal
 

@@ -1,5 +1,4 @@
-use Rattle.std.proofs.Common.{◌≡◌, ◌++◌, map, take}
-use Rattle.asg_trees.specs.ChoiceLists.{number_of}
+use Rattle.asg_trees.proofs.Common.{◌≡◌, ◌++◌, map, take, number_of}
 use Rattle.asg_trees.proofs.choice_lists.with_numbers.Given as goal
 
 -- behind the numbers stand those of the rows so far

@@ -1,6 +1,4 @@
-use Rattle.std.proofs.Common.{◌≡◌, ◌+◌, ◌<◌, ◌≤◌, sym, subst, arith, ⊎_elim}
-use Rattle.std.proofs.lemmas.Bool.{cases_lt}
-use Rattle.asg_proof.specs.SearchTrees.{IsGiven}
+use Rattle.asg_trees.proofs.Common.{◌≡◌, ◌+◌, ◌<◌, ◌≤◌, sym, subst, ⊎_elim, arith, cases_lt, IsGiven}
 use Rattle.asg_trees.proofs.GroupLemmas.{IsNextAnswer, given_by}
 use Rattle.asg_trees.proofs.conclusions.first_lacking.Goals as goal
 

@@ -1,5 +1,4 @@
-use Rattle.std.proofs.Common.{ℕ, ◌≤◌}
-use Rattle.asg_proof.specs.SearchTrees.{IsGiven}
+use Rattle.asg_trees.proofs.Common.{ℕ, ◌≤◌, IsGiven}
 use Rattle.asg_trees.proofs.conclusions.first_lacking.Given as goal
 
 -- each answer so far has a node

@@ -1,12 +1,4 @@
-use Rattle.std.proofs.Common.{◌≡◌, ◌+◌, ◌-◌, ◌*◌, ◌<◌, ◌≤◌, inl, inr, length, true, sym, subst, ◌∙◌, arith, rules}
-use Rattle.std.proofs.lemmas.Bool.{false≢true}
-use Rattle.asg_proof.specs.Nodes.{node_at}
-use Rattle.asg_proof.specs.SearchTrees.{is_answered}
-use Rattle.asg_trees.specs.Descents.{LeadsOn}
-use Rattle.asg_trees.specs.Groups.{IsNextWith, parent_keys}
-use Rattle.asg_trees.specs.Tallies.{IsJudged}
-use Rattle.asg_trees.specs.Trails.{IsAt, StandsAt}
-use Rattle.asg_trees.specs.Trees.{IsSound, tree_by}
+use Rattle.asg_trees.proofs.Common.{◌≡◌, ◌+◌, ◌-◌, ◌*◌, ◌<◌, ◌≤◌, true, length, sym, ◌∙◌, subst, inl, inr, arith, rules, false≢true, node_at, is_answered, LeadsOn, IsNextWith, parent_keys, IsJudged, IsAt, StandsAt, IsSound, tree_by}
 use Rattle.asg_trees.proofs.DescentLemmas.{below_none, but_fallen, but_last, but_more, but_none, each_first, each_last, each_more, lead_later, tallied_fallen}
 use Rattle.asg_trees.proofs.GroupLemmas.{parent_count}
 use Rattle.asg_trees.proofs.SiblingLemmas.{below_root, member_falls, next_named, next_of_member, next_within}

@@ -1,11 +1,4 @@
-use Rattle.std.proofs.Common.{◌≡◌, ◌≢◌, ◌+◌, ◌-◌, ◌*◌, ◌≤◌, cond, eqb, true, length}
-use Rattle.asg_proof.specs.Nodes.{node_at}
-use Rattle.asg_proof.specs.SearchTrees.{is_answered}
-use Rattle.asg_trees.specs.Descents.{AreSettledBelowEach, AreSettledBut}
-use Rattle.asg_kept_cells.specs.Kept.{KeepsOtherRows}
-use Rattle.asg_trees.specs.Tallies.{Falls, IsFair, judged_before}
-use Rattle.asg_trees.specs.Trails.{IsAt}
-use Rattle.asg_trees.specs.Trees.{tree_by}
+use Rattle.asg_trees.proofs.Common.{◌≡◌, ◌+◌, ◌-◌, ◌*◌, ◌≤◌, true, cond, eqb, ◌≢◌, length, KeepsOtherRows, node_at, is_answered, AreSettledBelowEach, AreSettledBut, Falls, IsFair, judged_before, IsAt, tree_by}
 use Rattle.asg_trees.proofs.descents.+descent.Given as goal
 
 abbrev pub decreases-judge_below : goal.decreases-judge_below

@@ -1,5 +1,4 @@
-use Rattle.std.proofs.Common.{◌≡◌, ◌∙◌, refl, sym, arith}
-use Rattle.asg_trees.specs.Trees.{tree_by}
+use Rattle.asg_trees.proofs.Common.{◌≡◌, sym, refl, ◌∙◌, arith, tree_by}
 use Rattle.asg_trees.proofs.DescentLemmas.{below_none, tallied_fallen, whole_below, whole_first}
 use Rattle.asg_trees.proofs.TallyLemmas.{fair_of}
 use Rattle.asg_trees.proofs.descents.judge_rest.Goals as goal

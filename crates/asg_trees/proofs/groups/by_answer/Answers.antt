@@ -1,8 +1,4 @@
-use Rattle.std.proofs.Common.{◌≡◌, ◌-◌, ◌≤◌, length, sym, subst, ◌∙◌, arith}
-use Rattle.std.proofs.lemmas.List.{length-map}
-use Rattle.asg_proof.specs.declared.nodes.Node.{Node}
-use Rattle.asg_proof.specs.Nodes.{answer_number}
-use Rattle.asg_trees.specs.Groups.{AreGroupsAbove, answer_keys, key_at, linked_first, linked_next}
+use Rattle.asg_trees.proofs.Common.{◌≡◌, ◌-◌, ◌≤◌, length, sym, ◌∙◌, subst, arith, length-map, answer_number, Node, AreGroupsAbove, answer_keys, key_at, linked_first, linked_next}
 use Rattle.asg_trees.proofs.GroupLemmas.{answer_key, linked}
 use Rattle.asg_trees.proofs.groups.by_answer.Goals as goal
 

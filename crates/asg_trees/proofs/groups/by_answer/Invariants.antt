@@ -1,5 +1,4 @@
-use Rattle.std.proofs.Common.{◌≤◌, length}
-use Rattle.asg_trees.specs.Groups.{AreGroupsAbove, answer_keys}
+use Rattle.asg_trees.proofs.Common.{◌≤◌, length, AreGroupsAbove, answer_keys}
 use Rattle.asg_trees.proofs.groups.by_answer.Given as goal
 
 -- the numbers above this one are grouped

@@ -1,5 +1,4 @@
-use Rattle.std.proofs.Common.{◌≡◌, take}
-use Rattle.asg_trees.specs.Groups.{parent_keys}
+use Rattle.asg_trees.proofs.Common.{◌≡◌, take, parent_keys}
 use Rattle.asg_trees.proofs.groups.by_parent.Given as goal
 
 -- the keys are those of the nodes so far

@@ -1,5 +1,4 @@
-use Rattle.std.proofs.Common.{◌≤◌, length}
-use Rattle.asg_trees.specs.Groups.{AreGroupsAbove}
+use Rattle.asg_trees.proofs.Common.{◌≤◌, length, AreGroupsAbove}
 use Rattle.asg_trees.proofs.groups.group.Given as goal
 
 -- the numbers above this one are grouped

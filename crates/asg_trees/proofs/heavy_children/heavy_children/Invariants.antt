@@ -1,4 +1,4 @@
-use Rattle.std.proofs.Common.{◌≤◌, length}
+use Rattle.asg_trees.proofs.Common.{◌≤◌, length}
 use Rattle.asg_trees.proofs.heavy_children.heavy_children.Given as goal
 
 abbrev pub invariant-nodes : goal.invariant-nodes

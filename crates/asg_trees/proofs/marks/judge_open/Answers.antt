@@ -1,6 +1,4 @@
-use Rattle.std.proofs.Common.{sym, subst}
-use Rattle.asg_trees.specs.declared.verdicts.Judgement.{Judgement}
-use Rattle.asg_trees.specs.Marks.{JudgesOpen}
+use Rattle.asg_trees.proofs.Common.{sym, subst, JudgesOpen, Judgement}
 use Rattle.asg_trees.proofs.OpenLemmas.{open_judged}
 use Rattle.asg_trees.proofs.marks.judge_open.Goals as goal
 

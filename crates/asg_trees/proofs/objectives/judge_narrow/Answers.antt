@@ -1,7 +1,4 @@
-use Rattle.std.proofs.Common.{subst}
-use Rattle.asg_monoids.specs.BoundedSums.{bounded_sums, bounded_difference, plain_word, narrow_top}
-use Rattle.asg_monoids.specs.Entered.{sum_entered}
-use Rattle.asg_trees.specs.Judged.{TellsTree}
+use Rattle.asg_trees.proofs.Common.{subst, bounded_sums, bounded_difference, plain_word, narrow_top, sum_entered, TellsTree}
 use Rattle.asg_trees.proofs.NarrowTrees.{is_sum-narrow, told_narrow}
 use Rattle.asg_trees.proofs.objectives.judge_narrow.Goals as goal
 

@@ -1,8 +1,5 @@
-use Rattle.std.proofs.Common.{subst}
-use Rattle.asg_monoids.specs.BoundedSums.{bounded_sums, bounded_difference}
-use Rattle.asg_monoids.specs.Entered.{time_entered}
+use Rattle.asg_trees.proofs.Common.{subst, bounded_sums, bounded_difference, time_entered, TellsTree}
 use Rattle.asg_monoids.specs.Grades.{graded, graded_difference, graded_word}
-use Rattle.asg_trees.specs.Judged.{TellsTree}
 use Rattle.asg_trees.proofs.objectives.judge_times.Goals as goal
 
 pub returns : goal.returns

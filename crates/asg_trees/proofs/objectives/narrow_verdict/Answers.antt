@@ -1,9 +1,4 @@
-use Rattle.std.proofs.Common.{subst, arith}
-use Rattle.std.specs.Prelude.{IfOk}
-use Rattle.asg_monoids.specs.BoundedSums.{bounded_sums, bounded_difference, plain_word, narrow_top}
-use Rattle.asg_monoids.specs.Entered.{cost_reach, sum_entered}
-use Rattle.asg_proof.specs.laws.LiveCosts.{lies_within}
-use Rattle.asg_trees.specs.Judged.{TellsTree}
+use Rattle.asg_trees.proofs.Common.{IfOk, subst, arith, bounded_sums, bounded_difference, plain_word, narrow_top, cost_reach, sum_entered, lies_within, TellsTree}
 use Rattle.asg_trees.proofs.objectives.narrow_verdict.Goals as goal
 
 pub start-requires-clause-near : goal.start-requires-clause-near

@@ -1,9 +1,4 @@
-use Rattle.std.proofs.Common.{◌≡◌, ◌≢◌, ◌+◌, ◌-◌, ◌≤◌, ◌&&◌, eqb, take, length, sym, ap, subst, ◌∙◌, arith}
-use Rattle.std.specs.Prelude.{count_by}
-use Rattle.std.proofs.lemmas.Bool.{leb-true}
-use Rattle.asg_proof.specs.Nodes.{node_at}
-use Rattle.asg_trees.specs.Groups.{IsNextWith, parent_keys}
-use Rattle.asg_trees.specs.Tallies.{judged_before}
+use Rattle.asg_trees.proofs.Common.{◌≡◌, ◌+◌, ◌-◌, ◌≤◌, ◌&&◌, eqb, ◌≢◌, length, take, count_by, sym, ap, ◌∙◌, subst, arith, leb-true, node_at, IsNextWith, parent_keys, judged_before}
 use Rattle.asg_trees.proofs.BranchLemmas.{one_upto, one_upto-in, one_upto-next, one_upto-past}
 use Rattle.asg_trees.proofs.SiblingLemmas.{before_some, count_first, count_last, count_next, member_falls, next_named, next_of_member, next_within}
 use Rattle.asg_trees.proofs.own_answers.are_in_order.Goals as goal

@@ -1,7 +1,4 @@
-use Rattle.std.proofs.Common.{◌≡◌, ◌≢◌, ℕ, ◌+◌, ◌-◌, ◌≤◌, ◌&&◌, cond, eqb, length, take}
-use Rattle.std.specs.Prelude.{count_by}
-use Rattle.asg_proof.specs.Nodes.{node_at}
-use Rattle.asg_trees.specs.Tallies.{judged_before}
+use Rattle.asg_trees.proofs.Common.{◌≡◌, ℕ, ◌+◌, ◌-◌, ◌≤◌, cond, ◌&&◌, eqb, ◌≢◌, length, take, count_by, node_at, judged_before}
 use Rattle.asg_trees.proofs.BranchLemmas.{one_upto}
 use Rattle.asg_trees.proofs.own_answers.are_in_order.Given as goal
 

@@ -1,8 +1,4 @@
-use Rattle.std.proofs.Common.{◌≡◌, ◌≢◌, ℕ, ◌+◌, ◌-◌, ◌≤◌, Bool, true, false, ◌&&◌, cond, eqb, take, length, sym, ap, subst, ◌∙◌, arith, ⊎_elim}
-use Rattle.std.specs.Prelude.{count_by}
-use Rattle.std.proofs.lemmas.Bool.{cases_eq}
-use Rattle.asg_proof.specs.Nodes.{node_at}
-use Rattle.asg_trees.specs.Groups.{IsNextWith, parent_keys}
+use Rattle.asg_trees.proofs.Common.{◌≡◌, ℕ, ◌+◌, ◌-◌, ◌≤◌, Bool, true, false, cond, ◌&&◌, eqb, ◌≢◌, length, take, count_by, sym, ap, ◌∙◌, subst, ⊎_elim, arith, cases_eq, node_at, IsNextWith, parent_keys}
 use Rattle.asg_trees.proofs.SiblingLemmas.{before_none, before_some, count_first, count_next, next_named, next_of_member, next_within}
 use Rattle.asg_trees.proofs.own_answers.count_branch.Goals as goal
 

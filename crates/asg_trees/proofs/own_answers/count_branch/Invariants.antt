@@ -1,7 +1,4 @@
-use Rattle.std.proofs.Common.{◌≡◌, ◌≢◌, ◌+◌, ◌-◌, ◌<◌, ◌≤◌, ◌&&◌, cond, eqb, length, take}
-use Rattle.std.specs.Prelude.{count_by}
-use Rattle.asg_proof.specs.Nodes.{node_at}
-use Rattle.asg_trees.specs.Tallies.{judged_before}
+use Rattle.asg_trees.proofs.Common.{◌≡◌, ◌+◌, ◌-◌, ◌<◌, ◌≤◌, cond, ◌&&◌, eqb, ◌≢◌, length, take, count_by, node_at, judged_before}
 use Rattle.asg_trees.proofs.own_answers.count_branch.Given as goal
 
 -- the nodes of the branch so far are counted

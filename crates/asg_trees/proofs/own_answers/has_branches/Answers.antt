@@ -1,6 +1,4 @@
-use Rattle.std.proofs.Common.{◌≡◌, ◌+◌, ◌<◌, ◌≤◌, sym, subst, ◌∙◌, arith, ⊎_elim}
-use Rattle.std.proofs.lemmas.Bool.{cases_lt}
-use Rattle.asg_proof.specs.SearchTrees.{child_count}
+use Rattle.asg_trees.proofs.Common.{◌≡◌, ◌+◌, ◌<◌, ◌≤◌, sym, ◌∙◌, subst, ⊎_elim, arith, cases_lt, child_count}
 use Rattle.asg_trees.proofs.own_answers.has_branches.Goals as goal
 
 pub loop-before-preserved : goal.loop-before-preserved

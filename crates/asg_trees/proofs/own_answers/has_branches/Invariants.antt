@@ -1,5 +1,4 @@
-use Rattle.std.proofs.Common.{◌≡◌, ℕ, ◌≤◌}
-use Rattle.asg_proof.specs.SearchTrees.{child_count}
+use Rattle.asg_trees.proofs.Common.{◌≡◌, ℕ, ◌≤◌, child_count}
 use Rattle.asg_trees.proofs.own_answers.has_branches.Given as goal
 
 -- each branch so far has one node

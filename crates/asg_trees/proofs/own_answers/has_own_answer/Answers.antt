@@ -1,4 +1,4 @@
-use Rattle.std.proofs.Common.{sym, subst, arith}
+use Rattle.asg_trees.proofs.Common.{sym, subst, arith}
 use Rattle.asg_trees.proofs.GroupLemmas.{IsNextAnswer, first_is}
 use Rattle.asg_trees.proofs.own_answers.has_own_answer.Goals as goal
 

@@ -1,11 +1,4 @@
-use Rattle.std.proofs.Common.{◌≤◌, length, sym, ap, subst, ◌∙◌, arith}
-use Rattle.asg_admit.specs.declared.reduced.Reduced.{Reduced}
-use Rattle.asg_admit.specs.Reduced.{IsReduced}
-use Rattle.asg_proof.specs.Nodes.{answer_number, node_answer, node_at}
-use Rattle.asg_square.specs.Grid.{cell_at}
-use Rattle.asg_replays.specs.Replays.{AreAdmittedFrom, AreReplayed}
-use Rattle.asg_kept_cells.specs.Kept.{HasSize, IsMaskOf}
-use Rattle.asg_trees.specs.Trees.{tree_by}
+use Rattle.asg_trees.proofs.Common.{◌≤◌, length, sym, ap, ◌∙◌, subst, arith, IsReduced, Reduced, HasSize, IsMaskOf, answer_number, node_answer, node_at, AreAdmittedFrom, AreReplayed, cell_at, tree_by}
 use Rattle.asg_trees.proofs.DownLemmas.{gone_down, own_admitted, taken_square}
 use Rattle.asg_trees.proofs.NodeFacts.{labels-from_node}
 use Rattle.asg_trees.proofs.TallyLemmas.{answer_within}

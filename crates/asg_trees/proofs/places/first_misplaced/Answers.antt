@@ -1,6 +1,4 @@
-use Rattle.std.proofs.Common.{◌≡◌, ◌+◌, ◌<◌, ◌≤◌, subst, arith, ⊎_elim}
-use Rattle.std.proofs.lemmas.Bool.{cases_lt}
-use Rattle.asg_proof.specs.SearchTrees.{HasPlace}
+use Rattle.asg_trees.proofs.Common.{◌≡◌, ◌+◌, ◌<◌, ◌≤◌, subst, ⊎_elim, arith, cases_lt, HasPlace}
 use Rattle.asg_trees.proofs.places.first_misplaced.Goals as goal
 
 pub loop-place-preserved : goal.loop-place-preserved

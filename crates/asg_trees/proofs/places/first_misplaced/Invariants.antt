@@ -1,5 +1,4 @@
-use Rattle.std.proofs.Common.{ℕ, ◌≤◌}
-use Rattle.asg_proof.specs.SearchTrees.{HasPlace}
+use Rattle.asg_trees.proofs.Common.{ℕ, ◌≤◌, HasPlace}
 use Rattle.asg_trees.proofs.places.first_misplaced.Given as goal
 
 -- each node so far has its place

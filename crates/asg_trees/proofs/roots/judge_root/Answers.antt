@@ -1,11 +1,4 @@
-use Rattle.std.proofs.Common.{refl, sym, subst, arith}
-use Rattle.std.specs.Prelude.{IfSome}
-use Rattle.asg_admit.specs.Reduced.{IsReduced}
-use Rattle.asg_proof.specs.Nodes.{node_at}
-use Rattle.asg_replays.specs.Replays.{AreAdmittedFrom, AreReplayed}
-use Rattle.asg_replays.specs.WholeLists.{HaveIndex}
-use Rattle.asg_square.specs.Grid.{cell_at}
-use Rattle.asg_trees.specs.Trees.{tree_by}
+use Rattle.asg_trees.proofs.Common.{IfSome, sym, refl, subst, arith, IsReduced, node_at, AreAdmittedFrom, AreReplayed, HaveIndex, cell_at, tree_by}
 use Rattle.asg_trees.proofs.DownLemmas.{led_known, root_admitted, root_down}
 use Rattle.asg_trees.proofs.roots.judge_root.Goals as goal
 

@@ -1,13 +1,4 @@
-use Rattle.std.proofs.Common.{◌≡◌, Option, None, Some, inl, sym, subst, arith}
-use Rattle.std.proofs.lemmas.Result.{IfOk-weaker}
-use Rattle.std.specs.Prelude.{IfSome}
-use Rattle.asg_proof.specs.Nodes.{node_at}
-use Rattle.asg_replays.specs.WholeLists.{HaveIndex}
-use Rattle.asg_square.specs.Grid.{cell_at}
-use Rattle.asg_kept_cells.specs.MaskedPhases.{HaveIndexAfter}
-use Rattle.asg_trees.specs.Tallies.{IsTalliedBy, TalliesNode}
-use Rattle.asg_trees.specs.declared.verdicts.Tally.{Tally}
-use Rattle.asg_trees.specs.Trees.{tree_by}
+use Rattle.asg_trees.proofs.Common.{◌≡◌, IfSome, Some, None, Option, sym, subst, inl, arith, IfOk-weaker, HaveIndexAfter, node_at, HaveIndex, cell_at, IsTalliedBy, TalliesNode, tree_by, Tally}
 use Rattle.asg_trees.proofs.DownLemmas.{known_after, root_above}
 use Rattle.asg_trees.proofs.TallyLemmas.{tally_fewer, tally_more}
 use Rattle.asg_trees.proofs.roots.tally_root.Goals as goal

@@ -1,5 +1,4 @@
-use Rattle.std.proofs.Common.{ℕ, List, Option, length, ap, ◌∙◌}
-use Rattle.asg_trees.specs.Trees.{tree_by}
+use Rattle.asg_trees.proofs.Common.{ℕ, List, length, Option, ap, ◌∙◌, tree_by}
 use Rattle.asg_trees.proofs.NodeFacts.{labels-from_node}
 use Rattle.asg_trees.proofs.TallyLemmas.{answer_over, answer_within}
 use Rattle.asg_trees.proofs.siblings.judge_children.Goals as goal

@@ -1,7 +1,4 @@
-use Rattle.std.proofs.Common.{subst}
-use Rattle.asg_proof.specs.Nodes.{node_at}
-use Rattle.asg_kept_cells.specs.Kept.{IsMaskOf}
-use Rattle.asg_trees.specs.Trees.{tree_by}
+use Rattle.asg_trees.proofs.Common.{subst, IsMaskOf, node_at, tree_by}
 use Rattle.asg_trees.proofs.DownLemmas.{stands_above}
 use Rattle.asg_trees.proofs.NodeFacts.{labels-from_node}
 use Rattle.asg_trees.proofs.siblings.judge_member.Goals as goal

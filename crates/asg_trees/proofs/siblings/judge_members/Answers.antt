@@ -1,10 +1,4 @@
-use Rattle.std.proofs.Common.{◌≤◌, inl, inr, length, sym, ap, subst, ◌∙◌, arith}
-use Rattle.asg_proof.specs.Nodes.{node_answer}
-use Rattle.asg_trees.specs.Groups.{IsNextWith, parent_keys}
-use Rattle.asg_kept_cells.specs.Kept.{IsMaskOf}
-use Rattle.asg_trees.specs.Tallies.{Falls, IsTallied, judged_before}
-use Rattle.asg_trees.specs.Trails.{StandsAt}
-use Rattle.asg_trees.specs.Trees.{tree_by}
+use Rattle.asg_trees.proofs.Common.{◌≤◌, length, sym, ap, ◌∙◌, subst, inl, inr, arith, IsMaskOf, node_answer, IsNextWith, parent_keys, Falls, IsTallied, judged_before, StandsAt, tree_by}
 use Rattle.asg_trees.proofs.GroupLemmas.{parent_count}
 use Rattle.asg_trees.proofs.SiblingLemmas.{before_some, below_root, member_falls, member_judged, members_done, members_first, next_named, next_of_member, next_within}
 use Rattle.asg_trees.proofs.TallyLemmas.{falls_both, falls_none, falls_with}

@@ -1,8 +1,4 @@
-use Rattle.std.proofs.Common.{◌≡◌, ◌≢◌, ◌+◌, ◌-◌, ◌≤◌, cond, eqb, length}
-use Rattle.asg_proof.specs.Nodes.{node_at}
-use Rattle.asg_kept_cells.specs.Kept.{IsFront, IsMaskOf, KeepsOtherRows}
-use Rattle.asg_trees.specs.Tallies.{Falls, IsTallied, judged_before}
-use Rattle.asg_trees.specs.Trees.{tree_by}
+use Rattle.asg_trees.proofs.Common.{◌≡◌, ◌+◌, ◌-◌, ◌≤◌, cond, eqb, ◌≢◌, length, IsFront, IsMaskOf, KeepsOtherRows, node_at, Falls, IsTallied, judged_before, tree_by}
 use Rattle.asg_trees.proofs.siblings.judge_members.Given as goal
 
 -- the nodes so far that name the parent were judged

@@ -1,10 +1,4 @@
-use Rattle.std.proofs.Common.{refl, sym, subst, ◌∙◌, arith}
-use Rattle.std.specs.Prelude.{IfSome}
-use Rattle.asg_proof.specs.Nodes.{node_at, node_trail}
-use Rattle.asg_kept_cells.specs.Kept.{HasSize}
-use Rattle.asg_kept_cells.specs.MaskedPhases.{HaveIndexAfter}
-use Rattle.asg_trees.specs.Marks.{JudgesMark}
-use Rattle.asg_trees.specs.Trees.{tree_by}
+use Rattle.asg_trees.proofs.Common.{IfSome, sym, refl, ◌∙◌, subst, arith, HasSize, HaveIndexAfter, node_at, node_trail, marked_tree, JudgesMark, tree_by}
 use Rattle.asg_trees.proofs.DownLemmas.{trail_of}
 use Rattle.asg_trees.proofs.MarkLemmas.{judged}
 use Rattle.asg_trees.proofs.NodeFacts.{side-of_node}
@@ -32,7 +26,7 @@ returns g c =
     let nodes = c.args.tree.now.nodes.now in
     let Q = c.args.square.now in
     let kept = c.args.kept.now in
-    let told = subst (λ o. JudgesMark (g.K.M.Ordered.monoid_of o) (g.K.M.DMonoid.difference o) (g.K.M.Written.word_of o) c.args.tree.now.inst.now c.args.tree.now.answers.now nodes c.args.tree.now.last Q kept c.args.before n (node_at nodes n).mark c.in_ok-judgement.judgement) c.monoid.ensures c.in_ok-judgement.ensures in
+    let told = subst (λ o. JudgesMark (g.K.M.Ordered.monoid_of o) (g.K.M.DMonoid.difference o) (g.K.M.Written.word_of o) (marked_tree c.args.tree.now) Q kept c.args.before n (node_at nodes n).mark c.in_ok-judgement.judgement) c.monoid.ensures c.in_ok-judgement.ensures in
     record {
       judgement = c.in_ok-judgement.judgement;
       judges = judged T c.args.tree.now c.requires.ready (g.met.K.M.Ordered.laws m) (g.K.M.Written.value_of m) (g.met.K.M.Written.word_laws m)

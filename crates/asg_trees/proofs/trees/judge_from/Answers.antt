@@ -1,7 +1,5 @@
-use Rattle.std.proofs.Common.{subst}
-use Rattle.asg_proof.specs.laws.LiveCosts.{lies_within}
+use Rattle.asg_trees.proofs.Common.{subst, lies_within, AreGroups, answer_keys}
 use Rattle.asg_replays.specs.laws.LiveCosts.{live_values}
-use Rattle.asg_trees.specs.Groups.{AreGroups, answer_keys}
 use Rattle.asg_trees.proofs.trees.judge_from.Goals as goal
 
 pub last_product-requires-clause-near : goal.last_product-requires-clause-near

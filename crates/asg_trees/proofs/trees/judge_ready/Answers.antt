@@ -1,8 +1,4 @@
-use Rattle.std.proofs.Common.{◌+◌, length, refl, sym, subst}
-use Rattle.asg_proof.specs.SearchTrees.{HasPlace}
-use Rattle.asg_trees.specs.Judged.{TellsTree}
-use Rattle.asg_trees.specs.declared.verdicts.TreeVerdict.{TreeVerdict}
-use Rattle.asg_trees.specs.Trees.{tree_by}
+use Rattle.asg_trees.proofs.Common.{◌+◌, length, sym, refl, subst, HasPlace, TellsTree, tree_by, TreeVerdict}
 use Rattle.asg_trees.proofs.TallyLemmas.{tally_none, told}
 use Rattle.asg_trees.proofs.trees.judge_ready.Goals as goal
 

@@ -1,4 +1,4 @@
-use Rattle.asg_proof.specs.laws.LiveCosts.{lies_within}
+use Rattle.asg_trees.proofs.Common.{lies_within}
 use Rattle.asg_trees.proofs.trees.judge_tree.Goals as goal
 
 pub start-requires-clause-near : goal.start-requires-clause-near

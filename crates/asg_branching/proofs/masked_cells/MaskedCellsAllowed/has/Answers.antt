@@ -1,8 +1,4 @@
-use Rattle.std.proofs.Common.{◌≡◌, true, false, sym, ◌∙◌, ap, is_some}
-use Rattle.std.proofs.lemmas.Bool.{false≢true}
-use Rattle.asg_square.specs.Masked.{keeps}
-use Rattle.asg_square.specs.laws.Masks.{some_kept, kept_some}
-use Rattle.asg_nodes.specs.laws.BitSteps.{keeps_by}
+use Rattle.asg_branching.proofs.Common.{◌≡◌, true, false, is_some, sym, ap, ◌∙◌, false≢true, keeps_by, keeps, some_kept, kept_some}
 use Rattle.asg_branching.proofs.masked_cells.MaskedCellsAllowed.has.Goals as goal
 
 pub returns-then-has : goal.returns-then-has

@@ -1,8 +1,4 @@
-use Rattle.std.proofs.Common.{◌∙◌, sym, subst}
-use Rattle.std.proofs.lemmas.Bool.{false≢true}
-use Rattle.asg_kept_phases.specs.NamedPlaces.{IsNamed, label_at}
-use Rattle.asg_kept_phases.specs.laws.NamedCells.{touched_named, named_touched, untouched_same, label_of_column}
-use Rattle.asg_kept_phases.specs.laws.PassedEdits.{NamesPlaces-passed}
+use Rattle.asg_kept_phases.proofs.Common.{sym, ◌∙◌, subst, false≢true, IsNamed, label_at, touched_named, named_touched, untouched_same, label_of_column, NamesPlaces-passed}
 use Rattle.asg_kept_phases.proofs.edited_cells.EditedCellsChangedCellsValue.is_changed.Goals as goal
 
 pub returns-clause-touched : goal.returns-clause-touched

@@ -1,8 +1,4 @@
-use Rattle.std.proofs.Common.{◌≡◌, ◌∙◌, sym, Some, None}
-use Rattle.std.proofs.lemmas.Option.{get_or_from_slice_get}
-use Rattle.asg_square.specs.Labels.{column_label}
-use Rattle.asg_kept_phases.specs.EditedCells.{dropped_cell, closed_cell}
-use Rattle.asg_kept_phases.specs.laws.NamedCells.{label_of_column}
+use Rattle.asg_kept_phases.proofs.Common.{◌≡◌, Some, None, sym, ◌∙◌, get_or_from_slice_get, dropped_cell, closed_cell, label_of_column, column_label}
 use Rattle.asg_kept_phases.proofs.TouchedCells.{touched_cost, touched_forbidden, touched_row, touched_column}
 use Rattle.asg_kept_phases.proofs.edited_cells.EditedCellsChangedCellsValue.now.Goals as goal
 

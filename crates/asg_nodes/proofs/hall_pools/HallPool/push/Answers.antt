@@ -1,6 +1,4 @@
-use Rattle.std.proofs.Common.{◌≡◌, ◌<◌, cond, [], ◌∷◌, ◌++◌, length, sym, ◌∙◌, ap, arith}
-use Rattle.std.proofs.lemmas.List.{length-map}
-use Rattle.asg_nodes.specs.HallPools.{HallSets, piece, pieces}
+use Rattle.asg_nodes.proofs.Common.{◌≡◌, ◌<◌, cond, [], ◌∷◌, ◌++◌, length, sym, ap, ◌∙◌, arith, length-map, HallSets, piece, pieces}
 use Rattle.asg_nodes.proofs.PoolLemmas.{pieces_more, room_for, IsPool-more}
 use Rattle.asg_nodes.proofs.hall_pools.HallPool.push.Goals as goal
 

@@ -1,5 +1,4 @@
-use Rattle.std.proofs.Common.{◌≡◌, ◌≤◌, length}
-use Rattle.std.specs.Prelude.{All, vec_capacity}
+use Rattle.asg_nodes.proofs.Common.{◌≡◌, ◌≤◌, length, vec_capacity, All}
 use Rattle.asg_nodes.proofs.slots.Slots.make.Given as goal
 
 -- so many free slots, each for the side

@@ -1,8 +1,4 @@
-use Rattle.std.proofs.Common.{sym, ◌∙◌, ap, subst}
-use Rattle.asg_model.specs.declared.bands.Band.TheVariants.{Whole}
-use Rattle.asg_model.specs.HallSet.{IsHall}
-use Rattle.asg_rank.specs.Rankings.{Ranking, IsExhausted}
-use Rattle.asg_nodes.specs.Rules.{rules_of}
+use Rattle.asg_rank.proofs.Common.{sym, ap, ◌∙◌, subst, IsHall, Whole, rules_of, Ranking, IsExhausted}
 use Rattle.asg_rank.proofs.RankerGives.{root_names, root_hall_is}
 use Rattle.asg_rank.proofs.ranker.Ranker.hall.Goals as goal
 

@@ -1,9 +1,4 @@
-use Rattle.std.proofs.Common.{sym, subst}
-use Rattle.asg_rank.specs.Rankers.{GivesLeast}
-use Rattle.asg_rank.specs.Rankings.{Ranking, Gives}
-use Rattle.asg_rank.specs.Rooms.{answer_room}
-use Rattle.asg_nodes.specs.Rules.{rules_of}
-use Rattle.asg_branching.specs.Searches.{given_of, IsReady}
+use Rattle.asg_rank.proofs.Common.{sym, subst, given_of, IsReady, rules_of, GivesLeast, Ranking, Gives, answer_room}
 use Rattle.asg_rank.proofs.RankerGives.{next_gives, ranker_next}
 use Rattle.asg_rank.proofs.ranker.Ranker.next.Goals as goal
 

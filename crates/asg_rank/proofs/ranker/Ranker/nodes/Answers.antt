@@ -1,14 +1,4 @@
-use Rattle.std.proofs.Common.{ℕ, ◌≤◌, length, sym, subst}
-use Rattle.std.specs.Prelude.{IfOk}
-use Rattle.std.proofs.lemmas.Result.{IfOk-weaker}
-use Rattle.asg_model.specs.Shapes.{square_side}
-use Rattle.asg_proof.specs.Ranked.{AreListed}
-use Rattle.asg_proof.specs.SearchTrees.{IsSearchTree}
-use Rattle.asg_nodes.specs.Entries.{entry_at}
-use Rattle.asg_rank.specs.Rankings.{Ranking, AreCountable, IsExhausted, HaveFewPhases, LeaveLastOpen}
-use Rattle.asg_nodes.specs.Rules.{rules_of}
-use Rattle.asg_branching.specs.Searches.{given_of}
-use Rattle.asg_rank.specs.Written.{IsTold, AreWrittenNodes}
+use Rattle.asg_rank.proofs.Common.{ℕ, ◌≤◌, length, IfOk, sym, subst, IfOk-weaker, given_of, square_side, entry_at, rules_of, Ranking, AreCountable, IsExhausted, HaveFewPhases, LeaveLastOpen, IsTold, AreWrittenNodes, AreListed, IsSearchTree}
 use Rattle.asg_rank.proofs.LastTrees.{kind_bridge, told_now, listed_now, tree_now, few_now, countable_now, last_now}
 use Rattle.asg_rank.proofs.ranker.Ranker.nodes.Goals as goal
 

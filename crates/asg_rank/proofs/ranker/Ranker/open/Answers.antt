@@ -1,8 +1,4 @@
-use Rattle.std.proofs.Common.{sym, subst}
-use Rattle.asg_model.specs.Refused.{PassesNegative}
-use Rattle.asg_nodes.specs.Rules.{rules_of}
-use Rattle.asg_branching.specs.Searches.{IsReady}
-use Rattle.asg_rank.specs.Rooms.{answer_room}
+use Rattle.asg_rank.proofs.Common.{sym, subst, IsReady, PassesNegative, rules_of, answer_room}
 use Rattle.asg_rank.proofs.ranker.Ranker.open.Goals as goal
 
 pub invariant_of-result : goal.invariant_of-result

@@ -1,19 +1,5 @@
-use Rattle.std.proofs.Common.{◌≡◌, ℕ, length, take, true, None, Some, sym, ◌∙◌, ap, subst}
-use Rattle.asg_match.specs.Matching.{column_at}
-use Rattle.asg_model.specs.Edits.{refusal_of}
-use Rattle.asg_model.specs.Instances.{IsInstance}
-use Rattle.asg_model.specs.Problem.{Problem}
-use Rattle.asg_model.specs.Shapes.{square_side}
-use Rattle.asg_proof.specs.KeptPhases.{AreKept}
-use Rattle.asg_square.specs.Cells.{square_cell}
-use Rattle.asg_repair.specs.declared.answers.Given.TheVariants.{Open}
-use Rattle.asg_kept_phases.specs.Edited.{Touches}
-use Rattle.asg_kept_phases.specs.Mended.{IsLedBut}
-use Rattle.asg_kept_phases.specs.PhaseChains.{phases_in}
-use Rattle.asg_repair.specs.Sessions.{IsSession, IsSized, SessionOf, sure_columns}
-use Rattle.asg_kept_phases.specs.Led.{IsLed, MaySolve}
+use Rattle.asg_repair.proofs.Common.{◌≡◌, ℕ, true, length, take, Some, None, sym, ap, ◌∙◌, subst, edited_side, Touches, IsLed, MaySolve, IsLedBut, phases_in, column_at, refusal_of, IsInstance, Problem, square_side, AreKept, IsSession, IsSized, SessionOf, sure_columns, Open, square_cell}
 use Rattle.asg_repair.proofs.EditSteps.{IsSized-edited, MaySolve-edited}
-use Rattle.asg_kept_phases.specs.laws.EditedShapes.{edited_side}
 use Rattle.asg_repair.proofs.EditedSessions.{IsLedBut-kept, IsSession-edited, IsSession-prepared, kept_columns, kept_count, kept_phases}
 use Rattle.asg_repair.proofs.sessions.Session.apply.Given.{Over}
 use Rattle.asg_repair.proofs.sessions.Session.apply.Goals as goal

@@ -1,14 +1,4 @@
-use Rattle.std.proofs.Common.{rules, ◌≡◌, ◌≤◌, None, ◌∙◌, ap, subst}
-use Rattle.asg_model.specs.Edits.{refusal_of}
-use Rattle.asg_model.specs.Instances.{IsInstance}
-use Rattle.asg_model.specs.Limits.{most_cost}
-use Rattle.asg_model.specs.Problem.{Problem}
-use Rattle.asg_model.specs.Shapes.{square_side}
-use Rattle.asg_proof.specs.KeptPhases.{AreKept}
-use Rattle.asg_proof.specs.PhaseProofs.{EntersValues, IsRaised}
-use Rattle.asg_proof.specs.Phases.{AreAdmittedPhases}
-use Rattle.asg_square.specs.Cells.{square_cell}
-use Rattle.asg_repair.specs.Sessions.{SessionOf}
+use Rattle.asg_repair.proofs.Common.{◌≡◌, ◌≤◌, None, ap, ◌∙◌, subst, rules, refusal_of, IsInstance, most_cost, Problem, square_side, AreKept, EntersValues, IsRaised, AreAdmittedPhases, SessionOf, square_cell}
 use Rattle.asg_repair.proofs.EditedCosts.{EntersValues-edited}
 use Rattle.asg_repair.proofs.RaisedEdits.{RaiseSquares, StayAdmitted, raised_all}
 use Rattle.asg_repair.proofs.sessions.Session.edit.Given.{Over}

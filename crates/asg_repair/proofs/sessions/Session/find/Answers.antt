@@ -1,8 +1,4 @@
-use Rattle.std.proofs.Common.{◌≡◌, ◌++◌, ◌≤◌, List, length, sym, ◌∙◌, subst, arith}
-use Rattle.asg_algebra.specs.Solved.{unmatched}
-use Rattle.asg_proof.specs.Phases.{PhaseOf}
-use Rattle.asg_kept_phases.specs.PhaseChains.{phases_in}
-use Rattle.asg_repair.specs.Sessions.{SessionOf}
+use Rattle.asg_repair.proofs.Common.{◌≡◌, ◌≤◌, List, ◌++◌, length, sym, ◌∙◌, subst, arith, unmatched, phases_in, PhaseOf, SessionOf}
 use Rattle.asg_repair.proofs.UnmatchedLemmas.{unmatched_sure}
 use Rattle.asg_repair.proofs.FoundLemmas.{IsSession-found}
 use Rattle.asg_repair.proofs.sessions.Session.find.Goals as goal

@@ -1,4 +1,4 @@
-use Rattle.asg_roots.specs.laws.InstanceRoots.{enters_values}
+use Rattle.asg_repair.proofs.Common.{enters_values}
 use Rattle.asg_repair.proofs.OpenedSessions.{IsSession-opened}
 use Rattle.asg_repair.proofs.sessions.Session.open.Goals as goal
 

@@ -1,12 +1,7 @@
-use Rattle.std.proofs.Common.{◌∙◌, ap, sym, subst}
-use Rattle.std.specs.Prelude.{All, IfOk}
-use Rattle.asg_model.specs.Shapes.{square_side}
+use Rattle.asg_repair.proofs.Common.{IfOk, All, sym, ap, ◌∙◌, subst, phases_in, square_side, SessionOf, square_cell}
 use Rattle.asg_proof.specs.PromisedProofs.{IsPhaseOver}
-use Rattle.asg_square.specs.Cells.{square_cell}
-use Rattle.asg_kept_phases.specs.PhaseChains.{phases_in}
-use Rattle.asg_kept_phases.specs.PhasesAlong.{AreOfValues}
-use Rattle.asg_repair.specs.Sessions.{SessionOf}
-use Rattle.asg_kept_phases.specs.laws.PhaseValues.{admitted_values}
+use Rattle.asg_admit.specs.PhaseValues.{AreOfValues}
+use Rattle.asg_admit.specs.laws.PhaseValues.{admitted_values}
 use Rattle.asg_repair.proofs.sessions.Session.phases.Goals as goal
 
 pub written_chain-requires-clause-values : goal.written_chain-requires-clause-values

@@ -1,7 +1,4 @@
-use Rattle.std.proofs.Common.{◌≡◌, sym, subst, length}
-use Rattle.std.specs.Prelude.{IfSome, OnSome}
-use Rattle.asg_model.specs.Counts.{placed}
-use Rattle.asg_sum_edits.specs.SumDuals.{IsBestSum}
+use Rattle.asg_sum_edits.proofs.Common.{◌≡◌, length, IfSome, OnSome, sym, subst, placed, IsBestSum}
 use Rattle.asg_sum_edits.proofs.EditedFound.{best_sum_is}
 use Rattle.asg_sum_edits.proofs.sessions.SumSession.known_sum.Goals as goal
 

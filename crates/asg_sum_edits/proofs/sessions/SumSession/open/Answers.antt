@@ -1,4 +1,4 @@
-use Rattle.std.proofs.Common.{ap, length, replicate, None, ◌∙◌}
+use Rattle.asg_sum_edits.proofs.Common.{length, replicate, None, ap, ◌∙◌}
 use Rattle.asg_sum_edits.proofs.EditedFound.{session_open}
 use Rattle.asg_sum_edits.proofs.sessions.SumSession.open.Goals as goal
 

@@ -1,5 +1,4 @@
-use Rattle.std.proofs.Common.{sym, subst}
-use Rattle.asg_sum_edits.specs.Sessions.{IsSession}
+use Rattle.asg_sum_edits.proofs.Common.{sym, subst, IsSession}
 use Rattle.asg_sum_edits.proofs.EditedFound.{session_put}
 use Rattle.asg_sum_edits.proofs.sessions.SumSession.put.Goals as goal
 

@@ -1,4 +1,4 @@
-use Rattle.std.proofs.Common.{length, sym, ap, ◌∙◌}
+use Rattle.asg_trees.proofs.Common.{length, sym, ap, ◌∙◌}
 use Rattle.asg_trees.proofs.ChoiceLemmas.{length-choices_in}
 use Rattle.asg_trees.proofs.choice_lists.Choices.len.Goals as goal
 

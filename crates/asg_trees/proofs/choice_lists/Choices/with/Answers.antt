@@ -1,7 +1,4 @@
-use Rattle.std.proofs.Common.{◌+◌, ◌++◌, ◌∷◌, ◌<◌, ◌^◌, [], length, subst, sym, ap, ◌∙◌, arith}
-use Rattle.std.specs.Prelude.{All}
-use Rattle.asg_model.specs.ValidChoice.{IsValid}
-use Rattle.asg_trees.specs.ChoiceLists.{AreNumbersOf, choices_in}
+use Rattle.asg_trees.proofs.Common.{◌+◌, ◌^◌, ◌<◌, [], ◌∷◌, ◌++◌, length, All, sym, ap, ◌∙◌, subst, arith, IsValid, AreNumbersOf, choices_in}
 use Rattle.asg_trees.proofs.ChoiceLemmas.{numbers_with, with_one}
 use Rattle.asg_trees.proofs.choice_lists.Choices.with.Goals as goal
 

@@ -1,15 +1,6 @@
 -- The cells of a choice are by ids.
-use Rattle.std.proofs.Common.{ℕ, zero, suc, ◌<◌, List, [], ◌∷◌, Option, Some, None, All, arith}
-use Rattle.std.specs.Prelude.{◌^◌, slice_get, filter_map, IfSome}
-use Rattle.std.specs.Option.{option_map}
-use Rattle.std.specs.List.{zip, cons_option}
-use Rattle.std.proofs.lemmas.List.Elements.{All-nil, All-cons}
-use Rattle.asg_model.specs.declared.parts.Row.{Row}
+use Rattle.asg_answers.proofs.Common.{ℕ, zero, suc, ◌^◌, ◌<◌, List, [], ◌∷◌, IfSome, slice_get, Some, None, All, Option, option_map, zip, filter_map, arith, All-cons, All-nil, cons_option, AreCellIds, IsCellOfIds, cell_by_id, cells_by_id, IsInstance, Problem, Row}
 use Rattle.asg_model.specs.declared.parts.Column.{Column}
-use Rattle.asg_model.specs.Instances.{IsInstance}
-use Rattle.asg_model.specs.Problem.{Problem}
-use Rattle.asg_doc.specs.CellIds.{AreCellIds, IsCellOfIds}
-use Rattle.asg_doc.specs.ChosenCells.{cell_by_id, cells_by_id}
 
 -- the column at a place is one of those that have an id
 at_place : (columns : List Column) (c : ℕ) → All (λ column. column.id < 2 ^ 32) columns → IfSome (slice_get columns c) (λ column. column.id < 2 ^ 32)

@@ -1,12 +1,5 @@
 -- The cells of a choice, row by row.
-use Rattle.std.proofs.Common.{◌≡◌, ℕ, zero, suc, ◌+◌, ◌<◌, List, [], ◌∷◌, ◌++◌, length, drop, refl, sym, ap, ◌∙◌, append_assoc, add-one, Option, Some, None, arith}
-use Rattle.std.specs.Prelude.{slice_get, filter_map, option_and_then, option_to_list}
-use Rattle.std.specs.List.{zip, cons_option}
-use Rattle.std.proofs.lemmas.List.{append-nil}
-use Rattle.asg_model.specs.Problem.{Problem}
-use Rattle.asg_model.specs.declared.parts.Row.{Row}
-use Rattle.asg_doc.specs.ChosenCells.{cell_by_id}
-use Rattle.asg_answers.specs.DocumentParts.{cell_at}
+use Rattle.asg_answers.proofs.Common.{◌≡◌, ℕ, zero, suc, ◌+◌, ◌<◌, List, [], ◌∷◌, ◌++◌, length, drop, slice_get, Some, None, Option, option_to_list, zip, filter_map, option_and_then, sym, refl, ap, ◌∙◌, append_assoc, append-nil, add-one, arith, cons_option, cell_at, cell_by_id, Problem, Row}
 
 -- the cells of the rows from a place on
 abbrev pub cells_from : Problem → List (Option ℕ) → ℕ → List (ℕ × ℕ)

@@ -1,73 +1,28 @@
 -- What makes a document of an outcome.
-use Rattle.std.proofs.Common.{◌≡◌, ℕ, ◌*◌, ◌<◌, ◌≤◌, true, List, length, get_or, Option, count_by, is_some, sym, refl, ap, subst, arith}
-use Rattle.std.specs.Prelude.{ℤ, pos, ◌≤ℤ◌, FitsSigned, unsigned_abs, IsTrue, ◌==◌}
-use Rattle.std.proofs.lemmas.Bool.{and_from, eq-eqb, le-leb}
-use Rattle.std.proofs.lemmas.List.{length-map}
-use Rattle.std.specs.Int.{w128}
-use Rattle.std.proofs.lemmas.List.Sums.{count_by-le-length}
-use Rattle.std.proofs.lemmas.Int.{fits_signed_from_abs, ints}
-use Rattle.asg_model.specs.declared.bands.Band.TheVariants.{Between, Whole, Under, Over}
-use Rattle.asg_model.specs.declared.objectives.Objective.{Objective}
-use Rattle.asg_model.specs.declared.objectives.Objective.TheVariants.{Sum, SumMax, SumPair, Capped, Bottleneck, BottleneckMax, TimeCost, Balanced, Lex}
+use Rattle.asg_answers.proofs.Common.{◌≡◌, ℕ, ◌*◌, ◌<◌, ◌≤◌, true, List, length, get_or, ℤ, pos, ◌≤ℤ◌, is_some, IsTrue, ◌==◌, unsigned_abs, FitsSigned, count_by, Option, sym, refl, ap, subst, arith, eq-eqb, le-leb, and_from, count_by-le-length, fits_signed_from_abs, ints, length-map, w128, AreAnswersOf, KeepsRanges, IsEditDocument, IsBestDocument, IsNoneDocument, IsPromisedProof, IsRankedDocument, cells_by_id, AreCells, AreRows, HasProofText, HasValueText, HaveLevelText, HaveWindowText, HasWord, IsAsked, has_grades, Answer, Claim, Best, Nothing, Ranked, Document, AreWritable, IsBestAt, EditorOf, placed_by, active_count, descending, IsHall, IsInstance, IsPlaceInRange, most_cost, most_rows, most_side, Problem, PassesNegative, square_side, IsValid, IsValueInRange, choice_value, costs_of, first_parts, Between, Whole, Under, Over, Objective, Sum, SumMax, SumPair, Capped, Bottleneck, BottleneckMax, TimeCost, Balanced, Lex, One, Two, Many, Place, Word, ProvesPhases, ProvesRanks, PhaseOf, AreFewPhases, AreIds, Level, Below, Levels, Phases, Windows, IsProvedRanking, AreNodeParts, Node}
 use Rattle.asg_model.specs.declared.objectives.Value.{Value}
-use Rattle.asg_model.specs.declared.objectives.Value.TheVariants.{One, Two, Many}
-use Rattle.asg_model.specs.declared.parts.Place.{Place}
-use Rattle.asg_model.specs.declared.parts.Place.TheVariants.{All as PlaceAll, Exactly}
-use Rattle.asg_model.specs.Counts.{placed_by, active_count}
-use Rattle.asg_model.specs.HallSet.{IsHall}
-use Rattle.asg_model.specs.Instances.{IsInstance, IsPlaceInRange}
-use Rattle.asg_model.specs.Limits.{most_cost, most_rows, most_side}
-use Rattle.asg_model.specs.Problem.{Problem}
-use Rattle.asg_model.specs.Refused.{PassesNegative}
-use Rattle.asg_model.specs.Shapes.{square_side}
-use Rattle.asg_model.specs.ValidChoice.{IsValid}
-use Rattle.asg_model.specs.ValueRange.{IsValueInRange}
-use Rattle.asg_model.specs.Descending.{descending}
-use Rattle.asg_model.specs.Values.{choice_value, costs_of, first_parts}
-use Rattle.asg_proof.specs.RowIds.{AreIds}
-use Rattle.asg_order.specs.declared.words.Word.{Word}
-use Rattle.asg_proof.specs.PromisedProofs.{AreFewPhases}
-use Rattle.asg_proof.specs.FoldProofs.{ProvesPhases}
 use Rattle.asg_proof.specs.Outcomes.{IsProvedBest}
-use Rattle.asg_proof.specs.Phases.{PhaseOf}
-use Rattle.asg_proof.specs.Levels.{ProvesRanks}
 use Rattle.asg_proof.specs.Proves.{Proves, takes}
 use Rattle.asg_proof.specs.Threshold.{ProvesBelow}
 use Rattle.asg_proof.specs.Windows.{AreWindows, ProvesWindows}
-use Rattle.asg_proof.specs.declared.levels.Level.{Level}
 use Rattle.asg_proof.specs.declared.windows.Window.{Window}
 use Rattle.asg_proof.specs.declared.outcomes.Proof.{Proof}
-use Rattle.asg_proof.specs.declared.outcomes.Proof.TheVariants.{Below, Levels, Phases, Windows}
-use Rattle.asg_doc.specs.declared.documents.Answer.{Answer}
-use Rattle.asg_doc.specs.declared.documents.Claim.{Claim}
-use Rattle.asg_doc.specs.declared.documents.Claim.TheVariants.{Best, Nothing, Ranked}
 use Rattle.asg_doc.specs.declared.documents.Command.{Command}
-use Rattle.asg_doc.specs.declared.documents.Command.TheVariants as commands
-use Rattle.asg_doc.specs.declared.documents.Document.{Document}
-use Rattle.asg_doc.specs.ChosenCells.{cells_by_id}
-use Rattle.asg_doc.specs.HasText.{AreCells, AreRows, HasProofText, HasValueText, HaveLevelText, HaveWindowText}
-use Rattle.asg_doc.specs.Words.{HasWord, IsAsked, has_grades}
 use Rattle.asg_check.specs.Certifies.{Certifies}
 use Rattle.asg_check.specs.TrueClaim.{ClaimsTruly}
 use Rattle.asg_check.specs.declared.document_forms.Form.{Form}
 use Rattle.asg_check.specs.declared.document_forms.Form.TheVariants.{Solve, Rank, Edit}
 use Rattle.asg_check.specs.DocumentForm.{MayBeAsked, has_form, is_answer_count, is_command_of}
-use Rattle.asg_proof.specs.declared.nodes.Node.{Node}
-use Rattle.asg_proof.specs.NodeLists.{AreNodeParts}
-use Rattle.asg_rank.specs.RankOutcomes.{IsProvedRanking}
-use Rattle.asg_edits.specs.Editors.{EditorOf}
-use Rattle.asg_edits.specs.EditOutcomes.{AreWritable, IsBestAt}
 use Rattle.asg_model.specs.Objectives.{is_algebraic}
-use Rattle.asg_answers.specs.Standings.{IsEditDocument}
-use Rattle.asg_answers.specs.DocumentParts.{AreAnswersOf, KeepsRanges}
 use Rattle.asg_model.specs.DifferentCosts.{most_costs}
-use Rattle.asg_answers.specs.WrittenDocument.{IsBestDocument, IsNoneDocument, IsPromisedProof, IsRankedDocument}
 use Rattle.asg_answers.specs.Laws.{length-cells_by_id-le, length-cells_by_id-some}
 use Rattle.asg_answers.proofs.CellIds.{cell_ids}
 use Rattle.asg_answers.proofs.HallRows.{AreRows-hall, IsHallShort}
 use Rattle.asg_answers.proofs.LevelTexts.{HaveLevelText-promised, costs_written}
 use Rattle.asg_answers.proofs.PhaseTexts.{HavePhaseText-few, HavePhaseText-over, HaveStepTexts-proved}
 use Rattle.asg_answers.proofs.RankingTexts.{HasTreeText-proved}
+use Rattle.asg_model.specs.declared.parts.Place.TheVariants.{All as PlaceAll, Exactly}
+use Rattle.asg_doc.specs.declared.documents.Command.TheVariants as commands
 
 -- a valid choice of an instance places a row
 places_some : (X : Problem) (f : List (Option ℕ)) → IsInstance X → IsValid X f → 0 < count_by is_some f

@@ -1,34 +1,12 @@
 -- What is written for a script, line by line.
-use Rattle.std.proofs.Common.{◌≡◌, ℕ, ◌+◌, ◌≤◌, ◌<◌, Bool, true, false, List, [], ◌∷◌, ◌++◌, length, take, drop, get_or, Option, Some, None, refl, sym, ap, ◌∙◌, subst, append_assoc, arith, inl, inr}
-use Rattle.std.proofs.lemmas.List.{append-nil, take_all, take-append-drop, take_more}
+use Rattle.asg_answers.proofs.Common.{◌≡◌, ℕ, ◌+◌, ◌<◌, ◌≤◌, Bool, true, false, List, [], ◌∷◌, ◌++◌, length, get_or, take, drop, Some, None, Option, sym, refl, ap, ◌∙◌, subst, inl, inr, append_assoc, append-nil, arith, take-append-drop, take_all, take_more, AreSure, ClaimsBy, GoesOnTo, IsEditDocument, IsFollowed, IsTold, KeepsStanding, Stands, TellsEdits, TellsScript, IsWritten, HaltsIn, WritesAll, WritesFront, WritesLine, WriteFault, NoMemory, AreBriefLines, IsBriefLine, text_of, Claim, Best, Nothing, Ranked, Document, EditorOf, Edits, GoesTo, Puts-append, PutsPrefix-append, Rose, Puts, PutsPrefix, edited, Problem, Objective, Word, PhaseOf, Below, Levels, Phases, Windows, after_line, solved_instances}
 use Rattle.asg_model.specs.declared.edits.Edit.{Edit}
-use Rattle.asg_model.specs.declared.objectives.Objective.{Objective}
-use Rattle.asg_model.specs.Edits.{edited}
-use Rattle.asg_model.specs.Problem.{Problem}
-use Rattle.asg_order.specs.declared.words.Word.{Word}
 use Rattle.asg_proof.specs.KeptWords.{AddsFew, GoesOnFrom, IsRaisedFor, KeepsOn, KeepsPhases, Standing}
-use Rattle.asg_proof.specs.Phases.{PhaseOf}
-use Rattle.asg_proof.specs.declared.outcomes.Proof.TheVariants.{Below, Levels, Phases, Windows}
-use Rattle.asg_doc.specs.declared.documents.Claim.{Claim}
-use Rattle.asg_doc.specs.declared.documents.Claim.TheVariants.{Best, Nothing, Ranked}
-use Rattle.asg_doc.specs.declared.documents.Document.{Document}
-use Rattle.asg_doc.specs.Text.{text_of}
-use Rattle.asg_brief.specs.BriefLines.{AreBriefLines, IsBriefLine}
-use Rattle.asg_edits.specs.Editors.{EditorOf, Edits, GoesTo}
-use Rattle.asg_io.specs.Laws.{Puts-append, PutsPrefix-append}
-use Rattle.asg_io.specs.Shelf.{Rose}
-use Rattle.asg_io.specs.Sink.{Puts, PutsPrefix}
-use Rattle.asg_scripts.specs.Scripts.{after_line, solved_instances}
 use Rattle.asg_text.specs.declared.script_lines.Line.{Line}
-use Rattle.asg_text.specs.declared.script_lines.Line.TheVariants.{Edit as Edits_line, Solve}
 use Rattle.asg_answers.specs.declared.edited.Halt.{Halt}
-use Rattle.asg_answers.specs.declared.edited.Halt.TheVariants.{WriteFault, NoMemory}
 use Rattle.asg_answers.specs.EditDocuments.{AreEditDocuments, ClaimGoesOn, at_first, claimed_phases, edited_standing, standing_of}
-use Rattle.asg_answers.specs.WrittenLines.{HaltsIn, WritesAll, WritesFront, WritesLine}
+use Rattle.asg_text.specs.declared.script_lines.Line.TheVariants.{Edit as Edits_line, Solve}
 use Rattle.asg_check.specs.declared.document_forms.Form.TheVariants as forms
-use Rattle.asg_answers.specs.WrittenDocument.{IsWritten}
-use Rattle.asg_answers.specs.Standings.{AreSure, ClaimsBy, GoesOnTo, IsEditDocument, IsFollowed, IsTold, KeepsStanding, Stands}
-use Rattle.asg_answers.specs.Tellings.{TellsEdits, TellsScript}
 
 -- ---- an edit
 

@@ -1,11 +1,6 @@
 -- The rows of Hall sets can be written.
-use Rattle.std.proofs.Common.{ℕ, ◌+◌, ◌<◌, List, length, arith}
+use Rattle.asg_answers.proofs.Common.{ℕ, ◌+◌, ◌<◌, List, length, arith, AreRows, slack, IsHall, reached_capacity, Problem, AreIds}
 use Rattle.asg_model.specs.declared.bands.Band.{Band}
-use Rattle.asg_model.specs.Counts.{slack}
-use Rattle.asg_model.specs.HallSet.{IsHall, reached_capacity}
-use Rattle.asg_model.specs.Problem.{Problem}
-use Rattle.asg_proof.specs.RowIds.{AreIds}
-use Rattle.asg_doc.specs.HasText.{AreRows}
 
 -- the law of Hall sets that all this rests on
 abbrev pub IsHallShort : Type 0

@@ -1,37 +1,14 @@
 -- The levels that prove a choice, and its costs, can be written.
-use Rattle.std.proofs.Common.{◌≡◌, ℕ, zero, suc, ◌+◌, ◌<◌, ◌&&◌, ◌≤◌, ◌^◌, Bool, true, false, cond, List, [], ◌∷◌, length, get_or, All, Option, is_some, count_by, refl, sym, subst, arith}
-use Rattle.std.specs.Prelude.{ℤ, None, FitsSigned, int_lt, nat_lt, sum_by}
-use Rattle.std.proofs.lemmas.Bool.{false≢true, and_parts, ltb-true}
+use Rattle.asg_answers.proofs.Common.{◌≡◌, ℕ, zero, suc, ◌+◌, ◌^◌, ◌<◌, ◌≤◌, Bool, true, false, cond, ◌&&◌, List, [], ◌∷◌, length, get_or, ℤ, is_some, nat_lt, int_lt, FitsSigned, None, All, sum_by, count_by, Option, sym, refl, subst, arith, ltb-true, All-cons, All-nil, and_parts, false≢true, fits_signed_from_abs, get_or_default, length-map, sum_by-cons, HasPhaseText, HaveLevelText, placed, total_capacity, descending, with_descending, IsInstance, IsPlaceInRange, most_side, Problem, side_by, square_side, IsValid, IsPartInRange, costs_of, first_parts, Whole, Place, Word, AreLevelsFrom, IsLeftAssignment, ProvesLevels, left_after, left_last, PhaseOf, AreFewLevels, IsUnitPhase, Level}
 use Rattle.std.specs.Int.{w64}
-use Rattle.std.proofs.lemmas.Int.{fits_signed_from_abs}
-use Rattle.std.proofs.lemmas.List.{get_or_default, length-map}
-use Rattle.std.proofs.lemmas.List.Elements.{All-nil, All-cons}
-use Rattle.std.proofs.lemmas.List.Sums.{sum_by-cons}
-use Rattle.asg_model.specs.declared.parts.Place.{Place}
-use Rattle.asg_model.specs.declared.parts.Place.TheVariants.{All as PlaceAll, Exactly}
-use Rattle.asg_model.specs.Counts.{placed, total_capacity}
-use Rattle.asg_model.specs.Descending.{descending, with_descending}
-use Rattle.asg_model.specs.Instances.{IsInstance, IsPlaceInRange}
-use Rattle.asg_model.specs.Limits.{most_side}
-use Rattle.asg_model.specs.Problem.{Problem}
-use Rattle.asg_model.specs.Shapes.{side_by, square_side}
-use Rattle.asg_model.specs.ValidChoice.{IsValid}
-use Rattle.asg_model.specs.ValueRange.{IsPartInRange}
-use Rattle.asg_model.specs.Values.{costs_of, first_parts}
-use Rattle.asg_order.specs.declared.words.Word.{Word}
 use Rattle.asg_order.specs.laws.ChosenCosts.{length-costs_of}
-use Rattle.asg_proof.specs.declared.levels.Level.{Level}
 use Rattle.asg_proof.specs.ColumnLists.{ArePlaces}
 use Rattle.asg_proof.specs.LevelLists.{AreLevelParts}
 use Rattle.asg_proof.specs.LevelRows.{most_level_rows}
 use Rattle.asg_square.specs.Cells.{square_cell}
 use Rattle.asg_square.specs.Presence.{has_cell}
-use Rattle.asg_model.specs.declared.bands.Band.TheVariants.{Whole}
-use Rattle.asg_proof.specs.Levels.{AreLevelsFrom, IsLeftAssignment, ProvesLevels, left_after, left_last}
-use Rattle.asg_proof.specs.Phases.{PhaseOf}
-use Rattle.asg_proof.specs.PromisedProofs.{AreFewLevels, IsUnitPhase}
 use Rattle.asg_grammar.specs.Spellings.{IsListOf}
-use Rattle.asg_doc.specs.HasText.{HasPhaseText, HaveLevelText}
+use Rattle.asg_model.specs.declared.parts.Place.TheVariants.{All as PlaceAll, Exactly}
 
 -- ---- a value that lists costs
 

@@ -1,3 +1,4 @@
+pub mod Common
 pub mod CellIds
 pub mod ChosenCells
 pub mod DocumentLemmas

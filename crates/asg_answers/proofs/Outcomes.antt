@@ -1,6 +1,5 @@
 -- What holds of an answer, by facts on it.
-use Rattle.std.specs.Prelude.{Result, Ok, Err, OnOk}
-use Rattle.std.specs.Result.{IfErr}
+use Rattle.asg_answers.proofs.Common.{IfErr, OnOk, Ok, Err, Result}
 
 module _ {T E : Type 0} where
   pub on_ok_always : (result : Result T E) (A : Type 0) → A → OnOk result A

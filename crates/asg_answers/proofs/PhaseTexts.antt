@@ -1,32 +1,8 @@
 -- The phases that prove a choice can be written.
-use Rattle.std.proofs.Common.{ℕ, ◌≤◌, ◌<◌, ◌^◌, Bool, true, false, List, [], ◌∷◌, length, map, get_or, All, Option, refl, subst, arith}
-use Rattle.std.specs.Prelude.{nat_lt, nat_le}
-use Rattle.std.proofs.lemmas.Bool.{and_parts, leb-true, ltb-true}
-use Rattle.std.proofs.lemmas.List.Elements.{All-nil, All-cons, All-map}
-use Rattle.asg_model.specs.declared.objectives.Objective.{Objective}
-use Rattle.asg_model.specs.declared.objectives.Objective.TheVariants.{Sum, SumMax, SumPair, Capped, Bottleneck, BottleneckMax, TimeCost, Balanced, Lex}
-use Rattle.asg_model.specs.declared.parts.Cost.{Cost}
-use Rattle.asg_model.specs.Limits.{most_side}
-use Rattle.asg_model.specs.Problem.{Problem}
-use Rattle.asg_order.specs.declared.words.Word.{Word}
-use Rattle.asg_order.specs.Monoid.{Monoid, IsValue}
+use Rattle.asg_answers.proofs.Common.{ℕ, ◌^◌, ◌<◌, ◌≤◌, Bool, true, false, List, map, length, get_or, nat_lt, nat_le, All, Option, refl, subst, arith, ltb-true, leb-true, All-map, and_parts, admitted_values, HasStepText, HavePhaseText, HasWord, has_grades, most_side, Problem, Objective, Sum, SumMax, SumPair, Capped, Bottleneck, BottleneckMax, TimeCost, Balanced, Lex, Cost, Monoid, IsValue, Word, ProvesFold, ProvesPhases, ArePhases, PhaseOf, worded, AreFewPhases, IsPhaseOver}
 use Rattle.asg_monoids.specs.BoundedSums.{bounded_sums, plain_word}
 use Rattle.asg_monoids.specs.Grades.{graded, graded_word}
 use Rattle.asg_monoids.specs.Maxima.{maxima}
-use Rattle.asg_proof.specs.PromisedProofs.{AreFewPhases, IsPhaseOver}
-use Rattle.asg_proof.specs.FoldProofs.{ProvesFold, ProvesPhases}
-use Rattle.asg_proof.specs.laws.PhaseSteps.{phase_has_values}
-use Rattle.asg_proof.specs.Phases.{AreAdmittedPhases, ArePhases, PhaseOf, after_phase, worded}
-use Rattle.asg_doc.specs.HasText.{HasStepText, HavePhaseText}
-use Rattle.asg_doc.specs.Words.{HasWord, has_grades}
-
--- the steps of phases that are admitted in turn are values
-pub steps_are_values : {V : Type 0} (M : Monoid V) (difference : V → V → V) (side : ℕ) (phases : List (PhaseOf V)) (square : ℕ → ℕ → Option V) → AreAdmittedPhases M difference side phases square
-    → All (λ phase. All (IsValue M) phase.steps) phases
-steps_are_values {V = V} M difference side [] square admitted = All-nil {X = PhaseOf V} (λ phase. All (IsValue M) phase.steps)
-steps_are_values {V = V} M difference side (phase ∷ rest) square admitted =
-    All-cons (λ (p : PhaseOf V). All (IsValue M) p.steps) phase rest (phase_has_values M difference side phase square admitted.0)
-    (steps_are_values M difference side rest (after_phase M difference phase square) admitted.1)
 
 -- each step of the words can be written
 abbrev pub HaveStepTexts : Bool → List (PhaseOf Word) → Type 0
@@ -38,7 +14,7 @@ fold_texts : {V : Type 0} (M : Monoid V) (difference : V → V → V) (word_of :
 fold_texts {V = V} M difference word_of enter grades texts X choice words proves = subst (HaveStepTexts grades) proves.written all
   where
     values : All (λ phase. All (IsValue M) phase.steps) proves.phases
-    values = steps_are_values M difference _ proves.phases _ proves.proved.admitted
+    values = admitted_values M difference _ proves.phases _ proves.proved.admitted
 
     one : (phase : PhaseOf V) → All (IsValue M) phase.steps → All (HasStepText grades) (worded word_of phase).steps
     one phase are = All-map (HasStepText grades) word_of phase.steps (λ t d within. texts (get_or phase.steps t d) (are t d within))

@@ -1,14 +1,5 @@
 -- The answers of choices, one after another.
-use Rattle.std.proofs.Common.{◌≡◌, ℕ, ◌+◌, ◌<◌, ◌≤◌, List, [], ◌∷◌, ◌++◌, length, map, take, get_or, Option, refl, sym, ap, ◌∙◌, subst}
-use Rattle.std.proofs.lemmas.List.{map-append, take_all, take_more}
-use Rattle.std.proofs.lemmas.List.Elements.{All-nil, All-push}
-use Rattle.asg_model.specs.declared.objectives.Objective.{Objective}
-use Rattle.asg_model.specs.Problem.{Problem}
-use Rattle.asg_model.specs.Values.{choice_value}
-use Rattle.asg_doc.specs.declared.documents.Answer.{Answer}
-use Rattle.asg_doc.specs.ChosenCells.{cells_by_id}
-use Rattle.asg_doc.specs.HasText.{HasAnswerText}
-use Rattle.asg_answers.specs.DocumentParts.{AreAnswersOf}
+use Rattle.asg_answers.proofs.Common.{◌≡◌, ℕ, ◌+◌, ◌<◌, ◌≤◌, List, [], ◌∷◌, ◌++◌, map, length, get_or, take, Option, sym, refl, ap, ◌∙◌, subst, take_all, All-nil, All-push, map-append, take_more, AreAnswersOf, cells_by_id, HasAnswerText, Answer, Problem, choice_value, Objective}
 
 -- of no choice there is none
 pub AreAnswersOf-none : (objective : Objective) (X : Problem) → AreAnswersOf objective X [] []

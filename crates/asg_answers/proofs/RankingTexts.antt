@@ -1,32 +1,13 @@
 -- The nodes that prove a ranking can be written.
-use Rattle.std.proofs.Common.{◌≡◌, ℕ, zero, suc, ◌-◌, ◌<◌, ◌≤◌, ◌^◌, Bool, true, false, List, [], ◌++◌, length, map, get_or, All, Option, refl, sym, ap, subst, arith}
-use Rattle.std.specs.Prelude.{nat_le, if◌then◌else◌}
-use Rattle.std.proofs.Math.Seq.{drop-append_seam}
-use Rattle.std.proofs.lemmas.List.{get_or_default}
-use Rattle.std.proofs.lemmas.List.Elements.{All-nil, All-drop, All-map}
-use Rattle.asg_model.specs.declared.bands.Band.TheVariants.{Whole}
-use Rattle.asg_model.specs.declared.objectives.Objective.{Objective}
-use Rattle.asg_model.specs.declared.objectives.Objective.TheVariants.{Sum, SumMax, SumPair, Capped, Bottleneck, BottleneckMax, TimeCost, Balanced, Lex}
-use Rattle.asg_model.specs.declared.parts.Cost.{Cost}
-use Rattle.asg_model.specs.HallSet.{IsHall}
-use Rattle.asg_model.specs.Problem.{Problem}
-use Rattle.asg_model.specs.Shapes.{square_side}
-use Rattle.asg_order.specs.declared.words.Word.{Word}
-use Rattle.asg_order.specs.Monoid.{Monoid, IsValue}
-use Rattle.asg_proof.specs.declared.nodes.Mark.{Mark}
-use Rattle.asg_proof.specs.declared.nodes.Mark.TheVariants.{Answered, Open, Empty}
-use Rattle.asg_proof.specs.declared.nodes.Node.{Node}
-use Rattle.asg_proof.specs.NodeLists.{AreNodeParts, IsMarkPart, IsNodePart}
-use Rattle.asg_proof.specs.Nodes.{IsNumber, node_at, node_instance, node_trail, trail_within}
-use Rattle.asg_proof.specs.Phases.{PhaseOf, worded}
-use Rattle.asg_proof.specs.SearchTrees.{HasTrail, IsMarked, IsSearchTree}
-use Rattle.asg_proof.specs.TreeProofs.{ProvesRanking}
+use Rattle.asg_answers.proofs.Common.{◌≡◌, ℕ, zero, suc, ◌-◌, ◌^◌, ◌<◌, ◌≤◌, Bool, true, false, List, [], ◌++◌, map, length, get_or, if◌then◌else◌, nat_le, All, Option, sym, refl, ap, subst, arith, All-drop, All-map, All-nil, drop-append_seam, get_or_default, admitted_values, HasMarkText, HasNodeText, HasStepText, HasTreeText, HasWord, has_grades, IsHall, Problem, square_side, Whole, Objective, Sum, SumMax, SumPair, Capped, Bottleneck, BottleneckMax, TimeCost, Balanced, Lex, Cost, Monoid, IsValue, Word, PhaseOf, worded, IsProvedRanking, AreNodeParts, IsMarkPart, IsNodePart, Node}
+use Rattle.asg_rankings.specs.declared.nodes.Mark.{Mark}
+use Rattle.asg_rankings.specs.declared.nodes.Mark.TheVariants.{Answered, Open, Empty}
+use Rattle.asg_rankings.specs.Nodes.{IsNumber, node_at, node_instance, node_trail, trail_within}
+use Rattle.asg_rankings.specs.SearchTrees.{HasTrail, IsMarked, IsSearchTree}
+use Rattle.asg_rankings.specs.TreeProofs.{ProvesRanking}
 use Rattle.asg_rank.specs.Rankings.{AreCountable, HaveFewPhases}
-use Rattle.asg_rank.specs.RankOutcomes.{IsProvedRanking}
-use Rattle.asg_doc.specs.HasText.{HasMarkText, HasNodeText, HasStepText, HasTreeText}
-use Rattle.asg_doc.specs.Words.{HasWord, has_grades}
 use Rattle.asg_answers.proofs.HallRows.{AreRows-hall, IsHallShort}
-use Rattle.asg_answers.proofs.PhaseTexts.{HaveStepTexts, peak_text, steps_are_values, sum_text, time_text}
+use Rattle.asg_answers.proofs.PhaseTexts.{HaveStepTexts, peak_text, sum_text, time_text}
 
 -- what holds of a list holds of what it ends with
 All-behind : {X : Type 0} (P : X → Type 0) (xs ys : List X) → All P (xs ++ ys) → All P ys
@@ -38,7 +19,7 @@ module _ {V : Type 0} (M : Monoid V) (difference : V → V → V) (word_of : V �
   trail_texts n trail = subst (HaveStepTexts grades) trail.written all
     where
       values : All (λ phase. All (IsValue M) phase.steps) trail.phases
-      values = steps_are_values M difference _ trail.phases _ trail.admitted
+      values = admitted_values M difference _ trail.phases _ trail.admitted
 
       one : (phase : PhaseOf V) → All (IsValue M) phase.steps → All (HasStepText grades) (worded word_of phase).steps
       one phase are = All-map (HasStepText grades) word_of phase.steps (λ t d within. texts (get_or phase.steps t d) (are t d within))

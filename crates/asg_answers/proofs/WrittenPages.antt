@@ -1,12 +1,7 @@
 -- Bytes that were written over a blank page, which was then emptied.
-use Rattle.std.proofs.Common.{◌≡◌, ℕ, ◌<◌, ◌≤◌, true, false, List, [], ◌++◌, sym, ap, ◌∙◌, inl, inr, subst, arith}
-use Rattle.std.specs.Prelude.{Option}
-use Rattle.std.proofs.lemmas.Bool.{cases_Bool, both_ways}
+use Rattle.asg_answers.proofs.Common.{◌≡◌, ℕ, ◌<◌, ◌≤◌, true, false, List, [], ◌++◌, Option, sym, ap, ◌∙◌, subst, inl, inr, arith, both_ways, cases_Bool, Puts-append, PutsPrefix-append, Rose, Puts, PutsPrefix}
 use Rattle.asg_page.specs.Flow.{Wrote, Emptied}
 use Rattle.asg_page.specs.PageState.{PageState, blank}
-use Rattle.asg_io.specs.Laws.{Puts-append, PutsPrefix-append}
-use Rattle.asg_io.specs.Shelf.{Rose}
-use Rattle.asg_io.specs.Sink.{Puts, PutsPrefix}
 
 Rose-later : (first before last : ℕ) → first ≤ before → Rose before last → Rose first last
 Rose-later first before last below (inl rose) = inl (omega arith)

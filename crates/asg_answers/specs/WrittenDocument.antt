@@ -11,7 +11,7 @@ use Rattle.asg_proof.specs.declared.outcomes.Proof.TheVariants.{Phases}
 use Rattle.asg_model.specs.DifferentCosts.{most_costs}
 use Rattle.asg_proof.specs.LevelRows.{most_level_rows}
 use Rattle.asg_proof.specs.PromisedProofs.{AreFewWindows, HasFewLevels, HasFewPhases, IsPhaseOver, IsThresholdProof}
-use Rattle.asg_proof.specs.declared.nodes.Node.{Node}
+use Rattle.asg_rankings.specs.declared.nodes.Node.{Node}
 use Rattle.asg_rank.specs.Rankings.{HaveFewPhases}
 use Rattle.asg_doc.specs.declared.documents.Answer.{Answer}
 use Rattle.asg_doc.specs.declared.documents.Claim.{Claim}

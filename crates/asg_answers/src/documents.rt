@@ -26,10 +26,12 @@ use asg_check::Form;
 use asg_check::laws::soundness_law;
 use asg_doc::{Answer, Answers, Cells, Claim, Command, Document};
 use asg_edits::Editor;
-use asg_model::laws::hall_rows_law;
-use asg_model::{Choice, Instance, NoMemory, Objective, value};
-use asg_proof::{Ids, Nodes, Outcome, Proof};
+use asg_model::{Choice, Instance, NoMemory, Objective};
+use asg_proof::{Ids, Outcome, Proof};
 use asg_rank::Choices;
+use asg_rankings::Nodes;
+use asg_values::laws::hall_rows_law;
+use asg_values::value;
 use std::alloc::Global;
 
 // The id of the column at a place, where there is one.

@@ -26,10 +26,10 @@ use crate::sheets::Sheet;
 use crate::tellings::choice_line;
 use asg_brief::laws::best_value_law;
 use asg_brief::sum_line;
+use asg_edited::laws::edited_law;
 use asg_edits::Editor;
 use asg_io::{PutFault, Sink};
 use asg_model::{Edit, NoMemory, Objective};
-use asg_scripts::laws::edited_law;
 use asg_text::Line;
 use std::alloc::Global;
 

@@ -23,11 +23,11 @@ use crate::replies::Text;
 use crate::sheets::Sheet;
 use asg_brief::{BriefLine, best_line, none_line};
 use asg_check::Form;
-use asg_model::laws::infeasible_law;
 use asg_model::{Choice, Instance, NoMemory, Objective};
 use asg_proof::laws::best_law;
 use asg_proof::{Ids, Proof};
 use asg_table_sums::best_by_table;
+use asg_values::laws::infeasible_law;
 use std::alloc::Global;
 
 // The brief line of an instance by a best choice, or where there is none. The error is want of

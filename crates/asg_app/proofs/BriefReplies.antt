@@ -1,17 +1,6 @@
 -- What is due where a line was made of a ranking.
-use Rattle.std.proofs.Common.{◌≡◌, ◌≤◌, ℕ, List, true, refl, sym, subst}
-use Rattle.asg_brief.specs.BriefLines.{IsNoneLine, IsRankedLine}
+use Rattle.asg_app.proofs.Common.{◌≡◌, ℕ, ◌≤◌, true, List, sym, refl, subst, Answers, IsReply, TellsNone, TellsRanking, Reply, Status, Done, Nothing, IsNoneLine, IsRankedLine, Problem, DueToRank, Ranked, Unrankable, ranking_work, most_work, Job}
 use Rattle.asg_check.specs.declared.document_forms.Form.TheVariants.{Rank}
-use Rattle.asg_model.specs.Problem.{Problem}
-use Rattle.asg_rank.specs.Rankings.{ranking_work}
-use Rattle.asg_rank.specs.Rooms.{most_work}
-use Rattle.asg_requests.specs.declared.requests.Job.{Job}
-use Rattle.asg_answers.specs.declared.replies.Reply.{Reply}
-use Rattle.asg_answers.specs.declared.status.Status.{Status}
-use Rattle.asg_answers.specs.declared.status.Status.TheVariants.{Done, Nothing}
-use Rattle.asg_answers.specs.Replies.{Answers, IsReply}
-use Rattle.asg_answers.specs.Tellings.{TellsNone, TellsRanking}
-use Rattle.asg_promises.specs.DueToRank.{DueToRank, Ranked, Unrankable}
 
 -- a reply with a status and a text that are due
 reply_due : (Owed : Status → List ℕ → Type 0) (reply : Reply) (status : Status) (text : List ℕ) → Owed status text → IsReply reply status text → Answers Owed reply

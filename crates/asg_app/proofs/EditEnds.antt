@@ -1,39 +1,15 @@
 -- How a request to edit ends.
-use Rattle.std.proofs.Common.{◌≡◌, ℕ, Bool, true, false, List, ◌++◌, Option, Some, None, refl, sym, ap, ◌∙◌, subst, inl, inr, Global, arith}
-use Rattle.std.specs.Prelude.{IfOk, IfSome, IsSome, IsTrue, Result, Ok, Err, Vec}
-use Rattle.asg_io.specs.Shelf.{Rose}
-use Rattle.asg_model.specs.declared.objectives.Objective.{Objective}
-use Rattle.asg_model.specs.declared.objectives.Objective.TheVariants.{Sum, SumMax, SumPair, Capped, Bottleneck, BottleneckMax, TimeCost, Balanced, Lex}
-use Rattle.asg_model.specs.Problem.{Problem}
+use Rattle.asg_app.proofs.Common.{◌≡◌, ℕ, Bool, true, false, List, ◌++◌, IfSome, IfOk, IsSome, IsTrue, Some, None, Ok, Err, Option, Result, Vec, sym, refl, ap, ◌∙◌, subst, inl, inr, arith, Global, Answers, IsReply, bytes_of, TellsScript, WritesAll, WritesFront, Reply, Status, Done, WriteFault, NoMemory, IsStarted, StopsJob, Ends, WritesInPart, StopsInstance, StopsScript, Rose, Problem, Objective, Sum, SumMax, SumPair, Capped, Bottleneck, BottleneckMax, TimeCost, Balanced, Lex, DueForAsked, DueForFront, DueForJob, DueForPart, DueForTask, Held, Holds, instance_in, is_edit, DueForScript, AreShort, content_at, IsJob, IsWithin, cap_of, script_edited, Job, Request, Solve, Rank, Check, HoldsLines, script_in, Line}
 use Rattle.asg_doc.specs.Words.{HasWord}
-use Rattle.asg_requests.specs.declared.requests.Request.{Request}
-use Rattle.asg_requests.specs.Bounds.{IsJob, IsWithin, cap_of, script_edited}
-use Rattle.asg_requests.specs.declared.requests.Job.{Job}
 use Rattle.asg_requests.specs.declared.requests.Task.{Task}
-use Rattle.asg_requests.specs.declared.requests.Task.TheVariants.{Solve, Rank, Edit, Check}
-use Rattle.asg_requests.specs.declared.requests.Request.TheVariants as requests
+use Rattle.asg_requests.specs.declared.requests.Task.TheVariants.{Edit}
 use Rattle.asg_model.specs.Objectives.{is_algebraic, most_cap}
-use Rattle.asg_scripts.specs.Scripts.{HoldsLines, script_in}
-use Rattle.asg_text.specs.declared.script_lines.Line.{Line}
 use Rattle.asg_app.specs.declared.commands.edit.Work.{Work}
-use Rattle.asg_answers.specs.declared.replies.Reply.{Reply}
 use Rattle.asg_app.specs.declared.stops.Stop.{Stop}
-use Rattle.asg_app.specs.declared.stops.Stop.TheVariants.{Refused as Stopped, NoMemory as Wanting}
-use Rattle.asg_answers.specs.declared.status.Status.{Status}
-use Rattle.asg_answers.specs.declared.status.Status.TheVariants.{Done, WriteFault, NoMemory}
-use Rattle.asg_promises.specs.Due.{DueForAsked, DueForFront, DueForJob, DueForPart, DueForTask, Held}
 use Rattle.asg_promises.specs.DueToEdit.{DueToEdit, Followed}
-use Rattle.asg_answers.specs.WrittenLines.{WritesAll, WritesFront}
-use Rattle.asg_app.specs.Edits.{IsStarted, StopsJob}
-use Rattle.asg_answers.specs.Tellings.{TellsScript}
-use Rattle.asg_app.specs.Ends.{Ends, WritesInPart}
-use Rattle.asg_promises.specs.InstanceFile.{Holds, instance_in}
-use Rattle.asg_answers.specs.Replies.{Answers, IsReply, bytes_of}
-use Rattle.asg_promises.specs.Requests.{is_edit}
-use Rattle.asg_promises.specs.ScriptStage.{DueForScript}
-use Rattle.asg_promises.specs.Sources.{AreShort, content_at}
-use Rattle.asg_app.specs.Stops.{StopsInstance, StopsScript}
 use Rattle.asg_app.proofs.InstanceLemmas.{stop_due}
+use Rattle.asg_requests.specs.declared.requests.Request.TheVariants as requests
+use Rattle.asg_app.specs.declared.stops.Stop.TheVariants.{Refused as Stopped, NoMemory as Wanting}
 
 -- a task that edits has a script
 pub edit_of : (task : Task) → is_edit task ≡ true → (script : List ℕ) × (task ≡ Edit script)

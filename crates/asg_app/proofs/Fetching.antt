@@ -1,17 +1,7 @@
 -- Files that are fetched in turn.
-use Rattle.std.proofs.Common.{◌≡◌, ℕ, zero, suc, ◌+◌, ◌<◌, ◌≤◌, List, [], ◌∷◌, ◌++◌, length, take, replicate, get_or, Option, Some, None, refl, sym, ap, ◌∙◌, subst, append_assoc, inl, inr, arith}
-use Rattle.std.specs.Prelude.{IfSome, slice_get, Result, Err, ◌≢◌, ◌⊎◌}
-use Rattle.std.specs.Result.{IfErr}
+use Rattle.asg_app.proofs.Common.{◌≡◌, ℕ, zero, suc, ◌+◌, ◌<◌, ◌≤◌, ◌≢◌, ◌⊎◌, List, [], ◌∷◌, ◌++◌, length, get_or, take, replicate, IfSome, IfErr, slice_get, Some, None, Err, Option, Result, sym, refl, ap, ◌∙◌, subst, inl, inr, append_assoc, append-nil, arith, take_all, All-cons, All-nil, none-some, slice_get-get_or, slice_get_past, AreGiven, AsksOf, Fails, Gives, StopsAt, Rose, asked_after, FetchFault, longest_file, AreShort, MayHoldAll, content_at}
 use Rattle.std.proofs.Math.ListN.{length-replicate}
-use Rattle.std.proofs.lemmas.List.{append-nil, take_all}
-use Rattle.std.proofs.lemmas.Option.{none-some, slice_get_past, slice_get-get_or}
-use Rattle.std.proofs.lemmas.List.Elements.{All-nil, All-cons}
-use Rattle.asg_io.specs.Shelf.{Rose, asked_after}
-use Rattle.asg_io.specs.declared.shelf.FetchFault.{FetchFault}
 use Rattle.asg_io.specs.declared.shelf.FetchFault.TheVariants.{Failed, TooLong, NoMemory}
-use Rattle.asg_model.specs.Limits.{longest_file}
-use Rattle.asg_app.specs.Fetches.{AreGiven, AsksOf, Fails, Gives, StopsAt}
-use Rattle.asg_promises.specs.Sources.{AreShort, MayHoldAll, content_at}
 
 -- a count that rose in a part of a run rose over the run
 rose_later : (first before last : ℕ) → first ≤ before → Rose before last → Rose first last

@@ -1,29 +1,11 @@
 -- What is due for what an instance's file holds.
-use Rattle.std.proofs.Common.{◌≡◌, ◌&&◌, ℕ, ◌<◌, true, false, cond, List, [], ◌∷◌, length, Option, Some, None, Result, Ok, Err, IsErr, refl, ap, sym, subst, ◌∙◌, arith}
-use Rattle.std.specs.Prelude.{◌⊎◌, IfSome, IfOk, MatchOption, nat_lt}
-use Rattle.std.proofs.lemmas.Bool.{le-leb}
-use Rattle.std.proofs.lemmas.Bool.Decides.{nat_tests}
-use Rattle.asg_model.specs.declared.objectives.Objective.{Objective}
+use Rattle.asg_app.proofs.Common.{◌≡◌, ℕ, ◌<◌, true, false, cond, ◌&&◌, ◌⊎◌, List, [], ◌∷◌, length, IfSome, IfOk, IsErr, nat_lt, Some, None, Ok, Err, Option, Result, MatchOption, sym, refl, ap, ◌∙◌, subst, arith, le-leb, nat_tests, Answers, IsReply, refused_instance_text, Reply, Instance, StopsInstance, stop_of, IsPlaceInRange, most_side, Problem, IsPlaceOutOfRange, is_range_of, shaped, square_side, Objective, DueForJob, Refused, InstanceFile, Holds, Refuses, fitted, held_by, instance_in, passed, rows_asked, sided, AreShort, content_at, Job, Fault, refusal_numbers}
 use Rattle.asg_model.specs.declared.parts.Place.{Place}
-use Rattle.asg_model.specs.declared.parts.Place.TheVariants.{All as PlaceAll, Exactly}
 use Rattle.asg_model.specs.Counts.{total_capacity}
-use Rattle.asg_model.specs.Instances.{IsPlaceInRange}
-use Rattle.asg_model.specs.Problem.{Problem}
-use Rattle.asg_model.specs.Limits.{most_side}
-use Rattle.asg_model.specs.Shapes.{IsPlaceOutOfRange, is_range_of, shaped, square_side}
-use Rattle.asg_tokens.specs.Readings.{Spells, Refuses as RefusesText}
 use Rattle.asg_text.specs.Texts.{reading_of}
-use Rattle.asg_tokens.specs.Faults.{Fault, refusal_numbers}
-use Rattle.asg_requests.specs.declared.requests.Job.{Job}
-use Rattle.asg_answers.specs.declared.replies.Reply.{Reply}
-use Rattle.asg_answers.specs.declared.status.Status.TheVariants.{Instance}
-use Rattle.asg_promises.specs.Due.{DueForJob, Refused}
-use Rattle.asg_promises.specs.InstanceFile.{InstanceFile, Holds, Refuses, fitted, held_by, instance_in, passed, rows_asked, sided}
-use Rattle.asg_answers.specs.Replies.{Answers, IsReply}
-use Rattle.asg_answers.specs.Texts.{refused_instance_text}
-use Rattle.asg_app.specs.Stops.{StopsInstance, stop_of}
+use Rattle.asg_model.specs.declared.parts.Place.TheVariants.{All as PlaceAll, Exactly}
+use Rattle.asg_tokens.specs.Readings.{Spells, Refuses as RefusesText}
 use Rattle.asg_app.specs.declared.stops.Stop.TheVariants.{Refused as Stopped}
-use Rattle.asg_promises.specs.Sources.{AreShort, content_at}
 
 -- a text that spells an instance holds it with the job's options, and one that is refused its
 -- refusal

@@ -1,34 +1,14 @@
 -- Documents that are judged in turn.
-use Rattle.std.proofs.Common.{◌≡◌, ℕ, ◌+◌, ◌≤◌, ◌<◌, List, [], ◌∷◌, length, drop, get_or, Option, Some, None, refl, sym, ap, ◌∙◌, subst, inl, inr, arith}
-use Rattle.std.specs.Prelude.{ℤ}
-use Rattle.std.proofs.lemmas.List.{drop_all}
-use Rattle.asg_model.specs.declared.edits.Edit.{Edit as Edits}
-use Rattle.asg_model.specs.declared.edits.Edit.TheVariants.{Cost as SetCost, Forbid, DropRow, DropColumn}
-use Rattle.asg_model.specs.declared.objectives.Objective.{Objective}
+use Rattle.asg_app.proofs.Common.{◌≡◌, ℕ, ◌+◌, ◌<◌, ◌≤◌, List, [], ◌∷◌, length, get_or, drop, ℤ, Some, None, Option, sym, refl, ap, ◌∙◌, subst, inl, inr, arith, drop_all, Answers, IsReply, bytes_of, no_text, yes_text, Reply, Status, Done, No, JudgesOn, IsFirstReason, Form, most_side, Problem, PassesNegative, square_side, Objective, DueToJudge, line_at_passes, rest_at, after_line, first_refused, line_refusal, solved_instances, solve_count, solves, Line}
 use Rattle.asg_model.specs.Edits.{edited}
-use Rattle.asg_model.specs.Limits.{most_side}
-use Rattle.asg_model.specs.Problem.{Problem}
-use Rattle.asg_model.specs.Refused.{PassesNegative}
-use Rattle.asg_model.specs.Shapes.{square_side}
 use Rattle.asg_doc.specs.declared.documents.Document.{Document}
-use Rattle.asg_check.specs.declared.document_forms.Form.{Form}
-use Rattle.asg_check.specs.declared.document_forms.Form.TheVariants as forms
 use Rattle.asg_check.specs.DocumentForm.{MayBeAsked}
 use Rattle.asg_check.specs.Certifies.{Certifies}
-use Rattle.asg_check.specs.Reasons.{IsFirstReason}
 use Rattle.asg_check.specs.TrueClaim.{ClaimsTruly}
-use Rattle.asg_scripts.specs.Scripts.{after_line, first_refused, line_refusal, solved_instances}
-use Rattle.asg_text.specs.declared.script_lines.Line.{Line}
 use Rattle.asg_text.specs.declared.script_lines.Line.TheVariants.{Edit, Solve}
-use Rattle.asg_answers.specs.declared.replies.Reply.{Reply}
-use Rattle.asg_answers.specs.declared.status.Status.{Status}
-use Rattle.asg_answers.specs.declared.status.Status.TheVariants.{Done, No}
-use Rattle.asg_promises.specs.DueToJudge.{DueToJudge}
-use Rattle.asg_answers.specs.Replies.{Answers, IsReply, bytes_of}
-use Rattle.asg_scripts.specs.SolveLines.{solve_count, solves}
-use Rattle.asg_app.specs.Solves.{JudgesOn}
-use Rattle.asg_answers.specs.Texts.{no_text, yes_text}
-use Rattle.asg_scripts.specs.Laws.{line_at_passes, rest_at}
+use Rattle.asg_model.specs.declared.edits.Edit.{Edit as Edits}
+use Rattle.asg_model.specs.declared.edits.Edit.TheVariants.{Cost as SetCost, Forbid, DropRow, DropColumn}
+use Rattle.asg_check.specs.declared.document_forms.Form.TheVariants as forms
 
 module _ (objective : Objective) (form : Form) (count : ℕ) (X : Problem) (instances : List Problem) (documents : List Document) (document : Document) (within : count < length documents) (is : document ≡ get_or documents count document) where
   next_is : drop count documents ≡ document ∷ drop (count + 1) documents

@@ -1,3 +1,4 @@
+pub mod Common
 pub mod BriefReplies
 pub mod EditEnds
 pub mod Fetching

@@ -1,36 +1,25 @@
 -- The place of a reason against a document that has a text fits its type: it is 0, the number of an
 -- answer, a phase, a window, a level or a node, or a cost of an instance.
-use Rattle.std.proofs.Common.{◌≡◌, ℕ, suc, ◌<◌, ◌^◌, List, [], ◌∷◌, length, Option, Some, inl, inr, sym, subst, rules, arith}
-use Rattle.std.specs.Prelude.{FitsSigned, IfSome, ℤ, pos}
-use Rattle.std.specs.Int.{w64}
-use Rattle.std.proofs.lemmas.Int.{fits_signed_from_abs}
-use Rattle.std.proofs.lemmas.Option.{slice_get_within}
-use Rattle.asg_model.specs.declared.objectives.Objective.{Objective}
+use Rattle.asg_app.proofs.Common.{◌≡◌, ℕ, suc, ◌^◌, ◌<◌, List, [], ◌∷◌, length, ℤ, pos, IfSome, FitsSigned, Some, Option, sym, subst, inl, inr, arith, rules, fits_signed_from_abs, slice_get_within, HasBadLevel, HasBadNode, HasBadPhase, HasOtherValue, IsFirstReason, LacksChoice, LacksHallSet, LeavesBetter, LeavesGap, LeavesOrder, Repeats, Stands, Form, HasClaimText, HasText, IsInstance, IsCostInRange, Problem, Objective, Balanced, Lex, w64}
 use Rattle.asg_model.specs.declared.objectives.Value.{Value}
 use Rattle.asg_model.specs.declared.objectives.Value.TheVariants.{One}
 use Rattle.asg_model.specs.declared.parts.Cost.{Cost}
-use Rattle.asg_model.specs.Instances.{IsInstance, IsCostInRange}
 use Rattle.asg_model.specs.Live.{live_at}
-use Rattle.asg_model.specs.Problem.{Problem}
 use Rattle.asg_proof.specs.declared.outcomes.Proof.TheVariants.{Levels, Phases, Windows}
 use Rattle.asg_proof.specs.declared.windows.Window.{Window}
 use Rattle.asg_proof.specs.laws.LiveCosts.{live_in_range}
 use Rattle.asg_monoids.specs.ObjectiveMonoids.{InMonoidOf}
-use Rattle.asg_proof.specs.declared.nodes.Node.{Node}
-use Rattle.asg_proof.specs.Nodes.{IsNumber}
-use Rattle.asg_proof.specs.TreeFaults.{IsAtFault, IsLeftOpen}
-use Rattle.asg_model.specs.declared.objectives.Objective.TheVariants.{Balanced, Lex}
+use Rattle.asg_rankings.specs.declared.nodes.Node.{Node}
+use Rattle.asg_rankings.specs.Nodes.{IsNumber}
+use Rattle.asg_rankings.specs.TreeFaults.{IsAtFault, IsLeftOpen}
 use Rattle.asg_doc.specs.declared.documents.Answer.{Answer}
 use Rattle.asg_doc.specs.declared.documents.Claim.{Claim}
 use Rattle.asg_doc.specs.declared.documents.Claim.TheVariants.{Best, Ranked}
 use Rattle.asg_doc.specs.declared.documents.Document.{Document}
-use Rattle.asg_doc.specs.HasText.{HasClaimText, HasText}
-use Rattle.asg_check.specs.declared.document_forms.Form.{Form}
 use Rattle.asg_reasons.specs.declared.verdicts.Reason.{Reason}
 use Rattle.asg_reasons.specs.declared.verdicts.Reason.TheVariants.{OtherObjective, WrongForm, NotValid, WrongValue, Repeated, OutOfOrder, NotHall, WindowGap, BadPhase, IndexDiffers, BadLevel, BadNode, BetterLeft}
 use Rattle.asg_reasons.specs.declared.verdicts.Verdict.TheVariants.{No}
 use Rattle.asg_reasons.specs.Verdicts.{Tells, reasons_in_order}
-use Rattle.asg_check.specs.Reasons.{HasBadLevel, HasBadNode, HasBadPhase, HasOtherValue, IsFirstReason, LacksChoice, LacksHallSet, LeavesBetter, LeavesGap, LeavesOrder, Repeats, Stands}
 use Rattle.asg_check.specs.RankingReasons.{IsNoChoiceAt, IsOutOfOrderAt, IsRepeatedAt, IsWrongValueAt}
 use Rattle.asg_reasons.specs.Spots.{At, AtParts, Overall, Spot, place_of}
 use Rattle.asg_check.specs.WindowReasons.{IsNoHallAt, LeaveGapAt}

@@ -1,12 +1,5 @@
 -- Replies, and how they end a run.
-use Rattle.std.proofs.Common.{◌≡◌, ℕ, List, [], ◌∷◌, ◌++◌, Result, sym, ap, ◌∙◌, subst}
-use Rattle.std.specs.Prelude.{ℤ, codes, IfOk}
-use Rattle.std.specs.Fmt.{decimal, signed_decimal}
-use Rattle.std.proofs.lemmas.Result.{IfOk-weaker}
-use Rattle.asg_answers.specs.declared.replies.Reply.{Reply}
-use Rattle.asg_answers.specs.declared.status.Status.{Status}
-use Rattle.asg_answers.specs.Replies.{IsReply, bytes_of}
-use Rattle.asg_answers.specs.Texts.{no_text}
+use Rattle.asg_app.proofs.Common.{◌≡◌, ℕ, List, [], ◌∷◌, ◌++◌, ℤ, IfOk, codes, decimal, Result, sym, ap, ◌∙◌, subst, IfOk-weaker, signed_decimal, IsReply, bytes_of, no_text, Reply, Status}
 
 -- a reply of a status and a text that are owed
 pub replied : {E : Type 0} (Owed : Status → List ℕ → Type 0) (status : Status) (text : List ℕ) (result : Result Reply E)

@@ -1,22 +1,8 @@
 -- How a run ends.
-use Rattle.std.proofs.Common.{◌≡◌, ℕ, ◌<◌, List, [], ◌∷◌, length, take, Option, Some, None, refl, subst, inl, inr, arith}
-use Rattle.std.specs.Prelude.{◌⊎◌, IfSome, IsTrue, slice_get}
-use Rattle.asg_io.specs.Shelf.{Rose}
-use Rattle.asg_io.specs.declared.shelf.FetchFault.{FetchFault}
-use Rattle.asg_io.specs.declared.shelf.FetchFault.TheVariants as faults
-use Rattle.asg_requests.specs.declared.requests.Request.{Request}
-use Rattle.asg_requests.specs.declared.requests.Request.TheVariants.{Work, Make}
-use Rattle.asg_answers.specs.declared.status.Status.{Status}
-use Rattle.asg_answers.specs.declared.status.Status.TheVariants.{Done, Usage, Instance, Script, Document, No, ReadFault, WriteFault, NoMemory, TooLong}
-use Rattle.asg_answers.specs.declared.status.Status.TheVariants as statuses
-use Rattle.asg_promises.specs.Due.{DueForAsked, DueForPart, Long}
-use Rattle.asg_app.specs.Ends.{WritesInPart}
-use Rattle.asg_model.specs.Limits.{longest_file}
-use Rattle.asg_app.specs.Fetches.{StopsAt, status_of}
-use Rattle.asg_promises.specs.Sources.{MayHoldAll}
-use Rattle.asg_promises.specs.Requests.{files_of, is_streamed}
-use Rattle.asg_answers.specs.Statuses.{IsAnswer}
+use Rattle.asg_app.proofs.Common.{◌≡◌, ℕ, ◌<◌, ◌⊎◌, List, [], ◌∷◌, length, take, IfSome, IsTrue, slice_get, Some, None, Option, refl, subst, inl, inr, arith, IsAnswer, Status, Done, Usage, Instance, Script, Document, No, ReadFault, WriteFault, NoMemory, TooLong, WritesInPart, StopsAt, status_of, Rose, FetchFault, longest_file, DueForAsked, DueForPart, Long, files_of, is_streamed, MayHoldAll, Request, Work, Make}
 use Rattle.asg_app.proofs.Fetching.{AreLong, given_held, given_kept, long_all, stopped_rose}
+use Rattle.asg_io.specs.declared.shelf.FetchFault.TheVariants as faults
+use Rattle.asg_answers.specs.declared.status.Status.TheVariants as statuses
 
 -- of no names no contents are too long
 none_held : (told : List ℕ → Option (List ℕ)) (contents : List (List ℕ)) (place : ℕ) → MayHoldAll told [] contents → place < length contents → ⊥

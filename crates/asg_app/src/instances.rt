@@ -12,11 +12,12 @@ ghost use Rattle.asg_answers.specs.Texts.{refused_instance_text};
 use crate::stops::{Stop, stopped};
 use asg_answers::{Reply, Status, refusal};
 use asg_model::limits::MOST_SIDE;
-use asg_model::{Instance, NoMemory, Place, PlaceRange, negative};
+use asg_model::{Instance, NoMemory, Place, PlaceRange};
 use asg_promises::laws::refused_cost_law;
 use asg_requests::Job;
 use asg_text::read;
 use asg_tokens::TextRefusal;
+use asg_values::negative;
 use std::alloc::{AllocError, Global};
 
 // The refusal of an instance by its text. The error is want of memory, also where that is what

@@ -1,17 +1,7 @@
 -- A ranker that gives one answer after another, each best of those that are left.
-use Rattle.std.proofs.Common.{◌≡◌, ℕ, ◌+◌, ◌-◌, ◌<◌, ◌≤◌, ◌⊎◌, List, [], ◌∷◌, ◌++◌, length, length-append, Option, refl, sym, ap, ◌∙◌, subst, arith, ⊎_elim}
-use Rattle.std.specs.Prelude.{Contains}
-use Rattle.std.proofs.lemmas.Bool.{cases_lt}
-use Rattle.std.proofs.lemmas.List.{get_or_append_left}
-use Rattle.asg_model.specs.declared.objectives.Objective.{Objective}
-use Rattle.asg_model.specs.Problem.{Problem}
-use Rattle.asg_model.specs.ValidChoice.{IsValid}
-use Rattle.asg_proof.specs.Nodes.{answer_at}
-use Rattle.asg_proof.specs.Ranked.{IsBetterChoice, IsNextBest, IsRanking}
+use Rattle.asg_brief.proofs.Common.{◌≡◌, ℕ, ◌+◌, ◌-◌, ◌<◌, ◌≤◌, ◌⊎◌, List, [], ◌∷◌, ◌++◌, length, Contains, Option, sym, refl, ap, ◌∙◌, subst, ⊎_elim, arith, length-append, cases_lt, get_or_append_left, HasNoChoice, Problem, IsValid, Objective, Gives, IsExhausted, Ranking, answer_at, IsBetterChoice, IsNextBest, IsRanking}
 use Rattle.asg_rank.specs.declared.ranker.Next.{Next}
 use Rattle.asg_rank.specs.declared.ranker.Next.TheVariants.{Answer, Done}
-use Rattle.asg_rank.specs.Rankings.{Gives, IsExhausted, Ranking}
-use Rattle.asg_brief.specs.BestValues.{HasNoChoice}
 use Rattle.asg_brief.proofs.NextBest.{AreNextBest, ranking_of_next}
 
 -- so many answers were given since the first state, in which there was none

@@ -1,3 +1,4 @@
+pub mod Common
 pub mod GivenBest
 pub mod LineTexts
 pub mod NextBest

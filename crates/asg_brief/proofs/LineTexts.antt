@@ -1,24 +1,9 @@
 -- An instance has one brief line.
-use Rattle.std.proofs.Common.{◌≡◌, ◌<◌, ◌+◌, ℕ, ℤ, Option, List, [], ◌∷◌, ◌++◌, length, get_or, take, sym, ap, ◌∙◌, inl, inr, arith}
-use Rattle.std.specs.Prelude.{FitsSigned}
-use Rattle.std.specs.Fmt.{signed_decimal}
+use Rattle.asg_brief.proofs.Common.{◌≡◌, ℕ, ◌+◌, ◌<◌, List, [], ◌∷◌, ◌++◌, length, get_or, take, ℤ, FitsSigned, Option, sym, ap, ◌∙◌, inl, inr, arith, fits_signed_from_abs, flat_map_more, signed_decimal, take_more, IsBestValue, AreBriefLines, HasFittingCosts, IsBriefLine, IsRankedLine, best_text, ranked_text, AreRankedEnds, spaced_costs, Problem, choice_value, Objective, Lex, One, Two, Many, answer_at, last_answer}
 use Rattle.std.specs.Int.{w64}
-use Rattle.std.proofs.lemmas.Int.{fits_signed_from_abs}
-use Rattle.std.proofs.lemmas.List.{flat_map_more, take_more}
-use Rattle.asg_model.specs.declared.objectives.Objective.{Objective}
-use Rattle.asg_model.specs.declared.objectives.Objective.TheVariants.{Lex}
 use Rattle.asg_model.specs.declared.objectives.Value.{Value}
-use Rattle.asg_model.specs.declared.objectives.Value.TheVariants.{One, Two, Many}
 use Rattle.asg_model.specs.Counts.{placed}
-use Rattle.asg_model.specs.Problem.{Problem}
-use Rattle.asg_model.specs.Values.{choice_value}
 use Rattle.asg_model.specs.ValueRange.{IsPartInRange, IsValueInRange}
-use Rattle.asg_doc.specs.Text.{spaced_costs}
-use Rattle.asg_proof.specs.Nodes.{answer_at}
-use Rattle.asg_proof.specs.SearchTrees.{last_answer}
-use Rattle.asg_brief.specs.BestValues.{IsBestValue}
-use Rattle.asg_brief.specs.RankedEnds.{AreRankedEnds}
-use Rattle.asg_brief.specs.BriefLines.{AreBriefLines, HasFittingCosts, IsBriefLine, IsRankedLine, best_text, ranked_text}
 
 -- the best choices have one value
 value_once : (objective : Objective) (X : Problem) (value other : Value) → IsBestValue objective X value → IsBestValue objective X other → value ≡ other

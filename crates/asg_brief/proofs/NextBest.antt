@@ -1,13 +1,5 @@
 -- Answers that are each best of those that are left are a ranking.
-use Rattle.std.proofs.Common.{◌≡◌, ◌≢◌, ℕ, ◌+◌, ◌-◌, ◌<◌, ◌≤◌, ◌⊎◌, List, [], length, get_or, Option, sym, ap, ◌∙◌, subst, arith, ⊎_elim}
-use Rattle.std.specs.Prelude.{Contains}
-use Rattle.std.proofs.lemmas.List.{get_or_default}
-use Rattle.asg_model.specs.declared.objectives.Objective.{Objective}
-use Rattle.asg_model.specs.Problem.{Problem}
-use Rattle.asg_model.specs.ValidChoice.{IsValid}
-use Rattle.asg_proof.specs.Nodes.{answer_at}
-use Rattle.asg_proof.specs.Ranked.{IsNextBest, IsRanking}
-use Rattle.asg_rank.specs.Rankings.{IsExhausted}
+use Rattle.asg_brief.proofs.Common.{◌≡◌, ℕ, ◌+◌, ◌-◌, ◌<◌, ◌≤◌, ◌≢◌, ◌⊎◌, List, [], length, get_or, Contains, Option, sym, ap, ◌∙◌, subst, ⊎_elim, arith, get_or_default, Problem, IsValid, Objective, IsExhausted, answer_at, IsNextBest, IsRanking}
 
 -- each answer is best among the valid choices that those before it left
 abbrev pub AreNextBest : Objective → Problem → List (List (Option ℕ)) → Type 0

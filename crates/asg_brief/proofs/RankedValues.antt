@@ -1,20 +1,6 @@
 -- All rankings of so many choices of an instance have the same ends.
-use Rattle.std.proofs.Common.{◌≡◌, ◌≢◌, ℕ, zero, suc, ◌+◌, ◌-◌, ◌<◌, ◌≤◌, ◌⊎◌, List, [], ◌∷◌, length, get_or, Option, sym, ap, ◌∙◌, subst, arith, ⊎_elim}
-use Rattle.std.specs.Prelude.{All, Contains}
-use Rattle.std.proofs.lemmas.Bool.{cases_lt}
-use Rattle.std.proofs.lemmas.List.{get_or_default}
-use Rattle.std.proofs.lemmas.List.Elements.{All-cons, Contains-get_or}
-use Rattle.std.proofs.lemmas.List.Kept.{AllPairs-cons}
-use Rattle.asg_model.specs.declared.objectives.Objective.{Objective}
+use Rattle.asg_brief.proofs.Common.{◌≡◌, ℕ, zero, suc, ◌+◌, ◌-◌, ◌<◌, ◌≤◌, ◌≢◌, ◌⊎◌, List, [], ◌∷◌, length, get_or, All, Contains, Option, sym, ap, ◌∙◌, subst, ⊎_elim, arith, All-cons, AllPairs-cons, Contains-get_or, cases_lt, get_or_default, IsBestValue, AreRankedEnds, HasEnds, Problem, IsValid, choice_value, Objective, answer_at, IsBetterChoice, IsRanking, last_answer}
 use Rattle.asg_model.specs.Best.{IsBest}
-use Rattle.asg_model.specs.Problem.{Problem}
-use Rattle.asg_model.specs.ValidChoice.{IsValid}
-use Rattle.asg_model.specs.Values.{choice_value}
-use Rattle.asg_proof.specs.Nodes.{answer_at}
-use Rattle.asg_proof.specs.Ranked.{IsBetterChoice, IsRanking}
-use Rattle.asg_proof.specs.SearchTrees.{last_answer}
-use Rattle.asg_brief.specs.BestValues.{IsBestValue}
-use Rattle.asg_brief.specs.RankedEnds.{AreRankedEnds, HasEnds}
 use Rattle.asg_brief.proofs.Pigeonhole.{all_not_not, fewer}
 use Rattle.asg_brief.proofs.ValueOrder.{not_better_itself, not_better_trans, same_value}
 

@@ -1,19 +1,8 @@
 -- The values of an objective are totally ordered.
-use Rattle.std.proofs.Common.{◌≡◌, ◌⊎◌, ℕ, List, [], ◌∷◌, Option, refl, sym, ap, ◌∙◌, subst, inl, inr, ℤ}
-use Rattle.std.specs.Prelude.{◌<ℤ◌}
-use Rattle.std.specs.Cmp.{int_chain, int_ranks}
+use Rattle.asg_brief.proofs.Common.{◌≡◌, ℕ, ◌⊎◌, List, [], ◌∷◌, ℤ, ◌<ℤ◌, Option, int_cmp, Ordering, Less, Equal, Greater, sym, refl, ap, ◌∙◌, subst, inl, inr, MatchOrdering, int_chain, int_ranks, Problem, choice_value, costs_of, value_of, Objective, Sum, SumMax, SumPair, Capped, Bottleneck, BottleneckMax, TimeCost, Balanced, Lex, One, Two, Many, IsBetterChoice}
 use Rattle.std.specs.Int.Signed.{<ℤ_irrefl}
-use Rattle.std.specs.Ordering.{int_cmp, MatchOrdering}
-use Rattle.std.specs.declared.cmp.Ordering.{Ordering}
-use Rattle.std.specs.declared.cmp.Ordering.TheVariants.{Less, Equal, Greater}
-use Rattle.asg_model.specs.declared.objectives.Objective.{Objective}
-use Rattle.asg_model.specs.declared.objectives.Objective.TheVariants.{Sum, SumMax, SumPair, Capped, Bottleneck, BottleneckMax, TimeCost, Balanced, Lex}
-use Rattle.asg_model.specs.declared.objectives.Value.TheVariants.{One, Two, Many}
 use Rattle.asg_model.specs.declared.parts.Cost.{Cost}
 use Rattle.asg_model.specs.Better.{IsBetter, IsLessList}
-use Rattle.asg_model.specs.Problem.{Problem}
-use Rattle.asg_model.specs.Values.{choice_value, costs_of, value_of}
-use Rattle.asg_proof.specs.Ranked.{IsBetterChoice}
 
 -- ---- numbers
 

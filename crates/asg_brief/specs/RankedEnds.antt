@@ -4,9 +4,9 @@ use Rattle.asg_model.specs.declared.objectives.Objective.{Objective}
 use Rattle.asg_model.specs.declared.objectives.Value.{Value}
 use Rattle.asg_model.specs.Problem.{Problem}
 use Rattle.asg_model.specs.Values.{choice_value}
-use Rattle.asg_proof.specs.Nodes.{answer_at}
-use Rattle.asg_proof.specs.Ranked.{IsRanking}
-use Rattle.asg_proof.specs.SearchTrees.{last_answer}
+use Rattle.asg_rankings.specs.Nodes.{answer_at}
+use Rattle.asg_rankings.specs.Ranked.{IsRanking}
+use Rattle.asg_rankings.specs.SearchTrees.{last_answer}
 
 -- so many answers, of which the first and the last have these values
 pub record HasEnds (objective : Objective) (X : Problem) (answers : ℕ) (first last : Value)

@@ -10,7 +10,8 @@ use crate::NoMemory;
 use crate::brief_lines::BriefLine;
 use crate::laws::best_value_law;
 use crate::line_bytes::{push, push_count, push_value, push_word};
-use asg_model::{Choice, Instance, Objective, Value, value};
+use asg_model::{Choice, Instance, Objective, Value};
+use asg_values::value;
 use std::alloc::Global;
 
 // Room for most lines.

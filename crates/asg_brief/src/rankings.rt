@@ -7,7 +7,7 @@ ghost use Rattle.asg_model.specs.Objectives.{is_algebraic};
 ghost use Rattle.asg_model.specs.Refused.{PassesNegative};
 ghost use Rattle.asg_model.specs.Shapes.{square_side};
 ghost use Rattle.asg_monoids.specs.NarrowObjectives.{is_narrow_objective};
-ghost use Rattle.asg_proof.specs.Ranked.{IsRanking};
+ghost use Rattle.asg_rankings.specs.Ranked.{IsRanking};
 ghost use Rattle.asg_rank.specs.Rankings.{IsRefusal, ranking_work};
 ghost use Rattle.asg_rank.specs.Rooms.{most_work};
 ghost use Rattle.asg_brief.specs.BestValues.{HasNoChoice};
@@ -18,12 +18,13 @@ use crate::brief_lines::BriefLine;
 use crate::laws::{next_best_law, ranked_ends_law};
 use crate::lines::{ends_line, none_line};
 use crate::sum_rankings::line_by_sums;
-use asg_model::{Instance, Objective, value};
+use asg_model::{Instance, Objective};
 use asg_monoids::{PeakKind, SumKind, TimeKind};
 use asg_narrow_kinds::NarrowKind;
 use asg_order::Kind;
 use asg_rank::{Next, RankRefusal, Ranker};
 use asg_roots::RootGuess;
+use asg_values::value;
 use std::alloc::Global;
 
 /// What a ranking comes to, as a line.
@@ -176,7 +177,7 @@ fn brief_by_sums(
 /// write them; or that no choice is valid. The answers of `sum` and `sum-max` are those of a search
 /// where they pass its tests, and the ranker's elsewhere; no choice but its own is kept, and no
 /// search tree is written out. The objective is any but `Balanced` and `Lex`,
-/// it refuses no live cost of the instance (`asg_model::negative`), all rows are placed, the side
+/// it refuses no live cost of the instance (`asg_values::negative`), all rows are placed, the side
 /// is at most 2,000, and at least one choice is asked for. The errors: the count times the rows
 /// times the side is above 4,000,000, or want of memory.
 pub fn brief_ranking(

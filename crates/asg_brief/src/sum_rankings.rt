@@ -14,9 +14,10 @@ use crate::NoMemory;
 use crate::brief_lines::BriefLine;
 use crate::laws::ranked_ends_law;
 use crate::lines::ends_line;
-use asg_model::{Instance, Objective, value};
+use asg_model::{Instance, Objective};
 use asg_rank::MOST_WORK;
 use asg_sum_ranks::{RankedSums, ranked_sums};
+use asg_values::value;
 use std::alloc::Global;
 
 // Whether the work of a ranking of so many choices is within the limit.

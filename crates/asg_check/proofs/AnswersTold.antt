@@ -1,27 +1,6 @@
 -- Whether answers have right cells and values, are repeated or are out of order is decided.
-use mathlib.Core.HLevel.{×_discrete}
-use mathlib.Core.List.{List-discrete}
-use mathlib.Core.Logic.Dec.{and, not, of_iff}
-use Rattle.std.proofs.Common.{◌≡◌, ◌↔◌, ℕ, suc, ◌<◌, List, [], ◌∷◌, Option, Some, ◌⊎◌, inl, inr, sym, ap, ◌∙◌, subst, arith}
-use Rattle.std.proofs.Math.Decide.{ℕ_discrete}
-use Rattle.std.proofs.Math.IntN.{ℤ_discrete}
-use Rattle.std.specs.Prelude.{ℤ, ◌<ℤ◌, slice_get}
-use Rattle.std.proofs.lemmas.Int.{ints, by_lt_z}
-use Rattle.asg_model.specs.declared.objectives.Objective.{Objective}
-use Rattle.asg_model.specs.declared.objectives.Objective.TheVariants.{SumMax, BottleneckMax}
-use Rattle.asg_model.specs.declared.objectives.Value.{Value}
-use Rattle.asg_model.specs.declared.objectives.Value.TheVariants.{One, Two, Many}
-use Rattle.asg_model.specs.Better.{IsBetter, IsBetterNumber, IsLessList}
-use Rattle.asg_model.specs.Instances.{IsInstance}
-use Rattle.asg_model.specs.Problem.{Problem}
-use Rattle.asg_model.specs.ValidChoice.{IsValid}
-use Rattle.asg_model.specs.Values.{choice_value}
-use Rattle.asg_doc.specs.ChosenCells.{cells_by_id}
-use Rattle.asg_doc.specs.declared.documents.Answer.{Answer}
-use Rattle.asg_check.specs.RankingReasons.{IsNoChoiceAt, IsOutOfOrderAt, IsRepeatedAt, IsWrongValueAt}
-use Rattle.asg_check.specs.Written.{HasWrongValue, IsWrittenAs, SpellNone, read_cells}
+use Rattle.asg_check.proofs.Common.{◌≡◌, ℕ, suc, ◌<◌, ◌⊎◌, ◌↔◌, List, [], ◌∷◌, ℤ, ◌<ℤ◌, slice_get, Some, Option, sym, ap, ◌∙◌, subst, inl, inr, arith, List-discrete, and, by_lt_z, ints, of_iff, ×_discrete, ℕ_discrete, ℤ_discrete, IsNoChoiceAt, IsOutOfOrderAt, IsRepeatedAt, IsWrongValueAt, HasWrongValue, IsWrittenAs, SpellNone, read_cells, cells_by_id, Answer, IsBetter, IsBetterNumber, IsLessList, IsInstance, Problem, IsValid, choice_value, Objective, SumMax, BottleneckMax, Value, One, Two, Many, dec_some_below, dec_there, not}
 use Rattle.asg_check.proofs.Decisions.{same_value}
-use Rattle.asg_reasons.specs.laws.Parts.{dec_some_below, dec_there}
 use Rattle.asg_check.proofs.Reading.{written-read}
 
 -- ---- whether a value is better than another

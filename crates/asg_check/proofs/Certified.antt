@@ -1,65 +1,21 @@
 -- A document certifies exactly where no reason stands against it, and each reason is tested.
-use mathlib.Core.HLevel.{dec→stable}
-use mathlib.Core.Logic.Dec.{and, not, of_iff}
-use Rattle.std.proofs.Common.{◌≡◌, ◌≢◌, ◌↔◌, ◌&&◌, ◌⊎◌, ℕ, suc, ◌<◌, ◌≤◌, Bool, true, false, List, [], ◌∷◌, length, take, Option, inl, inr, refl, sym, ap, ◌∙◌, subst, arith}
-use Rattle.std.proofs.Math.Bool.{Bool-discrete}
-use Rattle.std.specs.Prelude.{ℤ, pos, ◌==◌, nat_le, IsTrue}
-use Rattle.std.proofs.lemmas.Bool.{false_from_ne_true, leb-true}
-use Rattle.std.proofs.lemmas.List.{take_all}
-use Rattle.std.proofs.lemmas.Option.{slice_get_within}
-use Rattle.asg_order.specs.declared.words.Word.{Word}
-use Rattle.asg_model.specs.declared.bands.Band.{Band}
-use Rattle.asg_model.specs.declared.bands.Band.TheVariants.{Whole, Under, Over, Between}
-use Rattle.asg_model.specs.declared.objectives.Objective.{Objective}
-use Rattle.asg_model.specs.declared.objectives.Objective.TheVariants.{Bottleneck, BottleneckMax}
-use Rattle.asg_model.specs.declared.objectives.Value.{Value}
-use Rattle.asg_model.specs.declared.objectives.Value.TheVariants.{One}
-use Rattle.asg_model.specs.HallSet.{IsHall}
-use Rattle.asg_model.specs.Instances.{IsInstance}
-use Rattle.asg_model.specs.Problem.{Problem}
-use Rattle.asg_model.specs.ValidChoice.{IsValid}
-use Rattle.asg_model.specs.Values.{choice_value}
+use Rattle.asg_check.proofs.Common.{◌≡◌, ℕ, suc, ◌<◌, ◌≤◌, Bool, true, false, ◌&&◌, ◌≢◌, ◌⊎◌, ◌↔◌, List, [], ◌∷◌, length, take, ℤ, pos, IsTrue, nat_le, ◌==◌, Option, sym, refl, ap, ◌∙◌, subst, inl, inr, arith, take_all, leb-true, Bool-discrete, and, dec→stable, false_from_ne_true, of_iff, slice_get_within, answers_form, has_form, is_answer_count, is_command_of, takes_claim, AreBadNodesAt, IsNoChoiceAt, IsOutOfOrderAt, IsRepeatedAt, IsWrongValueAt, LeaveBetterAt, NodesStand, HasBadLevel, HasBadNode, HasBadPhase, HasHallSet, HasOtherIndex, HasOtherValue, IsFirstReason, LacksChoice, LacksHallSet, LeavesBetter, LeavesGap, LeavesOrder, Repeats, Stands, StandsAgainst, LeaveGapAt, StandsOn, AreWrittenAs, HasWrongValue, IsWrittenAs, Form, Answer, Best, Nothing, Ranked, AreBadLevelsAt, LevelsStand, IsHall, IsInstance, is_algebraic, Problem, IsValid, choice_value, Band, Whole, Under, Over, Between, Objective, Bottleneck, BottleneckMax, Value, One, Word, StandsFor, admitted_for, dec_admitted_for, dec_other_for, none_admitted, one_index_for, proves_for, take_for, PhaseOf, Proves, takes, IsHallWindow, ProvesWindows, Below, Levels, Phases, Windows, Window, Node, At, AtParts, ForWhole, Overall, Spot, IsToldOf, Tells, claim_reasons, level_reasons, node_reasons, phase_reasons, proof_reasons, reasons_in_order, window_reasons, OtherObjective, WrongForm, NotValid, WrongValue, Repeated, OutOfOrder, NotHall, WindowGap, BadPhase, IndexDiffers, BadLevel, BadNode, BetterLeft, Verdict, No, Yes, dec_le, no_part, none_at_part, tested_for, tested_part, told_for, NoneOf, Nowhere, Tested, least_below, none_stands, nowhere, one_verdict, overall, some_verdict, tested, told_same, yes_told, not}
 use Rattle.asg_proof.specs.declared.outcomes.Proof.{Proof}
-use Rattle.asg_proof.specs.declared.outcomes.Proof.TheVariants.{Below, Levels, Phases, Windows}
 use Rattle.asg_proof.specs.declared.levels.Level.{Level}
-use Rattle.asg_proof.specs.declared.nodes.Node.{Node}
-use Rattle.asg_proof.specs.declared.windows.Window.{Window}
-use Rattle.asg_proof.specs.Phases.{PhaseOf}
-use Rattle.asg_proof.specs.Proves.{Proves, takes}
-use Rattle.asg_model.specs.Objectives.{is_algebraic}
 use Rattle.asg_proof.specs.Threshold.{ProvesBelow}
-use Rattle.asg_proof.specs.Windows.{IsHallWindow, ProvesWindows}
-use Rattle.asg_doc.specs.declared.documents.Answer.{Answer}
 use Rattle.asg_doc.specs.declared.documents.Claim.{Claim}
-use Rattle.asg_doc.specs.declared.documents.Claim.TheVariants.{Best, Nothing, Ranked}
 use Rattle.asg_doc.specs.declared.documents.Document.{Document}
-use Rattle.asg_check.specs.declared.document_forms.Form.{Form}
-use Rattle.asg_check.specs.declared.document_forms.Form.TheVariants as forms
 use Rattle.asg_reasons.specs.declared.verdicts.Reason.{Reason}
-use Rattle.asg_reasons.specs.declared.verdicts.Reason.TheVariants.{OtherObjective, WrongForm, NotValid, WrongValue, Repeated, OutOfOrder, NotHall, WindowGap, BadPhase, IndexDiffers, BadLevel, BadNode, BetterLeft}
-use Rattle.asg_reasons.specs.declared.verdicts.Verdict.{Verdict}
-use Rattle.asg_reasons.specs.declared.verdicts.Verdict.TheVariants.{No, Yes}
 use Rattle.asg_check.specs.Certifies.{Certifies, CertifiesClaim}
-use Rattle.asg_check.specs.DocumentForm.{answers_form, has_form, is_answer_count, is_command_of, takes_claim}
 use Rattle.asg_phase_verdicts.specs.PhaseReasons.{AreAdmittedFor, HaveOtherIndexFor, IsBadAt}
-use Rattle.asg_check.specs.RankingReasons.{AreBadNodesAt, IsNoChoiceAt, IsOutOfOrderAt, IsRepeatedAt, IsWrongValueAt, LeaveBetterAt, NodesStand}
-use Rattle.asg_reasons.specs.Verdicts.{IsToldOf, Tells, claim_reasons, level_reasons, node_reasons, phase_reasons, proof_reasons, reasons_in_order, window_reasons}
-use Rattle.asg_check.specs.Reasons.{HasBadLevel, HasBadNode, HasBadPhase, HasHallSet, HasOtherIndex, HasOtherValue, IsFirstReason, LacksChoice, LacksHallSet, LeavesBetter, LeavesGap, LeavesOrder, Repeats, Stands, StandsAgainst}
-use Rattle.asg_check.specs.WindowReasons.{LeaveGapAt, StandsOn}
-use Rattle.asg_level_verdicts.specs.LevelReasons.{AreBadLevelsAt, LevelsStand}
-use Rattle.asg_phase_verdicts.specs.Replays.{StandsFor}
-use Rattle.asg_reasons.specs.Spots.{At, AtParts, ForWhole, Overall, Spot}
-use Rattle.asg_check.specs.Written.{AreWrittenAs, HasWrongValue, IsWrittenAs}
 use Rattle.asg_check.proofs.AnswersTold.{dec_no_choice_at, dec_none, dec_out_of_order_at, dec_repeated_at, dec_value, dec_written, dec_wrong, dec_wrong_at, is_read, read_choice, unwritten}
-use Rattle.asg_phase_verdicts.specs.laws.ByObjective.{admitted_for, dec_admitted_for, dec_other_for, none_admitted, one_index_for, proves_for, take_for}
 use Rattle.asg_check.proofs.Decisions.{same_objective}
-use Rattle.asg_reasons.specs.laws.Parts.{dec_le, no_part, none_at_part, tested_for, tested_part, told_for}
 use Rattle.asg_check.proofs.RankingTold.{all_valued, all_written, choices_once, none_out_of_order, none_repeated, read_choices, read_listed, read_values, read_written}
 use Rattle.asg_check.proofs.TreesByObjective.{proof_bad_nowhere, proof_left_nowhere, proved_by_nodes, tested_left, tested_nodes}
 use Rattle.asg_check.proofs.Reading.{written-once}
 use Rattle.asg_level_verdicts.specs.laws.LevelTold.{levels_nowhere, levels_prove, ranks_prove, tested_levels}
-use Rattle.asg_reasons.specs.laws.ToldReasons.{NoneOf, Nowhere, Tested, least_below, none_stands, nowhere, one_verdict, overall, some_verdict, tested, told_same, yes_told}
 use Rattle.asg_check.proofs.WindowTold.{halls_from_nowhere, halls_nowhere, proved_halls, proved_nowhere, tested_gap, tested_halls, windows_prove}
+use Rattle.asg_check.specs.declared.document_forms.Form.TheVariants as forms
 
 module _ (objective : Objective) (X : Problem) (form : Form) (document : Document) (verdict : Verdict) where
   -- against a document of another objective stands that

@@ -1,13 +1,5 @@
 -- Equal values and equal objectives are decided.
-use mathlib.Core.List.{List-discrete}
-use mathlib.Core.Logic.Dec.{and, of_iff}
-use Rattle.std.proofs.Common.{◌≡◌, refl, ap}
-use Rattle.std.proofs.Math.Decide.{ℕ_discrete}
-use Rattle.std.proofs.Math.IntN.{ℤ_discrete}
-use Rattle.asg_model.specs.declared.objectives.Objective.{Objective}
-use Rattle.asg_model.specs.declared.objectives.Objective.TheVariants.{Sum, SumMax, SumPair, Capped, Bottleneck, BottleneckMax, TimeCost, Balanced, Lex}
-use Rattle.asg_model.specs.declared.objectives.Value.{Value}
-use Rattle.asg_model.specs.declared.objectives.Value.TheVariants.{One, Two, Many}
+use Rattle.asg_check.proofs.Common.{◌≡◌, refl, ap, List-discrete, and, of_iff, ℕ_discrete, ℤ_discrete, Objective, Sum, SumMax, SumPair, Capped, Bottleneck, BottleneckMax, TimeCost, Balanced, Lex, Value, One, Two, Many}
 
 pub same_objective : (x y : Objective) → Dec (x ≡ y)
 same_objective (Capped cap) (Capped other) = of_iff (ap Capped, λ e. cc) (ℕ_discrete cap other)

@@ -1,3 +1,4 @@
+pub mod Common
 pub mod Reading
 pub mod Decisions
 pub mod WindowGaps

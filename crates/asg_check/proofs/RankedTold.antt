@@ -1,28 +1,8 @@
 -- Steps over ranked answers: what holds at a place, and the cells that were seen.
-use Rattle.std.proofs.Common.{◌≡◌, ◌↔◌, ℕ, zero, suc, ◌+◌, ◌-◌, ◌<◌, ◌≤◌, Bool, true, false, not, cond, List, [], ◌∷◌, ◌++◌, length, take, map, get_or, Option, Some, inl, inr, ◌⊎◌, ⊎_elim, Ordering, Less, Equal, Greater, refl, sym, ap, ◌∙◌, subst, arith}
-use Rattle.std.specs.Borrow.{Bor}
-use Rattle.std.specs.BTreeMap.{is_at}
-use Rattle.std.specs.BTreeSet.{BTreeSet, IsEmpty, Updates, contains}
-use Rattle.std.specs.List.{list_any}
-use Rattle.std.specs.Cmp.Lexicographic.{slice_cmp}
-use Rattle.std.specs.Ordering.{is_eq, nat_cmp, ordering_then}
-use Rattle.std.specs.Prelude.{All, slice_get}
-use Rattle.std.proofs.lemmas.Bool.{false≢true, cases_lt}
-use Rattle.std.specs.Cmp.{nat_cmp_is}
-use Rattle.std.proofs.lemmas.List.{get_or_default, length-append, length-map, map-append, take_more}
-use Rattle.std.proofs.lemmas.List.Elements.{All-append}
+use Rattle.asg_check.proofs.Common.{◌≡◌, ℕ, zero, suc, ◌+◌, ◌-◌, ◌<◌, ◌≤◌, Bool, true, false, cond, ◌⊎◌, ◌↔◌, List, [], ◌∷◌, ◌++◌, map, length, get_or, take, slice_get, Some, All, Option, nat_cmp, is_eq, BTreeSet, sym, refl, ap, ◌∙◌, subst, inl, inr, ⊎_elim, arith, Bor, All-append, IsEmpty, Updates, cases_lt, contains, false≢true, get_or_default, get_or_from_slice_get, is_at, length-map, list_any, map-append, nat_cmp_is, ordering_then, same_Some, slice_cmp, slice_get-get_or, slice_get_within, take_more, IsAmissAt, IsNoChoiceAt, IsOutOfOrderAt, IsRepeatedAt, AreWrittenAs, HasItsValue, HasWrongValue, IsWrittenAs, SpellChoice, SpellNone, cells_by_id, Answer, IsBetter, IsInstance, by_places, Problem, IsValid, choice_value, Objective}
+use Rattle.std.proofs.Common.{not, Ordering, Less, Equal, Greater}
+use Rattle.std.proofs.lemmas.List.{length-append}
 use Rattle.std.proofs.lemmas.Map.Lookups.{exact_pairs, exact_unsigned}
-use Rattle.std.proofs.lemmas.Option.{get_or_from_slice_get, same_Some, slice_get-get_or, slice_get_within}
-use Rattle.asg_model.specs.declared.objectives.Objective.{Objective}
-use Rattle.asg_model.specs.Better.{IsBetter}
-use Rattle.asg_model.specs.Instances.{IsInstance, by_places}
-use Rattle.asg_model.specs.Problem.{Problem}
-use Rattle.asg_model.specs.ValidChoice.{IsValid}
-use Rattle.asg_model.specs.Values.{choice_value}
-use Rattle.asg_doc.specs.ChosenCells.{cells_by_id}
-use Rattle.asg_doc.specs.declared.documents.Answer.{Answer}
-use Rattle.asg_check.specs.RankingReasons.{IsAmissAt, IsNoChoiceAt, IsOutOfOrderAt, IsRepeatedAt}
-use Rattle.asg_check.specs.Written.{AreWrittenAs, HasItsValue, HasWrongValue, IsWrittenAs, SpellChoice, SpellNone}
 use Rattle.asg_check.proofs.Reading.{written-once}
 
 -- ---- choices and values

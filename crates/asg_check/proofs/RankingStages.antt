@@ -1,30 +1,13 @@
 -- The stages of the verdict on a ranking: what is asked, answers that are amiss, and what is told of
 -- nodes.
-use Rattle.std.proofs.Common.{◌≡◌, ℕ, suc, ◌<◌, ◌≤◌, List, length, Option, Some, inl, inr, refl}
-use Rattle.std.specs.Prelude.{pos, ◌==◌, IsTrue}
-use Rattle.asg_model.specs.declared.objectives.Objective.{Objective}
-use Rattle.asg_model.specs.declared.parts.Place.TheVariants.{All as PlaceAll}
-use Rattle.asg_model.specs.Problem.{Problem}
-use Rattle.asg_monoids.specs.ObjectiveMonoids.{Fact, InMonoidOf}
-use Rattle.asg_proof.specs.declared.nodes.Node.{Node}
-use Rattle.asg_proof.specs.TreeFaults.{LacksNode}
-use Rattle.asg_doc.specs.declared.documents.Answer.{Answer}
+use Rattle.asg_check.proofs.Common.{◌≡◌, ℕ, suc, ◌<◌, ◌≤◌, List, length, pos, IsTrue, ◌==◌, Some, Option, refl, inl, inr, MayBeAsked, answers_form, is_answer_count, AreBadNodesAt, IsAmissAt, IsNoChoiceAt, IsWrongValueAt, LeaveBetterAt, NodesStand, Form, Answer, Ranked, Problem, Objective, Fact, InMonoidOf, both, mapped, nothing, LacksNode, Node, IsFirstPart, Tells, node_reasons, BadNode, BetterLeft, No, Yes, first_told, whole_told}
 use Rattle.asg_trees.specs.Judged.{TellsRanking, TellsTree}
 use Rattle.asg_trees.specs.declared.verdicts.TreeVerdict.{TreeVerdict}
 use Rattle.asg_trees.specs.declared.verdicts.TreeVerdict.TheVariants.{Tree, FaultAt, NodeLacks, OpenAt}
-use Rattle.asg_doc.specs.declared.documents.Claim.TheVariants.{Ranked}
-use Rattle.asg_check.specs.declared.document_forms.Form.{Form}
-use Rattle.asg_check.specs.declared.document_forms.Form.TheVariants as forms
-use Rattle.asg_reasons.specs.declared.verdicts.Reason.TheVariants.{BadNode, BetterLeft}
-use Rattle.asg_reasons.specs.declared.verdicts.Verdict.TheVariants.{No, Yes}
-use Rattle.asg_check.specs.DocumentForm.{MayBeAsked, answers_form, is_answer_count}
-use Rattle.asg_check.specs.RankingReasons.{AreBadNodesAt, IsAmissAt, IsNoChoiceAt, IsWrongValueAt, LeaveBetterAt, NodesStand}
-use Rattle.asg_reasons.specs.Verdicts.{Tells, node_reasons}
-use Rattle.asg_reasons.specs.Spots.{IsFirstPart}
-use Rattle.asg_reasons.specs.laws.Parts.{first_told, whole_told}
-use Rattle.asg_phase_verdicts.specs.laws.ByObjective.{both, mapped, nothing}
 use Rattle.asg_check.proofs.Certified.{counted, right_of}
 use Rattle.asg_check.proofs.TreesByObjective.{FaultFact, LeftFact, constant, fault_within, left_within, none_bad_nodes, proof_bad_nowhere, proof_left_nowhere, proof_of_tree}
+use Rattle.asg_model.specs.declared.parts.Place.TheVariants.{All as PlaceAll}
+use Rattle.asg_check.specs.declared.document_forms.Form.TheVariants as forms
 
 -- ---- what is asked
 

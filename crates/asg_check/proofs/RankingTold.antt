@@ -1,23 +1,7 @@
 -- The choices of ranked answers: nothing stands against answers that list them, and answers against
 -- which nothing stands list them.
-use mathlib.Core.HLevel.{dec→stable}
-use Rattle.std.proofs.Common.{◌≡◌, ◌≢◌, ℕ, zero, suc, ◌+◌, ◌-◌, ◌<◌, ◌≤◌, List, [], ◌∷◌, length, map, get_or, Option, Some, refl, sym, ap, ◌∙◌, subst, arith}
-use Rattle.std.specs.Prelude.{All, AllPairs, slice_get}
-use Rattle.std.proofs.lemmas.List.{length-map, get_or-map}
-use Rattle.std.proofs.lemmas.List.Elements.{All-get_or}
-use Rattle.std.proofs.lemmas.Option.{slice_get-get_or, slice_get_within, get_or_from_slice_get}
-use Rattle.asg_model.specs.declared.objectives.Objective.{Objective}
-use Rattle.asg_model.specs.Better.{IsBetter}
-use Rattle.asg_model.specs.Instances.{IsInstance}
-use Rattle.asg_model.specs.Problem.{Problem}
-use Rattle.asg_model.specs.ValidChoice.{IsValid}
-use Rattle.asg_model.specs.Values.{choice_value}
-use Rattle.asg_proof.specs.Nodes.{answer_at}
-use Rattle.asg_proof.specs.Ranked.{AreListed, IsBetterChoice}
-use Rattle.asg_doc.specs.ChosenCells.{cells_by_id}
-use Rattle.asg_doc.specs.declared.documents.Answer.{Answer}
-use Rattle.asg_check.specs.RankingReasons.{IsNoChoiceAt, IsOutOfOrderAt, IsRepeatedAt, IsWrongValueAt}
-use Rattle.asg_check.specs.Written.{AreWrittenAs, IsWrittenAs}
+use Rattle.asg_check.proofs.Common.{◌≡◌, ℕ, zero, suc, ◌+◌, ◌-◌, ◌<◌, ◌≤◌, ◌≢◌, List, [], ◌∷◌, map, length, get_or, slice_get, Some, All, Option, AllPairs, sym, refl, ap, ◌∙◌, subst, arith, All-get_or, dec→stable, get_or-map, get_or_from_slice_get, length-map, slice_get-get_or, slice_get_within, IsNoChoiceAt, IsOutOfOrderAt, IsRepeatedAt, IsWrongValueAt, AreWrittenAs, IsWrittenAs, cells_by_id, Answer, IsBetter, IsInstance, Problem, IsValid, choice_value, Objective, answer_at}
+use Rattle.asg_rankings.specs.Ranked.{AreListed, IsBetterChoice}
 use Rattle.asg_check.proofs.AnswersTold.{dec_value, dec_written, read_choice, unwritten}
 use Rattle.asg_check.proofs.Reading.{written-once}
 

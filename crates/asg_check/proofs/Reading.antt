@@ -1,23 +1,7 @@
 -- Reading written cells row by row.
-use Rattle.std.proofs.Common.{◌≡◌, ◌≢◌, ℕ, zero, suc, ◌+◌, ◌<◌, Bool, true, false, cond, List, [], ◌∷◌, ◌++◌, length, drop, take, set, get_or, append_assoc, refl, sym, ap, ◌∙◌, eqb, ltb, Option, Some, None, IsSome, arith}
-use Rattle.std.specs.Prelude.{slice_get, filter_map, option_and_then, ◌&&◌, All, AllPairs}
-use Rattle.std.specs.Option.{option_map, option_map_or}
-use Rattle.std.specs.List.{zip, cons_option}
-use Rattle.std.proofs.lemmas.Bool.{eqb-true, ne_eqb, eq-eqb, lt-ltb}
-use Rattle.std.proofs.lemmas.List.{append-nil, drop_more, take_more_set}
-use Rattle.std.proofs.lemmas.List.Elements.{All-head, All-tail}
-use Rattle.std.proofs.lemmas.List.Quantifiers.{position-Some}
-use Rattle.std.proofs.lemmas.List.Sums.{position_or_len_is}
-use Rattle.std.proofs.lemmas.Option.{slice_get-get_or, slice_get_within, get_or_from_slice_get}
+use Rattle.asg_check.proofs.Common.{◌≡◌, ℕ, zero, suc, ◌+◌, ◌<◌, Bool, true, false, cond, ◌&&◌, eqb, ltb, ◌≢◌, List, [], ◌∷◌, ◌++◌, length, get_or, take, drop, set, IsSome, slice_get, Some, None, All, Option, option_map, AllPairs, zip, filter_map, option_and_then, sym, refl, ap, ◌∙◌, append_assoc, append-nil, arith, lt-ltb, eq-eqb, ne_eqb, eqb-true, All-head, All-tail, cons_option, drop_more, get_or_from_slice_get, option_map_or, position-Some, position_or_len_is, slice_get-get_or, slice_get_within, take_more_set, IsWrittenAs, cells_left, column_given, read_cells, cell_by_id, cells_by_id, column_id, column_place_of, IsInstance, is_active, cost_at, Problem, Chooses, IsValid}
 use Rattle.asg_model.specs.declared.parts.Row.{Row}
 use Rattle.asg_model.specs.declared.parts.Column.{Column}
-use Rattle.asg_model.specs.HallSet.{column_place_of}
-use Rattle.asg_model.specs.Instances.{IsInstance}
-use Rattle.asg_model.specs.Live.{is_active, cost_at}
-use Rattle.asg_model.specs.Problem.{Problem}
-use Rattle.asg_model.specs.ValidChoice.{Chooses, IsValid}
-use Rattle.asg_doc.specs.ChosenCells.{cell_by_id, cells_by_id, column_id}
-use Rattle.asg_check.specs.Written.{IsWrittenAs, cells_left, column_given, read_cells}
 
 -- what the rows before chose, and what those after them read
 abbrev pub joined : List (Option ℕ) → List (Option ℕ) × List (ℕ × ℕ) → List (Option ℕ) × List (ℕ × ℕ)

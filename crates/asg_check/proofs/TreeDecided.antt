@@ -1,32 +1,12 @@
 -- Whether nodes are a search tree of answers is decided, node by node.
-use mathlib.Core.HLevel.{dec→stable}
-use mathlib.Core.Logic.Dec.{and, not, of_iff}
-use Rattle.std.proofs.Common.{◌≡◌, ◌≢◌, ℕ, zero, suc, ◌<◌, ◌≤◌, true, List, [], ◌∷◌, length, Option, refl, sym, ap, subst, ◌∙◌, arith}
-use Rattle.std.proofs.Math.Bool.{Bool-discrete}
-use Rattle.std.proofs.Math.Decide.{ℕ_discrete}
-use Rattle.asg_model.specs.declared.bands.Band.{Band}
-use Rattle.asg_model.specs.declared.bands.Band.TheVariants.{Whole}
-use Rattle.asg_model.specs.declared.parts.Cost.{Cost}
+use Rattle.asg_check.proofs.Common.{◌≡◌, ℕ, zero, suc, ◌<◌, ◌≤◌, true, ◌≢◌, List, [], ◌∷◌, length, Option, sym, refl, ap, ◌∙◌, subst, arith, Bool-discrete, and, dec→stable, of_iff, ℕ_discrete, IsHall, Problem, IsValid, Band, Whole, Cost, dec_below, Monoid, IsLe, Word, AreSpelled, dec_admitted_over, PhaseOf, index_of, IsNumber, answer_at, answer_number, node_at, node_instance, node_trail, AreAdmittedWords, HasAnswer, HasPlace, HasTrail, IsBelowParent, IsGiven, IsMarked, IsSearchTree, IsSoundNode, MayStayOpen, child_count, is_answered, last_answer, IsAtFault, IsLeftOpen, LacksNode, Node, dec_implies, dec_le, dec_some_below, not}
 use Rattle.asg_model.specs.Counts.{placed}
-use Rattle.asg_model.specs.HallSet.{IsHall}
-use Rattle.asg_model.specs.Problem.{Problem}
 use Rattle.asg_model.specs.Shapes.{square_side}
-use Rattle.asg_model.specs.ValidChoice.{IsValid}
-use Rattle.asg_model.specs.laws.Tests.{dec_below}
-use Rattle.asg_order.specs.declared.words.Word.{Word}
 use Rattle.asg_order.specs.Bridge.{choice_fold}
-use Rattle.asg_order.specs.Monoid.{Monoid, IsLe}
 use Rattle.asg_square.specs.Cells.{square_cell}
-use Rattle.asg_proof.specs.declared.nodes.Mark.{Mark}
-use Rattle.asg_proof.specs.declared.nodes.Mark.TheVariants.{Answered, Open, Empty}
-use Rattle.asg_proof.specs.declared.nodes.Node.{Node}
-use Rattle.asg_proof.specs.Nodes.{IsNumber, answer_at, answer_number, node_at, node_instance, node_trail}
-use Rattle.asg_proof.specs.Phases.{PhaseOf, index_of}
-use Rattle.asg_proof.specs.SearchTrees.{AreAdmittedWords, HasAnswer, HasPlace, HasTrail, IsBelowParent, IsGiven, IsMarked, IsSearchTree, IsSoundNode, MayStayOpen, child_count, is_answered, last_answer}
-use Rattle.asg_proof.specs.TreeFaults.{IsAtFault, IsLeftOpen, LacksNode}
+use Rattle.asg_rankings.specs.declared.nodes.Mark.{Mark}
+use Rattle.asg_rankings.specs.declared.nodes.Mark.TheVariants.{Answered, Open, Empty}
 use Rattle.asg_replays.specs.laws.PhaseWords.{phases-once}
-use Rattle.asg_phase_verdicts.specs.laws.ByObjective.{AreSpelled, dec_admitted_over}
-use Rattle.asg_reasons.specs.laws.Parts.{dec_implies, dec_le, dec_some_below}
 
 -- from 1 on up to a number
 upto : (P : ℕ → Type 0) (n : ℕ) → ((k : ℕ) → k < n → P (suc k)) → (i : ℕ) → 1 ≤ i → i ≤ n → P i

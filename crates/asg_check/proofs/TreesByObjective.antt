@@ -1,28 +1,6 @@
 -- What stands against the nodes of a ranking, by the monoid of the objective.
-use Rattle.std.proofs.Common.{ℕ, suc, ◌<◌, ◌≤◌, List, length, Option, refl, arith}
-use Rattle.std.specs.Prelude.{pos, IsTrue}
-use Rattle.asg_model.specs.declared.bands.Band.{Band}
-use Rattle.asg_model.specs.declared.objectives.Objective.{Objective}
-use Rattle.asg_model.specs.declared.objectives.Objective.TheVariants.{Sum, Bottleneck, BottleneckMax, TimeCost, Balanced, Lex}
-use Rattle.asg_model.specs.declared.parts.Cost.{Cost}
-use Rattle.asg_model.specs.HallSet.{IsHall}
-use Rattle.asg_model.specs.Objectives.{is_algebraic}
-use Rattle.asg_model.specs.Problem.{Problem}
-use Rattle.asg_model.specs.ValidChoice.{IsValid}
-use Rattle.asg_monoids.specs.Entered.{top_of}
-use Rattle.asg_monoids.specs.ObjectiveMonoids.{Fact, InMonoidOf}
-use Rattle.asg_order.specs.declared.words.Word.{Word}
-use Rattle.asg_order.specs.Monoid.{Monoid}
-use Rattle.asg_proof.specs.declared.nodes.Node.{Node}
-use Rattle.asg_proof.specs.SearchTrees.{IsSearchTree}
-use Rattle.asg_proof.specs.TreeFaults.{IsAtFault, IsLeftOpen, LacksNode}
-use Rattle.asg_proof.specs.TreeProofs.{ProvesRanking}
-use Rattle.asg_reasons.specs.declared.verdicts.Reason.TheVariants.{BadNode, BetterLeft}
-use Rattle.asg_check.specs.RankingReasons.{AreBadNodesAt, LeaveBetterAt}
-use Rattle.asg_reasons.specs.Spots.{At, Overall}
-use Rattle.asg_phase_verdicts.specs.laws.ByObjective.{both, dec_by, nothing, peaks_spelled, sums_spelled, times_spelled}
-use Rattle.asg_reasons.specs.laws.Parts.{none_there, tested_parts}
-use Rattle.asg_reasons.specs.laws.ToldReasons.{Nowhere, Tested}
+use Rattle.asg_check.proofs.Common.{ℕ, suc, ◌<◌, ◌≤◌, List, length, pos, IsTrue, Option, refl, arith, AreBadNodesAt, LeaveBetterAt, IsHall, is_algebraic, Problem, IsValid, Band, Objective, Sum, Bottleneck, BottleneckMax, TimeCost, Balanced, Lex, Cost, top_of, Fact, InMonoidOf, Monoid, Word, both, dec_by, nothing, peaks_spelled, sums_spelled, times_spelled, IsSearchTree, IsAtFault, IsLeftOpen, LacksNode, Node, At, Overall, BadNode, BetterLeft, none_there, tested_parts, Nowhere, Tested}
+use Rattle.asg_rankings.specs.TreeProofs.{ProvesRanking}
 use Rattle.asg_check.proofs.TreeDecided.{dec_at_fault, dec_lacks, dec_left, tree_from_none}
 
 -- what follows from a fact of any monoid follows from that of the objective's

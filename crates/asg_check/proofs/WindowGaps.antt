@@ -1,33 +1,8 @@
 -- The costs of live cells as a list, and the first of them that no window holds.
-use Rattle.std.proofs.Common.{◌≡◌, ℕ, zero, suc, ◌+◌, ◌<◌, ◌≤◌, Bool, true, false, cond, ◌&&◌, ◌||◌, List, [], ◌∷◌, ◌++◌, length, map, get_or, take, Option, Some, None, refl, sym, ap, ◌∙◌, subst, arith, ⊎_elim, zero-add, append_assoc}
-use Rattle.std.specs.Prelude.{ℤ, pos, ◌+ℤ◌, ◌-ℤ◌, ◌≤ℤ◌, ◌<ℤ◌, All, IfSome, IsPermutation, IsSorted, filter_map, int_le, option_to_list, slice_get}
-use Rattle.std.specs.List.{flat_map, range_with_len, cons_option}
-use Rattle.std.specs.Option.{option_map, option_map_or}
-use Rattle.std.proofs.lemmas.Bool.{false≢true, cases_lt}
-use Rattle.std.proofs.lemmas.Int.{ints, by_lt_z}
-use Rattle.std.proofs.lemmas.Option.{none-some, same_Some, slice_get_within, slice_get-get_or, slice_get_past}
-use Rattle.std.proofs.lemmas.List.{get_or_default, flat_map_more, map-append, take_more}
-use Rattle.std.proofs.lemmas.List.Elements.{All-nil, All-cons, All-head, All-tail, All-append, All-contains, Contains-get_or}
-use Rattle.std.proofs.lemmas.List.Folds.{list_any_at, list_any_none}
-use Rattle.std.proofs.lemmas.List.FromFn.{length-range_with_len, get_or-range_with_len}
-use Rattle.std.proofs.lemmas.Cmp.{int_cmp_total}
-use Rattle.std.proofs.lemmas.List.Sorted.{All-permutation, IsPermutation-sym, sorted_far, ranks_by}
-use Rattle.std.specs.Borrow.{Bor}
+use Rattle.asg_check.proofs.Common.{◌≡◌, ℕ, zero, suc, ◌+◌, ◌<◌, ◌≤◌, Bool, true, false, cond, ◌&&◌, ◌||◌, List, [], ◌∷◌, ◌++◌, map, length, get_or, take, ℤ, pos, ◌+ℤ◌, ◌-ℤ◌, ◌≤ℤ◌, ◌<ℤ◌, IfSome, slice_get, int_le, Some, None, All, Option, option_map, IsPermutation, IsSorted, IsSortedByKey, option_to_list, flat_map, filter_map, int_cmp, is_lt, sym, refl, ap, ◌∙◌, subst, ⊎_elim, append_assoc, zero-add, arith, Bor, All-append, All-cons, All-contains, All-head, All-nil, All-permutation, All-tail, Contains-get_or, IsPermutation-sym, by_lt_z, cases_lt, cons_option, false≢true, flat_map_more, get_or-range_with_len, get_or_default, int_cmp_total, ints, length-range_with_len, list_any_at, list_any_none, map-append, none-some, option_map_or, range_with_len, ranks_by, same_Some, slice_get-get_or, slice_get_past, slice_get_within, sorted_far, take_more, AreCostsUp, AreSpansUp, IsFirstOutside, in_span, in_spans, live_part, live_parts, row_parts, span_of, IsLeastGap, Span, IsLiveCost, live_at, cost_at, is_active, is_open, Problem, Cost, less_is, holds_from, is_held, Window}
 use Rattle.std.proofs.lemmas.Fn.{always_returns_same}
 use Rattle.std.specs.Fn.{Mut, Called, ComputesKey}
-use Rattle.std.specs.List.Sorted.{IsSortedByKey}
-use Rattle.std.specs.Ordering.{int_cmp, is_lt}
-use Rattle.asg_model.specs.declared.parts.Cost.{Cost}
-use Rattle.asg_model.specs.Live.{live_at, cost_at, is_active, is_open}
-use Rattle.asg_model.specs.Problem.{Problem}
-use Rattle.asg_proof.specs.declared.windows.Window.{Window}
-use Rattle.asg_proof.specs.Windows.{holds_from, is_held}
-use Rattle.asg_check.specs.declared.window_gaps.Span.{Span}
-use Rattle.asg_check.specs.Spans.{AreCostsUp, AreSpansUp, IsFirstOutside, in_span, in_spans, live_part, live_parts, row_parts, span_of}
-use Rattle.asg_check.specs.WindowReasons.{IsLeastGap}
-use Rattle.asg_model.specs.DifferentCosts.{IsLiveCost}
 use Rattle.asg_model.specs.laws.Listing.{range_with_len_more, filter_map-range_more}
-use Rattle.asg_model.specs.laws.Tests.{less_is}
 
 -- ---- what holds of each cost of a list
 

@@ -1,12 +1,5 @@
 -- Windows that begin in order, and their spans.
-use Rattle.std.proofs.Common.{◌≡◌, ℕ, ◌+◌, ◌-◌, ◌<◌, ◌≤◌, List, [], length, map, get_or, Option, Some, None, sym, ◌∙◌, subst, arith, ⊎_elim}
-use Rattle.std.specs.Prelude.{ℤ, pos, ◌≤ℤ◌, IsPermutation}
-use Rattle.std.proofs.lemmas.Bool.{cases_lt}
-use Rattle.std.proofs.lemmas.List.{get_or-map, length-map}
-use Rattle.std.proofs.lemmas.List.Sorted.{list_any-IsPermutation}
-use Rattle.asg_proof.specs.declared.windows.Window.{Window}
-use Rattle.asg_check.specs.declared.window_gaps.Span.{Span}
-use Rattle.asg_check.specs.Spans.{AreSpansUp, AreWindowsUp, IsFirstOutside, in_span, in_spans, span_of}
+use Rattle.asg_check.proofs.Common.{◌≡◌, ℕ, ◌+◌, ◌-◌, ◌<◌, ◌≤◌, List, [], map, length, get_or, ℤ, pos, ◌≤ℤ◌, Some, None, Option, IsPermutation, sym, ◌∙◌, subst, ⊎_elim, arith, cases_lt, get_or-map, length-map, list_any-IsPermutation, AreSpansUp, AreWindowsUp, IsFirstOutside, in_span, in_spans, span_of, Span, Window}
 use Rattle.asg_check.proofs.WindowGaps.{int_le_trans}
 
 -- a window of the list, and its span among theirs

@@ -1,38 +1,8 @@
 -- What verdicts tell of windows: the first that is no Hall set, and their least gap.
-use mathlib.Core.HLevel.{dec→stable}
-use mathlib.Core.Logic.Dec.{not, of_iff}
-use Rattle.std.proofs.Common.{◌≡◌, ℕ, suc, ◌<◌, ◌≤◌, Bool, true, false, List, [], ◌∷◌, length, get_or, Option, Some, None, inl, inr, refl, sym, ap, ◌∙◌, subst, arith, ◌⊎◌}
-use Rattle.std.proofs.Math.Bool.{Bool-discrete}
-use Rattle.std.specs.Int.{w64}
-use Rattle.std.specs.Prelude.{ℤ, pos, negsuc, ◌≤ℤ◌, ◌<ℤ◌, All, FitsSigned, IfSome, MatchOption, unsigned_abs}
-use Rattle.std.proofs.lemmas.Bool.{false≢true}
-use Rattle.std.proofs.lemmas.Int.{ints, by_lt_z}
-use Rattle.std.proofs.lemmas.Option.{same_Some, slice_get-get_or, slice_get_within}
-use Rattle.std.proofs.lemmas.List.Elements.{All-nil, All-cons, All-head, All-tail}
-use Rattle.asg_model.specs.declared.objectives.Objective.{Objective}
-use Rattle.asg_model.specs.declared.objectives.Objective.TheVariants.{Balanced}
-use Rattle.asg_model.specs.declared.objectives.Value.{Value}
-use Rattle.asg_model.specs.declared.objectives.Value.TheVariants.{One}
-use Rattle.asg_model.specs.Instances.{IsInstance}
-use Rattle.asg_model.specs.Problem.{Problem}
+use Rattle.asg_check.proofs.Common.{◌≡◌, ℕ, suc, ◌<◌, ◌≤◌, Bool, true, false, ◌⊎◌, List, [], ◌∷◌, length, get_or, ℤ, pos, negsuc, ◌≤ℤ◌, ◌<ℤ◌, IfSome, unsigned_abs, FitsSigned, Some, None, All, Option, MatchOption, sym, refl, ap, ◌∙◌, subst, inl, inr, arith, All-cons, All-head, All-nil, All-tail, Bool-discrete, by_lt_z, dec→stable, false≢true, ints, of_iff, same_Some, slice_get-get_or, slice_get_within, live_parts, IsLeastGap, IsNoHallAt, LeaveGapAt, StandsOn, IsLiveCost, IsInstance, Problem, choice_value, Objective, Balanced, Value, One, cost_reach, is_spread_objective, IsHallWindow, ProvesWindows, is_held, Window, At, AtParts, IsNoLater, Overall, Spot, IsToldOf, Tells, NotHall, WindowGap, Verdict, No, Yes, dec_there, no_part, tested_part, Nowhere, Tested, w64, not}
 use Rattle.asg_model.specs.ValueRange.{IsValueInRange}
-use Rattle.asg_model.specs.Values.{choice_value}
 use Rattle.asg_order.specs.Entering.{IsWithin}
-use Rattle.asg_monoids.specs.Entered.{cost_reach}
-use Rattle.asg_proof.specs.declared.windows.Window.{Window}
-use Rattle.asg_proof.specs.Proves.{is_spread_objective}
-use Rattle.asg_proof.specs.Windows.{IsHallWindow, ProvesWindows, is_held}
 use Rattle.asg_proof.specs.laws.LiveCosts.{lies_within}
-use Rattle.asg_reasons.specs.declared.verdicts.Reason.TheVariants.{NotHall, WindowGap}
-use Rattle.asg_reasons.specs.declared.verdicts.Verdict.{Verdict}
-use Rattle.asg_reasons.specs.declared.verdicts.Verdict.TheVariants.{No, Yes}
-use Rattle.asg_reasons.specs.Verdicts.{IsToldOf, Tells}
-use Rattle.asg_check.specs.Spans.{live_parts}
-use Rattle.asg_reasons.specs.Spots.{At, AtParts, IsNoLater, Overall, Spot}
-use Rattle.asg_check.specs.WindowReasons.{IsLeastGap, IsNoHallAt, LeaveGapAt, StandsOn}
-use Rattle.asg_model.specs.DifferentCosts.{IsLiveCost}
-use Rattle.asg_reasons.specs.laws.Parts.{dec_there, no_part, tested_part}
-use Rattle.asg_reasons.specs.laws.ToldReasons.{Nowhere, Tested}
 use Rattle.asg_check.proofs.WindowGaps.{part_holds, parts_live}
 
 -- ---- windows that are no Hall sets

@@ -6,9 +6,9 @@ use Rattle.asg_model.specs.HallSet.{IsHall}
 use Rattle.asg_model.specs.Problem.{Problem}
 use Rattle.asg_model.specs.Values.{choice_value}
 use Rattle.asg_proof.specs.Proves.{Proves}
-use Rattle.asg_proof.specs.Ranked.{AreListed}
-use Rattle.asg_proof.specs.TreeProofs.{ProvesRanking}
-use Rattle.asg_proof.specs.declared.nodes.Node.{Node}
+use Rattle.asg_rankings.specs.Ranked.{AreListed}
+use Rattle.asg_rankings.specs.TreeProofs.{ProvesRanking}
+use Rattle.asg_rankings.specs.declared.nodes.Node.{Node}
 use Rattle.asg_proof.specs.declared.outcomes.Proof.{Proof}
 use Rattle.asg_doc.specs.declared.documents.Answer.{Answer}
 use Rattle.asg_doc.specs.declared.documents.Claim.{Claim}

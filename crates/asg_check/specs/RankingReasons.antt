@@ -5,8 +5,8 @@ use Rattle.asg_model.specs.declared.objectives.Objective.{Objective}
 use Rattle.asg_model.specs.Better.{IsBetter}
 use Rattle.asg_model.specs.Problem.{Problem}
 use Rattle.asg_monoids.specs.ObjectiveMonoids.{InMonoidOf}
-use Rattle.asg_proof.specs.declared.nodes.Node.{Node}
-use Rattle.asg_proof.specs.TreeFaults.{IsAtFault, IsLeftOpen, LacksNode}
+use Rattle.asg_rankings.specs.declared.nodes.Node.{Node}
+use Rattle.asg_rankings.specs.TreeFaults.{IsAtFault, IsLeftOpen, LacksNode}
 use Rattle.asg_doc.specs.declared.documents.Answer.{Answer}
 use Rattle.asg_reasons.specs.declared.verdicts.Reason.{Reason}
 use Rattle.asg_reasons.specs.declared.verdicts.Reason.TheVariants.{BadNode, BetterLeft}

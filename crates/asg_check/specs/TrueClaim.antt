@@ -5,7 +5,7 @@ use Rattle.asg_model.specs.Best.{IsBest}
 use Rattle.asg_model.specs.Problem.{Problem}
 use Rattle.asg_model.specs.ValidChoice.{IsValid}
 use Rattle.asg_model.specs.Values.{choice_value}
-use Rattle.asg_proof.specs.Ranked.{IsRanking}
+use Rattle.asg_rankings.specs.Ranked.{IsRanking}
 use Rattle.asg_doc.specs.ChosenCells.{cells_by_id}
 use Rattle.asg_doc.specs.declared.documents.Answer.{Answer}
 use Rattle.asg_doc.specs.declared.documents.Claim.{Claim}

@@ -15,9 +15,9 @@ use crate::claims::claim_verdict;
 use crate::document_forms::{Form, has_form};
 use crate::laws::soundness_law;
 use asg_doc::Document;
-use asg_model::laws::decision_law;
 use asg_model::{Instance, Objective};
 use asg_reasons::{Reason, Verdict};
+use asg_values::laws::decision_law;
 use std::alloc::Global;
 
 /// Whether the document certifies for the objective, the instance and the form: `Yes` exactly where
@@ -43,7 +43,7 @@ use std::alloc::Global;
 /// level which is none for 9, of the first such node for 10 and 11, and 0 else.
 ///
 /// The side of the square is at most 2,000, the objective refuses no cost of the instance
-/// ([`asg_model::negative`]), and a ranking is asked for an algebraic objective alone, of an
+/// ([`asg_values::negative`]), and a ranking is asked for an algebraic objective alone, of an
 /// instance that places all rows. The error is want of memory.
 pub fn check(
     alloc: Global,

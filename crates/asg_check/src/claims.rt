@@ -21,10 +21,11 @@ use crate::written_choices::written_choice;
 use crate::written_values::is_same_value;
 use asg_doc::{Answer, Claim};
 use asg_level_verdicts::levels_verdict;
-use asg_model::{Band, Choice, Instance, Objective, Value, is_hall, value};
+use asg_model::{Band, Choice, Instance, Objective, Value};
 use asg_phase_verdicts::phases_verdict;
 use asg_proof::Proof;
 use asg_reasons::{Reason, Verdict};
+use asg_values::{is_hall, value};
 use std::alloc::Global;
 
 // The verdict on a claim that answers what was asked, by its reasons in order. The error is want of

@@ -14,9 +14,9 @@ ghost use Rattle.asg_check.specs.Reasons.{IsFirstReason, Stands};
 ghost use Rattle.asg_reasons.specs.Spots.{Spot};
 ghost use Rattle.asg_check.specs.TrueClaim.{ClaimsTruly};
 
-use asg_model::laws::{decision_law, infeasible_law};
 use asg_proof::laws::best_law;
-use asg_proof::ranking_laws::proved_ranking_law;
+use asg_rankings::laws::proved_ranking_law;
+use asg_values::laws::{decision_law, infeasible_law};
 
 /// The soundness law: a document that certifies claims what is true of the instance, where the
 /// objective refuses no cost of it and the form may be asked.

@@ -16,8 +16,9 @@ use crate::NoMemory;
 use crate::written_choices::{spelled_choice, written_choice};
 use crate::written_values::is_same_value;
 use asg_doc::Answer;
-use asg_model::{Choice, Instance, Objective, better, value};
+use asg_model::{Choice, Instance, Objective};
 use asg_trees::Choices;
+use asg_values::{better, value};
 use std::alloc::Global;
 use std::collections::BTreeSet;
 

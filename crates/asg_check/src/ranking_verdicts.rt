@@ -22,7 +22,7 @@ use crate::ranked_answers::{
 };
 use asg_doc::Answer;
 use asg_model::{Instance, Objective};
-use asg_proof::Node;
+use asg_rankings::Node;
 use asg_reasons::{Reason, Verdict};
 use asg_trees::{Choices, TreeVerdict, judge};
 use std::alloc::Global;

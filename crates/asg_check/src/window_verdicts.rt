@@ -12,9 +12,10 @@ ghost use Rattle.asg_check.specs.WindowReasons.{IsNoHallAt, StandsOn};
 
 use crate::NoMemory;
 use crate::window_gaps::first_gap;
-use asg_model::{Band, Instance, Value, is_hall};
+use asg_model::{Band, Instance, Value};
 use asg_proof::Window;
 use asg_reasons::{Reason, Verdict};
+use asg_values::is_hall;
 use std::alloc::Global;
 
 // The verdict on windows for a value of `balanced`, by the reasons against windows in order. The

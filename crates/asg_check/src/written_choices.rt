@@ -6,7 +6,8 @@ ghost use Rattle.asg_check.specs.Written.{IsWrittenAs, SpellChoice, cells_left, 
 ghost use Rattle.asg_check.specs.Written.{read_cells};
 
 use crate::NoMemory;
-use asg_model::{Choice, Instance, Row, is_valid};
+use asg_model::{Choice, Instance, Row};
+use asg_values::is_valid;
 use std::alloc::Global;
 
 // The valid choice that has these cells, in the order of the rows, where there is one. The error is

@@ -1,31 +1,8 @@
 -- Values behind a word, and answers.
-use Rattle.std.proofs.Common.{◌≡◌, ◌≢◌, ℕ, List, ◌∷◌, ◌++◌, length, map, codes, refl, sym, ap, ◌∙◌, subst, arith}
-use Rattle.std.specs.Prelude.{ℤ, FitsSigned, Result, Ok, Err, IsErrAnd}
-use Rattle.std.specs.Int.{w64, w128}
-use Rattle.std.specs.Fmt.{decimal}
-use Rattle.std.proofs.lemmas.List.{append_cancel_left}
-use Rattle.std.proofs.lemmas.List.Concat.{flat_map_single}
-use Rattle.std.proofs.lemmas.List.Elements.{All-append}
-use Rattle.asg_model.specs.declared.objectives.Objective.{Objective}
+use Rattle.asg_doc.proofs.Common.{◌≡◌, ℕ, ◌≢◌, List, ◌∷◌, ◌++◌, map, length, ℤ, IsErrAnd, FitsSigned, Ok, Err, codes, decimal, Result, sym, refl, ap, ◌∙◌, subst, arith, All-append, append_cancel_left, flat_map_single, w128, bound_spelling, value_spelling, value_part, count_part, cell_part, answer_part, IsWrittenValue, cell_line, value_text, form_of, ValueForm, Lacks, line_ends, Part, and_then, counted, IsReadable, Spelling, SpellsOrFails, IsListOf, behind, listed, signed_spelling, signed_pair_spelling, Fault, Refused, NoMemory, IsLegible-signed_pair, after_cut, Lacks-none, IsReadable-line, IsReadable-chain, IsReadable-counted, IsReadable-shape, Chain, Shape, IsLegible, IsLegible-behind, IsLegible-signed, Objective, One, Two, Many, w64}
 use Rattle.asg_model.specs.declared.objectives.Value.{Value}
-use Rattle.asg_model.specs.declared.objectives.Value.TheVariants.{One, Two, Many}
-use Rattle.asg_grammar.specs.declared.faults.Fault.{Fault}
-use Rattle.asg_grammar.specs.declared.faults.Fault.TheVariants.{Refused, NoMemory}
-use Rattle.asg_grammar.specs.Lines.{Lacks, line_ends}
-use Rattle.asg_grammar.specs.Parts.{Part, and_then, counted, IsReadable}
-use Rattle.asg_grammar.specs.Spellings.{Spelling, SpellsOrFails, IsListOf, behind, listed, signed_spelling, signed_pair_spelling}
-use Rattle.asg_grammar.specs.laws.JoinLaws.{IsLegible-signed_pair, after_cut}
-use Rattle.asg_grammar.specs.laws.LineCuts.{Lacks-none}
-use Rattle.asg_grammar.specs.laws.LineLaws.{IsReadable-line}
-use Rattle.asg_grammar.specs.laws.PartLaws.{IsReadable-chain, IsReadable-counted, IsReadable-shape, Chain, Shape}
-use Rattle.asg_grammar.specs.laws.SpellingLaws.{IsLegible, IsLegible-behind, IsLegible-signed}
-use Rattle.asg_doc.specs.declared.documents.ValueForm.{ValueForm}
-use Rattle.asg_doc.specs.declared.documents.ValueForm.TheVariants as forms
-use Rattle.asg_doc.specs.DocumentParts.{bound_spelling, value_spelling, value_part, count_part, cell_part, answer_part}
-use Rattle.asg_doc.specs.HasText.{IsWrittenValue}
-use Rattle.asg_doc.specs.Text.{cell_line, value_text}
-use Rattle.asg_doc.specs.Words.{form_of}
 use Rattle.asg_doc.proofs.Leaves.{costs_legible, count_law, cell_law}
+use Rattle.asg_doc.specs.declared.documents.ValueForm.TheVariants as forms
 
 -- ---- a value that is made of another is spelled as that
 

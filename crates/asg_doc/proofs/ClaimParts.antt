@@ -1,37 +1,16 @@
 -- The parts of proofs, of claims and of documents.
-use Rattle.std.proofs.Common.{◌≡◌, ℕ, List, [], ◌∷◌, length, map, codes, refl, sym, ap, ◌∙◌, append_assoc, arith}
-use Rattle.std.specs.List.{flat_map}
-use Rattle.std.specs.Fmt.{decimal}
-use Rattle.std.specs.Prelude.{◌++◌}
-use Rattle.std.proofs.lemmas.List.Concat.{flat_map_single}
-use Rattle.asg_model.specs.declared.objectives.Objective.{Objective}
+use Rattle.asg_doc.proofs.Common.{◌≡◌, ℕ, List, [], ◌∷◌, ◌++◌, map, length, codes, decimal, flat_map, sym, refl, ap, ◌∙◌, append_assoc, arith, flat_map_single, answer_part, claim_part, command_part, ended_part, objective_part, status_part, hall_part, proof_head_part, HasProofHead, phase_part, window_part, perm_part, level_part, proof_part, proved_part, ranking_part, document_part, HasProofText, HasClaimText, answer_lines, listed_lines, phase_lines, proof_lines, tree_lines, window_line, perm_line, level_lines, has_grades, Best, Nothing, Ranked, Command, ProofHead, Status, Part, the_line, no_lines, and_then, counted, IsReadable, IsReadable-none, IsReadable-counted, IsReadable-chain, IsReadable-shape, Chain, Shape, Objective, Word, PhaseOf, Level, Below, Levels, Phases, Windows, Window, Node}
 use Rattle.asg_proof.specs.declared.outcomes.Proof.{Proof}
-use Rattle.asg_proof.specs.declared.outcomes.Proof.TheVariants.{Below, Levels, Phases, Windows}
-use Rattle.asg_proof.specs.declared.levels.Level.{Level}
-use Rattle.asg_proof.specs.declared.nodes.Node.{Node}
-use Rattle.asg_proof.specs.declared.windows.Window.{Window}
-use Rattle.asg_proof.specs.Phases.{PhaseOf}
-use Rattle.asg_order.specs.declared.words.Word.{Word}
-use Rattle.asg_grammar.specs.Parts.{Part, the_line, no_lines, and_then, counted, IsReadable}
-use Rattle.asg_grammar.specs.laws.PartLaws.{IsReadable-none, IsReadable-counted, IsReadable-chain, IsReadable-shape, Chain, Shape}
 use Rattle.asg_doc.specs.declared.documents.Answer.{Answer}
 use Rattle.asg_doc.specs.declared.documents.Claim.{Claim}
-use Rattle.asg_doc.specs.declared.documents.Claim.TheVariants.{Best, Nothing, Ranked}
-use Rattle.asg_doc.specs.declared.documents.Command.{Command}
-use Rattle.asg_doc.specs.declared.documents.ProofHead.{ProofHead}
-use Rattle.asg_doc.specs.declared.documents.ProofHead.TheVariants as heads
-use Rattle.asg_doc.specs.declared.documents.Status.{Status}
-use Rattle.asg_doc.specs.declared.documents.Status.TheVariants as statuses
-use Rattle.asg_doc.specs.DocumentParts.{answer_part, claim_part, command_part, ended_part, objective_part, status_part, hall_part, proof_head_part, HasProofHead, phase_part, window_part, perm_part, level_part, proof_part, proved_part, ranking_part, document_part}
-use Rattle.asg_doc.specs.HasText.{HasProofText, HasClaimText}
-use Rattle.asg_doc.specs.Text.{answer_lines, listed_lines, phase_lines, proof_lines, tree_lines, window_line, perm_line, level_lines}
-use Rattle.asg_doc.specs.Words.{has_grades}
 use Rattle.asg_doc.proofs.PhaseParts.{phase_law}
 use Rattle.asg_doc.proofs.AnswerParts.{answer_law}
 use Rattle.asg_doc.proofs.RankingParts.{ranking_law}
 use Rattle.asg_doc.proofs.WindowParts.{window_law}
 use Rattle.asg_doc.proofs.LevelParts.{perm_levels}
 use Rattle.asg_doc.proofs.Leaves.{title_law, command_law, objective_law, status_law, hall_law, proof_head_law, end_law}
+use Rattle.asg_doc.specs.declared.documents.ProofHead.TheVariants as heads
+use Rattle.asg_doc.specs.declared.documents.Status.TheVariants as statuses
 
 -- ---- proofs
 

@@ -1,18 +1,5 @@
 -- The parts of documents, and documents of a file.
-use Rattle.std.proofs.Common.{◌≡◌, ℕ, ◌+◌, ◌-◌, ◌<◌, ◌≤◌, List, [], ◌∷◌, ◌++◌, length, get_or, All, refl, sym, ap, ◌∙◌, append_assoc, arith}
-use Rattle.std.specs.List.{flat_map}
-use Rattle.std.proofs.lemmas.List.{append-nil, length-append, get_or-append_right, get_or_push}
-use Rattle.std.proofs.lemmas.List.Elements.{All-get_or}
-use Rattle.std.proofs.lemmas.List.Concat.{flat_map-append}
-use Rattle.asg_doc.specs.declared.documents.Document.{Document}
-use Rattle.asg_grammar.specs.declared.faults.Fault.{Fault}
-use Rattle.asg_grammar.specs.declared.faults.Fault.TheVariants.{Refused, NoMemory}
-use Rattle.asg_grammar.specs.Reading.{Halts}
-use Rattle.asg_doc.specs.DocumentParts.{document_part}
-use Rattle.asg_doc.specs.RefusedLine.{AllHaveText, DocumentsStop, DocumentsHalt}
-use Rattle.asg_doc.specs.Text.{claim_lines, lines_of, ended}
-use Rattle.asg_grammar.specs.Lines.{whole_lines, line_ends}
-use Rattle.asg_grammar.specs.laws.LineCuts.{IsSplit-whole_lines, length-whole_lines}
+use Rattle.asg_doc.proofs.Common.{◌≡◌, ℕ, ◌+◌, ◌-◌, ◌<◌, ◌≤◌, List, [], ◌∷◌, ◌++◌, length, get_or, All, flat_map, sym, refl, ap, ◌∙◌, append_assoc, append-nil, arith, All-get_or, flat_map-append, get_or-append_right, get_or_push, document_part, AllHaveText, DocumentsStop, DocumentsHalt, claim_lines, lines_of, ended, Document, whole_lines, line_ends, Halts, Fault, Refused, NoMemory, IsSplit-whole_lines, length-whole_lines, length-append}
 use Rattle.asg_doc.proofs.RefusedLines.{DocumentsStop-document}
 
 -- ---- documents, one after the other

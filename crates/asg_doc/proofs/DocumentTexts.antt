@@ -1,15 +1,6 @@
 -- The lines and the texts of documents, one after the other.
-use Rattle.std.proofs.Common.{◌≡◌, ℕ, List, [], ◌∷◌, ◌++◌, refl, sym, ap, ◌∙◌, append_assoc}
-use Rattle.std.specs.List.{flat_map}
-use Rattle.std.proofs.lemmas.List.{append-nil}
-use Rattle.std.proofs.lemmas.List.Elements.{All-head, All-tail}
-use Rattle.asg_grammar.specs.Lines.{whole_lines}
-use Rattle.asg_grammar.specs.laws.LineCuts.{ended-append, whole_lines-ended}
-use Rattle.asg_grammar.specs.laws.PartLaws.{counted_plain}
-use Rattle.asg_doc.specs.declared.documents.Document.{Document}
-use Rattle.asg_doc.specs.HasText.{HasText}
-use Rattle.asg_doc.specs.Text.{lines_of, ended, text_of, texts_of}
-use Rattle.asg_doc.specs.RefusedLine.{AllHaveText}
+use Rattle.asg_doc.proofs.Common.{◌≡◌, ℕ, List, [], ◌∷◌, ◌++◌, flat_map, sym, refl, ap, ◌∙◌, append_assoc, append-nil, All-head, All-tail, HasText, AllHaveText, lines_of, ended, texts_of, Document, whole_lines, ended-append, whole_lines-ended, counted_plain}
+use Rattle.asg_doc.specs.Text.{text_of}
 use Rattle.asg_doc.proofs.ClaimParts.{document_law}
 
 -- ---- by lines

@@ -1,32 +1,9 @@
 -- The laws of single lines.
-use Rattle.std.proofs.Common.{◌≡◌, ℕ, ◌+◌, ◌<◌, ◌^◌, Bool, true, false, cond, List, [], ◌∷◌, ◌++◌, take, drop, codes, Option, Some, refl, sym, ap, ◌∙◌, arith}
-use Rattle.std.specs.Prelude.{◌≢◌, ℤ, pos, FitsSigned, find}
-use Rattle.std.proofs.lemmas.Int.{ints}
-use Rattle.std.specs.Fmt.{decimal, signed_decimal}
-use Rattle.std.specs.Str.Parse.{digits_value}
-use Rattle.std.proofs.lemmas.Fmt.{decimal_is_IsNumeral_wide}
-use Rattle.std.proofs.lemmas.List.Elements.{All-cons, All-append}
+use Rattle.asg_doc.proofs.Common.{◌≡◌, ℕ, ◌+◌, ◌^◌, ◌<◌, Bool, true, false, cond, ◌≢◌, List, [], ◌∷◌, ◌++◌, take, drop, ℤ, pos, FitsSigned, Some, codes, decimal, Option, find, sym, refl, ap, ◌∙◌, arith, All-append, All-cons, decimal_is_IsNumeral_wide, digits_value, ints, signed_decimal, w128, command_part, objective_part, status_part, bound_spelling, column_spelling, perm_part, level_head_spelling, level_head_part, step_spelling, steps_part, enters_part, leaves_part, count_part, cell_part, hall_part, proof_head_part, proof_head_spelling, proof_head_text, HasProofHead, HasWord, cap_spelling, command_word, status_word, command_spelling, objective_spelling, status_spelling, Command, Solve, Rank, Edit, ProofHead, Status, Lacks, IsCutAt, the_line, IsReadable, behind, number_spelling, positive_spelling, pair_spelling, list_spelling, listed, joined_cut, IsLegible-joined, IsLegible-graded, heads_same, IsReadable-line, IsReadable-this, IsWord, IsLegible-listed, IsLegible, IsLegible-behind, IsLegible-decoded, IsLegible-number, IsLegible-wide, IsLegible-positive, IsLegible-signed, IsLegible-pair, IsLegible-list, is_plain, Lacks-literal, Lacks-decimal, Lacks-signed, decimal_same, Objective, Sum, SumMax, SumPair, Capped, Bottleneck, BottleneckMax, TimeCost, Balanced, Lex, w64}
 use Rattle.std.specs.Str.{bytes_eq}
-use Rattle.std.specs.Int.{w64, w128}
-use Rattle.asg_model.specs.declared.objectives.Objective.{Objective}
-use Rattle.asg_model.specs.declared.objectives.Objective.TheVariants.{Sum, SumMax, SumPair, Capped, Bottleneck, BottleneckMax, TimeCost, Balanced, Lex}
-use Rattle.asg_grammar.specs.Lines.{Lacks, IsCutAt}
-use Rattle.asg_grammar.specs.Parts.{the_line, IsReadable}
-use Rattle.asg_grammar.specs.Spellings.{behind, number_spelling, positive_spelling, pair_spelling, list_spelling, listed}
-use Rattle.asg_grammar.specs.laws.JoinLaws.{joined_cut, IsLegible-joined, IsLegible-graded}
-use Rattle.asg_grammar.specs.laws.LineCuts.{heads_same}
-use Rattle.asg_grammar.specs.laws.ListLaws.{IsWord, IsLegible-listed}
-use Rattle.asg_grammar.specs.laws.LineLaws.{IsReadable-line, IsReadable-this}
-use Rattle.asg_grammar.specs.laws.SpellingLaws.{IsLegible, IsLegible-behind, IsLegible-decoded, IsLegible-number, IsLegible-wide, IsLegible-positive, IsLegible-signed, IsLegible-pair, IsLegible-list, is_plain, Lacks-literal, Lacks-decimal, Lacks-signed, decimal_same}
-use Rattle.asg_doc.specs.declared.documents.Command.{Command}
-use Rattle.asg_doc.specs.declared.documents.Command.TheVariants.{Solve, Rank, Edit}
-use Rattle.asg_doc.specs.declared.documents.ProofHead.{ProofHead}
-use Rattle.asg_doc.specs.declared.documents.ProofHead.TheVariants as heads
-use Rattle.asg_doc.specs.declared.documents.Status.{Status}
 use Rattle.asg_doc.specs.declared.documents.Status.TheVariants.{Best, Nothing, Ranked}
-use Rattle.asg_doc.specs.DocumentParts.{command_part, objective_part, status_part, bound_spelling, column_spelling, perm_part, level_head_spelling, level_head_part, step_spelling, steps_part, enters_part, leaves_part, count_part, cell_part, hall_part, proof_head_part, proof_head_spelling, proof_head_text, HasProofHead}
-use Rattle.asg_doc.specs.Words.{HasWord, cap_spelling, command_word, status_word, command_spelling, objective_spelling, status_spelling}
 use Rattle.asg_model.specs.Objectives.{objective_word}
+use Rattle.asg_doc.specs.declared.documents.ProofHead.TheVariants as heads
 
 pub title_law : IsReadable (the_line (codes "assignment 1"))
 title_law = IsReadable-this (codes "assignment 1") refl

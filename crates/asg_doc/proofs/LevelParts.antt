@@ -1,16 +1,6 @@
 -- The parts of levels.
-use Rattle.std.proofs.Common.{ℕ, List, ◌∷◌, ◌++◌, All, length, codes, refl, ap, arith, false}
-use Rattle.std.specs.Prelude.{ℤ}
-use Rattle.std.specs.List.{flat_map}
-use Rattle.asg_order.specs.declared.words.Word.{Word}
-use Rattle.asg_proof.specs.declared.levels.Level.{Level}
+use Rattle.asg_doc.proofs.Common.{ℕ, false, List, ◌∷◌, ◌++◌, length, ℤ, codes, All, flat_map, refl, ap, arith, level_head_part, level_part, perm_part, phase_part, HasLevelText, level_head_text, phase_lines, Part, and_then, counted, IsReadable, IsReadable-chain, IsReadable-counted, IsReadable-shape, Chain, Shape, Word, PhaseOf, Level}
 use Rattle.asg_proof.specs.LevelLists.{AreLevelParts}
-use Rattle.asg_proof.specs.Phases.{PhaseOf}
-use Rattle.asg_grammar.specs.Parts.{Part, and_then, counted, IsReadable}
-use Rattle.asg_grammar.specs.laws.PartLaws.{IsReadable-chain, IsReadable-counted, IsReadable-shape, Chain, Shape}
-use Rattle.asg_doc.specs.DocumentParts.{level_head_part, level_part, perm_part, phase_part}
-use Rattle.asg_doc.specs.HasText.{HasLevelText}
-use Rattle.asg_doc.specs.Text.{level_head_text, phase_lines}
 use Rattle.asg_doc.proofs.Leaves.{level_head_law, perm_law}
 use Rattle.asg_doc.proofs.PhaseParts.{phase_law, ArePhases-from_text}
 

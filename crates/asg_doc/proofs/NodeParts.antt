@@ -1,27 +1,7 @@
 -- The parts of nodes and of search trees.
-use Rattle.std.proofs.Common.{◌≡◌, ℕ, ◌<◌, ◌^◌, Bool, List, ◌∷◌, ◌++◌, All, length, codes, refl, sym, ap, ◌∙◌, subst, arith}
-use Rattle.std.specs.Prelude.{Result, Ok, Err, IsErrAnd}
-use Rattle.std.specs.List.{flat_map}
-use Rattle.std.specs.Fmt.{decimal}
-use Rattle.asg_order.specs.declared.words.Word.{Word}
-use Rattle.asg_proof.specs.declared.nodes.Mark.{Mark}
-use Rattle.asg_proof.specs.declared.nodes.Mark.TheVariants.{Answered, Open, Empty}
-use Rattle.asg_proof.specs.declared.nodes.Node.{Node}
-use Rattle.asg_proof.specs.NodeLists.{AreNodeParts, IsMarkPart}
-use Rattle.asg_proof.specs.Phases.{PhaseOf}
-use Rattle.asg_grammar.specs.declared.faults.Fault.{Fault}
-use Rattle.asg_grammar.specs.declared.faults.Fault.TheVariants.{Refused, NoMemory}
-use Rattle.asg_grammar.specs.Lines.{Lacks, IsCutAt}
-use Rattle.asg_grammar.specs.Parts.{Part, and_then, counted, IsReadable}
-use Rattle.asg_grammar.specs.Spellings.{Spelling, SpellsOrFails, behind, joined, number_spelling, pair_spelling, list_spelling}
-use Rattle.asg_grammar.specs.laws.JoinLaws.{IsLegible-joined}
-use Rattle.asg_grammar.specs.laws.LineCuts.{cut_unique, heads_same, tails_same}
-use Rattle.asg_grammar.specs.laws.LineLaws.{IsReadable-line}
-use Rattle.asg_grammar.specs.laws.PartLaws.{IsReadable-chain, IsReadable-counted, IsReadable-shape, Chain, Shape}
-use Rattle.asg_grammar.specs.laws.SpellingLaws.{IsLegible, IsLegible-behind, IsLegible-number, IsLegible-pair, IsLegible-positive, IsLegible-list, Lacks-decimal}
-use Rattle.asg_doc.specs.DocumentParts.{HasFront, branch_spelling, mark_spelling, node_count_part, node_head_part, node_head_spelling, node_part, phase_part, tree_part}
-use Rattle.asg_doc.specs.HasText.{HasMarkText, HasNodeText}
-use Rattle.asg_doc.specs.Text.{node_head_text, node_lines, phase_lines}
+use Rattle.asg_doc.proofs.Common.{◌≡◌, ℕ, ◌^◌, ◌<◌, Bool, List, ◌∷◌, ◌++◌, length, IsErrAnd, Ok, Err, codes, decimal, All, Result, flat_map, sym, refl, ap, ◌∙◌, subst, arith, HasFront, branch_spelling, mark_spelling, node_count_part, node_head_part, node_head_spelling, node_part, phase_part, tree_part, HasMarkText, HasNodeText, node_head_text, node_lines, phase_lines, Lacks, IsCutAt, Part, and_then, counted, IsReadable, Spelling, SpellsOrFails, behind, joined, number_spelling, pair_spelling, list_spelling, Fault, Refused, NoMemory, IsLegible-joined, cut_unique, heads_same, tails_same, IsReadable-line, IsReadable-chain, IsReadable-counted, IsReadable-shape, Chain, Shape, IsLegible, IsLegible-behind, IsLegible-number, IsLegible-pair, IsLegible-positive, IsLegible-list, Lacks-decimal, Word, PhaseOf, Answered, Open, Empty, Node}
+use Rattle.asg_rankings.specs.declared.nodes.Mark.{Mark}
+use Rattle.asg_rankings.specs.NodeLists.{AreNodeParts, IsMarkPart}
 use Rattle.asg_doc.proofs.PhaseParts.{phase_law, ArePhases-from_text}
 
 -- ---- marks

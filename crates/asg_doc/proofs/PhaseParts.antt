@@ -1,11 +1,5 @@
 -- The parts of phases.
-use Rattle.std.proofs.Common.{Bool, List, All, refl}
-use Rattle.asg_order.specs.declared.words.Word.{Word}
-use Rattle.asg_proof.specs.Phases.{PhaseOf, ArePhases}
-use Rattle.asg_grammar.specs.Parts.{and_then, IsReadable}
-use Rattle.asg_grammar.specs.laws.PartLaws.{IsReadable-chain, IsReadable-shape, Chain, Shape}
-use Rattle.asg_doc.specs.DocumentParts.{steps_part, enters_part, leaves_part, phase_part}
-use Rattle.asg_doc.specs.HasText.{HasPhaseText}
+use Rattle.asg_doc.proofs.Common.{Bool, List, All, refl, steps_part, enters_part, leaves_part, phase_part, HasPhaseText, and_then, IsReadable, IsReadable-chain, IsReadable-shape, Chain, Shape, Word, PhaseOf, ArePhases}
 use Rattle.asg_doc.proofs.Leaves.{steps_law, enters_law, leaves_law}
 
 pub enters_leaves : Chain enters_part (λ _. leaves_part)

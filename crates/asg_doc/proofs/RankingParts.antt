@@ -1,15 +1,5 @@
 -- The parts of rankings.
-use Rattle.std.proofs.Common.{◌∷◌, ◌++◌, length, codes, refl, ap, arith}
-use Rattle.std.specs.List.{flat_map}
-use Rattle.std.specs.Fmt.{decimal}
-use Rattle.asg_model.specs.declared.objectives.Objective.{Objective}
-use Rattle.asg_grammar.specs.Parts.{and_then, counted, IsReadable}
-use Rattle.asg_grammar.specs.laws.LineLaws.{IsReadable-line}
-use Rattle.asg_grammar.specs.laws.PartLaws.{IsReadable-chain, IsReadable-counted, IsReadable-shape, Chain, Shape}
-use Rattle.asg_grammar.specs.laws.SpellingLaws.{IsLegible, IsLegible-behind, IsLegible-positive, Lacks-decimal, decimal_same}
-use Rattle.asg_doc.specs.DocumentParts.{answer_count_part, answer_part, answers_part, asked_part, ranked_part, ranking_part, tree_part}
-use Rattle.asg_doc.specs.Text.{answer_lines_behind}
-use Rattle.asg_doc.specs.Words.{asked_spelling, has_grades}
+use Rattle.asg_doc.proofs.Common.{◌∷◌, ◌++◌, length, codes, decimal, flat_map, refl, ap, arith, answer_count_part, answer_part, answers_part, asked_part, ranked_part, ranking_part, tree_part, answer_lines_behind, asked_spelling, has_grades, and_then, counted, IsReadable, IsReadable-line, IsReadable-chain, IsReadable-counted, IsReadable-shape, Chain, Shape, IsLegible, IsLegible-behind, IsLegible-positive, Lacks-decimal, decimal_same, Objective}
 use Rattle.asg_doc.proofs.AnswerParts.{answer_law}
 use Rattle.asg_doc.proofs.NodeParts.{tree_law}
 

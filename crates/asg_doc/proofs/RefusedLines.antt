@@ -1,18 +1,5 @@
 -- Which line of a file is refused, by where reading stops.
-use Rattle.std.proofs.Common.{◌≡◌, ℕ, ◌+◌, ◌<◌, ◌≤◌, List, [], ◌∷◌, ◌++◌, length, take, drop, All, refl, sym, ap, ◌∙◌, subst, append_assoc, arith, inl, inr}
-use Rattle.std.specs.List.{flat_map}
-use Rattle.std.proofs.lemmas.Bool.{cases_lt}
-use Rattle.std.proofs.lemmas.List.{append-nil, length-append, take_at, take_all, take-append-drop, take-take}
-use Rattle.std.proofs.lemmas.List.Elements.{All-nil, All-cons, All-head, All-append, All-take}
-use Rattle.std.proofs.lemmas.List.Concat.{flat_map-append}
-use Rattle.asg_doc.specs.declared.documents.Document.{Document}
-use Rattle.asg_doc.specs.HasText.{HasText}
-use Rattle.asg_grammar.specs.Reading.{Stops}
-use Rattle.asg_doc.specs.DocumentParts.{document_part}
-use Rattle.asg_doc.specs.RefusedLine.{AllHaveText, BeginsText, IsRefusedLine, IsLongestBegun, IsNoText, DocumentsStop}
-use Rattle.asg_doc.specs.Text.{lines_of, ended, texts_of}
-use Rattle.asg_grammar.specs.Lines.{whole_lines, line_ends, Lacks}
-use Rattle.asg_grammar.specs.laws.LineCuts.{IsSplit-whole_lines, length-whole_lines, line_ends-append, ended-append, whole_lines-prefix, whole_lines-ended}
+use Rattle.asg_doc.proofs.Common.{◌≡◌, ℕ, ◌+◌, ◌<◌, ◌≤◌, List, [], ◌∷◌, ◌++◌, length, take, drop, All, flat_map, sym, refl, ap, ◌∙◌, subst, inl, inr, append_assoc, append-nil, arith, take-append-drop, take_all, take-take, take_at, All-append, All-cons, All-head, All-nil, All-take, cases_lt, flat_map-append, document_part, HasText, AllHaveText, BeginsText, IsRefusedLine, IsLongestBegun, IsNoText, DocumentsStop, lines_of, ended, texts_of, Document, whole_lines, line_ends, Lacks, Stops, IsSplit-whole_lines, length-whole_lines, line_ends-append, ended-append, whole_lines-prefix, whole_lines-ended, length-append}
 use Rattle.asg_doc.proofs.DocumentTexts.{documents_rest, texts_are_lines, lines_of_texts}
 
 -- ---- from a document to the list

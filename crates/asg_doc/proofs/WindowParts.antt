@@ -1,23 +1,8 @@
 -- The part of a window.
-use Rattle.std.proofs.Common.{◌≡◌, ◌≢◌, ℕ, List, ◌∷◌, ◌++◌, All, codes, refl, sym, ap, subst, ◌∙◌, arith}
-use Rattle.std.specs.Prelude.{ℤ, pos, FitsSigned, Option, Some, None, Result, Ok, Err, IsErrAnd, SomeIff}
-use Rattle.std.specs.Int.{w64, w128}
-use Rattle.std.specs.Fmt.{signed_decimal}
-use Rattle.std.proofs.lemmas.List.Elements.{All-cons, All-append}
-use Rattle.asg_proof.specs.declared.windows.Window.{Window}
+use Rattle.asg_doc.proofs.Common.{◌≡◌, ℕ, ◌≢◌, List, ◌∷◌, ◌++◌, ℤ, pos, SomeIff, IsErrAnd, FitsSigned, Some, None, Ok, Err, codes, All, Option, Result, sym, refl, ap, ◌∙◌, subst, arith, All-append, All-cons, signed_decimal, w128, HasBounds, bound_spelling, window_spelling, window_part, HasWindowText, window_text, Lacks, IsCutAt, IsReadable, Spells, SpellsOrFails, list_spelling, Fault, Refused, NoMemory, cut_unique, tails_same, IsReadable-line, IsLegible, IsLegible-behind, IsLegible-signed, IsLegible-list, IsCutAt-spaced, Window, w64}
 use Rattle.asg_proof.specs.Windows.{AreWindows}
-use Rattle.asg_grammar.specs.Lines.{Lacks, IsCutAt}
-use Rattle.asg_grammar.specs.Parts.{IsReadable}
-use Rattle.asg_grammar.specs.declared.faults.Fault.{Fault}
-use Rattle.asg_grammar.specs.declared.faults.Fault.TheVariants.{Refused, NoMemory}
-use Rattle.asg_grammar.specs.Spellings.{Spells, SpellsOrFails, list_spelling, spaced}
-use Rattle.asg_grammar.specs.laws.LineCuts.{cut_unique, tails_same}
-use Rattle.asg_grammar.specs.laws.LineLaws.{IsReadable-line}
-use Rattle.asg_grammar.specs.laws.SpellingLaws.{IsLegible, IsLegible-behind, IsLegible-signed, IsLegible-list, IsCutAt-spaced}
-use Rattle.asg_doc.specs.DocumentParts.{HasBounds, bound_spelling, window_spelling, window_part}
-use Rattle.asg_doc.specs.HasText.{HasWindowText}
+use Rattle.asg_grammar.specs.Spellings.{spaced}
 use Rattle.asg_doc.proofs.Leaves.{wider, no_space-signed}
-use Rattle.asg_doc.specs.Text.{window_text}
 
 -- a number that a word spells, where it has 64 bits
 pub bound_gives : (word : List ℕ) (z : ℤ) (result : Option ℤ) → FitsSigned w128 z → word ≡ signed_decimal z → SomeIff result (FitsSigned w64 z) z → Spells bound_spelling word result

@@ -1,12 +1,6 @@
 -- Refused lines, worked by hand.
-use Rattle.std.proofs.Common.{◌≡◌, ℕ, zero, suc, ◌+◌, ◌<◌, List, [], ◌∷◌, ◌++◌, take, codes, refl, arith}
-use Rattle.std.proofs.lemmas.List.Elements.{All-nil}
-use Rattle.asg_doc.specs.declared.documents.Document.{Document}
-use Rattle.asg_doc.specs.HasText.{HasText}
-use Rattle.asg_doc.specs.RefusedLine.{BeginsText, IsRefusedLine}
-use Rattle.asg_doc.specs.Text.{text_of, texts_of}
-use Rattle.asg_grammar.specs.Lines.{line_ends}
-use Rattle.asg_grammar.specs.laws.LineCuts.{heads_same}
+use Rattle.asg_doc.proofs.Common.{◌≡◌, ℕ, zero, suc, ◌+◌, ◌<◌, List, [], ◌∷◌, ◌++◌, take, codes, refl, arith, All-nil, HasText, BeginsText, IsRefusedLine, texts_of, Document, line_ends, heads_same}
+use Rattle.asg_doc.specs.Text.{text_of}
 
 -- a text of documents begins with the title
 no_other_letter : (documents : List Document) (rest : List ℕ) → 120 ∷ rest ≡ texts_of documents → ⊥

@@ -7,8 +7,8 @@ use Rattle.asg_model.specs.declared.objectives.Value.{Value}
 use Rattle.asg_order.specs.declared.words.Word.{Word}
 use Rattle.asg_proof.specs.declared.outcomes.Proof.{Proof}
 use Rattle.asg_proof.specs.declared.levels.Level.{Level}
-use Rattle.asg_proof.specs.declared.nodes.Mark.{Mark}
-use Rattle.asg_proof.specs.declared.nodes.Node.{Node}
+use Rattle.asg_rankings.specs.declared.nodes.Mark.{Mark}
+use Rattle.asg_rankings.specs.declared.nodes.Node.{Node}
 use Rattle.asg_proof.specs.declared.windows.Window.{Window}
 use Rattle.asg_proof.specs.Phases.{PhaseOf}
 use Rattle.asg_grammar.specs.Lines.{IsCutAt}

@@ -15,7 +15,8 @@ use crate::window_reader::windows;
 use crate::words::{has_grades, status_of};
 use asg_grammar::{Fault, Lines, Refusal, after, number, numbers, positive};
 use asg_model::Objective;
-use asg_proof::{Ids, Nodes, Proof};
+use asg_proof::{Ids, Proof};
+use asg_rankings::Nodes;
 use std::alloc::Global;
 
 // The status of its line.

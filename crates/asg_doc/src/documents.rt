@@ -4,7 +4,8 @@ ghost use Rattle.std.specs.Prelude.{◌≡◌, ◌↔◌, [], length, IsTrue};
 
 use crate::cell_lists::Cells;
 use asg_model::{Objective, Value};
-use asg_proof::{Ids, Nodes, Proof};
+use asg_proof::{Ids, Proof};
+use asg_rankings::Nodes;
 use std::marker::Model;
 
 /// The command that a document answers.

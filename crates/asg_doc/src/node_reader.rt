@@ -10,7 +10,8 @@ ghost use Rattle.asg_doc.specs.DocumentParts.{tree_part};
 
 use crate::phase_reader::phases;
 use asg_grammar::{Fault, Lines, after, cut, number, numbers, pair};
-use asg_proof::{Ids, Mark, Node, Nodes};
+use asg_proof::Ids;
+use asg_rankings::{Mark, Node, Nodes};
 use std::alloc::Global;
 
 // The number before the first space, and what follows that.

@@ -10,7 +10,7 @@ ghost use Rattle.asg_doc.specs.Text.{mark_text, node_head_text, node_lines, tree
 use crate::phase_writer::emit_phases;
 use asg_io::Sink;
 use asg_page::{Page, emit, emit_next, emit_number_line, emit_spaced};
-use asg_proof::{Mark, Node};
+use asg_rankings::{Mark, Node};
 
 // Appends the mark of a node with an answer, and the number of its phases.
 fn emit_answered<K: Sink>(answer: u32, count: u32, page: &mut Page, out: &mut K)

@@ -12,7 +12,7 @@ use crate::node_reader::tree;
 use crate::words::{asked_of, has_grades};
 use asg_grammar::{Fault, Lines, Refusal};
 use asg_model::Objective;
-use asg_proof::Nodes;
+use asg_rankings::Nodes;
 use std::alloc::Global;
 
 // How many answers were asked for.

@@ -1,3 +1,4 @@
+pub mod Common
 pub mod SpelledDigits
 pub mod SignedNumbers
 pub mod ListedNumbers

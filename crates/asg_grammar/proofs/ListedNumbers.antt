@@ -1,14 +1,6 @@
 -- What a pair and a list of numbers spell, by their cuts at spaces.
-use Rattle.std.proofs.Common.{◌≡◌, ℕ, ◌^◌, ◌<◌, List, [], ◌∷◌, ◌++◌, length, sym, ap, ◌∙◌, append_assoc, arith, refl}
-use Rattle.std.specs.Fmt.{decimal}
-use Rattle.std.proofs.lemmas.List.{append-nil}
+use Rattle.asg_grammar.proofs.Common.{◌≡◌, ℕ, ◌^◌, ◌<◌, List, [], ◌∷◌, ◌++◌, length, sym, refl, ap, ◌∙◌, append_assoc, arith, Lacks, IsCutAt, AreNumbers, IsNumberList, IsPair, ListsFirst, pair_text, spaced, cut_unique, wide, Lacks-decimal, IsCutAt-spaced, spaced_rest, append-nil, All-head, All-push, decimal}
 use Rattle.std.proofs.lemmas.List.Concat.{flat_map-append}
-use Rattle.std.proofs.lemmas.List.Elements.{All-head, All-push}
-use Rattle.asg_grammar.specs.Lines.{Lacks, IsCutAt}
-use Rattle.asg_grammar.specs.NumberLists.{AreNumbers, IsNumberList}
-use Rattle.asg_grammar.specs.Spellings.{IsPair, ListsFirst, pair_text, spaced}
-use Rattle.asg_grammar.specs.laws.LineCuts.{cut_unique}
-use Rattle.asg_grammar.specs.laws.SpellingLaws.{wide, Lacks-decimal, IsCutAt-spaced, spaced_rest}
 
 -- a pair is cut behind its first number
 pub pair_cut : (text word rest : List ℕ) (pair : ℕ × ℕ) → text ≡ word ++ rest → Lacks 32 word → IsCutAt 32 rest → IsPair pair → text ≡ pair_text pair

@@ -1,13 +1,5 @@
 -- Numbers of 64 bits, and two of them with a colon between, are spelled without a space.
-use Rattle.std.proofs.Common.{ℕ, ◌^◌, ◌<◌, ◌∷◌, arith}
-use Rattle.std.specs.Prelude.{◌≢◌}
-use Rattle.std.specs.Fmt.{decimal}
-use Rattle.std.proofs.lemmas.List.Elements.{All-cons, All-append}
-use Rattle.asg_grammar.specs.Lines.{Lacks}
-use Rattle.asg_grammar.specs.Spellings.{long_spelling, long_pair_spelling}
-use Rattle.asg_grammar.specs.laws.JoinLaws.{IsLegible-long_pair}
-use Rattle.asg_grammar.specs.laws.ListLaws.{IsWord}
-use Rattle.asg_grammar.specs.laws.SpellingLaws.{IsLegible-long, Lacks-decimal}
+use Rattle.asg_grammar.proofs.Common.{ℕ, ◌^◌, ◌<◌, ◌≢◌, ◌∷◌, arith, Lacks, long_spelling, long_pair_spelling, IsLegible-long_pair, IsWord, IsLegible-long, Lacks-decimal, All-cons, All-append, decimal}
 
 no_space-long : (n : ℕ) → n < 2 ^ 64 → Lacks 32 (decimal n)
 no_space-long n fits = Lacks-decimal 32 n (omega arith) (omega arith)

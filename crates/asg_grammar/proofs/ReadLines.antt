@@ -1,18 +1,7 @@
 -- What is read of a line.
-use Rattle.std.proofs.Common.{◌≡◌, ℕ, List, ◌∷◌, ◌++◌, Bor, refl, sym, ap, ◌∙◌, subst, append_assoc}
-use Rattle.std.specs.Prelude.{◌≢◌, Option, None, Result, Ok, Err, IsErr}
+use Rattle.asg_grammar.proofs.Common.{◌≡◌, ℕ, ◌≢◌, List, ◌∷◌, ◌++◌, IsErr, None, Ok, Err, Option, Result, sym, refl, ap, ◌∙◌, subst, append_assoc, Bor, whole_lines, line_ends, IsNumberList, one_line, IsRead, ReadsLine, IsPair, pair_text, pair_spelling, behind, spaced, list_spelling, whole_lines-line, Lacks-none, IsLegible-pair, IsLegible-list, false≢true, append_cancel_left, All-append}
 use Rattle.std.specs.Fn.{Once, FnOnceReturnsAt}
-use Rattle.std.proofs.lemmas.Bool.{false≢true}
-use Rattle.std.proofs.lemmas.List.{append_cancel_left}
-use Rattle.std.proofs.lemmas.List.Elements.{All-append}
 use Rattle.asg_grammar.specs.declared.faults.Refusal.{Refusal}
-use Rattle.asg_grammar.specs.Lines.{whole_lines, line_ends}
-use Rattle.asg_grammar.specs.NumberLists.{IsNumberList}
-use Rattle.asg_grammar.specs.Parts.{one_line}
-use Rattle.asg_grammar.specs.Reading.{IsRead, ReadsLine}
-use Rattle.asg_grammar.specs.Spellings.{IsPair, pair_text, pair_spelling, behind, spaced, list_spelling}
-use Rattle.asg_grammar.specs.laws.LineCuts.{whole_lines-line, Lacks-none}
-use Rattle.asg_grammar.specs.laws.SpellingLaws.{IsLegible-pair, IsLegible-list}
 
 -- the next line has another front, or none is left
 pub ReadsLine-front : {A F : Type 0} {calls : Once F (Bor (List ℕ) × Unit {0}) (Option A)} {spelled : F} {front : List ℕ} {old : List (List ℕ)} (result : Result A Refusal) → IsErr result → ((text : List ℕ) (more : List (List ℕ)) → old ≡ (front ++ text) ∷ more → ⊥) → ReadsLine calls spelled front old old result

@@ -1,10 +1,6 @@
 -- Numbers by their size and their sign.
-use Rattle.std.proofs.Common.{◌≡◌, ℕ, suc, ◌-◌, ◌^◌, ◌<◌, ◌≤◌, List, ◌∷◌, refl, sym, ap, ◌∙◌, subst, arith}
-use Rattle.std.specs.Prelude.{ℤ, pos, negsuc, Option, Some, None, FitsSigned, SomeIff}
+use Rattle.asg_grammar.proofs.Common.{◌≡◌, ℕ, suc, ◌-◌, ◌^◌, ◌<◌, ◌≤◌, List, ◌∷◌, ℤ, pos, negsuc, SomeIff, FitsSigned, Some, None, Option, sym, refl, ap, ◌∙◌, subst, arith, Spells, number_spelling, long_spelling, signed_spelling, decimal_same, not_minus, decimal, signed_decimal}
 use Rattle.std.specs.Int.{w128}
-use Rattle.std.specs.Fmt.{decimal, signed_decimal}
-use Rattle.asg_grammar.specs.Spellings.{Spells, number_spelling, long_spelling, signed_spelling}
-use Rattle.asg_grammar.specs.laws.SpellingLaws.{decimal_same, not_minus}
 
 -- after a minus
 abbrev SizeOf : List ℕ → ℤ → Type 0

@@ -1,28 +1,5 @@
 -- The square of a level by rows of bits: one cell more, and all cells.
-use Rattle.std.proofs.Common.{◌≡◌, ℕ, zero, suc, ◌+◌, ◌*◌, ◌<◌, ◌≤◌, ◌&&◌, not, Bool, true, false, cond, Option, Some, None, List, get_or, ◌⊎◌, inl, inr, refl, sym, ap, subst, ◌∙◌, arith, ℤ, ltb, is_some, ⊎_elim}
-use Rattle.std.specs.Prelude.{bit_and, slice_get}
-use Rattle.std.specs.Ordering.{int_eq}
-use Rattle.std.proofs.lemmas.Bool.{cases_Bool, cases_lt, false≢true}
-use Rattle.std.proofs.lemmas.Bool.Decides.{Decides-int_eq}
-use Rattle.std.proofs.lemmas.List.FromFn.{get_or-map-range_with_len}
-use Rattle.std.proofs.lemmas.Option.{get_or_from_slice_get}
-use Rattle.asg_model.specs.declared.parts.Place.{Place}
-use Rattle.asg_model.specs.declared.parts.Place.TheVariants.{All, Exactly}
-use Rattle.asg_model.specs.Instances.{IsInstance}
-use Rattle.asg_model.specs.Problem.{Problem}
-use Rattle.asg_model.specs.Shapes.{square_side}
-use Rattle.asg_square.specs.BitTable.{AreWordsOf, BitTable, IsBitTable, PutsBit, has_bit, is_bit_set, word_count}
-use Rattle.asg_square.specs.Cells.{corner_cell, labelled_cell}
-use Rattle.asg_square.specs.Grid.{Grid, HasLabelsOf, cell_at}
-use Rattle.asg_square.specs.Labels.{column_label, row_label}
-use Rattle.asg_square.specs.laws.Places.{place_hit, place_missed}
-use Rattle.asg_proof.specs.declared.levels.Level.{Level}
-use Rattle.asg_proof.specs.Levels.{is_between, level_square, without}
-use Rattle.asg_levels.specs.UnitSteps.{bit_square}
-use Rattle.asg_square.specs.laws.Words.{bit_in_row, is_and}
-use Rattle.asg_level_verdicts.specs.declared.level_walks.Walk.{Walk}
-use Rattle.asg_level_verdicts.specs.LevelBits.{value_in, value_of}
-use Rattle.asg_level_verdicts.specs.LevelWalks.{IsCostSquare, IsLeft, free_cost, passes_cost}
+use Rattle.asg_level_verdicts.proofs.Common.{◌≡◌, ℕ, zero, suc, ◌+◌, ◌*◌, ◌<◌, ◌≤◌, Bool, true, false, cond, not, ◌&&◌, ltb, ◌⊎◌, List, get_or, ℤ, is_some, slice_get, bit_and, Some, None, Option, int_eq, sym, refl, ap, ◌∙◌, subst, inl, inr, ⊎_elim, arith, Decides-int_eq, cases_Bool, cases_lt, false≢true, get_or-map-range_with_len, get_or_from_slice_get, AreWordsOf, BitTable, IsBitTable, PutsBit, has_bit, is_bit_set, word_count, place_hit, place_missed, bit_in_row, is_and, corner_cell, labelled_cell, value_in, value_of, IsCostSquare, IsLeft, free_cost, passes_cost, Walk, bit_square, IsInstance, Problem, square_side, Place, All, Exactly, is_between, level_square, without, Level, Grid, HasLabelsOf, cell_at, column_label, row_label}
 use Rattle.asg_level_verdicts.proofs.LevelCells.{is_free, level_cell_is, passes_is}
 use Rattle.asg_level_verdicts.proofs.LevelStarts.{outside_level}
 

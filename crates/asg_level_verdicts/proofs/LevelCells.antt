@@ -1,26 +1,6 @@
 -- The cells of a square of costs: which costs they have, and what they count for a level.
-use Rattle.std.proofs.Common.{◌≡◌, ℕ, ◌<◌, ◌≤◌, ◌&&◌, not, Bool, true, false, cond, Option, Some, None, refl, ap, ◌∙◌, arith, ℤ, ⊎_elim}
-use Rattle.std.specs.Prelude.{IfSome, nat_lt, unsigned_abs}
-use Rattle.std.specs.Option.{option_map, option_map_or}
-use Rattle.std.specs.Ordering.{int_eq}
-use Rattle.std.proofs.lemmas.Bool.{cases_Bool}
-use Rattle.std.proofs.lemmas.Bool.Decides.{Decides-int_eq}
-use Rattle.std.proofs.lemmas.Int.{ints}
-use Rattle.asg_model.specs.declared.parts.Cost.{Cost}
-use Rattle.asg_model.specs.declared.parts.Place.{Place}
-use Rattle.asg_model.specs.declared.parts.Place.TheVariants.{All, Exactly}
-use Rattle.asg_model.specs.Instances.{IsInstance}
-use Rattle.asg_model.specs.Limits.{most_cost}
-use Rattle.asg_model.specs.Live.{live_at}
-use Rattle.asg_model.specs.Problem.{Problem}
-use Rattle.asg_model.specs.Shapes.{square_side}
-use Rattle.asg_square.specs.BitTable.{BitTable, has_bit}
-use Rattle.asg_square.specs.Cells.{corner_cell, extra_column_cell, labelled_cell, square_cell}
-use Rattle.asg_square.specs.Grid.{Grid, cell_at}
-use Rattle.asg_square.specs.Labels.{column_label, row_label}
-use Rattle.asg_proof.specs.Levels.{counted_as, has_cost, level_square, without}
+use Rattle.asg_level_verdicts.proofs.Common.{◌≡◌, ℕ, ◌<◌, ◌≤◌, Bool, true, false, cond, not, ◌&&◌, ℤ, IfSome, nat_lt, unsigned_abs, Some, None, Option, option_map, int_eq, refl, ap, ◌∙◌, ⊎_elim, arith, Decides-int_eq, cases_Bool, ints, option_map_or, BitTable, has_bit, corner_cell, extra_column_cell, labelled_cell, IsCostSquare, IsLeft, counts_for, free_cost, level_value, passes_cost, IsInstance, most_cost, live_at, Problem, square_side, Cost, Place, All, Exactly, counted_as, has_cost, level_square, without, square_cell, Grid, cell_at, column_label, row_label}
 use Rattle.asg_proof.specs.laws.LiveCosts.{first_part_in_range}
-use Rattle.asg_level_verdicts.specs.LevelWalks.{IsCostSquare, IsLeft, counts_for, free_cost, level_value, passes_cost}
 
 -- no cost in range is what a free cell holds
 far : (a : ℤ) → unsigned_abs a ≤ most_cost → a ≡ free_cost → ⊥

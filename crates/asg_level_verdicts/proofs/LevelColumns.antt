@@ -1,11 +1,6 @@
 -- A list of columns gone through from its front: those so far are below the side, different, and
 -- marked as seen.
-use Rattle.std.proofs.Common.{◌≡◌, ◌≢◌, ◌∙◌, ℕ, ◌+◌, ◌<◌, ◌≤◌, Bool, true, false, cond, List, length, get_or, refl, sym, ap, subst, arith, eqb, ⊎_elim}
-use Rattle.std.specs.Prelude.{IsTrue}
-use Rattle.std.proofs.lemmas.Bool.{cases_Bool, cases_lt, eq-eqb, eqb-true}
-use Rattle.std.proofs.lemmas.List.{get_or_default}
-use Rattle.asg_square.specs.BitTable.{BitTable, PutsBit, has_bit}
-use Rattle.asg_level_verdicts.specs.LevelReasons.{AreColumns}
+use Rattle.asg_level_verdicts.proofs.Common.{◌≡◌, ℕ, ◌+◌, ◌<◌, ◌≤◌, Bool, true, false, cond, eqb, ◌≢◌, List, length, get_or, IsTrue, sym, refl, ap, ◌∙◌, subst, ⊎_elim, arith, eq-eqb, eqb-true, cases_Bool, cases_lt, get_or_default, BitTable, PutsBit, has_bit, AreColumns}
 
 or_true : (b x : Bool) → x ≡ true → cond b true x ≡ true
 or_true true x e = refl

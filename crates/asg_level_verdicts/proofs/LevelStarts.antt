@@ -1,19 +1,9 @@
 -- The square of a level before any step: no cell beyond its side, and no value above 1.
-use Rattle.std.proofs.Common.{◌≡◌, IsSome, ℕ, ◌+◌, ◌*◌, ◌^◌, ◌<◌, ◌≤◌, ◌&&◌, not, Bool, true, false, cond, Option, Some, None, ◌⊎◌, refl, ap, ◌∙◌, subst, arith, ℤ, ⊎_elim}
-use Rattle.std.specs.Prelude.{slice_set}
-use Rattle.std.specs.Ordering.{int_eq}
-use Rattle.std.proofs.lemmas.Bool.{le-leb}
-use Rattle.std.proofs.lemmas.Option.{none-some, same_Some}
-use Rattle.asg_model.specs.Problem.{Problem}
-use Rattle.asg_model.specs.Shapes.{square_side}
+use Rattle.asg_level_verdicts.proofs.Common.{◌≡◌, ℕ, ◌+◌, ◌*◌, ◌^◌, ◌<◌, ◌≤◌, Bool, true, false, cond, not, ◌&&◌, ◌⊎◌, ℤ, IsSome, slice_set, Some, None, Option, int_eq, refl, ap, ◌∙◌, subst, ⊎_elim, arith, le-leb, none-some, same_Some, place_hit, place_missed, counts_for, free_cost, level_value, Problem, square_side, counted_as, level_square, level_sums, square_cell, Grid, IsGrid, cell_at}
 use Rattle.asg_order.specs.Monoid.{IsValue}
-use Rattle.asg_square.specs.Cells.{square_cell}
-use Rattle.asg_square.specs.Grid.{Grid, IsGrid, cell_at}
-use Rattle.asg_square.specs.laws.Places.{entry_at-set, place_hit, place_missed}
-use Rattle.asg_proof.specs.Levels.{counted_as, level_square, level_sums}
+use Rattle.asg_cell_tables.specs.laws.Entries.{entry_at-set}
 use Rattle.asg_proof.specs.Steps.{HasSide}
 use Rattle.asg_proof.specs.laws.Squares.{HasSide-cell_at, HasSide-square_cell}
-use Rattle.asg_level_verdicts.specs.LevelWalks.{counts_for, free_cost, level_value}
 
 none_unless : {V : Type 0} (o : Option V) → ¬ IsSome o → o ≡ None
 none_unless None fails = refl

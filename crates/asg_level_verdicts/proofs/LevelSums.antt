@@ -1,19 +1,7 @@
 -- What is counted for levels, row by row and level by level.
-use Rattle.std.proofs.Common.{◌≡◌, ◌∙◌, ℕ, ◌+◌, ◌<◌, ◌≤◌, Bool, true, false, cond, List, [], ◌∷◌, ◌++◌, length, take, get_or, Option, Some, None, refl, sym, ap, arith, ℤ}
-use mir.Val.{bool_byte}
-use Rattle.std.specs.Prelude.{filter_map, option_to_list, slice_get, sum_by}
-use Rattle.std.specs.List.{range_with_len}
-use Rattle.std.specs.Option.{option_and_then, option_map_or}
-use Rattle.std.specs.Ordering.{int_eq}
-use Rattle.std.proofs.lemmas.List.{length-append, take_more}
-use Rattle.std.proofs.lemmas.List.Elements.{filter-append}
-use Rattle.std.proofs.lemmas.List.Sums.{sum_by-append, sum_by-cons}
-use Rattle.asg_model.specs.declared.parts.Cost.{Cost}
-use Rattle.asg_model.specs.Live.{live_at}
-use Rattle.asg_model.specs.Problem.{Problem}
-use Rattle.asg_model.specs.Values.{chosen_cost, costs_at}
+use Rattle.asg_level_verdicts.proofs.Common.{◌≡◌, ℕ, ◌+◌, ◌<◌, ◌≤◌, Bool, true, false, cond, List, [], ◌∷◌, ◌++◌, length, get_or, take, ℤ, slice_get, Some, None, sum_by, Option, option_to_list, filter_map, int_eq, sym, refl, ap, ◌∙◌, arith, bool_byte, filter-append, option_map_or, range_with_len, sum_by-append, sum_by-cons, take_more, live_at, Problem, chosen_cost, costs_at, Cost, Level, option_and_then}
+use Rattle.std.proofs.lemmas.List.{length-append}
 use Rattle.asg_model.specs.laws.Listing.{filter_map-range_more}
-use Rattle.asg_proof.specs.declared.levels.Level.{Level}
 
 -- a truth value as a number
 pub byte_is : (b : Bool) → bool_byte b ≡ cond b 1 0

@@ -1,22 +1,6 @@
 -- A level is one after those before it, or not, by what a walk over its square tells.
-use Rattle.std.proofs.Common.{◌≡◌, ◌∙◌, ℕ, ◌^◌, suc, Bool, Option, List, inl, inr, sym, ap, subst, ℤ}
-use Rattle.std.proofs.Math.Path.{fun_ext}
-use Rattle.asg_model.specs.Problem.{Problem}
-use Rattle.asg_model.specs.Shapes.{square_side}
-use Rattle.asg_monoids.specs.BoundedSums.{bounded_difference, plain_word}
-use Rattle.asg_monoids.specs.laws.Bounded.{bounded_laws}
-use Rattle.asg_square.specs.BitTable.{BitTable}
-use Rattle.asg_square.specs.Cells.{choice_of}
-use Rattle.asg_square.specs.Grid.{cell_at}
-use Rattle.asg_proof.specs.declared.levels.Level.{Level}
-use Rattle.asg_proof.specs.Levels.{IsLevel, is_zero, left_after, left_for, level_square, level_sums, numbers_of}
-use Rattle.asg_proof.specs.Phases.{after_phases, index_of}
-use Rattle.asg_proof.specs.laws.PhaseLists.{index_is_value}
+use Rattle.asg_level_verdicts.proofs.Common.{◌≡◌, ℕ, suc, ◌^◌, Bool, List, ℤ, Option, sym, ap, ◌∙◌, subst, inl, inr, fun_ext, BitTable, IsDue, IsLeft, IsRefused, Admitted, from_parts, numbers_back, to_parts, Problem, square_side, bounded_difference, plain_word, bounded_laws, IsLevel, is_zero, left_after, left_for, level_square, level_sums, numbers_of, after_phases, index_of, Level, index_is_value, AreAdmittedFrom, AreReplayed, IsFirstBad, choice_of, cell_at}
 use Rattle.asg_admit.specs.declared.reduced.Reduced.{Reduced}
-use Rattle.asg_level_verdicts.specs.LevelWalks.{IsDue, IsLeft, IsRefused}
-use Rattle.asg_replays.specs.Replays.{AreAdmittedFrom}
-use Rattle.asg_replays.specs.Replays.{AreReplayed, IsFirstBad}
-use Rattle.asg_level_verdicts.specs.laws.LevelTold.{Admitted, from_parts, numbers_back, to_parts}
 use Rattle.asg_replays.specs.laws.PhaseWords.{admitted-take}
 
 module _ (X : Problem) (perm : List ℕ) (before : Option ℤ) (left : ℕ → ℕ → Bool) (level : Level) where

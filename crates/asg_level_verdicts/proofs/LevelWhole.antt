@@ -1,30 +1,9 @@
 -- A walk over all levels: one level more, what is left in the end, and whether they hold in all.
-use Rattle.std.proofs.Common.{◌≡◌, ◌↔◌, ◌∙◌, ℕ, ◌+◌, ◌<◌, ◌≤◌, ◌&&◌, not, Bool, true, false, cond, List, [], ◌∷◌, ◌++◌, length, take, get_or, Option, Some, None, refl, sym, ap, subst, arith, is_some, ℤ}
-use Rattle.std.specs.Prelude.{int_lt, slice_get, unsigned_abs}
-use Rattle.std.specs.Option.{option_map_or}
-use Rattle.std.proofs.lemmas.Bool.{false≢true, and_parts}
-use Rattle.std.proofs.lemmas.Int.{ints}
-use Rattle.std.proofs.lemmas.List.{take_all, take_more}
-use Rattle.std.proofs.lemmas.Option.{same_Some, slice_get-get_or}
+use Rattle.asg_level_verdicts.proofs.Common.{◌≡◌, ℕ, ◌+◌, ◌<◌, ◌≤◌, Bool, true, false, cond, not, ◌&&◌, ◌↔◌, List, [], ◌∷◌, ◌++◌, length, get_or, take, ℤ, is_some, slice_get, unsigned_abs, int_lt, Some, None, Option, sym, refl, ap, ◌∙◌, subst, arith, take_all, and_parts, false≢true, ints, option_map_or, same_Some, slice_get-get_or, take_more, BitTable, has_bit, IsColumnList, IsNoLevelAt, cost_before, left_before, HasPassed, IsBehind, IsLeft, free_cost, Walk, IsInstance, most_cost, Problem, square_side, Cost, bounded_difference, IsLevel, IsLeftAssignment, counted_as, has_cost, is_after, is_between, is_zero, last_cost, left_after, left_for, left_last, left_so_far, level_square, level_sums, numbers_of, without, after_phases, Level, is_some-phases, square_cell}
 use Rattle.asg_model.specs.declared.bands.Band.TheVariants.{Whole}
-use Rattle.asg_model.specs.declared.parts.Cost.{Cost}
-use Rattle.asg_model.specs.Instances.{IsInstance}
-use Rattle.asg_model.specs.Limits.{most_cost}
-use Rattle.asg_model.specs.Problem.{Problem}
-use Rattle.asg_model.specs.Shapes.{square_side}
-use Rattle.asg_monoids.specs.BoundedSums.{bounded_difference}
-use Rattle.asg_square.specs.BitTable.{BitTable, has_bit}
-use Rattle.asg_square.specs.Cells.{square_cell}
 use Rattle.asg_square.specs.Presence.{has_cell}
-use Rattle.asg_proof.specs.declared.levels.Level.{Level}
-use Rattle.asg_proof.specs.Levels.{IsLevel, IsLeftAssignment, counted_as, has_cost, is_after, is_between, is_zero, last_cost, left_after, left_for, left_last, left_so_far, level_square, level_sums, numbers_of, without}
-use Rattle.asg_proof.specs.Phases.{after_phases}
 use Rattle.asg_proof.specs.laws.LevelTurns.{last_cost-push, left_last-is, left_so_far-push}
-use Rattle.asg_proof.specs.laws.PhaseLists.{is_some-phases}
 use Rattle.asg_reasons.specs.laws.Parts.{none_more}
-use Rattle.asg_level_verdicts.specs.declared.level_walks.Walk.{Walk}
-use Rattle.asg_level_verdicts.specs.LevelReasons.{IsColumnList, IsNoLevelAt, cost_before, left_before}
-use Rattle.asg_level_verdicts.specs.LevelWalks.{HasPassed, IsBehind, IsLeft, free_cost}
 use Rattle.asg_level_verdicts.proofs.LevelCells.{cell_mapped, mapped_or}
 
 -- ---- one level more

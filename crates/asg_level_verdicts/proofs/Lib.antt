@@ -1,3 +1,4 @@
+pub mod Common
 pub mod LevelCells
 pub mod LevelColumns
 pub mod LevelStarts

@@ -1,17 +1,5 @@
 -- A level whose phases are units on the square of bits.
-use Rattle.std.proofs.Common.{◌≡◌, ◌∙◌, ℕ, ◌<◌, Bool, Option, length, sym, ap, subst, ℤ}
-use Rattle.std.proofs.Math.Path.{fun_ext}
-use Rattle.asg_model.specs.Problem.{Problem}
-use Rattle.asg_model.specs.Shapes.{square_side}
-use Rattle.asg_monoids.specs.BoundedSums.{bounded_difference}
-use Rattle.asg_square.specs.BitTable.{BitTable}
-use Rattle.asg_proof.specs.declared.levels.Level.{Level}
-use Rattle.asg_proof.specs.Levels.{is_between, is_zero, left_after, left_for, level_square, level_sums, numbers_of, without}
-use Rattle.asg_proof.specs.Phases.{AreAdmittedPhases, after_phases}
-use Rattle.asg_levels.specs.UnitLists.{AreUnits, MarkZeros}
-use Rattle.asg_levels.specs.UnitSteps.{bit_square}
-use Rattle.asg_level_verdicts.specs.LevelBits.{HasPhases}
-use Rattle.asg_level_verdicts.specs.LevelWalks.{IsLeft}
+use Rattle.asg_level_verdicts.proofs.Common.{◌≡◌, ℕ, ◌<◌, Bool, length, ℤ, Option, sym, ap, ◌∙◌, subst, fun_ext, BitTable, HasPhases, IsLeft, AreUnits, MarkZeros, bit_square, Problem, square_side, bounded_difference, is_between, is_zero, left_after, left_for, level_square, level_sums, numbers_of, without, AreAdmittedPhases, after_phases, Level}
 
 module _ (X : Problem) (last before : Option ℤ) (left : ℕ → ℕ → Bool) (level : Level) (zeros ones : BitTable) (same : last ≡ before)
     (cells : (r c : ℕ) → bit_square zeros ones r c ≡ level_square X (without X (is_between last level.cost) left) level.cost r c)

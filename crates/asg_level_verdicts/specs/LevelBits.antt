@@ -3,7 +3,7 @@ use Rattle.std.specs.Prelude.{◌≡◌, ℕ, ℤ, ◌<◌, ◌≤◌, ◌&&◌,
 use Rattle.asg_model.specs.Problem.{Problem}
 use Rattle.asg_model.specs.Shapes.{square_side}
 use Rattle.asg_monoids.specs.BoundedSums.{bounded_difference, plain_word}
-use Rattle.asg_square.specs.BitTable.{has_bit}
+use Rattle.asg_bit_rows.specs.BitTable.{has_bit}
 use Rattle.asg_square.specs.Grid.{Grid, cell_at}
 use Rattle.asg_proof.specs.declared.levels.Level.{Level}
 use Rattle.asg_proof.specs.Levels.{is_between, left_for, level_square, level_sums, numbers_of}

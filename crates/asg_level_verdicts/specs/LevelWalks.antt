@@ -8,7 +8,7 @@ use Rattle.asg_model.specs.Shapes.{square_side}
 use Rattle.asg_model.specs.Values.{costs_at, costs_of}
 use Rattle.asg_order.specs.declared.words.Word.{Word}
 use Rattle.asg_monoids.specs.BoundedSums.{bounded_difference, plain_word}
-use Rattle.asg_square.specs.BitTable.{BitTable, has_bit}
+use Rattle.asg_bit_rows.specs.BitTable.{BitTable, has_bit}
 use Rattle.asg_square.specs.Grid.{Grid, IsSquareOf, cell_at}
 use Rattle.asg_proof.specs.declared.levels.Level.{Level}
 use Rattle.asg_proof.specs.Levels.{is_after, level_sums}

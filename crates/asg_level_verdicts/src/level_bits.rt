@@ -5,7 +5,7 @@ ghost use Rattle.std.specs.Prelude.{IfOk, if◌then◌else◌, is_some};
 ghost use Rattle.asg_model.specs.Instances.{IsInstance};
 ghost use Rattle.asg_model.specs.Limits.{most_side};
 ghost use Rattle.asg_model.specs.Shapes.{square_side};
-ghost use Rattle.asg_square.specs.BitTable.{has_bit, is_bit_set, word_count, IsBitTable};
+ghost use Rattle.asg_bit_rows.specs.BitTable.{has_bit, is_bit_set, word_count, IsBitTable};
 ghost use Rattle.asg_square.specs.Grid.{cell_at};
 ghost use Rattle.asg_proof.specs.Levels.{is_between, level_square, without};
 ghost use Rattle.asg_level_verdicts.specs.LevelBits.{bits_at, value_in, AreSizedBits, KeepsOthers};
@@ -13,9 +13,10 @@ ghost use Rattle.asg_level_verdicts.specs.LevelWalks.{IsCostSquare, IsLeft, IsSi
 
 use crate::NoMemory;
 use crate::level_walks::{Walk, level_cell, stays};
+use asg_bit_rows::BitRows;
 use asg_model::Instance;
 use asg_proof::Level;
-use asg_square::{BitRows, Square};
+use asg_square::Square;
 use std::alloc::Global;
 
 /// The cells of the square of a level that are 0, and those that are 1.

@@ -6,7 +6,7 @@ ghost use Rattle.asg_model.specs.declared.bands.Band.TheVariants.{Whole};
 ghost use Rattle.asg_model.specs.Instances.{IsInstance};
 ghost use Rattle.asg_model.specs.Limits.{most_side};
 ghost use Rattle.asg_model.specs.Shapes.{square_side};
-ghost use Rattle.asg_square.specs.BitTable.{has_bit};
+ghost use Rattle.asg_bit_rows.specs.BitTable.{has_bit};
 ghost use Rattle.asg_square.specs.Cells.{choice_of};
 ghost use Rattle.asg_square.specs.Presence.{has_cell};
 ghost use Rattle.asg_proof.specs.declared.levels.Level.{Level as L};
@@ -24,13 +24,14 @@ use crate::level_walks::{
     Walk, cost_square, first_walk, is_after, keep_zeros, leave_between, level_start,
 };
 use asg_admit::Reduced;
+use asg_bit_rows::BitRows;
 use asg_model::{Choice, Instance};
 use asg_monoids::Bounded;
 use asg_proof::Level;
 use asg_reasons::{Reason, Verdict};
 use asg_replays::first_bad;
+use asg_square::Square;
 use asg_square::laws::square_law;
-use asg_square::{BitRows, Square};
 use std::alloc::Global;
 
 /// The verdict on an assignment with levels for a choice, by the reasons against levels. The error

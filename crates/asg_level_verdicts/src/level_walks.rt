@@ -5,7 +5,7 @@ ghost use Rattle.asg_model.specs.declared.bands.Band.TheVariants.{Whole};
 ghost use Rattle.asg_model.specs.Instances.{IsInstance};
 ghost use Rattle.asg_model.specs.Limits.{most_side};
 ghost use Rattle.asg_model.specs.Shapes.{square_side};
-ghost use Rattle.asg_square.specs.BitTable.{has_bit};
+ghost use Rattle.asg_bit_rows.specs.BitTable.{has_bit};
 ghost use Rattle.asg_square.specs.Grid.{HasPresenceOf, cell_at};
 ghost use Rattle.asg_square.specs.Presence.{has_cell};
 ghost use Rattle.asg_admit.specs.Reduced.{IsReduced};
@@ -16,8 +16,9 @@ ghost use Rattle.asg_level_verdicts.specs.LevelWalks.{passes_cost, level_value};
 
 use crate::NoMemory;
 use asg_admit::Reduced;
+use asg_bit_rows::BitRows;
 use asg_model::{Cost, Instance};
-use asg_square::{BitRows, Square};
+use asg_square::Square;
 use std::alloc::Global;
 
 // What a free cell holds in a square of costs: no cost is as little.

@@ -1,23 +1,6 @@
 -- Perfect matchings by marked cells, and marks without those of one cost.
-use Rattle.std.proofs.Common.{◌≡◌, ◌≢◌, ℕ, ◌+◌, ◌<◌, Bool, true, false, cond, List, [], length, map, get_or, Option, Some, None, refl, sym, ◌∙◌, ap, subst, arith, is_some, unwrap_or}
-use Rattle.std.specs.Prelude.{AllPairs, IsSome}
-use Rattle.std.specs.List.{range_with_len}
-use Rattle.std.proofs.lemmas.Bool.{false≢true}
-use Rattle.std.proofs.lemmas.Option.{none-some, same_Some}
-use Rattle.std.proofs.lemmas.List.{get_or-map, length-map}
-use Rattle.std.proofs.lemmas.List.FromFn.{get_or-range_with_len, length-range_with_len}
-use Rattle.asg_match.specs.Matching.{column_at, Matches, IsPerfect}
-use Rattle.asg_match.specs.laws.Matchings.{Some-from_test}
-use Rattle.asg_square.specs.BitTable.{BitTable, has_bit}
-use Rattle.asg_square.specs.Cells.{IsAssignment}
-use Rattle.asg_monoids.specs.BoundedSums.{bounded_difference}
-use Rattle.asg_proof.specs.Levels.{level_sums, numbers_of}
-use Rattle.asg_proof.specs.Phases.{after_phases}
-use Rattle.asg_live_cells.specs.declared.live_cells.Entry.{Entry}
-use Rattle.asg_lex.specs.declared.level_work.Work.{Work}
-use Rattle.asg_live_cells.specs.Marks.{IsMarked, MarksFewer}
-use Rattle.asg_levels.specs.UnitSteps.{bit_square}
-use Rattle.asg_lex.specs.LevelWork.{first_square, square_now, IsUnderway, LeavesOut}
+use Rattle.asg_lex.proofs.Common.{◌≡◌, ℕ, ◌+◌, ◌<◌, Bool, true, false, cond, ◌≢◌, List, [], map, length, get_or, is_some, IsSome, Some, None, Option, AllPairs, sym, refl, ap, ◌∙◌, subst, arith, false≢true, get_or-map, get_or-range_with_len, length-map, length-range_with_len, none-some, range_with_len, same_Some, BitTable, has_bit, bit_square, first_square, square_now, IsUnderway, LeavesOut, Work, IsMarked, MarksFewer, Entry, column_at, Matches, IsPerfect, Some-from_test, bounded_difference, level_sums, numbers_of, after_phases, IsAssignment}
+use Rattle.std.proofs.Common.{unwrap_or}
 
 -- the columns of the rows as a list
 abbrev pub columns_of : ℕ → List (Option ℕ) → List ℕ

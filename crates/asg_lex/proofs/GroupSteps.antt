@@ -1,14 +1,5 @@
 -- Matchings from which cells are taken.
-use Rattle.std.proofs.Common.{◌≡◌, ◌⊎◌, inl, inr, ℕ, ◌+◌, ◌<◌, ◌≤◌, List, Option, is_some, sym, subst, ap, arith, ⊎_elim}
-use Rattle.std.proofs.lemmas.Bool.{cases_eq}
-use Rattle.asg_match.specs.Matching.{column_at, Matches, IsMatched, IsPerfect, AllAllowed}
-use Rattle.asg_match.specs.laws.Matchings.{Some-from_test}
-use Rattle.asg_square.specs.BitTable.{BitTable}
-use Rattle.asg_live_cells.specs.declared.live_cells.Entry.{Entry}
-use Rattle.asg_live_cells.specs.LiveCells.{entry_at}
-use Rattle.asg_live_cells.specs.Marks.{IsMarked, MarksFewer}
-use Rattle.asg_lex.specs.Groups.{Frees, FreesNamed}
-use Rattle.asg_lex.specs.LevelWork.{IsNamedRow}
+use Rattle.asg_lex.proofs.Common.{◌≡◌, ℕ, ◌+◌, ◌<◌, ◌≤◌, ◌⊎◌, List, is_some, Option, sym, ap, subst, inl, inr, ⊎_elim, arith, cases_eq, BitTable, Frees, FreesNamed, IsNamedRow, entry_at, IsMarked, MarksFewer, Entry, column_at, Matches, IsMatched, IsPerfect, AllAllowed, Some-from_test}
 
 -- one entry more
 pub named_more : (before middle after : List (Option ℕ)) (entries : List Entry) (from place : ℕ) → from ≤ place → FreesNamed before middle entries from place → Frees middle after (entry_at entries place).row (entry_at entries place).column → FreesNamed before after entries from (place + 1)

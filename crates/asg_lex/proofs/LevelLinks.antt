@@ -1,25 +1,7 @@
 -- The work at a level and the definition of levels.
-use Rattle.std.proofs.Common.{◌≡◌, ◌↔◌, ℕ, ◌≤◌, Bool, true, false, cond, not, ◌&&◌, List, length, Option, Some, None, refl, sym, ◌∙◌, ap, subst, ℤ}
-use Rattle.std.specs.Prelude.{IsSome, nat_lt}
-use Rattle.std.specs.Ordering.{int_eq}
-use Rattle.std.specs.Option.{option_map, option_map_or}
-use Rattle.std.proofs.lemmas.Bool.{false≢true, eqb-true}
-use Rattle.asg_model.specs.declared.parts.Cost.{Cost}
-use Rattle.asg_model.specs.declared.parts.Place.{Place}
-use Rattle.asg_model.specs.declared.parts.Place.TheVariants.{All as PlaceAll, Exactly}
-use Rattle.asg_model.specs.Live.{live_at}
-use Rattle.asg_model.specs.Problem.{Problem}
-use Rattle.asg_model.specs.Shapes.{square_side}
-use Rattle.asg_monoids.specs.BoundedSums.{bounded_difference}
-use Rattle.asg_square.specs.BitTable.{BitTable, has_bit}
-use Rattle.asg_square.specs.Cells.{extra_column_cell, corner_cell, labelled_cell, square_cell}
-use Rattle.asg_square.specs.Labels.{row_label, column_label}
-use Rattle.asg_proof.specs.declared.levels.Level.{Level}
-use Rattle.asg_proof.specs.Levels.{level_sums, level_square, has_cost, is_after, left_for, numbers_of, is_zero, left_after, IsProvedLevel}
-use Rattle.asg_proof.specs.Phases.{AreAdmittedPhases, after_phases}
-use Rattle.asg_live_cells.specs.Marks.{IsMarked}
-use Rattle.asg_levels.specs.UnitSteps.{bit_square}
+use Rattle.asg_lex.proofs.Common.{◌≡◌, ℕ, ◌≤◌, Bool, true, false, cond, not, ◌&&◌, ◌↔◌, List, length, ℤ, IsSome, nat_lt, Some, None, Option, option_map, int_eq, sym, refl, ap, ◌∙◌, subst, eqb-true, false≢true, option_map_or, BitTable, has_bit, extra_column_cell, corner_cell, labelled_cell, bit_square, IsMarked, live_at, Problem, square_side, Cost, Place, bounded_difference, level_sums, level_square, has_cost, is_after, left_for, numbers_of, is_zero, left_after, IsProvedLevel, AreAdmittedPhases, after_phases, Level, square_cell, row_label, column_label}
 use Rattle.asg_lex.proofs.WorkSteps.{ArePhasesSoFar}
+use Rattle.asg_model.specs.declared.parts.Place.TheVariants.{All as PlaceAll, Exactly}
 
 -- ---- the square of a level by tests
 

@@ -1,3 +1,4 @@
+pub mod Common
 pub mod UnitSteps
 pub mod WorkSteps
 pub mod LevelLinks

@@ -1,37 +1,5 @@
 -- One cost gone through: left out, or made a level.
-use Rattle.std.proofs.Common.{◌≡◌, ℕ, zero, suc, ◌+◌, ◌<◌, ◌≤◌, Bool, true, false, cond, not, ◌&&◌, List, [], ◌∷◌, ◌++◌, length, get_or, Option, Some, None, refl, sym, ◌∙◌, ap, subst, arith, is_some, ℤ, ◌≤ℤ◌, ⊎_elim}
-use Rattle.std.specs.Prelude.{IsSome, int_lt, int_le}
-use Rattle.std.specs.Ordering.{int_eq}
-use Rattle.std.specs.Option.{option_map_or}
-use Rattle.std.proofs.lemmas.Bool.{false≢true, cases_Bool, cases_lt, and_parts, and_from, not_from_false}
-use Rattle.std.proofs.lemmas.Bool.Decides.{Decides-int_eq}
-use Rattle.std.proofs.lemmas.Int.{ints}
-use Rattle.std.proofs.lemmas.Option.{none-some, same_Some}
-use Rattle.asg_model.specs.declared.bands.Band.TheVariants.{Whole}
-use Rattle.asg_model.specs.declared.parts.Cost.{Cost}
-use Rattle.asg_model.specs.Instances.{IsInstance}
-use Rattle.asg_model.specs.Problem.{Problem}
-use Rattle.asg_model.specs.Shapes.{square_side}
-use Rattle.asg_match.specs.laws.Cells.{has_cell-within}
-use Rattle.asg_monoids.specs.BoundedSums.{bounded_difference}
-use Rattle.asg_square.specs.BitTable.{BitTable, has_bit}
-use Rattle.asg_square.specs.Cells.{square_cell}
-use Rattle.asg_square.specs.Grid.{Grid, cell_at, IsSquareOf}
-use Rattle.asg_square.specs.Presence.{has_cell}
-use Rattle.asg_proof.specs.declared.levels.Level.{Level}
-use Rattle.asg_proof.specs.Levels.{level_sums, counted_as, has_cost, without, is_after, is_between, left_for, left_after, level_square, numbers_of, is_zero, left_last, IsLeftAssignment}
-use Rattle.asg_proof.specs.Phases.{after_phases}
-use Rattle.asg_proof.specs.laws.PhaseLists.{is_some-phases}
-use Rattle.asg_live_cells.specs.declared.live_cells.Entry.{Entry}
-use Rattle.asg_lex.specs.declared.level_work.Work.{Work}
-use Rattle.asg_live_cells.specs.Grades.{grade_of, free_grade, cost_of}
-use Rattle.asg_live_cells.specs.Marks.{IsMarked, MarksFewer}
-use Rattle.asg_lex.specs.LevelWork.{LeavesOut, TakesLevel}
-use Rattle.asg_live_cells.specs.LiveCells.{entry_of, entry_at, AreEntriesUnder, IsPlaceOf}
-use Rattle.asg_lex.specs.Runs.{is_gone, before_of, left_of, AreMarksOf}
-use Rattle.std.proofs.lemmas.List.{get_or_default}
-use Rattle.asg_match.specs.Matching.{Matches, IsPerfect}
-use Rattle.asg_proof.specs.laws.LevelTurns.{left_last-is, AreProvedFrom-push, last_cost-push, left_so_far-push}
+use Rattle.asg_lex.proofs.Common.{◌≡◌, ℕ, zero, suc, ◌+◌, ◌<◌, ◌≤◌, Bool, true, false, cond, not, ◌&&◌, List, [], ◌∷◌, ◌++◌, length, get_or, ℤ, ◌≤ℤ◌, is_some, IsSome, int_lt, int_le, Some, None, Option, int_eq, sym, refl, ap, ◌∙◌, subst, ⊎_elim, arith, Decides-int_eq, and_from, and_parts, cases_Bool, cases_lt, false≢true, get_or_default, ints, none-some, not_from_false, option_map_or, same_Some, BitTable, has_bit, LeavesOut, TakesLevel, is_gone, before_of, left_of, AreMarksOf, Work, grade_of, free_grade, cost_of, entry_of, entry_at, AreEntriesUnder, IsPlaceOf, IsMarked, MarksFewer, Entry, Matches, IsPerfect, has_cell-within, IsInstance, Problem, square_side, Whole, Cost, bounded_difference, level_sums, counted_as, has_cost, without, is_after, is_between, left_for, left_after, level_square, numbers_of, is_zero, left_last, IsLeftAssignment, after_phases, Level, left_last-is, AreProvedFrom-push, last_cost-push, left_so_far-push, is_some-phases, square_cell, Grid, cell_at, IsSquareOf, has_cell}
 use Rattle.asg_lex.proofs.LevelLinks.{proved_level, marked_is}
 use Rattle.asg_lex.proofs.RunSteps.{passes_at, passes_some, has_cost_by, below_bound, grade_some, cell_from, named_from, left_is, stays_is}
 use Rattle.asg_lex.proofs.WorkSteps.{ArePhasesSoFar}

@@ -1,31 +1,9 @@
 -- From one cost to the next: what is marked is what is left without the costs that were gone
 -- through.
-use Rattle.std.proofs.Common.{◌≡◌, ◌≢◌, ℕ, zero, suc, ◌+◌, ◌<◌, ◌≤◌, Bool, true, false, cond, not, ◌&&◌, List, length, Option, Some, None, refl, sym, ◌∙◌, ap, subst, arith, ℤ, pos, ◌+ℤ◌, ⊎_elim}
-use Rattle.std.specs.Prelude.{IfSome, nat_lt, ◌==◌, int_lt, int_le, unsigned_abs}
-use Rattle.std.specs.Option.{option_map, option_map_or}
-use Rattle.std.proofs.lemmas.Bool.{cases_lt}
-use Rattle.std.proofs.lemmas.Int.{ints}
-use Rattle.std.proofs.lemmas.Bool.Decides.{nat_tests}
-use Rattle.asg_model.specs.declared.parts.Cost.{Cost}
-use Rattle.asg_model.specs.declared.parts.Place.{Place}
-use Rattle.asg_model.specs.declared.parts.Place.TheVariants.{All as PlaceAll, Exactly}
-use Rattle.asg_model.specs.Instances.{IsInstance}
-use Rattle.asg_model.specs.Limits.{most_cost}
-use Rattle.asg_model.specs.Live.{live_at}
-use Rattle.asg_model.specs.Problem.{Problem}
-use Rattle.asg_model.specs.Shapes.{square_side}
-use Rattle.asg_square.specs.Cells.{extra_column_cell, corner_cell, labelled_cell}
-use Rattle.asg_square.specs.Labels.{row_label, column_label}
-use Rattle.asg_square.specs.Grid.{Grid, cell_at, IsSquareOf}
-use Rattle.asg_proof.specs.Levels.{has_cost, without, is_after, is_between}
-use Rattle.asg_proof.specs.laws.LiveCosts.{first_part_in_range}
-use Rattle.asg_live_cells.specs.declared.live_cells.Entry.{Entry}
-use Rattle.asg_live_cells.specs.Grades.{grade_of, free_grade, cost_of}
-use Rattle.asg_live_cells.specs.LiveCells.{entry_of, entry_at, AreEntriesUnder, IsPlaceOf}
-use Rattle.asg_live_cells.specs.Marks.{IsNamed}
+use Rattle.asg_lex.proofs.Common.{◌≡◌, ℕ, zero, suc, ◌+◌, ◌<◌, ◌≤◌, Bool, true, false, cond, not, ◌&&◌, ◌≢◌, List, length, ℤ, pos, ◌+ℤ◌, IfSome, nat_lt, ◌==◌, unsigned_abs, int_lt, int_le, Some, None, Option, option_map, sym, refl, ap, ◌∙◌, subst, ⊎_elim, arith, cases_lt, ints, nat_tests, option_map_or, extra_column_cell, corner_cell, labelled_cell, is_gone, grade_of, free_grade, cost_of, entry_of, entry_at, AreEntriesUnder, IsPlaceOf, IsNamed, Entry, IsInstance, most_cost, live_at, Problem, square_side, Cost, Place, has_cost, without, is_after, is_between, first_part_in_range, Grid, cell_at, IsSquareOf, row_label, column_label}
 use Rattle.asg_live_cells.specs.laws.Entries.{place_of_entry}
 use Rattle.asg_live_cells.specs.laws.Grades.{cost_back}
-use Rattle.asg_lex.specs.Runs.{is_gone}
+use Rattle.asg_model.specs.declared.parts.Place.TheVariants.{All as PlaceAll, Exactly}
 
 -- ---- the cost of a cell by its grade
 

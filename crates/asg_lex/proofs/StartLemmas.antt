@@ -1,40 +1,9 @@
 -- The start: the cells under a limit are marked, and the costs from it on were gone through.
-use Rattle.std.proofs.Common.{◌≡◌, ℕ, zero, suc, ◌<◌, ◌≤◌, Bool, true, false, cond, not, ◌&&◌, List, [], length, get_or, Option, Some, None, refl, sym, ◌∙◌, ap, subst, arith, is_some, ℤ}
-use Rattle.std.specs.Prelude.{int_le, int_lt, nat_lt, IfSome, unsigned_abs}
-use Rattle.std.specs.Option.{option_map, option_map_or}
-use Rattle.std.proofs.lemmas.Bool.{false≢true, and_parts}
-use Rattle.std.proofs.lemmas.Bool.Decides.{nat_tests}
-use Rattle.std.proofs.lemmas.Int.{ints}
-use Rattle.std.proofs.lemmas.Option.{none-some}
-use Rattle.asg_model.specs.declared.bands.Band.TheVariants.{Whole, Under}
-use Rattle.asg_model.specs.declared.parts.Cost.{Cost}
-use Rattle.asg_model.specs.declared.parts.Place.{Place}
-use Rattle.asg_model.specs.declared.parts.Place.TheVariants.{All as PlaceAll, Exactly}
+use Rattle.asg_lex.proofs.Common.{◌≡◌, ℕ, zero, suc, ◌<◌, ◌≤◌, Bool, true, false, cond, not, ◌&&◌, List, [], length, get_or, ℤ, is_some, IfSome, nat_lt, unsigned_abs, int_lt, int_le, Some, None, Option, option_map, sym, refl, ap, ◌∙◌, subst, arith, and_parts, false≢true, ints, nat_tests, none-some, option_map_or, BitTable, extra_column_cell, corner_cell, labelled_cell, leaves_rows, has_corner, is_labelled_within, is_gone, AreMarksOf, AreUnder, grade_of, free_grade, cost_of, entry_of, AreEntriesUnder, IsPlaceOf, IsMarked, is_under, MarksUnder, Entry, AllowsCells, has_cell-within, IsInstance, most_cost, live_at, Problem, square_side, Whole, Under, Cost, Place, has_cost, left_last, IsLeftAssignment, Level, first_part_in_range, square_cell, Grid, cell_at, IsSquareOf, IsPerm, row_label, column_label, has_cell}
 use Rattle.asg_model.specs.Bands.{in_band}
 use Rattle.asg_model.specs.HallSet.{LiesIn}
-use Rattle.asg_model.specs.Instances.{IsInstance}
-use Rattle.asg_model.specs.Limits.{most_cost}
-use Rattle.asg_model.specs.Live.{live_at}
-use Rattle.asg_model.specs.Problem.{Problem}
-use Rattle.asg_model.specs.Shapes.{square_side}
-use Rattle.asg_match.specs.laws.Cells.{has_cell-within}
-use Rattle.asg_match.specs.HallSets.{AllowsCells}
-use Rattle.asg_square.specs.BitTable.{BitTable}
-use Rattle.asg_square.specs.Cells.{extra_column_cell, corner_cell, labelled_cell, square_cell}
-use Rattle.asg_square.specs.Grid.{Grid, cell_at, IsSquareOf, IsPerm}
-use Rattle.asg_square.specs.Labels.{row_label, column_label}
-use Rattle.asg_square.specs.Presence.{leaves_rows, has_corner, is_labelled_within, has_cell}
-use Rattle.asg_proof.specs.declared.levels.Level.{Level}
-use Rattle.asg_proof.specs.Levels.{has_cost, left_last, IsLeftAssignment}
-use Rattle.asg_proof.specs.laws.LiveCosts.{first_part_in_range}
-use Rattle.asg_live_cells.specs.declared.live_cells.Entry.{Entry}
-use Rattle.asg_live_cells.specs.Grades.{grade_of, free_grade, cost_of}
-use Rattle.asg_live_cells.specs.Marks.{IsMarked}
-use Rattle.asg_live_cells.specs.LiveCells.{entry_of, AreEntriesUnder, IsPlaceOf}
-use Rattle.asg_lex.specs.Runs.{is_gone, AreMarksOf}
-use Rattle.asg_live_cells.specs.UnderWords.{is_under, MarksUnder}
-use Rattle.asg_lex.specs.Starts.{AreUnder}
 use Rattle.asg_lex.proofs.RunSteps.{passes_at, passes_some, has_cost_by}
+use Rattle.asg_model.specs.declared.parts.Place.TheVariants.{All as PlaceAll, Exactly}
 
 -- ---- the cells under a limit are those of a band
 

@@ -1,11 +1,6 @@
 -- Marks of the cells that are 0, by counts of steps.
-use Rattle.std.proofs.Common.{◌≡◌, ℕ, ◌<◌, List, Option, subst}
-use Rattle.asg_square.specs.BitTable.{BitTable, IsBitTable, has_bit}
-use Rattle.asg_square.specs.laws.Words.{same_bool}
-use Rattle.asg_levels.specs.Tight.{Tightens, is_tight}
-use Rattle.asg_levels.specs.UnitSteps.{AreDuals, CountsStep}
-use Rattle.asg_levels.specs.laws.UnitSteps.{tight_where, zero_where}
-use Rattle.asg_lex.specs.MarkedCells.{MarksZeros}
+use Rattle.asg_lex.proofs.Common.{◌≡◌, ℕ, ◌<◌, List, Option, subst, BitTable, IsBitTable, has_bit, Tightens, is_tight, AreDuals, CountsStep, tight_where, zero_where, MarksZeros}
+use Rattle.asg_bit_rows.specs.laws.Words.{same_bool}
 
 -- marks of the cells that are 0 are those by the counts
 pub zeros_tight : (side count : ℕ) (zeros ones marks : BitTable) (ins outs : List ℕ) (square : ℕ → ℕ → Option ℕ) → marks.rows ≡ side → marks.columns ≡ side → IsBitTable marks → AreDuals side count zeros ones ins outs square → MarksZeros side marks square → Tightens marks zeros ones ins outs side side

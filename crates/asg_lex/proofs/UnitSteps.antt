@@ -1,23 +1,6 @@
 -- A step by 1 over the rows of a stuck tree is admitted; marks of the cells that are 0, and matched
 -- cells, after it.
-use Rattle.std.proofs.Common.{◌≡◌, ◌≢◌, ◌↔◌, ℕ, zero, suc, ◌+◌, ◌<◌, Bool, true, false, not, List, length, get_or, Option, Some, refl, sym, ◌∙◌, ap, subst, arith, is_some, leb, ltb}
-use Rattle.std.specs.Prelude.{All, AllPairs, Contains, nat_le}
-use Rattle.std.specs.Option.{option_map}
-use Rattle.std.proofs.lemmas.Bool.{false≢true, eqb-true}
-use Rattle.std.proofs.lemmas.Bool.Decides.{nat_tests, Decides-eqb}
-use Rattle.std.proofs.lemmas.List.Elements.{All-contains}
-use Rattle.asg_match.specs.Matching.{Matches, IsMatching}
-use Rattle.asg_match.specs.Augmentation.{IsStuck}
-use Rattle.asg_square.specs.BitTable.{BitTable, has_bit}
-use Rattle.asg_monoids.specs.BoundedSums.{bounded_difference}
-use Rattle.asg_proof.specs.Levels.{level_sums}
-use Rattle.asg_proof.specs.Phases.{entered_at, staying_at, after_phase, AreAdmittedSteps, IsAdmittedPhase}
-use Rattle.asg_proof.specs.Steps.{moved, count_below, HasSide}
-use Rattle.asg_levels.specs.Tight.{is_tight}
-use Rattle.asg_levels.specs.UnitSteps.{AreDuals, unit_phase}
-use Rattle.asg_levels.specs.laws.UnitSteps.{entered_test, staying_test, tight_where, zero_where}
-use Rattle.asg_lex.specs.UnitPhases.{SplitsTree}
-use Rattle.asg_lex.specs.MarkedCells.{MarksZeros}
+use Rattle.asg_lex.proofs.Common.{◌≡◌, ℕ, zero, suc, ◌+◌, ◌<◌, Bool, true, false, not, ltb, leb, ◌≢◌, ◌↔◌, List, length, get_or, is_some, nat_le, Some, All, Contains, Option, option_map, AllPairs, sym, refl, ap, ◌∙◌, subst, arith, eqb-true, All-contains, Decides-eqb, false≢true, nat_tests, BitTable, has_bit, is_tight, AreDuals, unit_phase, entered_test, staying_test, tight_where, zero_where, MarksZeros, SplitsTree, IsStuck, Matches, IsMatching, bounded_difference, level_sums, entered_at, staying_at, after_phase, AreAdmittedSteps, IsAdmittedPhase, moved, count_below, HasSide}
 use Rattle.asg_proof.specs.laws.CountsBelow.{count_below-list, count_below-not}
 
 module _ (allows : ℕ → ℕ → Type 0) (side : ℕ) (m : List (Option ℕ)) (root : ℕ) (rows enters leaves : List ℕ) (matching : IsMatching m) (matching_side : length m ≡ side)

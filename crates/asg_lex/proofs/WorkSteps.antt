@@ -1,30 +1,8 @@
 -- One more phase of one step by 1 at a level.
-use Rattle.std.proofs.Common.{◌≡◌, ◌≢◌, ℕ, zero, suc, get_or, ◌+◌, ◌<◌, ◌≤◌, ◌^◌, Bool, true, false, cond, List, [], ◌∷◌, ◌++◌, length, Option, Some, None, refl, ◌∙◌, ap, arith}
-use Rattle.std.specs.Prelude.{All, AllPairs, sum, filter_map, nat_le}
-use Rattle.std.specs.List.{range_with_len, cons_option}
-use Rattle.std.proofs.lemmas.Bool.Decides.{nat_tests}
-use Rattle.std.proofs.lemmas.Option.{none-some, same_Some}
-use Rattle.std.proofs.lemmas.List.Sums.{sum_by-cons}
+use Rattle.asg_lex.proofs.Common.{◌≡◌, ℕ, zero, suc, ◌+◌, ◌^◌, ◌<◌, ◌≤◌, Bool, true, false, cond, ◌≢◌, List, [], ◌∷◌, ◌++◌, length, get_or, nat_le, Some, None, All, sum, Option, AllPairs, filter_map, refl, ap, ◌∙◌, arith, cons_option, nat_tests, none-some, range_with_len, same_Some, sum_by-cons, BitTable, has_bit, Tightens, bit_square, unit_phase, CountsStep, IsBitSquare, HasSide-bits, square_is, units_more, MarksZeros, SplitsTree, IsMarked, IsStuck, IsMatching, AllAllowed, most_side, bounded_difference, Word, level_sums, numbers_of, PhaseOf, after_phase, IsAdmittedPhase, index_of, HasSide, HasValues, HasSide-phases, assignment_values}
 use Rattle.asg_monoids.specs.laws.SumFolds.{bounded_fold}
 use Rattle.asg_order.specs.Monoid.{fold_of}
-use Rattle.asg_square.specs.Cells.{assignment_values}
-use Rattle.asg_match.specs.Augmentation.{IsStuck}
-use Rattle.asg_match.specs.Matching.{IsMatching, AllAllowed}
-use Rattle.asg_model.specs.Limits.{most_side}
-use Rattle.asg_order.specs.declared.words.Word.{Word}
-use Rattle.asg_monoids.specs.BoundedSums.{bounded_difference}
-use Rattle.asg_square.specs.BitTable.{BitTable, has_bit}
-use Rattle.asg_proof.specs.Levels.{level_sums, numbers_of}
-use Rattle.asg_proof.specs.Phases.{PhaseOf, after_phase, IsAdmittedPhase, index_of}
-use Rattle.asg_proof.specs.Steps.{HasSide, HasValues}
-use Rattle.asg_live_cells.specs.Marks.{IsMarked}
-use Rattle.asg_proof.specs.laws.PhaseLists.{HasSide-phases}
-use Rattle.asg_levels.specs.Tight.{Tightens}
-use Rattle.asg_levels.specs.UnitSteps.{bit_square, unit_phase, CountsStep, IsBitSquare}
 use Rattle.asg_levels.specs.UnitLists.{AreCountedUnits, square_after_units}
-use Rattle.asg_levels.specs.laws.UnitLists.{HasSide-bits, square_is, units_more}
-use Rattle.asg_lex.specs.MarkedCells.{MarksZeros}
-use Rattle.asg_lex.specs.UnitPhases.{SplitsTree}
 use Rattle.asg_lex.proofs.UnitSteps.{unit_admitted, marks_zeros, matched_stays}
 
 -- what holds of the phases so far

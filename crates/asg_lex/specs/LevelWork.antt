@@ -5,7 +5,7 @@ use Rattle.asg_monoids.specs.BoundedSums.{bounded_difference, plain_word}
 use Rattle.asg_proof.specs.Levels.{level_sums, numbers_of}
 use Rattle.asg_proof.specs.Phases.{ArePhases, worded, AreAdmittedPhases, after_phases, index_of}
 use Rattle.asg_proof.specs.PromisedProofs.{IsUnitPhase}
-use Rattle.asg_square.specs.BitTable.{BitTable, word_count}
+use Rattle.asg_bit_rows.specs.BitTable.{BitTable, word_count}
 use Rattle.asg_square.specs.Cells.{IsAssignment}
 use Rattle.asg_lex.specs.declared.level_work.Work.{Work}
 use Rattle.asg_live_cells.specs.declared.live_cells.Entry.{Entry}

@@ -1,6 +1,6 @@
 -- The marked cells of a square.
 use Rattle.std.specs.Prelude.{◌≡◌, ◌↔◌, ℕ, Option, Some}
-use Rattle.asg_square.specs.BitTable.{BitTable}
+use Rattle.asg_bit_rows.specs.BitTable.{BitTable}
 use Rattle.asg_live_cells.specs.Marks.{IsMarked}
 
 -- exactly the cells that are 0 are marked

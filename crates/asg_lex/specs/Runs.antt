@@ -5,7 +5,7 @@ use Rattle.asg_model.specs.Problem.{Problem}
 use Rattle.asg_square.specs.Presence.{has_cell}
 use Rattle.asg_proof.specs.declared.levels.Level.{Level}
 use Rattle.asg_proof.specs.Levels.{AreProvedLevels, without, is_after}
-use Rattle.asg_square.specs.BitTable.{BitTable}
+use Rattle.asg_bit_rows.specs.BitTable.{BitTable}
 use Rattle.asg_live_cells.specs.Grades.{cost_of}
 use Rattle.asg_live_cells.specs.Marks.{IsMarked}
 use Rattle.asg_proof.specs.Levels.{last_cost, left_so_far}

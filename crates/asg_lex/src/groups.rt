@@ -4,16 +4,16 @@ ghost use Rattle.std.specs.Prelude.{◌≡◌, ◌↔◌, ◌<◌, ◌≤◌, �
 ghost use Rattle.std.specs.Prelude.{slice_index};
 ghost use Rattle.asg_match.specs.Matching.{IsPerfect, Matches};
 ghost use Rattle.asg_model.specs.Limits.{most_side};
-ghost use Rattle.asg_square.specs.BitTable.{IsBitTable};
+ghost use Rattle.asg_bit_rows.specs.BitTable.{IsBitTable};
 ghost use Rattle.asg_live_cells.specs.Marks.{IsMarked, IsNamed, MarksFewer};
 ghost use Rattle.asg_lex.specs.Groups.{Frees, FreesNamed};
 ghost use Rattle.asg_lex.specs.LevelWork.{IsUnderway, AreSized, LeavesOut, TakesLevel};
 
 use crate::NoMemory;
 use crate::level_work::{Work, serve_named};
+use asg_bit_rows::BitRows;
 use asg_live_cells::{Entry, leave};
 use asg_match::{Matching, Tree};
-use asg_square::BitRows;
 use std::alloc::Global;
 
 // Whether the cell of an entry is matched.

@@ -9,7 +9,7 @@ ghost use Rattle.asg_monoids.specs.BoundedSums.{bounded_difference};
 ghost use Rattle.asg_proof.specs.declared.levels.Level.{Level};
 ghost use Rattle.asg_proof.specs.Levels.{level_sums, left_last, without, is_after};
 ghost use Rattle.asg_proof.specs.Phases.{IsAdmittedPhase};
-ghost use Rattle.asg_square.specs.BitTable.{BitTable, has_bit};
+ghost use Rattle.asg_bit_rows.specs.BitTable.{BitTable, has_bit};
 ghost use Rattle.asg_proof.specs.Levels.{last_cost, left_so_far};
 ghost use Rattle.asg_levels.specs.UnitSteps.{unit_phase};
 ghost use Rattle.asg_lex.specs.UnitPhases.{SplitsTree};

@@ -9,13 +9,13 @@ ghost use Rattle.asg_lex.specs.LevelWork.{IsUnderway, IsNamedRow, GoesOn, HasPer
 
 use crate::NoMemory;
 use crate::unit_phases::unit_phase;
+use asg_bit_rows::BitRows;
 use asg_levels::{count_zeros, tighten_more};
 use asg_live_cells::{Entry, Marks};
 use asg_match::{Grown, Matching, Tree, augment};
 use asg_monoids::Bounded;
 use asg_proof::WrittenPhase;
 use asg_proof::laws::phases_law;
-use asg_square::BitRows;
 use std::alloc::Global;
 
 /// The square of a level as rows of bits, the phases so far, and what they made of it.

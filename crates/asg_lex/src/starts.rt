@@ -4,7 +4,7 @@ ghost use Rattle.std.specs.Prelude.{◌≡◌, ◌<◌, ◌≤◌, ℕ, IfOk, le
 ghost use Rattle.asg_match.specs.Matching.{IsPerfect};
 ghost use Rattle.asg_model.specs.Limits.{most_side};
 ghost use Rattle.asg_model.specs.Shapes.{square_side};
-ghost use Rattle.asg_square.specs.BitTable.{has_bit};
+ghost use Rattle.asg_bit_rows.specs.BitTable.{has_bit};
 ghost use Rattle.asg_square.specs.Grid.{IsSquareOf, cell_at};
 ghost use Rattle.asg_live_cells.specs.Grades.{free_grade, grade_of};
 ghost use Rattle.asg_live_cells.specs.LiveCells.{AreEntriesUnder};
@@ -17,12 +17,13 @@ ghost use Rattle.asg_lex.specs.Starts.{HasChoiceUnder, IsStart};
 use crate::NoMemory;
 use crate::level_work::Work;
 use crate::runs::Run;
+use asg_bit_rows::BitRows;
 use asg_live_cells::{LiveCells, Marks, under_word};
 use asg_match::{Matching, Pairing, Tree, hall_of, perfect_or_hall};
 use asg_model::Instance;
-use asg_model::laws::hall_law;
+use asg_square::Square;
 use asg_square::laws::square_law;
-use asg_square::{BitRows, Square};
+use asg_values::laws::hall_law;
 use std::alloc::Global;
 
 // Marks the cells of a row whose grades are under the limit.

@@ -1,37 +1,10 @@
 -- What a request to solve or to rank writes is accepted by a request to check.
-use Rattle.std.proofs.Common.{◌≡◌, ℕ, ◌≤◌, List, [], ◌∷◌, length, Option, Some, None, false, refl, sym, ◌∙◌, subst, inl, inr, arith}
-use Rattle.std.specs.Prelude.{◌⊎◌, IfSome}
-use Rattle.std.proofs.lemmas.List.{append-nil}
-use Rattle.std.proofs.lemmas.List.Elements.{All-nil, All-cons}
-use Rattle.asg_model.specs.Instances.{IsInstance}
-use Rattle.asg_model.specs.Problem.{Problem}
-use Rattle.asg_doc.specs.declared.documents.Document.{Document}
-use Rattle.asg_doc.specs.HasText.{HasText}
-use Rattle.asg_doc.specs.Text.{text_of}
-use Rattle.asg_check.specs.declared.document_forms.Form.{Form}
-use Rattle.asg_check.specs.declared.document_forms.Form.TheVariants as forms
-use Rattle.asg_check.specs.Certifies.{Certifies}
-use Rattle.asg_check.specs.TrueClaim.{ClaimsTruly}
-use Rattle.asg_requests.specs.declared.requests.Job.{Job}
-use Rattle.asg_requests.specs.declared.requests.Task.TheVariants.{Solve, Rank, Check}
-use Rattle.asg_answers.specs.declared.status.Status.{Status}
-use Rattle.asg_answers.specs.declared.status.Status.TheVariants.{Done}
-use Rattle.asg_answers.specs.declared.status.Status.TheVariants.{Nothing as NothingValid}
-use Rattle.asg_promises.specs.Due.{Due, DueForAsked, DueForJob, DueForTask, Held}
-use Rattle.asg_promises.specs.DueToCheck.{DueToCheck, Read, form_asked}
-use Rattle.asg_model.specs.Limits.{longest_file}
-use Rattle.asg_promises.specs.Requests.{files_of, AsksFor}
-use Rattle.asg_requests.specs.Requests.{files_of_task}
-use Rattle.asg_requests.specs.declared.requests.Request.TheVariants.{Work}
-use Rattle.asg_promises.specs.Promised.{AskAlike, HasShortProofs, IsNeverLong, IsRanked, IsSolved, IsUnsolvable, IsCertified}
-use Rattle.asg_promises.specs.Sources.{AreShort, MayHold, MayHoldAll, content_at}
-use Rattle.asg_promises.specs.InstanceFile.{Holds, held_by, instance_in}
-use Rattle.asg_answers.specs.Texts.{yes_text}
-use Rattle.asg_answers.specs.WrittenDocument.{IsWritten}
-use Rattle.asg_text.specs.Texts.{reading_of}
+use Rattle.asg_promises.proofs.Common.{◌≡◌, ℕ, ◌≤◌, false, ◌⊎◌, List, [], ◌∷◌, length, IfSome, Some, None, Option, sym, refl, ◌∙◌, subst, inl, inr, append-nil, arith, All-cons, All-nil, yes_text, IsWritten, Status, Done, Certifies, ClaimsTruly, Form, HasText, text_of, Document, IsInstance, longest_file, Problem, Due, DueForAsked, DueForJob, DueForTask, Held, DueToCheck, Read, form_asked, Holds, held_by, instance_in, AskAlike, HasShortProofs, IsNeverLong, IsRanked, IsSolved, IsUnsolvable, IsCertified, files_of, AsksFor, AreShort, MayHold, MayHoldAll, content_at, files_of_task, Job, Work, Solve, Rank, Check, reading_of}
 use Rattle.asg_promises.proofs.HeldInstances.{HoldsInstances}
 use Rattle.asg_promises.proofs.RankLaws.{ranked_only, unrankable_only}
 use Rattle.asg_promises.proofs.SolveLaws.{solved_only, unsolvable_only}
+use Rattle.asg_check.specs.declared.document_forms.Form.TheVariants as forms
+use Rattle.asg_answers.specs.declared.status.Status.TheVariants.{Nothing as NothingValid}
 
 -- jobs that ask alike read one instance
 same_file : (job other : Job) (bytes : List ℕ) → AskAlike job other → instance_in other bytes ≡ instance_in job bytes

@@ -1,10 +1,5 @@
 -- What each due status says of a brief request.
-use Rattle.std.proofs.Common.{◌≡◌, ℕ, true, List, subst}
-use Rattle.asg_brief.specs.BriefLines.{IsBestLine, IsNoneLine, IsRankedLine}
-use Rattle.asg_check.specs.declared.document_forms.Form.{Form}
-use Rattle.asg_requests.specs.declared.requests.Job.{Job}
-use Rattle.asg_answers.specs.Tellings.{TellsBest, TellsNone, TellsRanking, TellsScript}
-use Rattle.asg_promises.specs.Promised.{IsBriefScript, IsToldOf, IsToldOfScript}
+use Rattle.asg_promises.proofs.Common.{◌≡◌, ℕ, true, List, subst, TellsBest, TellsNone, TellsRanking, TellsScript, IsBestLine, IsNoneLine, IsRankedLine, Form, IsBriefScript, IsToldOf, IsToldOfScript, Job}
 
 -- what is told in brief is told by a line
 pub best_line : (job : Job) (bytes text : List ℕ) → job.brief ≡ true → IsToldOf job bytes text (TellsBest job.brief job.objective) → IsToldOf job bytes text (IsBestLine job.objective)

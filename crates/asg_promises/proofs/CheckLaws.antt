@@ -1,35 +1,10 @@
 -- What each due status says of a request to check.
-use Rattle.std.proofs.Common.{◌≡◌, ℕ, List, [], ◌∷◌, length, Option, Some, None, refl, sym, ap, ◌∙◌, subst, inl, inr, arith}
-use Rattle.std.specs.Prelude.{◌⊎◌}
-use Rattle.std.proofs.lemmas.List.{append-nil}
-use Rattle.std.proofs.lemmas.List.Elements.{All-nil, All-cons, All-head}
-use Rattle.asg_model.specs.declared.objectives.Objective.{Objective}
-use Rattle.asg_model.specs.Problem.{Problem}
-use Rattle.asg_doc.specs.declared.documents.Document.{Document}
-use Rattle.asg_doc.specs.HasText.{HasText}
-use Rattle.asg_doc.specs.RefusedLine.{AllHaveText}
-use Rattle.asg_doc.specs.Text.{text_of, texts_of}
-use Rattle.asg_check.specs.Certifies.{Certifies}
-use Rattle.asg_check.specs.declared.document_forms.Form.{Form}
-use Rattle.asg_check.specs.TrueClaim.{ClaimsTruly}
-use Rattle.asg_requests.specs.declared.requests.Job.{Job}
-use Rattle.asg_requests.specs.declared.requests.Task.TheVariants.{Check}
-use Rattle.asg_answers.specs.declared.status.Status.{Status}
-use Rattle.asg_answers.specs.declared.status.Status.TheVariants.{Done, Instance, Document as Unread, No, TooLong}
-use Rattle.asg_promises.specs.Due.{DueForJob, DueForTask, Long, Refused, Held}
-use Rattle.asg_promises.specs.DueToCheck.{DueToCheck, NotRead, Miscounted, Read, form_asked}
-use Rattle.asg_promises.specs.DueToJudge.{DueToJudge, IsDeniedBehind}
-use Rattle.asg_promises.specs.Requests.{files_of}
-use Rattle.asg_requests.specs.Requests.{files_of_task}
-use Rattle.asg_promises.specs.Promised.{IsCertified, IsDenied, IsNotOne, IsUnread, IsVerdict}
-use Rattle.asg_promises.specs.Sources.{MayHold, MayHoldAll, content_at}
-use Rattle.asg_promises.specs.InstanceFile.{Holds, instance_in}
-use Rattle.asg_answers.specs.Texts.{yes_text}
+use Rattle.asg_promises.proofs.Common.{◌≡◌, ℕ, ◌⊎◌, List, [], ◌∷◌, length, Some, None, Option, sym, refl, ap, ◌∙◌, subst, inl, inr, append-nil, arith, All-cons, All-head, All-nil, yes_text, Status, Certifies, ClaimsTruly, Form, HasText, AllHaveText, text_of, texts_of, Document, Problem, Objective, DueForJob, DueForTask, Long, Refused, Held, DueToCheck, NotRead, Miscounted, Read, form_asked, DueToJudge, IsDeniedBehind, Holds, instance_in, IsCertified, IsDenied, IsNotOne, IsUnread, IsVerdict, files_of, MayHold, MayHoldAll, content_at, files_of_task, Job, Work, Check}
 use Rattle.asg_promises.proofs.DueLaws.{ReadsOnce}
 use Rattle.asg_promises.proofs.HeldInstances.{HoldsInstances}
 use Rattle.asg_promises.proofs.StageLaws.{AllShort, check_ends, first_held, reached}
 use Rattle.asg_promises.proofs.ToldFiles.{held}
-use Rattle.asg_requests.specs.declared.requests.Request.TheVariants.{Work}
+use Rattle.asg_answers.specs.declared.status.Status.TheVariants.{Done, Instance, Document as Unread, No, TooLong}
 
 -- the text of one document is that of a list
 one_text : (document : Document) (bytes : List ℕ) → bytes ≡ text_of document → bytes ≡ texts_of (document ∷ [])

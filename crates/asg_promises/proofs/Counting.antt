@@ -1,13 +1,5 @@
 -- Counting: different numbers of a list, and the elements that pass a test.
-use Rattle.std.proofs.Common.{◌≡◌, ◌≢◌, ℕ, ◌<◌, ◌≤◌, Bool, true, false, cond, List, [], ◌∷◌, length, map, refl, sym, ◌∙◌, ap, arith}
-use Rattle.std.specs.Prelude.{All, AllPairs, Contains, filter, sum_by, count_by}
-use Rattle.std.proofs.lemmas.Bool.Decides.{Decides-eqb}
-use Rattle.std.proofs.lemmas.Cmp.{nat_eq_equiv}
-use Rattle.std.proofs.lemmas.List.{length-map, get_or-map}
-use Rattle.std.proofs.lemmas.List.Elements.{All-head, All-tail, All-contains, All-map, All-filter, filter_passes}
-use Rattle.std.proofs.lemmas.List.Kept.{AllPairs-filter}
-use Rattle.std.proofs.lemmas.List.Sums.{sum_by-cons, length-filter}
-use Rattle.std.proofs.lemmas.Map.Made.{length-le_from_is_member, IsDistinct-from_AllPairs, is_member-Decides}
+use Rattle.asg_promises.proofs.Common.{◌≡◌, ℕ, ◌<◌, ◌≤◌, Bool, true, false, cond, ◌≢◌, List, [], ◌∷◌, map, length, All, Contains, sum_by, count_by, filter, AllPairs, sym, refl, ap, ◌∙◌, arith, All-contains, All-filter, All-head, All-map, All-tail, AllPairs-filter, Decides-eqb, IsDistinct-from_AllPairs, filter_passes, get_or-map, is_member-Decides, length-filter, length-le_from_is_member, length-map, nat_eq_equiv, sum_by-cons}
 
 -- elements with different numbers give different numbers
 pub AllPairs-map : {X : Type 0} (g : X → ℕ) (xs : List X) → AllPairs (λ a b. g a ≢ g b) xs → AllPairs ◌≢◌ (map g xs)

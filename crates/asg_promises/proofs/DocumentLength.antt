@@ -1,49 +1,18 @@
 -- How long the text of a document is that says that no choice is valid, or that has a threshold
 -- proof or levels that are promised: far below the longest file that is read.
-use Rattle.std.proofs.Common.{◌≡◌, ℕ, ◌+◌, ◌*◌, ◌<◌, ◌≤◌, true, false, List, [], ◌∷◌, ◌++◌, length, map, Option, Some, None, get_or, All, refl, ◌∙◌, ap, subst, arith, length-append}
-use Rattle.std.specs.Prelude.{codes, ◌==◌, ◌≢◌, AllPairs, Contains, IsTrue}
-use Rattle.std.specs.Fmt.{decimal}
-use Rattle.std.specs.Option.{option_map_or}
-use Rattle.std.proofs.lemmas.Bool.{eqb-true}
-use Rattle.std.proofs.lemmas.List.{length-map, get_or-map}
-use Rattle.std.proofs.lemmas.List.Quantifiers.{position-Some}
-use Rattle.asg_model.specs.Limits.{most_side}
-use Rattle.asg_model.specs.Shapes.{square_side}
+use Rattle.asg_promises.proofs.Common.{◌≡◌, ℕ, ◌+◌, ◌*◌, ◌<◌, ◌≤◌, true, false, ◌≢◌, List, [], ◌∷◌, ◌++◌, map, length, get_or, IsTrue, ◌==◌, Some, None, codes, decimal, All, Contains, Option, AllPairs, refl, ap, ◌∙◌, subst, arith, length-append, eqb-true, get_or-map, length-map, option_map_or, position-Some, length-cells_by_id-le, IsBestDocument, IsNoneDocument, IsPromisedClaim, IsPromisedProof, CertifiesClaim, IsTrueClaim, Form, HasAnswerText, HasClaimText, AreRows, spaced, cell_line, value_line, HasWord, command_word, form_of, Answer, Best, Command, Document, is_counted, most_side, longest_file, IsBottleneck, objective_word, Problem, square_side, choice_value, Objective, Bottleneck, BottleneckMax, Lex, Value, One, HasShortProofs, IsSolved, IsUnsolvable, Proof, Below, Levels, Phases, Windows, Job}
 use Rattle.asg_promises.proofs.HeldInstances.{IsTaken-held}
 use Rattle.asg_model.specs.declared.bands.Band.{Band}
 use Rattle.asg_model.specs.declared.bands.Band.TheVariants.{Whole, Under, Over}
-use Rattle.asg_model.specs.declared.objectives.Objective.{Objective}
-use Rattle.asg_model.specs.declared.objectives.Objective.TheVariants.{Bottleneck, BottleneckMax, Lex}
-use Rattle.asg_model.specs.declared.objectives.Value.{Value}
-use Rattle.asg_model.specs.declared.objectives.Value.TheVariants.{One}
-use Rattle.asg_model.specs.Counts.{is_counted}
 use Rattle.asg_model.specs.HallSet.{IsHall, is_counted_id, row_place_of}
-use Rattle.asg_model.specs.Limits.{longest_file}
-use Rattle.asg_model.specs.Problem.{Problem}
-use Rattle.asg_model.specs.Values.{choice_value}
-use Rattle.asg_doc.specs.declared.documents.Answer.{Answer}
-use Rattle.asg_doc.specs.declared.documents.Claim.TheVariants.{Best, Nothing}
-use Rattle.asg_doc.specs.declared.documents.Command.{Command}
-use Rattle.asg_doc.specs.declared.documents.Document.{Document}
-use Rattle.asg_doc.specs.HasText.{HasAnswerText, HasClaimText, AreRows}
-use Rattle.asg_doc.specs.Text.{spaced, cell_line, text_of, value_line}
-use Rattle.asg_doc.specs.Words.{HasWord, command_word, form_of}
-use Rattle.asg_proof.specs.declared.outcomes.Proof.{Proof}
-use Rattle.asg_proof.specs.declared.outcomes.Proof.TheVariants.{Below, Levels, Phases, Windows}
+use Rattle.asg_doc.specs.declared.documents.Claim.TheVariants.{Nothing}
+use Rattle.asg_doc.specs.Text.{text_of}
 use Rattle.asg_proof.specs.Threshold.{ProvesBelow}
-use Rattle.asg_check.specs.declared.document_forms.Form.{Form}
-use Rattle.asg_check.specs.declared.document_forms.Form.TheVariants.{Solve as SolveForm}
-use Rattle.asg_check.specs.Certifies.{CertifiesClaim}
-use Rattle.asg_check.specs.TrueClaim.{IsTrueClaim}
-use Rattle.asg_model.specs.Objectives.{IsBottleneck, objective_word}
-use Rattle.asg_requests.specs.declared.requests.Job.{Job}
-use Rattle.asg_promises.specs.Promised.{HasShortProofs, IsSolved, IsUnsolvable}
-use Rattle.asg_answers.specs.WrittenDocument.{IsBestDocument, IsNoneDocument, IsPromisedClaim, IsPromisedProof}
-use Rattle.asg_answers.specs.Laws.{length-cells_by_id-le}
 use Rattle.asg_promises.proofs.Counting.{length-le-within}
 use Rattle.asg_promises.proofs.LineLengths.{digits_of_id, length-behind, length-cell_lines, length-command, length-line, length-objective, length-spaced, length-value}
 use Rattle.asg_promises.proofs.ListedCosts.{few_listed, listed_costs}
 use Rattle.asg_promises.proofs.LevelLengths.{length-lex}
+use Rattle.asg_check.specs.declared.document_forms.Form.TheVariants.{Solve as SolveForm}
 
 -- the id of a counted row is that of a row
 is_row_id : (X : Problem) (id : ℕ) → is_counted_id X id ≡ true → Contains (map (λ row. row.id) X.rows) id

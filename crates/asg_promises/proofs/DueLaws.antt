@@ -1,42 +1,11 @@
 -- What is due has one status, and one text where no document is written, or in brief.
-use Rattle.std.proofs.Common.{◌≡◌, ℕ, ◌+◌, ◌<◌, Bool, true, false, inl, inr, List, [], ◌∷◌, length, Option, Some, None, IsSome, All, sym, ap, ◌∙◌, subst, arith}
-use Rattle.std.specs.Prelude.{◌⊎◌, ℤ}
-use Rattle.asg_model.specs.declared.objectives.Objective.{Objective}
-use Rattle.asg_model.specs.Problem.{Problem}
-use Rattle.asg_doc.specs.declared.documents.Document.{Document}
-use Rattle.asg_doc.specs.RefusedLine.{AllHaveText, IsRefusedLine}
-use Rattle.asg_doc.specs.Text.{texts_of}
-use Rattle.asg_brief.specs.BriefLines.{AreBriefLines, IsBestLine, IsBriefLine, IsNoneLine, IsRankedLine}
-use Rattle.asg_check.specs.declared.document_forms.Form.{Form}
-use Rattle.asg_check.specs.declared.document_forms.Form.TheVariants as forms
+use Rattle.asg_promises.proofs.Common.{◌≡◌, ℕ, ◌+◌, ◌<◌, Bool, true, false, ◌⊎◌, List, [], ◌∷◌, length, ℤ, IsSome, Some, None, All, Option, sym, ap, ◌∙◌, subst, inl, inr, arith, limit_number, HasOneText, TellsBest, TellsNone, TellsRanking, TellsScript, refused_document_text, refused_instance_text, refused_script_text, no_text, yes_text, Status, AreBriefLines, IsBestLine, IsBriefLine, IsNoneLine, IsRankedLine, Form, AllHaveText, IsRefusedLine, texts_of, Document, longest_file, Problem, Objective, DueForAsked, DueForJob, DueForTask, Long, Refused, Held, DueToCheck, NotRead, Miscounted, Read, form_asked, DueToEdit, Followed, DueToJudge, DueToRank, Ranked, TooMuch, Unrankable, DueToSolve, Solved, TooLarge, Unsolvable, InstanceFile, Holds, Refuses, files_of, DueForScript, AreShort, MayHoldAll, content_at, Job, Request, Work, Make, Task, Solve, Rank, Edit, Check, ScriptFile, HoldsLines, RefusesLines, script_in, solved_instances, Line}
 use Rattle.asg_check.specs.Reasons.{IsFirstReason}
-use Rattle.asg_requests.specs.declared.requests.Request.{Request}
-use Rattle.asg_requests.specs.declared.requests.Request.TheVariants.{Work, Make}
-use Rattle.asg_requests.specs.declared.requests.Job.{Job}
-use Rattle.asg_requests.specs.declared.requests.Task.{Task}
-use Rattle.asg_requests.specs.declared.requests.Task.TheVariants.{Solve, Rank, Edit, Check}
-use Rattle.asg_answers.specs.declared.status.Status.{Status}
-use Rattle.asg_answers.specs.declared.status.Status.TheVariants.{Done, Nothing, Usage, Script, Document as Unread, TooLong}
-use Rattle.asg_promises.specs.Due.{DueForAsked, DueForJob, DueForTask, Long, Refused, Held}
-use Rattle.asg_promises.specs.DueToCheck.{DueToCheck, NotRead, Miscounted, Read, form_asked}
-use Rattle.asg_scripts.specs.Scripts.{ScriptFile, HoldsLines, RefusesLines, script_in, solved_instances}
-use Rattle.asg_text.specs.declared.script_lines.Line.{Line}
-use Rattle.asg_promises.specs.DueToEdit.{DueToEdit, Followed}
-use Rattle.asg_promises.specs.DueToJudge.{DueToJudge}
-use Rattle.asg_promises.specs.ScriptStage.{DueForScript}
-use Rattle.asg_promises.specs.DueToRank.{DueToRank, Ranked, TooMuch, Unrankable}
-use Rattle.asg_promises.specs.DueToSolve.{DueToSolve, Solved, TooLarge, Unsolvable}
-use Rattle.asg_promises.specs.InstanceFile.{InstanceFile, Holds, Refuses}
-use Rattle.asg_answers.specs.Tellings.{TellsBest, TellsNone, TellsRanking, TellsScript}
-use Rattle.asg_model.specs.Limits.{longest_file}
-use Rattle.asg_promises.specs.Requests.{files_of}
-use Rattle.asg_promises.specs.Sources.{AreShort, MayHoldAll, content_at}
-use Rattle.asg_answers.specs.Statuses.{HasOneText}
-use Rattle.asg_answers.specs.Texts.{refused_document_text, refused_instance_text, refused_script_text, no_text, yes_text}
-use Rattle.asg_answers.specs.SolverLimits.{limit_number}
 use Rattle.asg_promises.proofs.SolverLimits.{refused_once, taken_apart}
 use Rattle.asg_promises.proofs.TellingLaws.{best_valid, none_valid, ranking_valid}
 use Rattle.asg_promises.proofs.ToldFiles.{held_once}
+use Rattle.asg_check.specs.declared.document_forms.Form.TheVariants as forms
+use Rattle.asg_answers.specs.declared.status.Status.TheVariants.{Done, Nothing, Usage, Script, Document as Unread, TooLong}
 
 -- no two lists of documents have one text
 abbrev pub ReadsOnce : Type 0

@@ -1,41 +1,12 @@
 -- What each due status says of a request to edit.
-use Rattle.std.proofs.Common.{◌≡◌, ◌∙◌, ℕ, ◌+◌, ◌≤◌, false, List, [], ◌∷◌, length, Option, Some, None, refl, sym, ap, subst, inl, inr, arith}
-use Rattle.std.specs.Prelude.{◌⊎◌, IfSome}
-use Rattle.std.proofs.lemmas.List.Elements.{All-nil, All-cons, All-head, All-tail}
-use Rattle.asg_model.specs.declared.objectives.Objective.{Objective}
+use Rattle.asg_promises.proofs.Common.{◌≡◌, ℕ, ◌+◌, ◌≤◌, false, ◌⊎◌, List, [], ◌∷◌, length, IfSome, Some, None, Option, sym, refl, ap, ◌∙◌, subst, inl, inr, arith, All-cons, All-head, All-nil, All-tail, TellsScript, refused_script_text, yes_text, Status, Done, Instance, Script, TooLong, HasText, AllHaveText, texts_of, Document, longest_file, Problem, Objective, DueForJob, DueForTask, Long, Refused, Held, DueToCheck, NotRead, Miscounted, Read, DueToEdit, Followed, DueToJudge, Holds, held_by, instance_in, AreCertified, AreTrue, AskAlike, IsEdited, IsToldOfScript, files_of, DueForScript, AreShort, MayHold, MayHoldAll, content_at, files_of_task, Job, Work, Edit, Check, ScriptFile, HoldsLines, RefusesLines, script_in, solved_instances, reading_of, Line}
 use Rattle.asg_model.specs.Edits.{edited}
-use Rattle.asg_model.specs.Limits.{longest_file}
-use Rattle.asg_model.specs.Problem.{Problem}
-use Rattle.asg_doc.specs.declared.documents.Document.{Document}
-use Rattle.asg_doc.specs.HasText.{HasText}
-use Rattle.asg_doc.specs.RefusedLine.{AllHaveText}
-use Rattle.asg_doc.specs.Text.{texts_of}
-use Rattle.asg_check.specs.declared.document_forms.Form.TheVariants.{Edit as EditForm}
 use Rattle.asg_proof.specs.KeptWords.{Standing}
-use Rattle.asg_requests.specs.declared.requests.Job.{Job}
-use Rattle.asg_requests.specs.declared.requests.Task.TheVariants.{Edit, Check}
-use Rattle.asg_requests.specs.Requests.{files_of_task}
-use Rattle.asg_requests.specs.declared.requests.Request.TheVariants.{Work}
-use Rattle.asg_scripts.specs.Scripts.{ScriptFile, HoldsLines, RefusesLines, script_in, solved_instances}
-use Rattle.asg_text.specs.declared.script_lines.Line.{Line}
-use Rattle.asg_text.specs.declared.script_lines.Line.TheVariants.{Edit as Edits_line, Solve}
-use Rattle.asg_answers.specs.declared.status.Status.{Status}
-use Rattle.asg_answers.specs.declared.status.Status.TheVariants.{Done, Instance, Script, TooLong}
-use Rattle.asg_promises.specs.Due.{DueForJob, DueForTask, Long, Refused, Held}
-use Rattle.asg_promises.specs.DueToEdit.{DueToEdit, Followed}
-use Rattle.asg_promises.specs.DueToCheck.{DueToCheck, NotRead, Miscounted, Read}
-use Rattle.asg_promises.specs.DueToJudge.{DueToJudge}
 use Rattle.asg_answers.specs.EditDocuments.{AreEditDocuments, at_first, edited_standing, standing_of}
-use Rattle.asg_text.specs.Texts.{reading_of}
-use Rattle.asg_promises.specs.InstanceFile.{Holds, held_by, instance_in}
-use Rattle.asg_promises.specs.Promised.{AreCertified, AreTrue, AskAlike, IsEdited, IsToldOfScript}
-use Rattle.asg_promises.specs.Requests.{files_of}
-use Rattle.asg_promises.specs.ScriptStage.{DueForScript}
-use Rattle.asg_promises.specs.Sources.{AreShort, MayHold, MayHoldAll, content_at}
-use Rattle.asg_answers.specs.Tellings.{TellsScript}
-use Rattle.asg_answers.specs.Texts.{refused_script_text, yes_text}
 use Rattle.asg_promises.proofs.StageLaws.{AllShort, edit_ends, first_held, reached, script_ends}
 use Rattle.asg_promises.proofs.ToldFiles.{held}
+use Rattle.asg_check.specs.declared.document_forms.Form.TheVariants.{Edit as EditForm}
+use Rattle.asg_text.specs.declared.script_lines.Line.TheVariants.{Edit as Edits_line, Solve}
 
 -- what is due by the command itself
 own : (job : Job) (contents : List (List ℕ)) (X : Problem) (status : Status) (text script : List ℕ) → job.task ≡ Edit script → DueForTask job.task job contents X status text

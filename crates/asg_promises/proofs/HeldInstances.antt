@@ -1,27 +1,11 @@
 -- What a job's file holds is an instance.
-use Rattle.std.proofs.Common.{◌≡◌, ◌≤◌, ℕ, Bool, true, false, cond, List, [], ◌∷◌, length, Option, Some, None, refl, subst}
-use Rattle.std.specs.Prelude.{nat_lt}
-use Rattle.std.proofs.lemmas.Bool.{ltb-false}
-use Rattle.asg_model.specs.declared.objectives.Objective.{Objective}
+use Rattle.asg_promises.proofs.Common.{◌≡◌, ℕ, ◌≤◌, Bool, true, false, cond, List, [], ◌∷◌, length, nat_lt, Some, None, Option, refl, subst, ltb-false, total_capacity, IsInstance, IsPlaceInRange, most_capacity, most_side, Problem, PassesNegative, is_range_of, shaped, square_side, Objective, Holds, Refuses, fitted, held_by, instance_in, passed, passed_by, rows_asked, sided, first_refused, AsksFor, Job, Request, Work, reading_of}
 use Rattle.asg_model.specs.declared.parts.Place.{Place}
-use Rattle.asg_model.specs.Counts.{total_capacity}
-use Rattle.asg_model.specs.Instances.{IsInstance, IsPlaceInRange}
-use Rattle.asg_model.specs.Limits.{most_capacity, most_side}
-use Rattle.asg_model.specs.Problem.{Problem}
-use Rattle.asg_model.specs.Refused.{PassesNegative}
-use Rattle.asg_model.specs.Shapes.{is_range_of, shaped, square_side}
 use Rattle.asg_text.specs.declared.formats.Format.{Format}
-use Rattle.asg_tokens.specs.Readings.{Reading, Spells, Refuses as RefusesText}
-use Rattle.asg_text.specs.Texts.{reading_of}
-use Rattle.asg_requests.specs.declared.requests.Job.{Job}
-use Rattle.asg_requests.specs.declared.requests.Request.{Request}
-use Rattle.asg_requests.specs.declared.requests.Request.TheVariants.{Work}
 use Rattle.asg_requests.specs.Bounds.{IsJob, IsRequest}
 use Rattle.asg_words.specs.Requests.{request_of}
-use Rattle.asg_promises.specs.InstanceFile.{Holds, Refuses, fitted, held_by, instance_in, passed, passed_by, rows_asked, sided}
-use Rattle.asg_promises.specs.RefusedCosts.{first_refused}
 use Rattle.asg_promises.proofs.RefusedCosts.{passes_none}
-use Rattle.asg_promises.specs.Requests.{AsksFor}
+use Rattle.asg_tokens.specs.Readings.{Reading, Spells, Refuses as RefusesText}
 
 -- whatever bytes the job's file has, what they hold is an instance
 abbrev pub HoldsInstances : Job → Type 0

@@ -1,33 +1,11 @@
 -- What each due status says of a request to check the documents of a script.
-use Rattle.std.proofs.Common.{◌≡◌, ◌∙◌, ℕ, ◌+◌, List, [], ◌∷◌, length, Option, Some, None, refl, sym, ap, subst, inl, inr}
-use Rattle.std.specs.Prelude.{◌⊎◌}
-use Rattle.asg_model.specs.declared.objectives.Objective.{Objective}
-use Rattle.asg_model.specs.Problem.{Problem}
-use Rattle.asg_doc.specs.declared.documents.Document.{Document}
-use Rattle.asg_doc.specs.RefusedLine.{AllHaveText}
-use Rattle.asg_doc.specs.Text.{texts_of}
-use Rattle.asg_check.specs.Certifies.{Certifies}
+use Rattle.asg_promises.proofs.Common.{◌≡◌, ℕ, ◌+◌, ◌⊎◌, List, [], ◌∷◌, length, Some, None, Option, sym, refl, ap, ◌∙◌, subst, inl, inr, refused_script_text, Status, Certifies, AllHaveText, texts_of, Document, Problem, Objective, DueForJob, DueForTask, Long, Refused, Held, DueToCheck, NotRead, Miscounted, Read, DueToJudge, Holds, instance_in, AreJudged, AreNotSoMany, files_of, DueForScript, MayHoldAll, content_at, Job, Work, Check, HoldsLines, RefusesLines, script_in, solved_instances, Line}
 use Rattle.asg_check.specs.declared.document_forms.Form.TheVariants.{Edit}
-use Rattle.asg_requests.specs.declared.requests.Job.{Job}
-use Rattle.asg_requests.specs.declared.requests.Request.TheVariants.{Work}
-use Rattle.asg_requests.specs.declared.requests.Task.TheVariants.{Check}
-use Rattle.asg_scripts.specs.Scripts.{HoldsLines, RefusesLines, script_in, solved_instances}
-use Rattle.asg_text.specs.declared.script_lines.Line.{Line}
-use Rattle.asg_answers.specs.declared.status.Status.{Status}
-use Rattle.asg_answers.specs.declared.status.Status.TheVariants.{Done, Instance, Script, Document as Unread, No, TooLong}
-use Rattle.asg_answers.specs.Texts.{refused_script_text}
-use Rattle.asg_promises.specs.Due.{DueForJob, DueForTask, Long, Refused, Held}
-use Rattle.asg_promises.specs.DueToCheck.{DueToCheck, NotRead, Miscounted, Read}
-use Rattle.asg_promises.specs.DueToJudge.{DueToJudge}
-use Rattle.asg_promises.specs.InstanceFile.{Holds, instance_in}
-use Rattle.asg_promises.specs.Promised.{AreJudged, AreNotSoMany}
-use Rattle.asg_promises.specs.Requests.{files_of}
-use Rattle.asg_promises.specs.ScriptStage.{DueForScript}
-use Rattle.asg_promises.specs.Sources.{MayHoldAll, content_at}
 use Rattle.asg_promises.proofs.DueLaws.{ReadsOnce}
 use Rattle.asg_promises.proofs.EditLaws.{judged_held}
 use Rattle.asg_promises.proofs.StageLaws.{AllShort, check_ends, reached, script_ends}
 use Rattle.asg_promises.proofs.ToldFiles.{held}
+use Rattle.asg_answers.specs.declared.status.Status.TheVariants.{Done, Instance, Script, Document as Unread, No, TooLong}
 
 -- what is due for the lines that a script holds
 abbrev OwedForLines : Job → Problem → List ℕ → List (ℕ × Line) → Status → List ℕ → Type 0

@@ -1,42 +1,16 @@
 -- How long the text of a document is that has levels that are promised: far below the longest file
 -- that is read.
-use Rattle.std.proofs.Common.{◌≡◌, ℕ, ◌+◌, ◌*◌, ◌≤◌, Bool, false, List, [], ◌∷◌, ◌++◌, length, map, Option, get_or, All, ap, subst, arith, length-append}
-use Rattle.std.specs.Prelude.{ℤ, codes}
-use Rattle.std.specs.Fmt.{decimal, signed_decimal}
-use Rattle.std.specs.List.{flat_map}
-use Rattle.std.proofs.lemmas.Fmt.{length-decimal-le_wide}
-use Rattle.std.proofs.lemmas.List.Sums.{sum_by-cons}
-use Rattle.std.specs.Prelude.{sum_by}
-use Rattle.std.proofs.lemmas.List.Elements.{All-nil, All-cons, All-head, All-tail}
-use Rattle.asg_model.specs.Limits.{most_side}
-use Rattle.asg_model.specs.Shapes.{square_side}
+use Rattle.asg_promises.proofs.Common.{◌≡◌, ℕ, ◌+◌, ◌*◌, ◌≤◌, Bool, false, List, [], ◌∷◌, ◌++◌, map, length, get_or, ℤ, codes, decimal, All, sum_by, Option, flat_map, ap, subst, arith, length-append, All-cons, All-head, All-nil, All-tail, length-decimal-le_wide, signed_decimal, sum_by-cons, length-cells_by_id-le, IsBestDocument, IsPromisedClaim, CertifiesClaim, IsTrueClaim, HasAnswerText, HasClaimText, HasColumnText, HasLevelText, HasPhaseText, HaveLevelText, spaced, spaced_columns, spaced_steps, step_text, column_text, cell_line, ended, level_lines, perm_line, phase_lines, value_line, HasWord, command_word, form_of, Answer, Best, Command, Document, most_side, longest_file, objective_word, Problem, square_side, Objective, Lex, Proof, Below, Levels, Phases, Windows}
 use Rattle.asg_order.specs.declared.words.Word.{Word}
 use Rattle.asg_proof.specs.declared.levels.Level.{Level}
 use Rattle.asg_proof.specs.LevelRows.{most_level_rows}
 use Rattle.asg_proof.specs.Levels.{AreLevelsFrom, left_after}
 use Rattle.asg_proof.specs.Phases.{PhaseOf}
 use Rattle.asg_proof.specs.PromisedProofs.{AreFewLevels, IsUnitLevel, IsUnitPhase}
-use Rattle.asg_model.specs.declared.objectives.Objective.{Objective}
-use Rattle.asg_model.specs.declared.objectives.Objective.TheVariants.{Lex}
-use Rattle.asg_model.specs.Limits.{longest_file}
-use Rattle.asg_model.specs.Problem.{Problem}
-use Rattle.asg_doc.specs.declared.documents.Answer.{Answer}
-use Rattle.asg_doc.specs.declared.documents.Claim.TheVariants.{Best}
-use Rattle.asg_doc.specs.declared.documents.Command.{Command}
-use Rattle.asg_doc.specs.declared.documents.Document.{Document}
-use Rattle.asg_doc.specs.HasText.{HasAnswerText, HasClaimText, HasColumnText, HasLevelText, HasPhaseText, HaveLevelText}
-use Rattle.asg_doc.specs.Text.{spaced, spaced_columns, spaced_steps, step_text, column_text, cell_line, ended, level_lines, perm_line, phase_lines, text_of, value_line}
-use Rattle.asg_doc.specs.Words.{HasWord, command_word, form_of}
-use Rattle.asg_proof.specs.declared.outcomes.Proof.{Proof}
-use Rattle.asg_proof.specs.declared.outcomes.Proof.TheVariants.{Below, Levels, Phases, Windows}
-use Rattle.asg_check.specs.Certifies.{CertifiesClaim}
-use Rattle.asg_check.specs.TrueClaim.{IsTrueClaim}
-use Rattle.asg_model.specs.Objectives.{objective_word}
-use Rattle.asg_check.specs.declared.document_forms.Form.TheVariants.{Solve as SolveForm}
-use Rattle.asg_answers.specs.WrittenDocument.{IsBestDocument, IsPromisedClaim}
-use Rattle.asg_answers.specs.Laws.{length-cells_by_id-le}
+use Rattle.asg_doc.specs.Text.{text_of}
 use Rattle.asg_promises.proofs.LineLengths.{digits_of_cost, digits_of_id, length-behind, length-cell_lines, length-command, length-line, length-objective, length-spaced, length-value, pieces}
 use Rattle.asg_promises.proofs.ListedCosts.{few_listed, listed_costs}
+use Rattle.asg_check.specs.declared.document_forms.Form.TheVariants.{Solve as SolveForm}
 
 -- the lines of a phase of one step by 1, over at most 2,000 rows and columns
 length-unit : (side : ℕ) (phase : PhaseOf Word) → side ≤ most_side → IsUnitPhase side phase → HasPhaseText false phase → length (ended (phase_lines false phase)) ≤ 44080

@@ -1,3 +1,4 @@
+pub mod Common
 pub mod AcceptedLaws
 pub mod BriefLaws
 pub mod CheckLaws

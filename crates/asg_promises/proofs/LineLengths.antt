@@ -1,28 +1,11 @@
 -- How long the lines of a document are.
-use Rattle.std.proofs.Common.{◌≡◌, ℕ, suc, ◌+◌, ◌*◌, ◌<◌, ◌≤◌, List, [], ◌∷◌, ◌++◌, length, map, get_or, All, ◌∙◌, ap, arith, length-append}
-use Rattle.std.specs.Prelude.{ℤ, pos, negsuc, codes, ◌^◌, FitsSigned}
-use Rattle.std.specs.Int.{w64, w128}
-use Rattle.std.proofs.lemmas.Int.{ints}
-use Rattle.std.specs.Fmt.{decimal, signed_decimal}
-use Rattle.std.specs.List.{flat_map}
-use Rattle.std.proofs.lemmas.Fmt.{length-decimal-le_wide}
-use Rattle.std.proofs.lemmas.List.Concat.{length-flat_map}
+use Rattle.asg_promises.proofs.Common.{◌≡◌, ℕ, suc, ◌+◌, ◌*◌, ◌^◌, ◌<◌, ◌≤◌, List, [], ◌∷◌, ◌++◌, map, length, get_or, ℤ, pos, negsuc, FitsSigned, codes, decimal, All, flat_map, ap, ◌∙◌, arith, length-append, flat_map-map, ints, length-decimal-le_wide, length-flat_map, signed_decimal, sum_by-le, w128, IsWrittenValue, spaced, spaced_costs, cell_line, ended, value_line, HasWord, command_word, Command, objective_word, Objective, Sum, SumMax, SumPair, Capped, Bottleneck, BottleneckMax, TimeCost, Balanced, Lex, Value, One, Two, Many}
+use Rattle.std.specs.Int.{w64}
 use Rattle.std.proofs.lemmas.Grind.{flat_map-append}
-use Rattle.std.proofs.lemmas.List.Folds.{flat_map-map}
-use Rattle.std.proofs.lemmas.List.Sums.{sum_by-le}
-use Rattle.asg_model.specs.declared.objectives.Objective.{Objective}
-use Rattle.asg_model.specs.declared.objectives.Objective.TheVariants.{Sum, SumMax, SumPair, Capped, Bottleneck, BottleneckMax, TimeCost, Balanced, Lex}
-use Rattle.asg_model.specs.declared.objectives.Value.{Value}
-use Rattle.asg_model.specs.declared.objectives.Value.TheVariants.{One, Two, Many}
-use Rattle.asg_doc.specs.declared.documents.Command.{Command}
-use Rattle.asg_doc.specs.declared.documents.Command.TheVariants.{Solve as SolveCommand, Rank as RankCommand, Edit as EditCommand}
-use Rattle.asg_doc.specs.HasText.{IsWrittenValue}
-use Rattle.asg_doc.specs.Text.{spaced, spaced_costs, cell_line, ended, value_line}
 use Rattle.asg_doc.specs.declared.documents.ValueForm.{ValueForm}
-use Rattle.asg_doc.specs.declared.documents.ValueForm.TheVariants as forms
-use Rattle.asg_doc.specs.Words.{HasWord, command_word}
-use Rattle.asg_model.specs.Objectives.{objective_word}
 use Rattle.asg_promises.proofs.ListedCosts.{listed_costs}
+use Rattle.asg_doc.specs.declared.documents.Command.TheVariants.{Solve as SolveCommand, Rank as RankCommand, Edit as EditCommand}
+use Rattle.asg_doc.specs.declared.documents.ValueForm.TheVariants as forms
 
 -- what is written of a number of 32 bits has at most 10 digits
 pub digits_of_id : (n : ℕ) → n < 2 ^ 32 → length (decimal n) ≤ 10

@@ -1,18 +1,7 @@
 -- How many costs the value of a choice lists.
-use Rattle.std.proofs.Common.{◌≡◌, ℕ, suc, ◌≤◌, Bool, true, false, List, [], ◌∷◌, length, cond, is_some, Option, refl, sym, ◌∙◌, ap, subst, arith}
-use Rattle.std.specs.Prelude.{ℤ}
-use Rattle.std.proofs.lemmas.List.{length-map}
-use Rattle.std.proofs.lemmas.List.Sums.{count_by-le-length}
-use Rattle.std.specs.Prelude.{int_lt}
+use Rattle.asg_promises.proofs.Common.{◌≡◌, ℕ, suc, ◌≤◌, Bool, true, false, cond, List, [], ◌∷◌, length, ℤ, is_some, int_lt, Option, sym, refl, ap, ◌∙◌, subst, arith, count_by-le-length, length-map, Problem, IsValid, choice_value, costs_of, first_parts, Objective, Sum, SumMax, SumPair, Capped, Bottleneck, BottleneckMax, TimeCost, Balanced, Lex, Value, Many}
 use Rattle.asg_model.specs.Descending.{descending, with_descending}
-use Rattle.asg_model.specs.ValidChoice.{IsValid}
 use Rattle.asg_order.specs.laws.ChosenCosts.{length-costs_of}
-use Rattle.asg_model.specs.declared.objectives.Objective.{Objective}
-use Rattle.asg_model.specs.declared.objectives.Objective.TheVariants.{Sum, SumMax, SumPair, Capped, Bottleneck, BottleneckMax, TimeCost, Balanced, Lex}
-use Rattle.asg_model.specs.declared.objectives.Value.{Value}
-use Rattle.asg_model.specs.declared.objectives.Value.TheVariants.{Many}
-use Rattle.asg_model.specs.Problem.{Problem}
-use Rattle.asg_model.specs.Values.{choice_value, costs_of, first_parts}
 
 -- how many costs a value lists
 abbrev pub listed_costs : Value → ℕ

@@ -1,27 +1,10 @@
 -- What each due status says of a request to rank.
-use Rattle.std.proofs.Common.{◌≡◌, ◌<◌, ◌≤◌, ℕ, false, List, [], ◌∷◌, Option, Some, subst, inl, inr, arith}
-use Rattle.std.specs.Prelude.{◌⊎◌}
-use Rattle.asg_model.specs.Problem.{Problem}
-use Rattle.asg_model.specs.ValidChoice.{IsValid}
-use Rattle.asg_rank.specs.Rankings.{ranking_work}
+use Rattle.asg_promises.proofs.Common.{◌≡◌, ℕ, ◌<◌, ◌≤◌, false, ◌⊎◌, List, [], ◌∷◌, Some, Option, subst, inl, inr, arith, TellsNone, TellsRanking, refused_instance_text, Status, Done, Nothing, Instance, TooLong, Problem, IsValid, DueForJob, DueForTask, Long, Refused, Held, DueToRank, Ranked, TooMuch, Unrankable, Holds, instance_in, IsRanked, IsToldOf, IsUnsolvable, files_of, AreShort, MayHold, MayHoldAll, content_at, ranking_work, Job, Work, Rank}
 use Rattle.asg_rank.specs.Rooms.{most_work}
-use Rattle.asg_check.specs.declared.document_forms.Form.TheVariants as forms
-use Rattle.asg_requests.specs.declared.requests.Job.{Job}
-use Rattle.asg_requests.specs.declared.requests.Task.TheVariants.{Rank}
-use Rattle.asg_requests.specs.declared.requests.Request.TheVariants.{Work}
-use Rattle.asg_answers.specs.declared.status.Status.{Status}
-use Rattle.asg_answers.specs.declared.status.Status.TheVariants.{Done, Nothing, Instance, TooLong}
-use Rattle.asg_promises.specs.Due.{DueForJob, DueForTask, Long, Refused, Held}
-use Rattle.asg_promises.specs.DueToRank.{DueToRank, Ranked, TooMuch, Unrankable}
-use Rattle.asg_promises.specs.InstanceFile.{Holds, instance_in}
-use Rattle.asg_promises.specs.Promised.{IsRanked, IsToldOf, IsUnsolvable}
-use Rattle.asg_promises.specs.Requests.{files_of}
-use Rattle.asg_promises.specs.Sources.{AreShort, MayHold, MayHoldAll, content_at}
-use Rattle.asg_answers.specs.Tellings.{TellsNone, TellsRanking}
-use Rattle.asg_answers.specs.Texts.{refused_instance_text}
 use Rattle.asg_promises.proofs.HeldInstances.{HoldsInstances}
 use Rattle.asg_promises.proofs.StageLaws.{AllShort, first_held, reached}
 use Rattle.asg_promises.proofs.TellingLaws.{none_valid, ranking_valid}
+use Rattle.asg_check.specs.declared.document_forms.Form.TheVariants as forms
 
 -- what is due by the command itself
 own : (job : Job) (contents : List (List ℕ)) (X : Problem) (status : Status) (text : List ℕ) (count : ℕ) → job.task ≡ Rank count → DueForTask job.task job contents X status text → DueToRank job count X status text

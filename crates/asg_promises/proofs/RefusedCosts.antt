@@ -1,18 +1,11 @@
 -- The first refused cell of an instance: it is the one that a search row by row tells, and there is
 -- none exactly where the objective refuses no live cost.
-use Rattle.std.proofs.Common.{◌≡◌, ℕ, zero, suc, ◌+◌, ◌<◌, ◌≤◌, ◌&&◌, Bool, true, false, cond, List, [], ◌∷◌, length, Option, Some, None, is_some, refl, sym, ◌∙◌, ap, subst, arith, ⊎_elim}
-use Rattle.std.specs.Prelude.{IfSome, option_and_then, slice_get}
-use Rattle.std.specs.List.{find, range_with_len}
-use Rattle.std.specs.Option.{option_map, option_map_or}
-use Rattle.std.proofs.lemmas.Bool.{cases_lt, false_from_ne_true}
-use Rattle.asg_model.specs.declared.objectives.Objective.{Objective}
+use Rattle.asg_promises.proofs.Common.{◌≡◌, ℕ, zero, suc, ◌+◌, ◌<◌, ◌≤◌, Bool, true, false, cond, ◌&&◌, List, [], ◌∷◌, length, is_some, IfSome, slice_get, Some, None, Option, option_map, option_and_then, sym, refl, ap, ◌∙◌, subst, ⊎_elim, arith, cases_lt, false_from_ne_true, option_map_or, range_with_len, Problem, IsFirstRefused, PassesNegative, is_refused, is_refused_at, Objective, first_refused, ids_at, refused_column, refused_row}
+use Rattle.std.specs.List.{find}
 use Rattle.asg_model.specs.declared.parts.Column.{Column}
 use Rattle.asg_model.specs.declared.parts.Cost.{Cost}
 use Rattle.asg_model.specs.declared.parts.Row.{Row}
 use Rattle.asg_model.specs.Live.{cost_at, live_at}
-use Rattle.asg_model.specs.Problem.{Problem}
-use Rattle.asg_model.specs.Refused.{IsFirstRefused, PassesNegative, is_refused, is_refused_at}
-use Rattle.asg_promises.specs.RefusedCosts.{first_refused, ids_at, refused_column, refused_row}
 
 -- where no number passes, none is found
 find_none : (test : ℕ → Bool) (a n : ℕ) → ((k : ℕ) → test k ≡ false) → find test (range_with_len a n) ≡ None

@@ -1,27 +1,10 @@
 -- What each due status says of a request to solve.
-use Rattle.std.proofs.Common.{◌≡◌, ◌∙◌, ℕ, false, List, [], ◌∷◌, Option, Some, ap, subst, inl, inr}
-use Rattle.std.specs.Prelude.{◌⊎◌}
-use Rattle.asg_model.specs.Problem.{Problem}
-use Rattle.asg_model.specs.ValidChoice.{IsValid}
-use Rattle.asg_check.specs.declared.document_forms.Form.TheVariants as forms
-use Rattle.asg_requests.specs.declared.requests.Job.{Job}
-use Rattle.asg_requests.specs.declared.requests.Task.TheVariants.{Solve}
-use Rattle.asg_requests.specs.declared.requests.Request.TheVariants.{Work}
-use Rattle.asg_answers.specs.declared.status.Status.{Status}
-use Rattle.asg_answers.specs.declared.status.Status.TheVariants.{Done, Nothing, Instance, TooLong}
-use Rattle.asg_answers.specs.SolverLimits.{SolverRefuses, SolverTakes, limit_number}
-use Rattle.asg_promises.specs.Due.{DueForJob, DueForTask, Long, Refused, Held}
-use Rattle.asg_promises.specs.DueToSolve.{DueToSolve, Solved, TooLarge, Unsolvable}
-use Rattle.asg_promises.specs.InstanceFile.{Holds, instance_in}
-use Rattle.asg_promises.specs.Promised.{IsSolved, IsToldOf, IsUnsolvable}
-use Rattle.asg_promises.specs.Requests.{files_of}
-use Rattle.asg_promises.specs.Sources.{AreShort, MayHold, MayHoldAll, content_at}
-use Rattle.asg_answers.specs.Tellings.{TellsBest, TellsNone}
-use Rattle.asg_answers.specs.Texts.{refused_instance_text}
+use Rattle.asg_promises.proofs.Common.{◌≡◌, ℕ, false, ◌⊎◌, List, [], ◌∷◌, Some, Option, ap, ◌∙◌, subst, inl, inr, SolverRefuses, SolverTakes, limit_number, TellsBest, TellsNone, refused_instance_text, Status, Done, Nothing, Instance, TooLong, Problem, IsValid, DueForJob, DueForTask, Long, Refused, Held, DueToSolve, Solved, TooLarge, Unsolvable, Holds, instance_in, IsSolved, IsToldOf, IsUnsolvable, files_of, AreShort, MayHold, MayHoldAll, content_at, Job, Work, Solve}
 use Rattle.asg_promises.proofs.SolverLimits.{refused_once, taken_apart}
 use Rattle.asg_promises.proofs.HeldInstances.{HoldsInstances}
 use Rattle.asg_promises.proofs.StageLaws.{AllShort, first_held, reached}
 use Rattle.asg_promises.proofs.TellingLaws.{best_valid, none_valid}
+use Rattle.asg_check.specs.declared.document_forms.Form.TheVariants as forms
 
 -- what is due by the command itself
 own : (job : Job) (contents : List (List ℕ)) (X : Problem) (status : Status) (text : List ℕ) → job.task ≡ Solve → DueForTask job.task job contents X status text → DueToSolve job X status text

@@ -1,15 +1,7 @@
 -- A solver either takes an instance or refuses it: its live cells have one number of different
 -- costs, and it has one number of rows.
-use Rattle.std.proofs.Common.{◌≡◌, ℕ, ◌≤◌, List, length, arith}
-use Rattle.std.specs.Prelude.{ℤ}
-use Rattle.std.proofs.lemmas.Bool.Decides.{Decides-int_eq}
-use Rattle.std.proofs.lemmas.Cmp.{int_eq_equiv}
-use Rattle.std.proofs.lemmas.Map.Made.{length-le_from_is_member, IsDistinct-from_AllPairs, is_member-Decides}
-use Rattle.asg_model.specs.declared.objectives.Objective.{Objective}
-use Rattle.asg_model.specs.declared.objectives.Objective.TheVariants.{Balanced, Lex}
-use Rattle.asg_model.specs.Problem.{Problem}
+use Rattle.asg_promises.proofs.Common.{◌≡◌, ℕ, ◌≤◌, List, length, ℤ, arith, Decides-int_eq, IsDistinct-from_AllPairs, int_eq_equiv, is_member-Decides, length-le_from_is_member, SolverRefuses, SolverTakes, Problem, Objective, Balanced, Lex}
 use Rattle.asg_model.specs.DifferentCosts.{AreLiveCosts, HasCosts}
-use Rattle.asg_answers.specs.SolverLimits.{SolverRefuses, SolverTakes}
 
 -- different costs of live cells are no more than all of them
 no_more : (X : Problem) (costs others : List ℤ) → AreLiveCosts X costs → AreLiveCosts X others → length costs ≤ length others

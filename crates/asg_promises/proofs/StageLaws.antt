@@ -1,40 +1,10 @@
 -- What each due status says of the words and the files, before the command of a request decides it.
-use Rattle.std.proofs.Common.{◌≡◌, ◌⊎◌, ℕ, ◌+◌, zero, suc, ◌<◌, ◌≤◌, List, [], ◌∷◌, length, get_or, Option, Some, None, All, refl, sym, ap, ◌∙◌, subst, inl, inr, arith}
+use Rattle.asg_promises.proofs.Common.{◌≡◌, ℕ, zero, suc, ◌+◌, ◌<◌, ◌≤◌, ◌⊎◌, List, [], ◌∷◌, length, get_or, Some, None, All, Option, sym, refl, ap, ◌∙◌, subst, inl, inr, arith, get_or_default, limit_number, HasRead, IsAnswer, usage_text, refused_instance_text, Status, Usage, Instance, TooLong, Form, Document, longest_file, Problem, Objective, Due, DueForAsked, DueForJob, DueForTask, IsShort, Long, Refused, Held, DueToCheck, NotRead, Miscounted, Read, form_asked, DueToEdit, Followed, DueToJudge, DueToRank, Ranked, TooMuch, Unrankable, DueToSolve, Solved, TooLarge, Unsolvable, Holds, Refuses, instance_in, IsRefusedInstance, IsTooLargeToSolve, IsTooMuchToRank, files_of, AsksFor, DueForScript, AreShort, MayHold, MayHoldAll, content_at, ranking_work, Job, Request, Work, Make, Task, Solve, Rank, Edit, Check, ScriptFile, HoldsLines, RefusesLines, script_in, solved_instances, Line}
 use Rattle.std.specs.List.{Contains}
-use Rattle.std.proofs.lemmas.List.{get_or_default}
-use Rattle.asg_model.specs.Problem.{Problem}
-use Rattle.asg_doc.specs.declared.documents.Document.{Document}
-use Rattle.asg_check.specs.declared.document_forms.Form.{Form}
-use Rattle.asg_check.specs.declared.document_forms.Form.TheVariants as forms
-use Rattle.asg_requests.specs.declared.requests.Request.{Request}
-use Rattle.asg_requests.specs.declared.requests.Job.{Job}
-use Rattle.asg_requests.specs.declared.requests.Task.{Task}
-use Rattle.asg_requests.specs.declared.requests.Task.TheVariants.{Solve, Rank, Edit, Check}
-use Rattle.asg_requests.specs.declared.requests.Request.TheVariants.{Work, Make}
-use Rattle.asg_answers.specs.declared.status.Status.{Status}
-use Rattle.asg_answers.specs.declared.status.Status.TheVariants.{Usage, Instance, TooLong}
-use Rattle.asg_answers.specs.declared.status.Status.TheVariants as statuses
-use Rattle.asg_answers.specs.SolverLimits.{limit_number}
-use Rattle.asg_rank.specs.Rankings.{ranking_work}
-use Rattle.asg_promises.specs.Due.{Due, DueForAsked, DueForJob, DueForTask, IsShort, Long, Refused, Held}
-use Rattle.asg_promises.specs.DueToCheck.{DueToCheck, NotRead, Miscounted, Read, form_asked}
-use Rattle.asg_model.specs.declared.objectives.Objective.{Objective}
-use Rattle.asg_scripts.specs.Scripts.{ScriptFile, HoldsLines, RefusesLines, script_in, solved_instances}
-use Rattle.asg_text.specs.declared.script_lines.Line.{Line}
-use Rattle.asg_promises.specs.DueToEdit.{DueToEdit, Followed}
-use Rattle.asg_promises.specs.DueToJudge.{DueToJudge}
-use Rattle.asg_promises.specs.ScriptStage.{DueForScript}
-use Rattle.asg_promises.specs.DueToRank.{DueToRank, Ranked, TooMuch, Unrankable}
-use Rattle.asg_promises.specs.DueToSolve.{DueToSolve, Solved, TooLarge, Unsolvable}
-use Rattle.asg_promises.specs.InstanceFile.{Holds, Refuses, instance_in}
-use Rattle.asg_model.specs.Limits.{longest_file}
-use Rattle.asg_promises.specs.Promised.{IsRefusedInstance, IsTooLargeToSolve, IsTooMuchToRank}
-use Rattle.asg_promises.specs.Requests.{files_of, AsksFor}
-use Rattle.asg_promises.specs.Sources.{AreShort, MayHold, MayHoldAll, content_at}
-use Rattle.asg_answers.specs.Statuses.{HasRead, IsAnswer}
-use Rattle.asg_answers.specs.Texts.{usage_text, refused_instance_text}
 use Rattle.asg_promises.proofs.DueLaws.{not_long, refused_apart}
 use Rattle.asg_promises.proofs.ToldFiles.{held, held_at, held_count}
+use Rattle.asg_check.specs.declared.document_forms.Form.TheVariants as forms
+use Rattle.asg_answers.specs.declared.status.Status.TheVariants as statuses
 
 -- what holds of each status with which documents that are judged may end
 judge_ends : (P : Status → Type 0) → P statuses.Done → P statuses.No → (objective : Objective) (form : Form) (count : ℕ) (instances : List Problem) (documents : List Document) (status : Status) (text : List ℕ)

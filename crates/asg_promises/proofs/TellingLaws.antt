@@ -1,12 +1,6 @@
 -- What a text that tells an outcome says of the instance.
-use Rattle.std.proofs.Common.{ℕ, Bool, true, false, List, [], Option, subst, arith}
-use Rattle.asg_model.specs.declared.objectives.Objective.{Objective}
-use Rattle.asg_model.specs.Problem.{Problem}
-use Rattle.asg_model.specs.ValidChoice.{IsValid}
-use Rattle.asg_check.specs.declared.document_forms.Form.{Form}
-use Rattle.asg_check.specs.TrueClaim.{IsTrueClaim}
-use Rattle.asg_proof.specs.Nodes.{answer_at}
-use Rattle.asg_answers.specs.Tellings.{TellsBest, TellsNone, TellsRanking}
+use Rattle.asg_promises.proofs.Common.{ℕ, Bool, true, false, List, [], Option, subst, arith, TellsBest, TellsNone, TellsRanking, IsTrueClaim, Form, Problem, IsValid, Objective}
+use Rattle.asg_rankings.specs.Nodes.{answer_at}
 
 -- a choice is valid
 abbrev pub HasValid : Problem → Type 0

@@ -1,7 +1,5 @@
 -- What is told of the files of a request.
-use Rattle.std.proofs.Common.{◌≡◌, ℕ, zero, suc, ◌<◌, List, [], ◌∷◌, length, get_or, Option, Some, None, IsSome, All, refl, sym, ◌∙◌, subst, arith}
-use Rattle.std.specs.Prelude.{IfSome}
-use Rattle.asg_promises.specs.Sources.{MayHold, MayHoldAll, content_at}
+use Rattle.asg_promises.proofs.Common.{◌≡◌, ℕ, zero, suc, ◌<◌, List, [], ◌∷◌, length, get_or, IfSome, IsSome, Some, None, All, Option, sym, refl, ◌∙◌, subst, arith, MayHold, MayHoldAll, content_at}
 
 -- contents that are told are one
 pub held : (told : Option (List ℕ)) (bytes contents : List ℕ) → told ≡ Some contents → IfSome told (λ held. bytes ≡ held) → bytes ≡ contents

@@ -1,20 +1,13 @@
 -- The parts of a sample are well-formed.
-use Rattle.std.proofs.Common.{refl, ◌≡◌, ◌≢◌, ℕ, ◌+◌, ◌<◌, ◌≤◌, List, [], ◌∷◌, length, get_or, Option, Some, None, sym, ◌∙◌, subst, ap, arith, All, AllPairs, cond, map}
-use Rattle.std.specs.Prelude.{Bool, slice_get, count_by, sum_by}
-use Rattle.std.specs.Option.{option_map}
-use Rattle.std.proofs.lemmas.List.{get_or-map, length-map, same_lists}
-use Rattle.std.proofs.lemmas.List.Elements.{All-head, All-tail, All-nil}
-use Rattle.std.proofs.lemmas.List.Sums.{sum_by-cons}
-use Rattle.std.proofs.lemmas.Option.{none-some, same_Some, slice_get-get_or, slice_get_within, get_or_from_slice_get}
+use Rattle.asg_samples.proofs.Common.{◌≡◌, ℕ, ◌+◌, ◌<◌, ◌≤◌, Bool, cond, ◌≢◌, List, [], ◌∷◌, map, length, get_or, slice_get, Some, None, All, sum_by, count_by, Option, option_map, AllPairs, sym, refl, ap, ◌∙◌, subst, arith, All-head, All-nil, All-tail, get_or-map, get_or_from_slice_get, length-map, none-some, same_Some, same_lists, slice_get-get_or, slice_get_within, sum_by-cons, row_at, AreRowsOf, AreColumnsOf, IsCapacity, IsPlaceWithin}
 use Rattle.asg_model.specs.declared.parts.Column.{Column}
 use Rattle.asg_model.specs.declared.parts.Place.{Place}
-use Rattle.asg_model.specs.declared.parts.Place.TheVariants.{All as PlaceAll, Exactly}
 use Rattle.asg_model.specs.declared.parts.Row.{Row}
 use Rattle.asg_model.specs.Instances.{IsWellFormed, IsPlaceInRange}
 use Rattle.asg_model.specs.Problem.{problem_of}
 use Rattle.asg_samples.specs.declared.samples.Sample.{Sample}
-use Rattle.asg_samples.specs.Parts.{row_at, AreRowsOf, AreColumnsOf, IsCapacity, IsPlaceWithin}
 use Rattle.asg_samples.specs.Samples.{IsSample}
+use Rattle.asg_model.specs.declared.parts.Place.TheVariants.{All as PlaceAll, Exactly}
 
 -- what stands at a place of a list that is made of another, place by place
 module _ {A B : Type 0} (at : ℕ → A → B) (listed : List A) (made : List B) (each : (k : ℕ) → slice_get made k ≡ option_map (at k) (slice_get listed k)) where

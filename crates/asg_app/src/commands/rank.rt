@@ -20,8 +20,9 @@ use asg_answers::{Reply, Status, none_text, ranked_document, refusal};
 use asg_brief::{BriefRanking, brief_ranking};
 use asg_check::Form;
 use asg_model::{Instance, NoMemory};
-use asg_proof::{Ids, Nodes};
+use asg_proof::Ids;
 use asg_rank::{Choices, RankOutcome, RankRefusal, ranking};
+use asg_rankings::Nodes;
 use asg_requests::Job;
 use std::alloc::{AllocError, Global};
 

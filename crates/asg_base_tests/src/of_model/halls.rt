@@ -3,6 +3,7 @@
 use crate::of_model::squares::{BOTH, Cells, PLAIN, SMALLER, TWO, WIDE, square};
 use asg_model::*;
 use asg_samples::{Fault, Sample};
+use asg_values::is_hall;
 use std::alloc::Global;
 use std::test::Fail;
 

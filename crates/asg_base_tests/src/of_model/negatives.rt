@@ -3,6 +3,7 @@
 use crate::of_model::squares::{Cells, PLAIN, SMALLER, square};
 use asg_model::*;
 use asg_samples::{Fault, Sample};
+use asg_values::negative;
 use std::alloc::Global;
 use std::test::Fail;
 

@@ -3,6 +3,7 @@
 use crate::of_model::squares::{BOTH, Cells, PLAIN, TWOFOLD, choice, square};
 use asg_model::*;
 use asg_samples::{Fault, Sample};
+use asg_values::{better, is_valid, value};
 use std::alloc::Global;
 use std::test::Fail;
 

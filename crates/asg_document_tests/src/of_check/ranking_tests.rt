@@ -12,9 +12,10 @@ use asg_check::{Form, NoMemory, check};
 use asg_doc::{DocRefusal, Document, read};
 use asg_model::Objective::Sum;
 use asg_model::limits::MOST_SIDE;
-use asg_model::{Instance, Place, negative};
+use asg_model::{Instance, Place};
 use asg_reasons::Verdict;
 use asg_samples::{Fault, Sample};
+use asg_values::negative;
 use std::alloc::Global;
 use std::test::Fail;
 

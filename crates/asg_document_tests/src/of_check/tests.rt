@@ -4,10 +4,11 @@ use asg_check::{Form, NoMemory, check};
 use asg_doc::{Answer, Cells, Claim, Command, Document};
 use asg_model::Objective::{Balanced, Bottleneck, BottleneckMax, Capped, Lex, Sum};
 use asg_model::limits::MOST_SIDE;
-use asg_model::{Instance, Objective, Place, Value, negative};
+use asg_model::{Instance, Objective, Place, Value};
 use asg_proof::{Ids, Proof};
 use asg_reasons::Verdict;
 use asg_samples::{Fault, Sample};
+use asg_values::negative;
 use std::alloc::Global;
 use std::test::Fail;
 

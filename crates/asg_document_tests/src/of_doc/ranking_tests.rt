@@ -3,7 +3,7 @@
 use crate::of_doc::phase_tests::{first_not_rewritten, refused};
 use asg_doc::*;
 use asg_model::Value;
-use asg_proof::{Mark, Node};
+use asg_rankings::{Mark, Node};
 use std::alloc::{AllocError, Global};
 use std::test::Fail;
 

@@ -19,7 +19,7 @@ ghost use Rattle.asg_promises.specs.Requests.{AsksFor};
 ghost use Rattle.asg_answers.specs.Texts.{refused_instance_text};
 
 use super::instance_law;
-use asg_model::laws::hall_rows_law;
+use asg_values::laws::hall_rows_law;
 
 /// A request to solve ends with the status 0, 1, 3 or 10, unless a fault or want of memory cuts it
 /// short. Where the file is told, isn't too long and holds an instance, it is 3 where the

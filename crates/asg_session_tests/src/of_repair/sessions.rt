@@ -6,10 +6,11 @@ ghost use Rattle.asg_repair.specs.declared.answers.Given.TheVariants.{Chosen, St
 
 use crate::of_repair::samples::{Step, edit_of};
 use asg_model::limits::MOST_SIDE;
-use asg_model::{Band, Instance, Objective, Value, is_hall, is_valid, negative, value};
+use asg_model::{Band, Instance, Objective, Value};
 use asg_order::Kind;
 use asg_repair::{Answered, NoMemory, Session};
 use asg_roots::RootGuess;
+use asg_values::{is_hall, is_valid, negative, value};
 use std::alloc::Global;
 
 /// A session on an instance, if there may be one.

@@ -8,9 +8,10 @@ ghost use Rattle.asg_square.specs.Grid.{HasLabelsOf, cell_at};
 
 use asg_match::{Allowed, NoMemory, Pairing, Rows, hall_list, perfect_or_hall};
 use asg_model::limits::MOST_SIDE;
-use asg_model::{ABSENT, Band, Cost, Instance, Place, is_hall};
+use asg_model::{ABSENT, Band, Cost, Instance, Place};
 use asg_samples::{Fault, Sample};
 use asg_square::Square;
+use asg_values::is_hall;
 use std::alloc::Global;
 use std::test::Fail;
 

@@ -5,9 +5,11 @@ ghost use Rattle.asg_model.specs.Counts.{placed};
 ghost use Rattle.asg_model.specs.ValidChoice.{IsValid};
 ghost use Rattle.asg_model.specs.declared.parts.Place.TheVariants.{All as PlaceAll};
 
-use asg_model::{ABSENT, Choice, Instance, Place, is_valid};
-use asg_proof::{Mark, Node, Nodes, Phases, child};
+use asg_model::{ABSENT, Choice, Instance, Place};
+use asg_proof::Phases;
+use asg_rankings::{Mark, Node, Nodes, child};
 use asg_samples::{Fault, Sample};
+use asg_values::is_valid;
 use std::alloc::{AllocError as NoMemory, Global};
 use std::test::Fail;
 

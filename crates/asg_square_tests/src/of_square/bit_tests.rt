@@ -3,9 +3,10 @@
 ghost use Rattle.std.specs.Prelude.{◌≡◌};
 
 use crate::of_square::samples::sample;
+use asg_bit_rows::BitRows;
 use asg_model::Place::All;
 use asg_model::{Cost, Instance};
-use asg_square::{BitRows, NoMemory, Square};
+use asg_square::{NoMemory, Square};
 use std::alloc::Global;
 use std::test::Fail;
 

@@ -7,8 +7,9 @@ ghost use Rattle.asg_square.specs.Grid.{CoversSquareOf};
 
 use crate::of_square::samples::{filled, sample};
 use asg_model::Place::{All, Exactly};
-use asg_model::{Choice, Instance, Place, is_valid};
+use asg_model::{Choice, Instance, Place};
 use asg_square::*;
+use asg_values::is_valid;
 use std::alloc::Global;
 use std::test::Fail;
 

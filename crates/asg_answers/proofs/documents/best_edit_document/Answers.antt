@@ -1,6 +1,4 @@
-use Rattle.std.proofs.Common.{◌≡◌, subst}
-use Rattle.asg_model.specs.Values.{choice_value}
-use Rattle.asg_doc.specs.ChosenCells.{cells_by_id}
+use Rattle.asg_answers.proofs.Common.{◌≡◌, subst, cells_by_id, choice_value}
 use Rattle.asg_answers.proofs.DocumentLemmas.{IsEditDocument-best}
 use Rattle.asg_answers.proofs.documents.best_edit_document.Goals as goal
 

@@ -1,9 +1,4 @@
-use Rattle.std.proofs.Common.{◌≡◌, ◌+◌, sym, subst, arith}
-use Rattle.std.proofs.lemmas.Grind.{common_steps}
-use Rattle.std.proofs.lemmas.List.{append-nil}
-use Rattle.asg_doc.specs.CellIds.{AreCellIds}
-use Rattle.asg_doc.specs.ChosenCells.{cells_by_id}
-use Rattle.asg_answers.specs.DocumentParts.{cell_at}
+use Rattle.asg_answers.proofs.Common.{◌≡◌, ◌+◌, sym, subst, append-nil, arith, common_steps, cell_at, AreCellIds, cells_by_id}
 use Rattle.asg_answers.proofs.CellIds.{cell_ids}
 use Rattle.asg_answers.proofs.ChosenCells.{cells_from, cells_from-step, cells_from-moved}
 use Rattle.asg_answers.proofs.DocumentLemmas.{AreCells-by_id}

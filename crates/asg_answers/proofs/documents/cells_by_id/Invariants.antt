@@ -1,5 +1,4 @@
-use Rattle.std.proofs.Common.{◌≡◌, ◌++◌}
-use Rattle.asg_doc.specs.ChosenCells.{cells_by_id}
+use Rattle.asg_answers.proofs.Common.{◌≡◌, ◌++◌, cells_by_id}
 use Rattle.asg_answers.proofs.ChosenCells.{cells_from}
 use Rattle.asg_answers.proofs.documents.cells_by_id.Given as goal
 

@@ -1,5 +1,4 @@
-use Rattle.std.proofs.Common.{◌+◌, take, subst, sym}
-use Rattle.asg_answers.specs.DocumentParts.{AreAnswersOf}
+use Rattle.asg_answers.proofs.Common.{◌+◌, take, sym, subst, AreAnswersOf}
 use Rattle.asg_answers.proofs.RankedAnswers.{AreAnswersOf-more, IsAnswerOf}
 use Rattle.asg_answers.proofs.documents.listed_answers.Goals as goal
 

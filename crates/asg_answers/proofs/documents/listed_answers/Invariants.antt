@@ -1,5 +1,4 @@
-use Rattle.std.proofs.Common.{take}
-use Rattle.asg_answers.specs.DocumentParts.{AreAnswersOf}
+use Rattle.asg_answers.proofs.Common.{take, AreAnswersOf}
 use Rattle.asg_answers.proofs.documents.listed_answers.Given as goal
 
 -- the answers so far are those of the choices so far

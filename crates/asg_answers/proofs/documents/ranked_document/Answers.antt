@@ -1,5 +1,4 @@
-use Rattle.std.proofs.Common.{subst}
-use Rattle.asg_answers.specs.DocumentParts.{AreAnswersOf}
+use Rattle.asg_answers.proofs.Common.{subst, AreAnswersOf}
 use Rattle.asg_answers.proofs.DocumentLemmas.{IsRankedDocument-made}
 use Rattle.asg_answers.proofs.documents.ranked_document.Goals as goal
 

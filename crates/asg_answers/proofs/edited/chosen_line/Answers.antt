@@ -1,5 +1,4 @@
-use Rattle.std.proofs.Common.{◌∙◌, sym, subst}
-use Rattle.asg_edits.specs.EditOutcomes.{IsChoiceAt}
+use Rattle.asg_answers.proofs.Common.{sym, ◌∙◌, subst, IsChoiceAt}
 use Rattle.asg_answers.proofs.edited.chosen_line.Goals as goal
 
 pub choice_line-requires-clause-choice : goal.choice_line-requires-clause-choice

@@ -1,7 +1,4 @@
-use Rattle.std.proofs.Common.{sym, subst}
-use Rattle.std.proofs.lemmas.Int.{to_z-of_z}
-use Rattle.std.specs.Int.{w128}
-use Rattle.asg_model.specs.declared.objectives.Value.TheVariants.{One}
+use Rattle.asg_answers.proofs.Common.{sym, subst, to_z-of_z, w128, One}
 use Rattle.asg_brief.specs.BestValues.{IsBestValue}
 use Rattle.asg_answers.proofs.edited.known_line.Goals as goal
 

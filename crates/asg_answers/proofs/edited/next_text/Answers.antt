@@ -1,9 +1,4 @@
-use Rattle.std.proofs.Common.{sym, subst, true}
-use Rattle.std.specs.Prelude.{IfOk}
-use Rattle.std.proofs.lemmas.Result.{IfOk-weaker}
-use Rattle.asg_brief.specs.BriefLines.{IsBriefLine}
-use Rattle.asg_answers.specs.Replies.{bytes_of}
-use Rattle.asg_answers.specs.Standings.{IsTold}
+use Rattle.asg_answers.proofs.Common.{true, IfOk, sym, subst, IfOk-weaker, bytes_of, IsTold, IsBriefLine}
 use Rattle.asg_answers.proofs.EditLines.{IsTold-briefly}
 use Rattle.asg_answers.proofs.edited.next_text.Goals as goal
 

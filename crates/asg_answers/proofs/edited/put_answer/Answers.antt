@@ -1,9 +1,4 @@
-use Rattle.std.proofs.Common.{◌≡◌, ℕ, List, sym, ◌∙◌}
-use Rattle.std.proofs.lemmas.Result.{IfErr-weaker, on_ok_weaker}
-use Rattle.asg_io.specs.Sink.{Puts, PutsPrefix}
-use Rattle.asg_answers.specs.declared.edited.Halt.TheVariants.{WriteFault, NoMemory}
-use Rattle.asg_answers.specs.Replies.{bytes_of}
-use Rattle.asg_answers.specs.Standings.{IsTold}
+use Rattle.asg_answers.proofs.Common.{◌≡◌, ℕ, List, sym, ◌∙◌, IfErr-weaker, on_ok_weaker, bytes_of, IsTold, WriteFault, NoMemory, Puts, PutsPrefix}
 use Rattle.asg_answers.proofs.edited.put_answer.Goals as goal
 
 pub returns-in-Ok-clause-written : goal.returns-in-Ok-clause-written

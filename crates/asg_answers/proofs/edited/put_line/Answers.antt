@@ -1,15 +1,4 @@
-use Rattle.std.proofs.Common.{◌≡◌, ◌≤◌, ◌∙◌, refl, sym, ap, subst, None}
-use Rattle.std.proofs.lemmas.Result.{IfErr-weaker, on_ok_weaker}
-use Rattle.asg_edits.specs.Editors.{Edits}
-use Rattle.asg_io.specs.Laws.{Puts-nil}
-use Rattle.asg_io.specs.Shelf.{Rose}
-use Rattle.asg_model.specs.Limits.{most_side}
-use Rattle.asg_model.specs.Refused.{PassesNegative}
-use Rattle.asg_model.specs.Edits.{refusal_of}
-use Rattle.asg_model.specs.Shapes.{square_side}
-use Rattle.asg_scripts.specs.Scripts.{after_line, line_refusal}
-use Rattle.asg_answers.specs.declared.edited.Halt.TheVariants.{WriteFault, NoMemory}
-use Rattle.asg_answers.specs.WrittenLines.{HaltsIn, WritesLine}
+use Rattle.asg_answers.proofs.Common.{◌≡◌, ◌≤◌, None, sym, refl, ap, ◌∙◌, subst, IfErr-weaker, on_ok_weaker, HaltsIn, WritesLine, WriteFault, NoMemory, Edits, Puts-nil, Rose, refusal_of, most_side, PassesNegative, square_side, after_line, line_refusal}
 use Rattle.asg_answers.proofs.EditLines.{HaltsIn-solve, WritesLine-edit, WritesLine-solve}
 use Rattle.asg_answers.proofs.Outcomes.{if_err_both, on_ok_always}
 use Rattle.asg_answers.proofs.edited.put_line.Goals as goal

@@ -1,7 +1,5 @@
-use Rattle.std.proofs.Common.{◌≡◌, ◌+◌, ◌∙◌, drop, sym, subst, None, arith}
-use Rattle.asg_io.specs.Laws.{Puts-nil}
+use Rattle.asg_answers.proofs.Common.{◌≡◌, ◌+◌, drop, None, sym, ◌∙◌, subst, arith, Puts-nil, first_refused}
 use Rattle.asg_scripts.specs.Laws.{line_at_passes}
-use Rattle.asg_scripts.specs.Scripts.{first_refused}
 use Rattle.asg_answers.proofs.EditLines.{AreFollowed-more, AreFollowed-none, Rose-over, WritesAll-followed, WritesFront-halted}
 use Rattle.asg_answers.proofs.edited.put_lines.Goals as goal
 

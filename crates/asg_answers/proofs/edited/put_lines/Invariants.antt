@@ -1,8 +1,4 @@
-use Rattle.std.proofs.Common.{◌≡◌, ◌≤◌, drop, None}
-use Rattle.asg_model.specs.Limits.{most_side}
-use Rattle.asg_model.specs.Refused.{PassesNegative}
-use Rattle.asg_model.specs.Shapes.{square_side}
-use Rattle.asg_scripts.specs.Scripts.{first_refused}
+use Rattle.asg_answers.proofs.Common.{◌≡◌, ◌≤◌, drop, None, most_side, PassesNegative, square_side, first_refused}
 use Rattle.asg_answers.proofs.EditLines.{AreFollowed}
 use Rattle.asg_answers.proofs.edited.put_lines.Given as goal
 

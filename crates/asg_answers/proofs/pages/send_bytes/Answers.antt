@@ -1,4 +1,4 @@
-use Rattle.std.proofs.lemmas.Result.{on_ok_weaker, on_err_weaker}
+use Rattle.asg_answers.proofs.Common.{on_err_weaker, on_ok_weaker}
 use Rattle.asg_answers.proofs.WrittenPages.{put_whole, put_prefix, fault_rose}
 use Rattle.asg_answers.proofs.pages.send_bytes.Goals as goal
 

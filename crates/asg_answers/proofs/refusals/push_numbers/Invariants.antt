@@ -1,5 +1,4 @@
-use Rattle.std.proofs.Common.{◌≡◌, ◌++◌, take, string_bytes}
-use Rattle.asg_doc.specs.Text.{spaced}
+use Rattle.asg_answers.proofs.Common.{◌≡◌, ◌++◌, take, string_bytes, spaced}
 use Rattle.asg_answers.proofs.refusals.push_numbers.Given as goal
 
 -- the numbers so far stand behind the line

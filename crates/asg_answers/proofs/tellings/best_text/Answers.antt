@@ -1,7 +1,4 @@
-use Rattle.std.proofs.Common.{sym, subst}
-use Rattle.std.specs.Prelude.{IfOk}
-use Rattle.asg_answers.specs.Replies.{bytes_of}
-use Rattle.asg_answers.specs.Tellings.{TellsBest}
+use Rattle.asg_answers.proofs.Common.{IfOk, sym, subst, bytes_of, TellsBest}
 use Rattle.asg_answers.proofs.tellings.best_text.Goals as goal
 
 pub returns-then-brief : goal.returns-then-brief

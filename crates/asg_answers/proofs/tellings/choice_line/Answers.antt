@@ -1,5 +1,4 @@
-use Rattle.std.proofs.Common.{subst}
-use Rattle.asg_edits.specs.EditOutcomes.{IsChoiceAt}
+use Rattle.asg_answers.proofs.Common.{subst, IsChoiceAt}
 use Rattle.asg_answers.proofs.tellings.choice_line.Goals as goal
 
 pub best_line-requires : goal.best_line-requires

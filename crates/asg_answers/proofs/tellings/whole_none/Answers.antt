@@ -1,5 +1,4 @@
-use Rattle.std.proofs.Common.{ap}
-use Rattle.asg_doc.specs.Text.{text_of}
+use Rattle.asg_answers.proofs.Common.{ap, text_of}
 use Rattle.asg_answers.proofs.tellings.whole_none.Goals as goal
 
 pub returns : goal.returns

@@ -1,6 +1,4 @@
-use Rattle.std.proofs.Common.{◌∙◌, false, sym, subst}
-use Rattle.asg_promises.specs.Due.{DueForAsked, DueForPart}
-use Rattle.asg_app.specs.Ends.{Ends}
+use Rattle.asg_app.proofs.Common.{false, sym, ◌∙◌, subst, Ends, DueForAsked, DueForPart}
 use Rattle.asg_app.proofs.EditEnds.{Ends-part, part_of}
 use Rattle.asg_app.proofs.answers.answer.Goals as goal
 

@@ -1,9 +1,4 @@
-use Rattle.std.proofs.Common.{◌≡◌, true, Some, sym, ap, ◌∙◌, subst}
-use Rattle.std.specs.Prelude.{IfSome}
-use Rattle.asg_promises.specs.Due.{DueForAsked, DueForPart}
-use Rattle.asg_app.specs.Ends.{Ends}
-use Rattle.asg_requests.specs.Bounds.{IsRequest}
-use Rattle.asg_promises.specs.Requests.{is_streamed}
+use Rattle.asg_app.proofs.Common.{◌≡◌, true, IfSome, Some, sym, ap, ◌∙◌, subst, Ends, DueForAsked, DueForPart, is_streamed, IsRequest}
 use Rattle.asg_app.proofs.answers.answer_streamed.Goals as goal
 
 pub answer-requires-clause-within : goal.answer-requires-clause-within

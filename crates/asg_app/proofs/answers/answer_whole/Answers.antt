@@ -1,6 +1,4 @@
-use Rattle.std.proofs.Common.{false}
-use Rattle.asg_promises.specs.Due.{DueForAsked}
-use Rattle.asg_answers.specs.Replies.{bytes_of}
+use Rattle.asg_app.proofs.Common.{false, bytes_of, DueForAsked}
 use Rattle.asg_app.proofs.EditEnds.{Ends-nothing, Ends-owed}
 use Rattle.asg_app.proofs.answers.answer_whole.Goals as goal
 

@@ -1,13 +1,4 @@
-use Rattle.std.proofs.Common.{◌≡◌, ℕ, ◌<◌, ◌+◌, [], ◌∷◌, ◌++◌, Some, Vec, Global, length, get_or, take, refl, sym, ap, ◌∙◌, subst, arith}
-use Rattle.std.specs.Prelude.{IfSome, Err}
-use Rattle.std.proofs.lemmas.List.{take_all, take_more}
-use Rattle.std.proofs.lemmas.Result.{err_from_is_err_and}
-use Rattle.asg_io.specs.Shelf.{asked_after}
-use Rattle.asg_model.specs.Limits.{longest_file}
-use Rattle.asg_requests.specs.declared.requests.Request.TheVariants.{Work}
-use Rattle.asg_app.specs.Fetches.{AreGiven, Fails, Gives, StopsAt}
-use Rattle.asg_promises.specs.Sources.{MayHold}
-use Rattle.asg_promises.specs.Requests.{files_of}
+use Rattle.asg_app.proofs.Common.{◌≡◌, ℕ, ◌+◌, ◌<◌, [], ◌∷◌, ◌++◌, length, get_or, take, IfSome, Some, Err, Vec, sym, refl, ap, ◌∙◌, subst, arith, take_all, err_from_is_err_and, take_more, Global, AreGiven, Fails, Gives, StopsAt, asked_after, longest_file, files_of, MayHold, Work}
 use Rattle.asg_app.proofs.Fetching.{asked_same, given_more, if_err, stop_at, stop_short}
 use Rattle.asg_app.proofs.files.fetch_all.Goals as goal
 

@@ -1,7 +1,4 @@
-use Rattle.std.proofs.Common.{Some, take}
-use Rattle.asg_requests.specs.declared.requests.Request.TheVariants.{Work}
-use Rattle.asg_app.specs.Fetches.{AreGiven}
-use Rattle.asg_promises.specs.Requests.{files_of}
+use Rattle.asg_app.proofs.Common.{take, Some, AreGiven, files_of, Work}
 use Rattle.asg_app.proofs.files.fetch_all.Given as goal
 
 -- the files before the place were given

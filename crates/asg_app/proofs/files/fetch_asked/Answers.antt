@@ -1,7 +1,4 @@
-use Rattle.std.proofs.Common.{[], map, string_bytes, refl, sym, subst}
-use Rattle.std.proofs.lemmas.Result.{err_from_is_err_and}
-use Rattle.asg_app.specs.Fetches.{StopsAt}
-use Rattle.asg_promises.specs.Requests.{files_of, asked_of}
+use Rattle.asg_app.proofs.Common.{[], map, string_bytes, sym, refl, subst, err_from_is_err_and, StopsAt, files_of, asked_of}
 use Rattle.asg_app.proofs.Fetching.{if_err, stop_short}
 use Rattle.asg_app.proofs.files.fetch_asked.Goals as goal
 

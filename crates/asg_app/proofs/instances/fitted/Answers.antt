@@ -1,8 +1,4 @@
-use Rattle.std.proofs.Common.{◌≡◌, ◌∷◌, [], ap, sym, subst, ◌∙◌}
-use Rattle.std.specs.Prelude.{IfOk}
-use Rattle.std.specs.Result.{IfErr}
-use Rattle.asg_promises.specs.InstanceFile.{Holds, Refuses, fitted, passed}
-use Rattle.asg_app.specs.Stops.{StopsInstance}
+use Rattle.asg_app.proofs.Common.{◌≡◌, [], ◌∷◌, IfOk, IfErr, sym, ap, ◌∙◌, subst, StopsInstance, Holds, Refuses, fitted, passed}
 use Rattle.asg_app.proofs.InstanceLemmas.{fitted_file, stops_file, unfitted_file}
 use Rattle.asg_app.proofs.instances.fitted.Goals as goal
 

@@ -1,9 +1,4 @@
-use Rattle.std.proofs.Common.{◌≡◌, sym, subst}
-use Rattle.std.specs.Prelude.{IfOk}
-use Rattle.std.specs.Result.{IfErr}
-use Rattle.asg_tokens.specs.Faults.{fault_of}
-use Rattle.asg_promises.specs.InstanceFile.{Holds, instance_in}
-use Rattle.asg_app.specs.Stops.{StopsInstance}
+use Rattle.asg_app.proofs.Common.{◌≡◌, IfOk, IfErr, sym, subst, StopsInstance, Holds, instance_in, fault_of}
 use Rattle.asg_app.proofs.InstanceLemmas.{spelled_file, stops_text}
 use Rattle.asg_app.proofs.instances.instance.Goals as goal
 

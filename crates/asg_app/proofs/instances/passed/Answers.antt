@@ -1,8 +1,4 @@
-use Rattle.std.proofs.Common.{◌≡◌, ◌∙◌, ℕ, List, [], ◌∷◌, Option, ap, refl, sym, subst}
-use Rattle.std.specs.Prelude.{IfOk, IsNone}
-use Rattle.std.specs.Result.{IfErr}
-use Rattle.asg_promises.specs.InstanceFile.{Holds, Refuses, passed, passed_by, sided}
-use Rattle.asg_app.specs.Stops.{StopsInstance}
+use Rattle.asg_app.proofs.Common.{◌≡◌, ℕ, List, [], ◌∷◌, IfOk, IfErr, IsNone, Option, sym, refl, ap, ◌∙◌, subst, StopsInstance, Holds, Refuses, passed, passed_by, sided}
 use Rattle.asg_app.proofs.InstanceLemmas.{stops_file}
 use Rattle.asg_app.proofs.instances.passed.Goals as goal
 

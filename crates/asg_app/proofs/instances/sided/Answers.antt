@@ -1,6 +1,4 @@
-use Rattle.std.proofs.Common.{◌∷◌, ◌∙◌, [], sym, subst}
-use Rattle.asg_promises.specs.InstanceFile.{sided}
-use Rattle.asg_app.specs.Stops.{StopsInstance}
+use Rattle.asg_app.proofs.Common.{[], ◌∷◌, sym, ◌∙◌, subst, StopsInstance, sided}
 use Rattle.asg_app.proofs.InstanceLemmas.{large_file, stops_file}
 use Rattle.asg_app.proofs.instances.sided.Goals as goal
 

@@ -1,10 +1,5 @@
-use Rattle.std.proofs.Common.{[], map, string_bytes, subst, ap, sym, ◌∙◌, ◌++◌}
+use Rattle.asg_app.proofs.Common.{[], ◌++◌, map, string_bytes, sym, ap, ◌∙◌, subst, IsAnswer, AreGiven, AsksOf, Given, Stopped, status_of, Due, DueForAsked, DueForPart, files_of, asked_of, MayHoldAll}
 use Rattle.asg_io.specs.Laws.{Puts-nil}
-use Rattle.asg_promises.specs.Due.{Due, DueForAsked, DueForPart}
-use Rattle.asg_app.specs.Fetches.{AreGiven, AsksOf, Given, Stopped, status_of}
-use Rattle.asg_promises.specs.Sources.{MayHoldAll}
-use Rattle.asg_promises.specs.Requests.{files_of, asked_of}
-use Rattle.asg_answers.specs.Statuses.{IsAnswer}
 use Rattle.asg_app.proofs.Fetching.{all_asked, given_asked, given_held, given_short, stopped_asked}
 use Rattle.asg_app.proofs.RunLemmas.{answer_without_fault, status_of_no_write, stopped_answer, stopped_fault, written_in_part}
 use Rattle.asg_app.proofs.program.run.Goals as goal

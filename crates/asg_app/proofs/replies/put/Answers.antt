@@ -1,6 +1,4 @@
-use Rattle.std.proofs.Common.{refl, subst}
-use Rattle.asg_answers.specs.Replies.{bytes_of}
-use Rattle.asg_answers.specs.Statuses.{IsAnswer}
+use Rattle.asg_app.proofs.Common.{refl, subst, bytes_of, IsAnswer}
 use Rattle.asg_app.proofs.replies.put.Goals as goal
 
 pub returns-in-Ok : goal.returns-in-Ok

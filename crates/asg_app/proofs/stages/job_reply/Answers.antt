@@ -1,10 +1,4 @@
-use Rattle.std.proofs.Common.{◌≡◌, subst}
-use Rattle.asg_promises.specs.Due.{DueForJob, DueForTask, Held}
-use Rattle.asg_promises.specs.InstanceFile.{Holds, instance_in}
-use Rattle.asg_promises.specs.Sources.{content_at}
-use Rattle.asg_app.specs.Stops.{StopsInstance}
-use Rattle.std.proofs.lemmas.Result.{IfOk-weaker}
-use Rattle.asg_answers.specs.Replies.{Answers}
+use Rattle.asg_app.proofs.Common.{◌≡◌, subst, IfOk-weaker, Answers, StopsInstance, DueForJob, DueForTask, Held, Holds, instance_in, content_at}
 use Rattle.asg_app.proofs.InstanceLemmas.{stop_due}
 use Rattle.asg_app.proofs.ReplyLemmas.{owed_as}
 use Rattle.asg_app.proofs.stages.job_reply.Goals as goal

@@ -1,7 +1,4 @@
-use Rattle.std.proofs.Common.{Some, sym, ap, ◌∙◌, subst}
-use Rattle.std.specs.Prelude.{IfOk}
-use Rattle.asg_promises.specs.Due.{DueForAsked}
-use Rattle.asg_answers.specs.Replies.{Answers}
+use Rattle.asg_app.proofs.Common.{IfOk, Some, sym, ap, ◌∙◌, subst, Answers, DueForAsked}
 use Rattle.asg_app.proofs.stages.reply_to.Goals as goal
 
 pub returns-in-Some-Work : goal.returns-in-Some-Work

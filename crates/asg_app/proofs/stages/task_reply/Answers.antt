@@ -1,13 +1,4 @@
-use Rattle.std.proofs.Common.{◌∷◌, ◌∙◌, [], sym, ap, subst}
-use Rattle.std.specs.Prelude.{IfOk}
-use Rattle.asg_check.specs.declared.document_forms.Form.TheVariants.{Edit}
-use Rattle.asg_requests.specs.declared.requests.Task.TheVariants.{Check}
-use Rattle.asg_scripts.specs.Scripts.{script_in, solved_instances}
-use Rattle.asg_answers.specs.Replies.{Answers}
-use Rattle.asg_promises.specs.Due.{DueForTask}
-use Rattle.asg_promises.specs.DueToCheck.{DueToCheck, form_asked}
-use Rattle.asg_promises.specs.ScriptStage.{DueForScript}
-use Rattle.asg_promises.specs.Sources.{content_at}
+use Rattle.asg_app.proofs.Common.{[], ◌∷◌, IfOk, sym, ap, ◌∙◌, subst, Answers, Edit, DueForTask, DueToCheck, form_asked, DueForScript, content_at, Check, script_in, solved_instances}
 use Rattle.asg_app.proofs.stages.task_reply.Goals as goal
 
 pub returns-in-Solve : goal.returns-in-Solve

@@ -1,5 +1,4 @@
-use Rattle.std.proofs.Common.{◌≡◌, ◌++◌, take}
-use Rattle.asg_doc.specs.Text.{spaced_costs}
+use Rattle.asg_brief.proofs.Common.{◌≡◌, ◌++◌, take, spaced_costs}
 use Rattle.asg_brief.proofs.line_bytes.push_costs.Given as goal
 
 -- the costs so far stand behind the line

@@ -1,5 +1,4 @@
-use Rattle.std.proofs.Common.{subst}
-use Rattle.asg_rank.specs.Rankings.{Gives}
+use Rattle.asg_brief.proofs.Common.{subst, Gives}
 use Rattle.asg_brief.proofs.GivenBest.{done_of, gave_all, gave_more, gave_none}
 use Rattle.asg_brief.proofs.rankings.give_all.Goals as goal
 

@@ -1,4 +1,4 @@
-use Rattle.std.proofs.Common.{◌-◌, length}
+use Rattle.asg_brief.proofs.Common.{◌-◌, length}
 use Rattle.asg_brief.proofs.GivenBest.{GaveBest}
 use Rattle.asg_brief.proofs.rankings.give_all.Given as goal
 

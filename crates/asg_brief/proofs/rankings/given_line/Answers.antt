@@ -1,6 +1,4 @@
-use Rattle.std.proofs.Common.{◌≡◌}
-use Rattle.std.proofs.lemmas.Result.{IfOk-weaker}
-use Rattle.asg_brief.specs.BriefLines.{IsRankedLine, ranked_text}
+use Rattle.asg_brief.proofs.Common.{◌≡◌, IfOk-weaker, IsRankedLine, ranked_text}
 use Rattle.asg_brief.proofs.LineTexts.{IsRankedLine-ends}
 use Rattle.asg_brief.proofs.rankings.given_line.Goals as goal
 

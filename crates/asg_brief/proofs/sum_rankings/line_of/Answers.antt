@@ -1,7 +1,4 @@
-use Rattle.std.proofs.Common.{◌≡◌, ap, sym, ◌∙◌}
-use Rattle.std.proofs.lemmas.Result.{IfOk-weaker}
-use Rattle.asg_proof.specs.Nodes.{answer_at}
-use Rattle.asg_brief.specs.BriefLines.{IsRankedLine, ranked_text}
+use Rattle.asg_brief.proofs.Common.{◌≡◌, sym, ap, ◌∙◌, IfOk-weaker, IsRankedLine, ranked_text, answer_at}
 use Rattle.asg_brief.proofs.LineTexts.{IsRankedLine-ends}
 use Rattle.asg_brief.proofs.sum_rankings.line_of.Goals as goal
 

@@ -1,9 +1,5 @@
-use Rattle.std.proofs.Common.{subst}
-use Rattle.asg_reasons.specs.declared.verdicts.Verdict.TheVariants.{No}
-use Rattle.asg_reasons.specs.Verdicts.{Tells, reasons_in_order}
-use Rattle.asg_check.specs.Reasons.{Stands}
+use Rattle.asg_check.proofs.Common.{subst, Stands, Tells, reasons_in_order, No, one_verdict}
 use Rattle.asg_check.proofs.Certified.{yes_exactly}
-use Rattle.asg_reasons.specs.laws.ToldReasons.{one_verdict}
 use Rattle.asg_check.proofs.checker.check.Goals as goal
 
 pub returns-clause-exact : goal.returns-clause-exact

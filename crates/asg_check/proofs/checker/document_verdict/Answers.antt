@@ -1,8 +1,4 @@
-use Rattle.std.proofs.Common.{◌≡◌, ◌≢◌, ◌&&◌, sym, ◌∙◌, rules, arith}
-use Rattle.std.proofs.lemmas.Result.{IfOk-weaker}
-use Rattle.asg_check.specs.DocumentForm.{answers_form, is_command_of, takes_claim}
-use Rattle.asg_reasons.specs.Verdicts.{Tells, claim_reasons, reasons_in_order}
-use Rattle.asg_check.specs.Reasons.{Stands, StandsAgainst}
+use Rattle.asg_check.proofs.Common.{◌≡◌, ◌&&◌, ◌≢◌, sym, ◌∙◌, arith, rules, IfOk-weaker, answers_form, is_command_of, takes_claim, Stands, StandsAgainst, Tells, claim_reasons, reasons_in_order}
 use Rattle.asg_check.proofs.Certified.{left_of, of_other, of_wrong_form, right_of, to_claim}
 use Rattle.asg_check.proofs.checker.document_verdict.Goals as goal
 

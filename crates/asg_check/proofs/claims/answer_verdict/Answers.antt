@@ -1,8 +1,4 @@
-use Rattle.std.proofs.Common.{◌∙◌}
-use Rattle.std.proofs.lemmas.Result.{IfOk-weaker}
-use Rattle.asg_doc.specs.declared.documents.Claim.TheVariants.{Best}
-use Rattle.asg_reasons.specs.Verdicts.{Tells, claim_reasons, proof_reasons}
-use Rattle.asg_check.specs.Reasons.{StandsAgainst}
+use Rattle.asg_check.proofs.Common.{◌∙◌, IfOk-weaker, StandsAgainst, Best, Tells, claim_reasons, proof_reasons}
 use Rattle.asg_check.proofs.Certified.{to_proof}
 use Rattle.asg_check.proofs.claims.answer_verdict.Goals as goal
 

@@ -1,9 +1,4 @@
-use Rattle.std.proofs.Common.{◌≤◌, length, sym, subst}
-use Rattle.std.specs.Prelude.{IfOk, IsTrue}
-use Rattle.asg_doc.specs.declared.documents.Claim.TheVariants.{Ranked}
-use Rattle.asg_check.specs.DocumentForm.{answers_form, takes_claim}
-use Rattle.asg_reasons.specs.Verdicts.{Tells, claim_reasons}
-use Rattle.asg_check.specs.Reasons.{StandsAgainst}
+use Rattle.asg_check.proofs.Common.{◌≤◌, length, IfOk, IsTrue, sym, subst, answers_form, takes_claim, StandsAgainst, Ranked, Tells, claim_reasons}
 use Rattle.asg_check.proofs.RankingStages.{all_placed, some_answer}
 use Rattle.asg_check.proofs.claims.claim_verdict.Goals as goal
 

@@ -1,14 +1,4 @@
-use Rattle.std.proofs.Common.{sym, subst}
-use Rattle.std.specs.Prelude.{IfOk, IsTrue}
-use Rattle.std.proofs.lemmas.Result.{IfOk-weaker}
-use Rattle.asg_doc.specs.declared.documents.Claim.TheVariants.{Best}
-use Rattle.asg_proof.specs.declared.outcomes.Proof.TheVariants.{Levels, Phases, Windows}
-use Rattle.asg_proof.specs.Proves.{takes}
-use Rattle.asg_reasons.specs.Verdicts.{Tells, level_reasons, phase_reasons, proof_reasons, window_reasons}
-use Rattle.asg_check.specs.Reasons.{StandsAgainst}
-use Rattle.asg_check.specs.WindowReasons.{StandsOn}
-use Rattle.asg_level_verdicts.specs.LevelReasons.{LevelsStand}
-use Rattle.asg_phase_verdicts.specs.Replays.{StandsFor}
+use Rattle.asg_check.proofs.Common.{IfOk, IsTrue, sym, subst, IfOk-weaker, StandsAgainst, StandsOn, Best, LevelsStand, StandsFor, takes, Levels, Phases, Windows, Tells, level_reasons, phase_reasons, proof_reasons, window_reasons}
 use Rattle.asg_check.proofs.Certified.{to_levels, to_phases, to_windows}
 use Rattle.asg_check.proofs.WindowTold.{spread_range}
 use Rattle.asg_check.proofs.claims.proof_verdict.Goals as goal

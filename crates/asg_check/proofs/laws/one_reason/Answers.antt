@@ -1,8 +1,5 @@
-use Rattle.asg_reasons.specs.declared.verdicts.Verdict.TheVariants.{No}
-use Rattle.asg_reasons.specs.Verdicts.{reasons_in_order}
-use Rattle.asg_check.specs.Reasons.{Stands}
+use Rattle.asg_check.proofs.Common.{Stands, reasons_in_order, No, one_verdict}
 use Rattle.asg_check.proofs.Certified.{some_reason, yes_exactly}
-use Rattle.asg_reasons.specs.laws.ToldReasons.{one_verdict}
 use Rattle.asg_check.proofs.laws.one_reason.Goals as goal
 
 pub returns-clause-none : goal.returns-clause-none

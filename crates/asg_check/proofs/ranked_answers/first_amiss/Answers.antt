@@ -1,6 +1,4 @@
-use Rattle.std.proofs.Common.{length, arith}
-use Rattle.asg_check.specs.RankingReasons.{IsAmissAt}
-use Rattle.asg_reasons.specs.laws.Parts.{none_at_all, none_more}
+use Rattle.asg_check.proofs.Common.{length, arith, IsAmissAt, none_at_all, none_more}
 use Rattle.asg_check.proofs.RankedTold.{amiss_at, amiss_within, spelled_more, well_at}
 use Rattle.asg_check.proofs.ranked_answers.first_amiss.Goals as goal
 

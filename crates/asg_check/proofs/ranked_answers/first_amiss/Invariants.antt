@@ -1,7 +1,4 @@
-use Rattle.std.proofs.Common.{ℕ, ◌<◌, get_or}
-use Rattle.asg_doc.specs.declared.documents.Answer.{Answer}
-use Rattle.asg_check.specs.RankingReasons.{IsAmissAt}
-use Rattle.asg_check.specs.Written.{SpellChoice}
+use Rattle.asg_check.proofs.Common.{ℕ, ◌<◌, get_or, IsAmissAt, SpellChoice, Answer}
 use Rattle.asg_check.proofs.ranked_answers.first_amiss.Given as goal
 
 abbrev pub invariant-loop-place : goal.invariant-loop-place

@@ -1,7 +1,4 @@
-use Rattle.std.proofs.Common.{length, sym, ◌∙◌, arith}
-use Rattle.std.proofs.lemmas.Bool.{false≢true}
-use Rattle.asg_check.specs.RankingReasons.{IsOutOfOrderAt}
-use Rattle.asg_reasons.specs.laws.Parts.{none_at_all, none_more}
+use Rattle.asg_check.proofs.Common.{length, sym, ◌∙◌, arith, false≢true, IsOutOfOrderAt, none_at_all, none_more}
 use Rattle.asg_check.proofs.RankedTold.{in_order_at, out_within}
 use Rattle.asg_check.proofs.ranked_answers.first_out_of_order.Goals as goal
 

@@ -1,5 +1,4 @@
-use Rattle.std.proofs.Common.{ℕ, ◌<◌}
-use Rattle.asg_check.specs.RankingReasons.{IsOutOfOrderAt}
+use Rattle.asg_check.proofs.Common.{ℕ, ◌<◌, IsOutOfOrderAt}
 use Rattle.asg_check.proofs.ranked_answers.first_out_of_order.Given as goal
 
 abbrev pub invariant-loop-place : goal.invariant-loop-place

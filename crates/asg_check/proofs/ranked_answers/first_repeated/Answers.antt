@@ -1,6 +1,4 @@
-use Rattle.std.proofs.Common.{◌≡◌, length, sym, ap, ◌∙◌, arith}
-use Rattle.asg_check.specs.RankingReasons.{IsRepeatedAt}
-use Rattle.asg_reasons.specs.laws.Parts.{none_at_all, none_more}
+use Rattle.asg_check.proofs.Common.{◌≡◌, length, sym, ap, ◌∙◌, arith, IsRepeatedAt, none_at_all, none_more}
 use Rattle.asg_check.proofs.RankedTold.{fresh_at, none_seen, repeated_at, repeated_within, seen_at, seen_more, unseen_at}
 use Rattle.asg_check.proofs.ranked_answers.first_repeated.Goals as goal
 

@@ -1,5 +1,4 @@
-use Rattle.std.proofs.Common.{ℕ, ◌<◌}
-use Rattle.asg_check.specs.RankingReasons.{IsRepeatedAt}
+use Rattle.asg_check.proofs.Common.{ℕ, ◌<◌, IsRepeatedAt}
 use Rattle.asg_check.proofs.RankedTold.{AreSeen}
 use Rattle.asg_check.proofs.ranked_answers.first_repeated.Given as goal
 

@@ -1,6 +1,4 @@
-use Rattle.std.proofs.Common.{length, arith}
-use Rattle.asg_check.specs.RankingReasons.{IsNoChoiceAt}
-use Rattle.asg_reasons.specs.laws.Parts.{none_at_all, none_more}
+use Rattle.asg_check.proofs.Common.{length, arith, IsNoChoiceAt, none_at_all, none_more}
 use Rattle.asg_check.proofs.RankedTold.{spelled_at, unspelled_within}
 use Rattle.asg_check.proofs.ranked_answers.first_unspelled.Goals as goal
 

@@ -1,5 +1,4 @@
-use Rattle.std.proofs.Common.{ℕ, ◌<◌}
-use Rattle.asg_check.specs.RankingReasons.{IsNoChoiceAt}
+use Rattle.asg_check.proofs.Common.{ℕ, ◌<◌, IsNoChoiceAt}
 use Rattle.asg_check.proofs.ranked_answers.first_unspelled.Given as goal
 
 abbrev pub invariant-loop-place : goal.invariant-loop-place

@@ -1,5 +1,4 @@
-use Rattle.std.proofs.Common.{◌∙◌, ap, subst, sym}
-use Rattle.asg_check.specs.Written.{IsWrittenAs, SpellChoice}
+use Rattle.asg_check.proofs.Common.{sym, ap, ◌∙◌, subst, IsWrittenAs, SpellChoice}
 use Rattle.asg_check.proofs.RankedTold.{count_more, written_more}
 use Rattle.asg_check.proofs.ranked_answers.read_choices.Goals as goal
 

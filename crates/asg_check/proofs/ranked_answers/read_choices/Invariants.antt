@@ -1,5 +1,4 @@
-use Rattle.std.proofs.Common.{◌≡◌, length, take}
-use Rattle.asg_check.specs.Written.{AreWrittenAs}
+use Rattle.asg_check.proofs.Common.{◌≡◌, length, take, AreWrittenAs}
 use Rattle.asg_check.proofs.ranked_answers.read_choices.Given as goal
 
 abbrev pub invariant-loop-place : goal.invariant-loop-place

@@ -1,6 +1,4 @@
-use Rattle.std.proofs.Common.{sym, subst, arith}
-use Rattle.asg_check.specs.RankingReasons.{NodesStand}
-use Rattle.asg_reasons.specs.Verdicts.{Tells, node_reasons}
+use Rattle.asg_check.proofs.Common.{sym, subst, arith, NodesStand, Tells, node_reasons}
 use Rattle.asg_check.proofs.RankingStages.{fault_told, fault_upto, lacks_told, left_upto, open_told, tree_told}
 use Rattle.asg_check.proofs.ranking_verdicts.nodes_verdict.Goals as goal
 

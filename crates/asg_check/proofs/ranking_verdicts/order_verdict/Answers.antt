@@ -1,11 +1,4 @@
-use Rattle.std.proofs.Common.{◌∷◌, length, refl}
-use Rattle.std.proofs.lemmas.Result.{IfOk-weaker}
-use Rattle.asg_doc.specs.declared.documents.Claim.TheVariants.{Ranked}
-use Rattle.asg_reasons.specs.declared.verdicts.Reason.TheVariants.{OutOfOrder}
-use Rattle.asg_check.specs.RankingReasons.{IsOutOfOrderAt}
-use Rattle.asg_reasons.specs.Verdicts.{Tells, proof_reasons}
-use Rattle.asg_check.specs.Reasons.{StandsAgainst}
-use Rattle.asg_reasons.specs.laws.Parts.{goes_on, stops_at}
+use Rattle.asg_check.proofs.Common.{◌∷◌, length, refl, IfOk-weaker, IsOutOfOrderAt, StandsAgainst, Ranked, Tells, proof_reasons, OutOfOrder, goes_on, stops_at}
 use Rattle.asg_check.proofs.ranking_verdicts.order_verdict.Goals as goal
 
 pub returns-in-Some : goal.returns-in-Some

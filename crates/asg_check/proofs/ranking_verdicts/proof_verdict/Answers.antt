@@ -1,9 +1,4 @@
-use Rattle.std.proofs.Common.{◌≤◌, subst}
-use Rattle.std.proofs.lemmas.Result.{IfOk-weaker}
-use Rattle.asg_doc.specs.declared.documents.Claim.TheVariants.{Ranked}
-use Rattle.asg_check.specs.RankingReasons.{NodesStand}
-use Rattle.asg_reasons.specs.Verdicts.{Tells, node_reasons, proof_reasons}
-use Rattle.asg_check.specs.Reasons.{StandsAgainst}
+use Rattle.asg_check.proofs.Common.{◌≤◌, subst, IfOk-weaker, NodesStand, StandsAgainst, Ranked, Tells, node_reasons, proof_reasons}
 use Rattle.asg_check.proofs.Certified.{to_nodes}
 use Rattle.asg_check.proofs.RankingTold.{as_many}
 use Rattle.asg_check.proofs.ranking_verdicts.proof_verdict.Goals as goal

@@ -1,11 +1,4 @@
-use Rattle.std.proofs.Common.{◌∷◌, length, refl}
-use Rattle.std.proofs.lemmas.Result.{IfOk-weaker}
-use Rattle.asg_doc.specs.declared.documents.Claim.TheVariants.{Ranked}
-use Rattle.asg_reasons.specs.declared.verdicts.Reason.TheVariants.{NotValid, WrongValue}
-use Rattle.asg_check.specs.RankingReasons.{IsNoChoiceAt, IsWrongValueAt}
-use Rattle.asg_reasons.specs.Verdicts.{Tells, claim_reasons, order_reasons}
-use Rattle.asg_check.specs.Reasons.{StandsAgainst}
-use Rattle.asg_reasons.specs.laws.Parts.{goes_on, stops_at}
+use Rattle.asg_check.proofs.Common.{◌∷◌, length, refl, IfOk-weaker, IsNoChoiceAt, IsWrongValueAt, StandsAgainst, Ranked, Tells, claim_reasons, order_reasons, NotValid, WrongValue, goes_on, stops_at}
 use Rattle.asg_check.proofs.RankingStages.{first_wrong, none_unspelled, none_wrong, unspelled_before}
 use Rattle.asg_check.proofs.ranking_verdicts.ranking_verdict.Goals as goal
 

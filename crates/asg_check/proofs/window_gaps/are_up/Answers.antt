@@ -1,7 +1,4 @@
-use Rattle.std.proofs.Common.{◌-◌, get_or, sym, subst, ◌∙◌, arith}
-use Rattle.std.specs.Prelude.{◌≤ℤ◌}
-use Rattle.std.proofs.lemmas.Bool.{false≢true}
-use Rattle.std.proofs.lemmas.List.{get_or_read}
+use Rattle.asg_check.proofs.Common.{◌-◌, get_or, ◌≤ℤ◌, sym, ◌∙◌, subst, arith, false≢true, get_or_read}
 use Rattle.asg_check.proofs.WindowGaps.{le-not}
 use Rattle.asg_check.proofs.WindowOrder.{windows_up_more}
 use Rattle.asg_check.proofs.window_gaps.are_up.Goals as goal

@@ -1,6 +1,4 @@
-use Rattle.std.proofs.Common.{ℕ, ◌<◌, get_or}
-use Rattle.std.specs.Prelude.{◌≤ℤ◌}
-use Rattle.asg_proof.specs.declared.windows.Window.{Window}
+use Rattle.asg_check.proofs.Common.{ℕ, ◌<◌, get_or, ◌≤ℤ◌, Window}
 use Rattle.asg_check.proofs.window_gaps.are_up.Given as goal
 
 -- no window so far begins above a later one

@@ -1,7 +1,4 @@
-use Rattle.std.proofs.Common.{map, sym, subst}
-use Rattle.std.specs.Int.{w128}
-use Rattle.std.proofs.lemmas.Int.{to_z-of_z}
-use Rattle.asg_check.specs.Spans.{AreCostsUp, IsFirstOutside, span_of}
+use Rattle.asg_check.proofs.Common.{map, sym, subst, to_z-of_z, w128, AreCostsUp, IsFirstOutside, span_of}
 use Rattle.asg_check.proofs.WindowGaps.{IsLeastGap-from_outside, costs_up}
 use Rattle.asg_check.proofs.window_gaps.first_gap.Goals as goal
 

@@ -1,10 +1,4 @@
-use Rattle.std.proofs.Common.{map, sym, subst, ap, ◌∙◌}
-use Rattle.std.specs.Prelude.{pos}
-use Rattle.std.specs.Int.{w128}
-use Rattle.std.proofs.lemmas.Bool.{false≢true}
-use Rattle.std.proofs.lemmas.Int.{to_z-of_z}
-use Rattle.std.proofs.lemmas.Option.{slice_get-get_or}
-use Rattle.asg_check.specs.Spans.{IsFirstOutside, span_of}
+use Rattle.asg_check.proofs.Common.{map, pos, sym, ap, ◌∙◌, subst, to_z-of_z, false≢true, slice_get-get_or, w128, IsFirstOutside, span_of}
 use Rattle.asg_check.proofs.WindowGaps.{at_end, gap_found, passed_more}
 use Rattle.asg_check.proofs.WindowOrder.{span_at, span_within, spans_past, spans_up_of_windows}
 use Rattle.asg_check.proofs.window_gaps.first_in_order.Goals as goal

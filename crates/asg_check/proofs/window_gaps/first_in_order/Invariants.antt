@@ -1,5 +1,4 @@
-use Rattle.std.proofs.Common.{map}
-use Rattle.asg_check.specs.Spans.{span_of}
+use Rattle.asg_check.proofs.Common.{map, span_of}
 use Rattle.asg_check.proofs.WindowGaps.{IsPassed}
 use Rattle.asg_check.proofs.window_gaps.first_in_order.Given as goal
 

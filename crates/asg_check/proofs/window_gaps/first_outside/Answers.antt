@@ -1,10 +1,4 @@
-use Rattle.std.proofs.Common.{get_or, sym, subst, ◌∙◌, arith}
-use Rattle.std.specs.Prelude.{pos}
-use Rattle.std.proofs.lemmas.Bool.{false≢true}
-use Rattle.std.proofs.lemmas.Option.{slice_get-get_or}
-use Rattle.std.proofs.lemmas.List.{get_or_default}
-use Rattle.asg_check.specs.declared.window_gaps.Span.{Span}
-use Rattle.asg_check.specs.Spans.{IsFirstOutside}
+use Rattle.asg_check.proofs.Common.{get_or, pos, sym, ◌∙◌, subst, arith, false≢true, get_or_default, slice_get-get_or, IsFirstOutside, Span}
 use Rattle.asg_check.proofs.WindowGaps.{passed_more, gap_found, at_end}
 use Rattle.asg_check.proofs.window_gaps.first_outside.Goals as goal
 

@@ -1,8 +1,4 @@
-use Rattle.std.proofs.Common.{map, sym, subst, rules}
-use Rattle.std.specs.Prelude.{IsPermutation}
-use Rattle.std.specs.Int.{w128}
-use Rattle.std.proofs.lemmas.Int.{to_z-of_z}
-use Rattle.asg_check.specs.Spans.{AreSpansUp, IsFirstOutside, span_of}
+use Rattle.asg_check.proofs.Common.{map, IsPermutation, sym, subst, to_z-of_z, rules, w128, AreSpansUp, IsFirstOutside, span_of}
 use Rattle.asg_check.proofs.WindowGaps.{spans_up_by_key}
 use Rattle.asg_check.proofs.WindowOrder.{IsFirstOutside-permuted}
 use Rattle.asg_check.proofs.window_gaps.first_unheld.Goals as goal

@@ -1,4 +1,4 @@
-use Rattle.std.proofs.Common.{arith}
+use Rattle.asg_check.proofs.Common.{arith}
 use Rattle.asg_check.proofs.WindowGaps.{rows_more}
 use Rattle.asg_check.proofs.window_gaps.live_costs.Goals as goal
 

@@ -1,5 +1,4 @@
-use Rattle.std.proofs.Common.{◌≡◌, ◌≤◌, length}
-use Rattle.asg_check.specs.Spans.{live_parts}
+use Rattle.asg_check.proofs.Common.{◌≡◌, ◌≤◌, length, live_parts}
 use Rattle.asg_check.proofs.window_gaps.live_costs.Given as goal
 
 abbrev pub invariant-loop-row : goal.invariant-loop-row

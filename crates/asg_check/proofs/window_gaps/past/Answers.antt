@@ -1,7 +1,4 @@
-use Rattle.std.proofs.Common.{get_or, subst, arith}
-use Rattle.std.specs.Prelude.{pos, ◌≤ℤ◌, ◌<ℤ◌}
-use Rattle.std.proofs.lemmas.Int.{ints}
-use Rattle.std.proofs.lemmas.List.{get_or_default}
+use Rattle.asg_check.proofs.Common.{get_or, pos, ◌≤ℤ◌, ◌<ℤ◌, subst, arith, get_or_default, ints}
 use Rattle.asg_check.proofs.WindowGaps.{none_above_more}
 use Rattle.asg_check.proofs.window_gaps.past.Goals as goal
 

@@ -1,5 +1,4 @@
-use Rattle.std.proofs.Common.{ℕ, ◌≤◌, ◌<◌, get_or}
-use Rattle.std.specs.Prelude.{ℤ, ◌≤ℤ◌}
+use Rattle.asg_check.proofs.Common.{ℕ, ◌<◌, ◌≤◌, get_or, ℤ, ◌≤ℤ◌}
 use Rattle.asg_check.proofs.window_gaps.past.Given as goal
 
 abbrev pub invariant-loop-at : goal.invariant-loop-at

@@ -1,4 +1,4 @@
-use Rattle.std.proofs.Common.{arith}
+use Rattle.asg_check.proofs.Common.{arith}
 use Rattle.asg_check.proofs.WindowGaps.{row_more}
 use Rattle.asg_check.proofs.window_gaps.push_row.Goals as goal
 

@@ -1,5 +1,4 @@
-use Rattle.std.proofs.Common.{◌≡◌, ◌≤◌, ◌++◌, length}
-use Rattle.asg_check.specs.Spans.{row_parts}
+use Rattle.asg_check.proofs.Common.{◌≡◌, ◌≤◌, ◌++◌, length, row_parts}
 use Rattle.asg_check.proofs.window_gaps.push_row.Given as goal
 
 abbrev pub invariant-loop-column : goal.invariant-loop-column

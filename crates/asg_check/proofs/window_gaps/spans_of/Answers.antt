@@ -1,8 +1,4 @@
-use Rattle.std.proofs.Common.{◌≡◌, [], ◌∷◌, ◌++◌, map, ap, subst, ◌∙◌}
-use Rattle.std.specs.Int.{w128}
-use Rattle.std.proofs.lemmas.Int.{to_z-of_z}
-use Rattle.std.proofs.lemmas.List.{take_all}
-use Rattle.asg_check.specs.Spans.{span_of}
+use Rattle.asg_check.proofs.Common.{◌≡◌, [], ◌∷◌, ◌++◌, map, ap, ◌∙◌, subst, take_all, to_z-of_z, w128, span_of}
 use Rattle.asg_check.proofs.WindowGaps.{spans_more}
 use Rattle.asg_check.proofs.window_gaps.spans_of.Goals as goal
 

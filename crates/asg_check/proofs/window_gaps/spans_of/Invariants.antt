@@ -1,5 +1,4 @@
-use Rattle.std.proofs.Common.{◌≡◌, map, take}
-use Rattle.asg_check.specs.Spans.{span_of}
+use Rattle.asg_check.proofs.Common.{◌≡◌, map, take, span_of}
 use Rattle.asg_check.proofs.window_gaps.spans_of.Given as goal
 
 abbrev pub invariant-windows : goal.invariant-windows

@@ -1,6 +1,4 @@
-use Rattle.std.proofs.Common.{length, arith}
-use Rattle.asg_reasons.specs.laws.Parts.{none_at_all, none_more}
-use Rattle.asg_check.specs.WindowReasons.{IsNoHallAt}
+use Rattle.asg_check.proofs.Common.{length, arith, IsNoHallAt, none_at_all, none_more}
 use Rattle.asg_check.proofs.WindowTold.{hall_at, no_hall_within}
 use Rattle.asg_check.proofs.window_verdicts.first_no_hall.Goals as goal
 

@@ -1,5 +1,4 @@
-use Rattle.std.proofs.Common.{ℕ, ◌<◌}
-use Rattle.asg_check.specs.WindowReasons.{IsNoHallAt}
+use Rattle.asg_check.proofs.Common.{ℕ, ◌<◌, IsNoHallAt}
 use Rattle.asg_check.proofs.window_verdicts.first_no_hall.Given as goal
 
 abbrev pub invariant-loop-place : goal.invariant-loop-place

@@ -1,9 +1,4 @@
-use Rattle.std.proofs.Common.{ap, subst, ◌∙◌, refl, arith}
-use Rattle.std.specs.Prelude.{pos, ◌<ℤ◌, None, Some}
-use Rattle.std.specs.Int.{w64, w128}
-use Rattle.std.proofs.lemmas.Int.{ints, to_z-of_z}
-use Rattle.asg_reasons.specs.declared.verdicts.Verdict.TheVariants.{No, Yes}
-use Rattle.asg_check.specs.WindowReasons.{IsLeastGap}
+use Rattle.asg_check.proofs.Common.{pos, ◌<ℤ◌, Some, None, refl, ap, ◌∙◌, subst, arith, to_z-of_z, ints, w128, IsLeastGap, No, Yes, w64}
 use Rattle.asg_check.proofs.WindowTold.{gap_tells, live_fits}
 use Rattle.asg_check.proofs.window_verdicts.spread_verdict.Goals as goal
 

@@ -1,9 +1,4 @@
-use Rattle.std.proofs.Common.{[], ◌∷◌, length, refl}
-use Rattle.std.proofs.lemmas.Result.{IfOk-weaker}
-use Rattle.asg_reasons.specs.declared.verdicts.Reason.TheVariants.{NotHall, WindowGap}
-use Rattle.asg_reasons.specs.Verdicts.{Tells, window_reasons}
-use Rattle.asg_reasons.specs.laws.Parts.{goes_on, stops_at}
-use Rattle.asg_check.specs.WindowReasons.{IsNoHallAt, StandsOn}
+use Rattle.asg_check.proofs.Common.{[], ◌∷◌, length, refl, IfOk-weaker, IsNoHallAt, StandsOn, Tells, window_reasons, NotHall, WindowGap, goes_on, stops_at}
 use Rattle.asg_check.proofs.window_verdicts.windows_verdict.Goals as goal
 
 pub returns-in-Some : goal.returns-in-Some

@@ -1,8 +1,4 @@
-use Rattle.std.proofs.Common.{◌+◌, ◌<◌, ◌≤◌, false, length, drop, take, sym, ap, ◌∙◌, arith}
-use Rattle.std.proofs.Math.ListN.{drop_of_length-le}
-use Rattle.std.proofs.lemmas.Grind.{common_steps}
-use Rattle.std.proofs.lemmas.List.{append-nil, length-set, take_all}
-use Rattle.asg_check.specs.Written.{read_cells}
+use Rattle.asg_check.proofs.Common.{◌+◌, ◌<◌, ◌≤◌, false, length, take, drop, sym, ap, ◌∙◌, append-nil, arith, length-set, drop_of_length-le, take_all, common_steps, read_cells}
 use Rattle.asg_check.proofs.Reading.{joined, read-step}
 use Rattle.asg_check.proofs.written_choices.read_cells.Goals as goal
 

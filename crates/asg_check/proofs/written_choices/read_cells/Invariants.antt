@@ -1,5 +1,4 @@
-use Rattle.std.proofs.Common.{◌≡◌, length, take, drop}
-use Rattle.asg_check.specs.Written.{read_cells}
+use Rattle.asg_check.proofs.Common.{◌≡◌, length, take, drop, read_cells}
 use Rattle.asg_check.proofs.Reading.{joined}
 use Rattle.asg_check.proofs.written_choices.read_cells.Given as goal
 

@@ -1,5 +1,4 @@
-use Rattle.std.proofs.Common.{sym, ap, ◌∙◌, subst}
-use Rattle.asg_check.specs.Written.{IsWrittenAs}
+use Rattle.asg_check.proofs.Common.{sym, ap, ◌∙◌, subst, IsWrittenAs}
 use Rattle.asg_check.proofs.Reading.{written-read}
 use Rattle.asg_check.proofs.written_choices.spelled_choice.Goals as goal
 

@@ -1,8 +1,5 @@
-use Rattle.std.proofs.Common.{length, sym, subst, ap, ◌∙◌, eqb, eqb-true}
-use Rattle.std.proofs.lemmas.Bool.Decides.{not_from_Decides}
-use Rattle.std.proofs.lemmas.List.{nil_from_length}
-use Rattle.asg_model.specs.ValidChoice.{IsValid}
-use Rattle.asg_doc.specs.ChosenCells.{cells_by_id}
+use Rattle.asg_check.proofs.Common.{eqb, length, sym, ap, ◌∙◌, subst, nil_from_length, not_from_Decides, cells_by_id, IsValid}
+use Rattle.std.proofs.Common.{eqb-true}
 use Rattle.asg_check.proofs.Reading.{cells-read, written-read}
 use Rattle.asg_check.proofs.written_choices.written_choice.Goals as goal
 

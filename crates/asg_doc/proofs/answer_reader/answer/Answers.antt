@@ -1,4 +1,4 @@
-use Rattle.asg_grammar.specs.laws.PartLaws.{Halts-first, Halts-second, Halts-shape, Halts-stops, IsRead-both, IsRead-shape, ReadsOrFails-err}
+use Rattle.asg_doc.proofs.Common.{Halts-first, Halts-second, Halts-shape, Halts-stops, IsRead-both, IsRead-shape, ReadsOrFails-err}
 use Rattle.asg_doc.proofs.AnswerParts.{answer_shape, value_cells, counted_cells}
 use Rattle.asg_doc.proofs.answer_reader.answer.Goals as goal
 

@@ -1,5 +1,4 @@
-use Rattle.std.proofs.Common.{arith}
-use Rattle.asg_grammar.specs.laws.PartLaws.{Halts-counted, Halts-stops, ReadsOrFails-err}
+use Rattle.asg_doc.proofs.Common.{arith, Halts-counted, Halts-stops, ReadsOrFails-err}
 use Rattle.asg_doc.proofs.Leaves.{cell_law}
 use Rattle.asg_doc.proofs.answer_reader.cells.Goals as goal
 

@@ -1,5 +1,4 @@
-use Rattle.std.specs.Fmt.{signed_decimal}
-use Rattle.asg_grammar.specs.Spellings.{signed_spelling}
+use Rattle.asg_doc.proofs.Common.{signed_decimal, signed_spelling}
 use Rattle.asg_doc.proofs.AnswerParts.{none_made, none_spaced, one_made}
 use Rattle.asg_doc.proofs.answer_reader.one_value.Goals as goal
 

@@ -1,4 +1,4 @@
-use Rattle.asg_grammar.specs.Spellings.{signed_pair_spelling}
+use Rattle.asg_doc.proofs.Common.{signed_pair_spelling}
 use Rattle.asg_doc.proofs.AnswerParts.{none_made, none_spaced, two_made}
 use Rattle.asg_doc.proofs.answer_reader.two_value.Goals as goal
 

@@ -1,10 +1,4 @@
-use Rattle.std.proofs.Common.{subst}
-use Rattle.std.specs.Prelude.{Err}
-use Rattle.asg_grammar.specs.Spellings.{SpellsOrFails}
-use Rattle.asg_grammar.specs.laws.LineLaws.{Halts-front, Halts-text}
-use Rattle.asg_grammar.specs.laws.PartLaws.{ReadsOrFails-err}
-use Rattle.asg_doc.specs.DocumentParts.{value_spelling}
-use Rattle.asg_doc.specs.Words.{form_of}
+use Rattle.asg_doc.proofs.Common.{Err, subst, value_spelling, form_of, SpellsOrFails, Halts-front, Halts-text, ReadsOrFails-err}
 use Rattle.asg_doc.proofs.AnswerParts.{value_legible}
 use Rattle.asg_doc.proofs.answer_reader.value.Goals as goal
 

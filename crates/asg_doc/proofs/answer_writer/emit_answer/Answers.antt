@@ -1,8 +1,4 @@
-use Rattle.std.proofs.Common.{◌∷◌, [], ◌++◌, codes, map, ap}
-use Rattle.std.specs.Fmt.{decimal}
-use Rattle.asg_doc.specs.Text.{ended, cell_line}
-use Rattle.asg_doc.specs.Words.{form_of}
-use Rattle.asg_page.specs.laws.Flows.{Wrote-append, Wrote-as}
+use Rattle.asg_doc.proofs.Common.{[], ◌∷◌, ◌++◌, map, codes, decimal, ap, ended, cell_line, form_of, Wrote-append, Wrote-as}
 use Rattle.asg_doc.proofs.answer_writer.emit_answer.Goals as goal
 
 pub emit_value-requires : goal.emit_value-requires

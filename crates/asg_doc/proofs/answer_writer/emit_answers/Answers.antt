@@ -1,4 +1,4 @@
-use Rattle.asg_page.specs.laws.Flows.{Wrote-append}
+use Rattle.asg_doc.proofs.Common.{Wrote-append}
 use Rattle.asg_doc.proofs.answer_writer.emit_answers.Goals as goal
 
 pub emit_each-requires : goal.emit_each-requires

@@ -1,7 +1,4 @@
-use Rattle.std.proofs.Common.{ap, codes, sym, subst}
-use Rattle.asg_doc.specs.HasText.{HasAnswerText}
-use Rattle.asg_doc.specs.Text.{ended, answer_lines_behind}
-use Rattle.asg_page.specs.laws.Flows.{Wrote-append, Wrote-as, Wrote-nothing}
+use Rattle.asg_doc.proofs.Common.{codes, sym, ap, subst, HasAnswerText, ended, answer_lines_behind, Wrote-append, Wrote-as, Wrote-nothing}
 use Rattle.asg_doc.proofs.ListTexts.{lines_more}
 use Rattle.asg_doc.proofs.answer_writer.emit_each.Goals as goal
 

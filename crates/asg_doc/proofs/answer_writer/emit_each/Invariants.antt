@@ -1,7 +1,4 @@
-use Rattle.std.proofs.Common.{codes, take}
-use Rattle.std.specs.List.{flat_map}
-use Rattle.asg_page.specs.Flow.{Wrote}
-use Rattle.asg_doc.specs.Text.{ended, answer_lines_behind}
+use Rattle.asg_doc.proofs.Common.{take, codes, flat_map, ended, answer_lines_behind, Wrote}
 use Rattle.asg_doc.proofs.answer_writer.emit_each.Given as goal
 
 abbrev pub invariant-answers : goal.invariant-answers

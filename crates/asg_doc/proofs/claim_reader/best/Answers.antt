@@ -1,5 +1,4 @@
-use Rattle.asg_grammar.specs.laws.PartLaws.{Halts-first, Halts-second, Halts-shape, Halts-stops, IsRead-both, IsRead-shape, ReadsOrFails-err}
-use Rattle.asg_doc.specs.DocumentParts.{proved_part}
+use Rattle.asg_doc.proofs.Common.{proved_part, Halts-first, Halts-second, Halts-shape, Halts-stops, IsRead-both, IsRead-shape, ReadsOrFails-err}
 use Rattle.asg_doc.proofs.ClaimParts.{ended_chain, ended_shape, proved_law}
 use Rattle.asg_doc.proofs.claim_reader.best.Goals as goal
 

@@ -1,7 +1,4 @@
-use Rattle.std.proofs.Common.{subst}
-use Rattle.asg_grammar.specs.Reading.{IsRead}
-use Rattle.asg_grammar.specs.laws.PartLaws.{Halts-first, Halts-second, Halts-shape, Halts-stops, ReadsOrFails-err}
-use Rattle.asg_doc.specs.DocumentParts.{status_part}
+use Rattle.asg_doc.proofs.Common.{subst, status_part, IsRead, Halts-first, Halts-second, Halts-shape, Halts-stops, ReadsOrFails-err}
 use Rattle.asg_doc.proofs.ClaimParts.{claim_shape, status_claimed}
 use Rattle.asg_doc.proofs.claim_reader.claim.Goals as goal
 

@@ -1,5 +1,4 @@
-use Rattle.asg_grammar.specs.laws.PartLaws.{Halts-first, Halts-second, Halts-shape, Halts-stops, IsRead-both, IsRead-shape, ReadsOrFails-err}
-use Rattle.asg_doc.specs.DocumentParts.{hall_part}
+use Rattle.asg_doc.proofs.Common.{hall_part, Halts-first, Halts-second, Halts-shape, Halts-stops, IsRead-both, IsRead-shape, ReadsOrFails-err}
 use Rattle.asg_doc.proofs.ClaimParts.{ended_chain, ended_shape}
 use Rattle.asg_doc.proofs.Leaves.{hall_law}
 use Rattle.asg_doc.proofs.claim_reader.nothing.Goals as goal

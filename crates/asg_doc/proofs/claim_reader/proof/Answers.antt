@@ -1,8 +1,4 @@
-use Rattle.std.proofs.Common.{subst}
-use Rattle.asg_grammar.specs.Parts.{counted}
-use Rattle.asg_grammar.specs.Reading.{IsRead, Halts}
-use Rattle.asg_grammar.specs.laws.PartLaws.{Halts-first, Halts-second, Halts-shape, ReadsOrFails-err}
-use Rattle.asg_doc.specs.DocumentParts.{proof_head_part, phase_part}
+use Rattle.asg_doc.proofs.Common.{subst, proof_head_part, phase_part, counted, IsRead, Halts, Halts-first, Halts-second, Halts-shape, ReadsOrFails-err}
 use Rattle.asg_doc.proofs.ClaimParts.{proof_shape, head_rest}
 use Rattle.asg_doc.proofs.claim_reader.proof.Goals as goal
 

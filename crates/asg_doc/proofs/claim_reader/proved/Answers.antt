@@ -1,4 +1,4 @@
-use Rattle.asg_grammar.specs.laws.PartLaws.{Halts-first, Halts-second, IsRead-both, ReadsOrFails-err}
+use Rattle.asg_doc.proofs.Common.{Halts-first, Halts-second, IsRead-both, ReadsOrFails-err}
 use Rattle.asg_doc.proofs.ClaimParts.{answer_proof}
 use Rattle.asg_doc.proofs.claim_reader.proved.Goals as goal
 

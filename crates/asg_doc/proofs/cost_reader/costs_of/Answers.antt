@@ -1,9 +1,4 @@
-use Rattle.std.proofs.Common.{◌++◌, ◌∷◌, [], length, sym, ap, subst, arith}
-use Rattle.std.specs.Int.{w64}
-use Rattle.std.proofs.lemmas.Bool.{eqb-true, eqb-false}
-use Rattle.std.proofs.lemmas.Int.{to_z-of_z}
-use Rattle.asg_grammar.specs.laws.ListLaws.{AreListed, AreListed-more, AreListed-all}
-use Rattle.asg_doc.specs.DocumentParts.{bound_spelling}
+use Rattle.asg_doc.proofs.Common.{[], ◌∷◌, ◌++◌, length, sym, ap, subst, arith, to_z-of_z, eqb-true, eqb-false, bound_spelling, AreListed, AreListed-more, AreListed-all, w64}
 use Rattle.asg_doc.proofs.Leaves.{bound_word}
 use Rattle.asg_doc.proofs.cost_reader.costs_of.Goals as goal
 use Rattle.asg_doc.proofs.cost_reader.costs_of.Goals.{then-is_empty-via-then-is_empty, then-is_empty-via-else-is_empty+then-not-is_empty}

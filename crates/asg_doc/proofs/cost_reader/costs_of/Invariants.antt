@@ -1,6 +1,4 @@
-use Rattle.std.proofs.Common.{length}
-use Rattle.asg_grammar.specs.laws.ListLaws.{AreListed}
-use Rattle.asg_doc.specs.DocumentParts.{bound_spelling}
+use Rattle.asg_doc.proofs.Common.{length, bound_spelling, AreListed}
 use Rattle.asg_doc.proofs.cost_reader.costs_of.Given as goal
 
 abbrev pub invariant-listed : goal.invariant-listed

@@ -1,4 +1,4 @@
-use Rattle.asg_grammar.specs.laws.ListLaws.{next_cut}
+use Rattle.asg_doc.proofs.Common.{next_cut}
 use Rattle.asg_doc.proofs.Leaves.{bound_word}
 use Rattle.asg_doc.proofs.cost_reader.next_cost.Goals as goal
 

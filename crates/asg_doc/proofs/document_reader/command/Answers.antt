@@ -1,4 +1,4 @@
-use Rattle.asg_grammar.specs.laws.LineLaws.{Reads-line}
+use Rattle.asg_doc.proofs.Common.{Reads-line}
 use Rattle.asg_doc.proofs.Leaves.{command_legible}
 use Rattle.asg_doc.proofs.document_reader.command.Goals as goal
 

@@ -1,5 +1,5 @@
+use Rattle.asg_doc.proofs.Common.{Halts-first, Halts-second, Halts-shape, Halts-stops, ReadsOrFails-err}
 use Rattle.asg_doc.proofs.ClaimParts.{document_shape, title_command, command_objective, objective_claim}
-use Rattle.asg_grammar.specs.laws.PartLaws.{Halts-first, Halts-second, Halts-shape, Halts-stops, ReadsOrFails-err}
 use Rattle.asg_doc.proofs.document_reader.document.Goals as goal
 
 pub returns-in_err-pass : goal.returns-in_err-pass

@@ -1,8 +1,4 @@
-use Rattle.std.proofs.Common.{◌≡◌, [], ◌∷◌, ◌++◌}
-use Rattle.std.proofs.lemmas.Bool.{false≢true}
-use Rattle.std.proofs.lemmas.List.Elements.{All-push}
-use Rattle.std.proofs.lemmas.Result.{err_from_is_err_and}
-use Rattle.asg_doc.specs.HasText.{HasText}
+use Rattle.asg_doc.proofs.Common.{◌≡◌, [], ◌∷◌, ◌++◌, All-push, err_from_is_err_and, false≢true, HasText}
 use Rattle.asg_doc.proofs.DocumentLines.{documents_more, documents_fail}
 use Rattle.asg_doc.proofs.document_reader.documents.Goals as goal
 

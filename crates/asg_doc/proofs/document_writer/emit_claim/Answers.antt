@@ -1,8 +1,4 @@
-use Rattle.std.proofs.Common.{◌≡◌, ap, arith}
-use Rattle.std.proofs.lemmas.Grind.{common_steps}
-use Rattle.asg_doc.specs.declared.documents.Claim.TheVariants.{Nothing}
-use Rattle.asg_doc.specs.Text.{ended, claim_lines}
-use Rattle.asg_page.specs.laws.Flows.{Wrote-as}
+use Rattle.asg_doc.proofs.Common.{◌≡◌, ap, arith, common_steps, ended, claim_lines, Nothing, Wrote-as}
 use Rattle.asg_doc.proofs.document_writer.emit_claim.Goals as goal
 
 pub returns-in-Nothing : goal.returns-in-Nothing

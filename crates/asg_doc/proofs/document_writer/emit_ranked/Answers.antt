@@ -1,8 +1,4 @@
-use Rattle.std.proofs.Common.{◌∷◌, [], ◌++◌, codes, ap, sym, subst, ◌∙◌}
-use Rattle.asg_doc.specs.HasText.{HasTreeText, HaveAnswerText}
-use Rattle.asg_doc.specs.Text.{ended, listed_lines, tree_lines}
-use Rattle.asg_doc.specs.Words.{has_grades}
-use Rattle.asg_page.specs.laws.Flows.{Wrote-append, Wrote-as, Wrote-lines}
+use Rattle.asg_doc.proofs.Common.{[], ◌∷◌, ◌++◌, codes, sym, ap, ◌∙◌, subst, HasTreeText, HaveAnswerText, ended, listed_lines, tree_lines, has_grades, Wrote-append, Wrote-as, Wrote-lines}
 use Rattle.asg_doc.proofs.document_writer.emit_ranked.Goals as goal
 
 pub emit_answers-requires : goal.emit_answers-requires

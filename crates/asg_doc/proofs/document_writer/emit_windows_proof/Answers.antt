@@ -1,4 +1,4 @@
-use Rattle.asg_page.specs.laws.Flows.{Wrote-append}
+use Rattle.asg_doc.proofs.Common.{Wrote-append}
 use Rattle.asg_doc.proofs.document_writer.emit_windows_proof.Goals as goal
 
 pub returns : goal.returns

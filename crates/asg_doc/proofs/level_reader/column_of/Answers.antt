@@ -1,5 +1,4 @@
-use Rattle.std.proofs.Common.{◌≡◌, ◌+◌, ◌-◌, ◌∙◌, ap, arith}
-use Rattle.std.specs.Fmt.{decimal}
+use Rattle.asg_doc.proofs.Common.{◌≡◌, ◌+◌, ◌-◌, decimal, ap, ◌∙◌, arith}
 use Rattle.asg_doc.proofs.level_reader.column_of.Goals as goal
 
 pub returns-in_err-number : goal.returns-in_err-number

@@ -1,6 +1,4 @@
-use Rattle.std.proofs.Common.{length, sym, ap, arith}
-use Rattle.std.proofs.lemmas.Bool.{eqb-true, eqb-false}
-use Rattle.asg_grammar.specs.laws.ListLaws.{AreListed-more, AreListed-all}
+use Rattle.asg_doc.proofs.Common.{length, sym, ap, arith, eqb-true, eqb-false, AreListed-more, AreListed-all}
 use Rattle.asg_doc.proofs.Leaves.{column_word}
 use Rattle.asg_doc.proofs.level_reader.columns_of.Goals as goal
 use Rattle.asg_doc.proofs.level_reader.columns_of.Goals.{then-is_empty-via-then-is_empty, then-is_empty-via-else-is_empty+then-not-is_empty}

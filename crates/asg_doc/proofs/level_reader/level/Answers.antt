@@ -1,9 +1,4 @@
-use Rattle.std.proofs.Common.{sym, subst}
-use Rattle.std.specs.Int.{w64}
-use Rattle.std.proofs.lemmas.Int.{to_z-of_z}
-use Rattle.asg_grammar.specs.Reading.{IsRead}
-use Rattle.asg_grammar.specs.laws.PartLaws.{Halts-first, Halts-second, Halts-shape, Halts-stops, IsRead-both, IsRead-shape, ReadsOrFails-err}
-use Rattle.asg_doc.specs.DocumentParts.{level_part}
+use Rattle.asg_doc.proofs.Common.{sym, subst, to_z-of_z, level_part, IsRead, Halts-first, Halts-second, Halts-shape, Halts-stops, IsRead-both, IsRead-shape, ReadsOrFails-err, w64}
 use Rattle.asg_doc.proofs.LevelParts.{level_shape, head_phases}
 use Rattle.asg_doc.proofs.level_reader.level.Goals as goal
 

@@ -1,4 +1,4 @@
-use Rattle.asg_grammar.specs.laws.LineLaws.{Reads-line}
+use Rattle.asg_doc.proofs.Common.{Reads-line}
 use Rattle.asg_doc.proofs.Leaves.{level_head_legible}
 use Rattle.asg_doc.proofs.level_reader.level_head.Goals as goal
 

@@ -1,4 +1,4 @@
-use Rattle.asg_grammar.specs.laws.JoinLaws.{after_cut}
+use Rattle.asg_doc.proofs.Common.{after_cut}
 use Rattle.asg_doc.proofs.Leaves.{level_head_cut}
 use Rattle.asg_doc.proofs.level_reader.level_head_of.Goals as goal
 

@@ -1,5 +1,4 @@
-use Rattle.std.proofs.Common.{arith}
-use Rattle.asg_grammar.specs.laws.PartLaws.{Halts-counted, IsRead-more, ReadsOrFails-err}
+use Rattle.asg_doc.proofs.Common.{arith, Halts-counted, IsRead-more, ReadsOrFails-err}
 use Rattle.asg_doc.proofs.LevelParts.{level_law, AreLevelParts-from_text}
 use Rattle.asg_doc.proofs.level_reader.level_list.Goals as goal
 

@@ -1,6 +1,4 @@
-use Rattle.asg_grammar.specs.Parts.{counted}
-use Rattle.asg_grammar.specs.Reading.{IsRead}
-use Rattle.asg_doc.specs.DocumentParts.{level_part}
+use Rattle.asg_doc.proofs.Common.{level_part, counted, IsRead}
 use Rattle.asg_doc.proofs.level_reader.level_list.Given as goal
 
 abbrev pub invariant-loop : goal.invariant-loop

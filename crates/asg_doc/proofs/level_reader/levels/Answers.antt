@@ -1,4 +1,4 @@
-use Rattle.asg_grammar.specs.laws.PartLaws.{Halts-first, Halts-second, IsRead-both, ReadsOrFails-err}
+use Rattle.asg_doc.proofs.Common.{Halts-first, Halts-second, IsRead-both, ReadsOrFails-err}
 use Rattle.asg_doc.proofs.LevelParts.{perm_levels}
 use Rattle.asg_doc.proofs.level_reader.levels.Goals as goal
 

@@ -1,4 +1,4 @@
-use Rattle.asg_grammar.specs.laws.ListLaws.{next_cut}
+use Rattle.asg_doc.proofs.Common.{next_cut}
 use Rattle.asg_doc.proofs.Leaves.{column_word}
 use Rattle.asg_doc.proofs.level_reader.next_column.Goals as goal
 

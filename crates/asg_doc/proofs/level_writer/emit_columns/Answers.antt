@@ -1,4 +1,4 @@
-use Rattle.asg_page.specs.laws.Flows.{Wrote-append, Wrote-as, Wrote-nothing}
+use Rattle.asg_doc.proofs.Common.{Wrote-append, Wrote-as, Wrote-nothing}
 use Rattle.asg_doc.proofs.ListTexts.{columns_more}
 use Rattle.asg_doc.proofs.level_writer.emit_columns.Goals as goal
 

@@ -1,6 +1,4 @@
-use Rattle.std.proofs.Common.{take}
-use Rattle.asg_page.specs.Flow.{Wrote}
-use Rattle.asg_doc.specs.Text.{spaced_columns}
+use Rattle.asg_doc.proofs.Common.{take, spaced_columns, Wrote}
 use Rattle.asg_doc.proofs.level_writer.emit_columns.Given as goal
 
 abbrev pub invariant-columns : goal.invariant-columns

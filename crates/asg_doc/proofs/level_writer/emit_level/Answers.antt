@@ -1,7 +1,4 @@
-use Rattle.std.proofs.Common.{ap, false}
-use Rattle.std.specs.List.{flat_map}
-use Rattle.asg_doc.specs.Text.{ended, phase_lines}
-use Rattle.asg_page.specs.laws.Flows.{Wrote-append, Wrote-as}
+use Rattle.asg_doc.proofs.Common.{false, flat_map, ap, ended, phase_lines, Wrote-append, Wrote-as}
 use Rattle.asg_doc.proofs.level_writer.emit_level.Goals as goal
 
 pub returns : goal.returns

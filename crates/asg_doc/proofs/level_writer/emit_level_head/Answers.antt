@@ -1,9 +1,4 @@
-use Rattle.std.proofs.Common.{◌∷◌, [], ◌++◌, codes, sym, ap, append_assoc, length}
-use Rattle.std.specs.Fmt.{signed_decimal}
-use Rattle.std.specs.Int.{w64}
-use Rattle.std.proofs.lemmas.Int.{to_z-of_z}
-use Rattle.asg_doc.specs.Text.{cell_line}
-use Rattle.asg_page.specs.laws.Flows.{Wrote-append, Wrote-as}
+use Rattle.asg_doc.proofs.Common.{[], ◌∷◌, ◌++◌, length, codes, sym, ap, append_assoc, to_z-of_z, signed_decimal, cell_line, Wrote-append, Wrote-as, w64}
 use Rattle.asg_doc.proofs.level_writer.emit_level_head.Goals as goal
 
 pub returns : goal.returns

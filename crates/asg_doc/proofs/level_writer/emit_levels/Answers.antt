@@ -1,7 +1,4 @@
-use Rattle.std.proofs.Common.{ap, sym, subst}
-use Rattle.asg_doc.specs.HasText.{HasLevelText}
-use Rattle.asg_doc.specs.Text.{ended, level_lines}
-use Rattle.asg_page.specs.laws.Flows.{Wrote-append, Wrote-as, Wrote-nothing}
+use Rattle.asg_doc.proofs.Common.{sym, ap, subst, HasLevelText, ended, level_lines, Wrote-append, Wrote-as, Wrote-nothing}
 use Rattle.asg_doc.proofs.ListTexts.{lines_more}
 use Rattle.asg_doc.proofs.level_writer.emit_levels.Goals as goal
 

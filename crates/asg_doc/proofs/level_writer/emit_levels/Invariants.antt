@@ -1,7 +1,4 @@
-use Rattle.std.proofs.Common.{take}
-use Rattle.std.specs.List.{flat_map}
-use Rattle.asg_page.specs.Flow.{Wrote}
-use Rattle.asg_doc.specs.Text.{ended, level_lines}
+use Rattle.asg_doc.proofs.Common.{take, flat_map, ended, level_lines, Wrote}
 use Rattle.asg_doc.proofs.level_writer.emit_levels.Given as goal
 
 abbrev pub invariant-levels : goal.invariant-levels

@@ -1,6 +1,4 @@
-use Rattle.std.proofs.Common.{◌∷◌, [], codes, sym, append_assoc}
-use Rattle.asg_doc.specs.Text.{spaced_columns}
-use Rattle.asg_page.specs.laws.Flows.{Wrote-append, Wrote-as}
+use Rattle.asg_doc.proofs.Common.{[], ◌∷◌, codes, sym, append_assoc, spaced_columns, Wrote-append, Wrote-as}
 use Rattle.asg_doc.proofs.level_writer.emit_perm.Goals as goal
 
 pub returns : goal.returns

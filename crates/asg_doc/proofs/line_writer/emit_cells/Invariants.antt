@@ -1,6 +1,4 @@
-use Rattle.std.proofs.Common.{take, map}
-use Rattle.asg_page.specs.Flow.{Wrote}
-use Rattle.asg_doc.specs.Text.{ended, cell_line}
+use Rattle.asg_doc.proofs.Common.{map, take, ended, cell_line, Wrote}
 use Rattle.asg_doc.proofs.line_writer.emit_cells.Given as goal
 
 abbrev pub invariant-cells : goal.invariant-cells

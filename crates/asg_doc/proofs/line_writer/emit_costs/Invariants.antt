@@ -1,6 +1,4 @@
-use Rattle.std.proofs.Common.{take}
-use Rattle.asg_page.specs.Flow.{Wrote}
-use Rattle.asg_doc.specs.Text.{spaced_costs}
+use Rattle.asg_doc.proofs.Common.{take, spaced_costs, Wrote}
 use Rattle.asg_doc.proofs.line_writer.emit_costs.Given as goal
 
 abbrev pub invariant-costs : goal.invariant-costs

@@ -1,6 +1,4 @@
-use Rattle.std.proofs.Common.{ap}
-use Rattle.asg_doc.specs.Text.{spaced_costs}
-use Rattle.asg_page.specs.laws.Flows.{Wrote-as}
+use Rattle.asg_doc.proofs.Common.{ap, spaced_costs, Wrote-as}
 use Rattle.asg_doc.proofs.line_writer.emit_many.Goals as goal
 
 pub returns : goal.returns

@@ -1,10 +1,5 @@
-use Rattle.std.proofs.Common.{List, subst}
-use Rattle.std.specs.Prelude.{ℤ, All, FitsSigned}
-use Rattle.std.specs.Int.{w64}
-use Rattle.asg_model.specs.declared.objectives.Value.TheVariants.{Many}
-use Rattle.asg_doc.specs.declared.documents.ValueForm.{ValueForm}
+use Rattle.asg_doc.proofs.Common.{List, ℤ, FitsSigned, All, subst, IsWrittenValue, ValueForm, Many, w64}
 use Rattle.asg_doc.specs.declared.documents.ValueForm.TheVariants as forms
-use Rattle.asg_doc.specs.HasText.{IsWrittenValue}
 use Rattle.asg_doc.proofs.line_writer.emit_numbers.Goals as goal
 
 -- the costs of a value that is written fit 64 bits

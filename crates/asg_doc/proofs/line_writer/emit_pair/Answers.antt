@@ -1,5 +1,4 @@
-use Rattle.std.proofs.Common.{append_assoc}
-use Rattle.asg_page.specs.laws.Flows.{Wrote-append, Wrote-as}
+use Rattle.asg_doc.proofs.Common.{append_assoc, Wrote-append, Wrote-as}
 use Rattle.asg_doc.proofs.line_writer.emit_pair.Goals as goal
 
 pub returns : goal.returns

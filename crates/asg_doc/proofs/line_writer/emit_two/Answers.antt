@@ -1,8 +1,4 @@
-use Rattle.std.proofs.Common.{ap}
-use Rattle.std.specs.Fmt.{signed_decimal}
-use Rattle.std.specs.Int.{w128}
-use Rattle.std.proofs.lemmas.Int.{to_z-of_z}
-use Rattle.asg_page.specs.laws.Flows.{Wrote-append, Wrote-as}
+use Rattle.asg_doc.proofs.Common.{ap, to_z-of_z, signed_decimal, w128, Wrote-append, Wrote-as}
 use Rattle.asg_doc.proofs.line_writer.emit_two.Goals as goal
 
 pub returns : goal.returns

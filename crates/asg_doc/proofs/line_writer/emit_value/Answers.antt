@@ -1,6 +1,4 @@
-use Rattle.std.proofs.Common.{◌∷◌, [], sym, append_assoc}
-use Rattle.asg_doc.specs.Text.{value_text}
-use Rattle.asg_page.specs.laws.Flows.{Wrote-append, Wrote-as}
+use Rattle.asg_doc.proofs.Common.{[], ◌∷◌, sym, append_assoc, value_text, Wrote-append, Wrote-as}
 use Rattle.asg_doc.proofs.line_writer.emit_value.Goals as goal
 
 pub emit_numbers-requires : goal.emit_numbers-requires

@@ -1,4 +1,4 @@
-use Rattle.asg_doc.specs.DocumentParts.{mark_spelling}
+use Rattle.asg_doc.proofs.Common.{mark_spelling}
 use Rattle.asg_doc.proofs.NodeParts.{both_spelled, no_front, no_second}
 use Rattle.asg_doc.proofs.node_reader.branch_of.Goals as goal
 

@@ -1,4 +1,4 @@
-use Rattle.asg_grammar.specs.laws.PartLaws.{Halts-first, Halts-second, Halts-shape, IsRead-both, IsRead-shape, ReadsOrFails-err}
+use Rattle.asg_doc.proofs.Common.{Halts-first, Halts-second, Halts-shape, IsRead-both, IsRead-shape, ReadsOrFails-err}
 use Rattle.asg_doc.proofs.NodeParts.{head_own, node_shape}
 use Rattle.asg_doc.proofs.node_reader.node.Goals as goal
 

@@ -1,6 +1,4 @@
-use Rattle.std.proofs.Common.{codes}
-use Rattle.asg_grammar.specs.laws.LineLaws.{Halts-front, Halts-text}
-use Rattle.asg_grammar.specs.laws.PartLaws.{ReadsOrFails-err}
+use Rattle.asg_doc.proofs.Common.{codes, Halts-front, Halts-text, ReadsOrFails-err}
 use Rattle.asg_doc.proofs.NodeParts.{node_head_legible}
 use Rattle.asg_doc.proofs.node_reader.node_head.Goals as goal
 

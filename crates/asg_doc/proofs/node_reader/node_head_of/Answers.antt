@@ -1,4 +1,4 @@
-use Rattle.asg_doc.specs.DocumentParts.{branch_spelling}
+use Rattle.asg_doc.proofs.Common.{branch_spelling}
 use Rattle.asg_doc.proofs.NodeParts.{both_spelled, no_front, no_second}
 use Rattle.asg_doc.proofs.node_reader.node_head_of.Goals as goal
 

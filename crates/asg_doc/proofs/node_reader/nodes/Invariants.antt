@@ -1,6 +1,4 @@
-use Rattle.asg_grammar.specs.Parts.{counted}
-use Rattle.asg_grammar.specs.Reading.{IsRead}
-use Rattle.asg_doc.specs.DocumentParts.{node_part}
+use Rattle.asg_doc.proofs.Common.{node_part, counted, IsRead}
 use Rattle.asg_doc.proofs.node_reader.nodes.Given as goal
 
 abbrev pub invariant-loop : goal.invariant-loop

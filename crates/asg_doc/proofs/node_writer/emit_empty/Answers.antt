@@ -1,4 +1,4 @@
-use Rattle.asg_page.specs.laws.Flows.{Wrote-append}
+use Rattle.asg_doc.proofs.Common.{Wrote-append}
 use Rattle.asg_doc.proofs.node_writer.emit_empty.Goals as goal
 
 pub returns : goal.returns

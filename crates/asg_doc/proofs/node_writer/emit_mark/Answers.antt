@@ -1,7 +1,4 @@
-use Rattle.std.proofs.Common.{ap, ◌∙◌, sym}
-use Rattle.asg_proof.specs.declared.nodes.Mark.TheVariants.{Empty}
-use Rattle.asg_doc.specs.Text.{mark_text}
-use Rattle.asg_page.specs.laws.Flows.{Wrote-as}
+use Rattle.asg_doc.proofs.Common.{sym, ap, ◌∙◌, mark_text, Wrote-as, Empty}
 use Rattle.asg_doc.proofs.node_writer.emit_mark.Goals as goal
 
 pub returns-in-Empty : goal.returns-in-Empty

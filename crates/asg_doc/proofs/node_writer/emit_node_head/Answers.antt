@@ -1,6 +1,4 @@
-use Rattle.std.proofs.Common.{ap, length}
-use Rattle.asg_doc.specs.Text.{mark_text}
-use Rattle.asg_page.specs.laws.Flows.{Wrote-append, Wrote-as}
+use Rattle.asg_doc.proofs.Common.{length, ap, mark_text, Wrote-append, Wrote-as}
 use Rattle.asg_doc.proofs.ListTexts.{node_whole}
 use Rattle.asg_doc.proofs.node_writer.emit_node_head.Goals as goal
 

@@ -1,7 +1,4 @@
-use Rattle.std.proofs.Common.{ap, sym, subst}
-use Rattle.asg_doc.specs.HasText.{HasNodeText}
-use Rattle.asg_doc.specs.Text.{ended, node_lines}
-use Rattle.asg_page.specs.laws.Flows.{Wrote-append, Wrote-as, Wrote-nothing}
+use Rattle.asg_doc.proofs.Common.{sym, ap, subst, HasNodeText, ended, node_lines, Wrote-append, Wrote-as, Wrote-nothing}
 use Rattle.asg_doc.proofs.ListTexts.{lines_more}
 use Rattle.asg_doc.proofs.node_writer.emit_nodes.Goals as goal
 

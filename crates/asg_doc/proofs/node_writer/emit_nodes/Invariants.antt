@@ -1,7 +1,4 @@
-use Rattle.std.proofs.Common.{take}
-use Rattle.std.specs.List.{flat_map}
-use Rattle.asg_page.specs.Flow.{Wrote}
-use Rattle.asg_doc.specs.Text.{ended, node_lines}
+use Rattle.asg_doc.proofs.Common.{take, flat_map, ended, node_lines, Wrote}
 use Rattle.asg_doc.proofs.node_writer.emit_nodes.Given as goal
 
 abbrev pub invariant-nodes : goal.invariant-nodes

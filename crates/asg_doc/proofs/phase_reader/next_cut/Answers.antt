@@ -1,4 +1,4 @@
-use Rattle.asg_grammar.specs.laws.ListLaws.{next_cut}
+use Rattle.asg_doc.proofs.Common.{next_cut}
 use Rattle.asg_doc.proofs.Leaves.{step_word}
 use Rattle.asg_doc.proofs.phase_reader.next_cut.Goals as goal
 

@@ -1,4 +1,4 @@
-use Rattle.asg_grammar.specs.laws.PartLaws.{Halts-first, Halts-second, Halts-shape, ReadsOrFails-err}
+use Rattle.asg_doc.proofs.Common.{Halts-first, Halts-second, Halts-shape, ReadsOrFails-err}
 use Rattle.asg_doc.proofs.PhaseParts.{phase_shape, steps_enters, enters_leaves}
 use Rattle.asg_doc.proofs.phase_reader.phase.Goals as goal
 

@@ -1,5 +1,4 @@
-use Rattle.std.proofs.Common.{arith}
-use Rattle.asg_grammar.specs.laws.PartLaws.{Halts-counted, IsRead-more, ReadsOrFails-err}
+use Rattle.asg_doc.proofs.Common.{arith, Halts-counted, IsRead-more, ReadsOrFails-err}
 use Rattle.asg_doc.proofs.PhaseParts.{phase_law, ArePhases-from_text}
 use Rattle.asg_doc.proofs.phase_reader.phases.Goals as goal
 

@@ -1,6 +1,4 @@
-use Rattle.asg_grammar.specs.Parts.{counted}
-use Rattle.asg_grammar.specs.Reading.{IsRead}
-use Rattle.asg_doc.specs.DocumentParts.{phase_part}
+use Rattle.asg_doc.proofs.Common.{phase_part, counted, IsRead}
 use Rattle.asg_doc.proofs.phase_reader.phases.Given as goal
 
 abbrev pub invariant-loop : goal.invariant-loop

@@ -1,6 +1,4 @@
-use Rattle.std.proofs.Common.{length, refl, sym, ap, arith}
-use Rattle.std.proofs.lemmas.Bool.{eqb-false}
-use Rattle.asg_grammar.specs.laws.ListLaws.{AreListed-more, AreListed-all}
+use Rattle.asg_doc.proofs.Common.{length, sym, refl, ap, arith, eqb-false, AreListed-more, AreListed-all}
 use Rattle.asg_doc.proofs.Leaves.{step_word}
 use Rattle.asg_doc.proofs.phase_reader.steps_of.Goals as goal
 use Rattle.asg_doc.proofs.phase_reader.steps_of.Goals.{then-is_empty-via-then-is_empty, then-is_empty-via-else-is_empty+then-not-is_empty}

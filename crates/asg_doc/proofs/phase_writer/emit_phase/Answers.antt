@@ -1,6 +1,4 @@
-use Rattle.std.proofs.Common.{◌∷◌, [], ◌++◌, codes, ap}
-use Rattle.asg_doc.specs.Text.{spaced, spaced_steps}
-use Rattle.asg_page.specs.laws.Flows.{Wrote-append, Wrote-as, Wrote-last}
+use Rattle.asg_doc.proofs.Common.{[], ◌∷◌, ◌++◌, codes, ap, spaced, spaced_steps, Wrote-append, Wrote-as, Wrote-last}
 use Rattle.asg_doc.proofs.phase_writer.emit_phase.Goals as goal
 
 pub returns : goal.returns

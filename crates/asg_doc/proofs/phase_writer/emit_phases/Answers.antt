@@ -1,6 +1,4 @@
-use Rattle.std.proofs.Common.{ap}
-use Rattle.asg_doc.specs.Text.{ended, phase_lines}
-use Rattle.asg_page.specs.laws.Flows.{Wrote-append, Wrote-as, Wrote-nothing}
+use Rattle.asg_doc.proofs.Common.{ap, ended, phase_lines, Wrote-append, Wrote-as, Wrote-nothing}
 use Rattle.asg_doc.proofs.ListTexts.{lines_more}
 use Rattle.asg_doc.proofs.phase_writer.emit_phases.Goals as goal
 

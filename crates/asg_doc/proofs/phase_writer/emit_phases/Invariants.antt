@@ -1,7 +1,4 @@
-use Rattle.std.proofs.Common.{take}
-use Rattle.std.specs.List.{flat_map}
-use Rattle.asg_page.specs.Flow.{Wrote}
-use Rattle.asg_doc.specs.Text.{ended, phase_lines}
+use Rattle.asg_doc.proofs.Common.{take, flat_map, ended, phase_lines, Wrote}
 use Rattle.asg_doc.proofs.phase_writer.emit_phases.Given as goal
 
 abbrev pub invariant-phases : goal.invariant-phases

@@ -1,8 +1,4 @@
-use Rattle.std.proofs.Common.{◌<◌, length, ap, arith}
-use Rattle.std.proofs.lemmas.List.{take_all}
-use Rattle.asg_order.specs.declared.words.Word.{Word}
-use Rattle.asg_doc.specs.Text.{spaced_steps}
-use Rattle.asg_page.specs.laws.Flows.{Wrote-append, Wrote-as, Wrote-nothing}
+use Rattle.asg_doc.proofs.Common.{◌<◌, length, ap, arith, take_all, spaced_steps, Word, Wrote-append, Wrote-as, Wrote-nothing}
 use Rattle.asg_doc.proofs.ListTexts.{steps_more}
 use Rattle.asg_doc.proofs.phase_writer.emit_steps.Goals as goal
 

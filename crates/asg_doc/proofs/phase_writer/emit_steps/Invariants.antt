@@ -1,6 +1,4 @@
-use Rattle.std.proofs.Common.{◌≡◌, length, take}
-use Rattle.asg_page.specs.Flow.{Wrote}
-use Rattle.asg_doc.specs.Text.{spaced_steps}
+use Rattle.asg_doc.proofs.Common.{◌≡◌, length, take, spaced_steps, Wrote}
 use Rattle.asg_doc.proofs.phase_writer.emit_steps.Given as goal
 
 abbrev pub invariant-steps : goal.invariant-steps

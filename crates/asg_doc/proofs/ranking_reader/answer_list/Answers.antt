@@ -1,5 +1,4 @@
-use Rattle.std.proofs.Common.{arith}
-use Rattle.asg_grammar.specs.laws.PartLaws.{Halts-counted, IsRead-more, ReadsOrFails-err}
+use Rattle.asg_doc.proofs.Common.{arith, Halts-counted, IsRead-more, ReadsOrFails-err}
 use Rattle.asg_doc.proofs.RankingParts.{listed_law}
 use Rattle.asg_doc.proofs.ranking_reader.answer_list.Goals as goal
 

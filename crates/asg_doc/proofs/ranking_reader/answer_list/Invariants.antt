@@ -1,7 +1,4 @@
-use Rattle.std.proofs.Common.{codes}
-use Rattle.asg_grammar.specs.Parts.{counted}
-use Rattle.asg_grammar.specs.Reading.{IsRead}
-use Rattle.asg_doc.specs.DocumentParts.{answer_part}
+use Rattle.asg_doc.proofs.Common.{codes, answer_part, counted, IsRead}
 use Rattle.asg_doc.proofs.ranking_reader.answer_list.Given as goal
 
 abbrev pub invariant-loop : goal.invariant-loop

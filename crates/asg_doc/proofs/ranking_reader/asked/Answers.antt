@@ -1,4 +1,4 @@
-use Rattle.asg_grammar.specs.laws.LineLaws.{Reads-line}
+use Rattle.asg_doc.proofs.Common.{Reads-line}
 use Rattle.asg_doc.proofs.RankingParts.{asked_legible}
 use Rattle.asg_doc.proofs.ranking_reader.asked.Goals as goal
 

@@ -1,7 +1,4 @@
-use Rattle.std.proofs.Common.{subst}
-use Rattle.asg_grammar.specs.Reading.{Halts, IsRead}
-use Rattle.asg_grammar.specs.laws.PartLaws.{Halts-first, Halts-second, IsRead-both, ReadsOrFails-err}
-use Rattle.asg_doc.specs.DocumentParts.{tree_part}
+use Rattle.asg_doc.proofs.Common.{subst, tree_part, Halts, IsRead, Halts-first, Halts-second, IsRead-both, ReadsOrFails-err}
 use Rattle.asg_doc.proofs.RankingParts.{answers_tree}
 use Rattle.asg_doc.proofs.ranking_reader.ranked.Goals as goal
 

@@ -1,4 +1,4 @@
-use Rattle.asg_grammar.specs.laws.PartLaws.{Halts-first, Halts-second, Halts-stops, IsRead-both, ReadsOrFails-err}
+use Rattle.asg_doc.proofs.Common.{Halts-first, Halts-second, Halts-stops, IsRead-both, ReadsOrFails-err}
 use Rattle.asg_doc.proofs.RankingParts.{asked_ranked}
 use Rattle.asg_doc.proofs.ranking_reader.ranking.Goals as goal
 

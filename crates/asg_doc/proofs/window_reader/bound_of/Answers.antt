@@ -1,7 +1,4 @@
-use Rattle.std.proofs.Common.{subst}
-use Rattle.std.specs.Prelude.{FitsSigned, SomeIff}
-use Rattle.std.specs.Int.{w64, w128}
-use Rattle.std.proofs.lemmas.Int.{to_z-of_z}
+use Rattle.asg_doc.proofs.Common.{SomeIff, FitsSigned, subst, to_z-of_z, w128, w64}
 use Rattle.asg_doc.proofs.WindowParts.{bound_gives}
 use Rattle.asg_doc.proofs.window_reader.bound_of.Goals as goal
 

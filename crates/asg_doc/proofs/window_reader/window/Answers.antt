@@ -1,6 +1,4 @@
-use Rattle.std.proofs.Common.{codes}
-use Rattle.asg_grammar.specs.laws.LineLaws.{Halts-front, Halts-text}
-use Rattle.asg_grammar.specs.laws.PartLaws.{ReadsOrFails-err}
+use Rattle.asg_doc.proofs.Common.{codes, Halts-front, Halts-text, ReadsOrFails-err}
 use Rattle.asg_doc.proofs.WindowParts.{window_legible}
 use Rattle.asg_doc.proofs.window_reader.window.Goals as goal
 

@@ -1,6 +1,4 @@
-use Rattle.std.proofs.Common.{ap}
-use Rattle.asg_doc.specs.Text.{spaced}
-use Rattle.asg_page.specs.laws.Flows.{Wrote-append, Wrote-as}
+use Rattle.asg_doc.proofs.Common.{ap, spaced, Wrote-append, Wrote-as}
 use Rattle.asg_doc.proofs.ListTexts.{window_whole}
 use Rattle.asg_doc.proofs.window_writer.emit_window.Goals as goal
 

@@ -1,7 +1,4 @@
-use Rattle.std.proofs.Common.{◌∷◌, [], ◌++◌, ap, sym, subst}
-use Rattle.asg_doc.specs.HasText.{HasWindowText}
-use Rattle.asg_doc.specs.Text.{window_line}
-use Rattle.asg_page.specs.laws.Flows.{Wrote-append, Wrote-as, Wrote-nothing}
+use Rattle.asg_doc.proofs.Common.{[], ◌∷◌, ◌++◌, sym, ap, subst, HasWindowText, window_line, Wrote-append, Wrote-as, Wrote-nothing}
 use Rattle.asg_doc.proofs.ListTexts.{windows_more}
 use Rattle.asg_doc.proofs.window_writer.emit_windows.Goals as goal
 

@@ -1,6 +1,4 @@
-use Rattle.std.proofs.Common.{take, map}
-use Rattle.asg_page.specs.Flow.{Wrote}
-use Rattle.asg_doc.specs.Text.{ended, window_line}
+use Rattle.asg_doc.proofs.Common.{map, take, ended, window_line, Wrote}
 use Rattle.asg_doc.proofs.window_writer.emit_windows.Given as goal
 
 abbrev pub invariant-windows : goal.invariant-windows

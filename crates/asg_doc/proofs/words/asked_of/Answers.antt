@@ -1,5 +1,4 @@
-use Rattle.std.proofs.Common.{◌≡◌, arith, sym, ◌∙◌}
-use Rattle.asg_grammar.specs.laws.SpellingLaws.{decimal_same}
+use Rattle.asg_doc.proofs.Common.{◌≡◌, sym, ◌∙◌, arith, decimal_same}
 use Rattle.asg_doc.proofs.words.asked_of.Goals as goal
 
 pub returns-in_err-count : goal.returns-in_err-count

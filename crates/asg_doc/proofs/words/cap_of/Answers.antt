@@ -1,5 +1,4 @@
-use Rattle.std.proofs.Common.{◌≡◌, arith, sym, ◌∙◌}
-use Rattle.asg_grammar.specs.laws.SpellingLaws.{decimal_same}
+use Rattle.asg_doc.proofs.Common.{◌≡◌, sym, ◌∙◌, arith, decimal_same}
 use Rattle.asg_doc.proofs.words.cap_of.Goals as goal
 
 pub returns-then-cap-eq0 : goal.returns-then-cap-eq0

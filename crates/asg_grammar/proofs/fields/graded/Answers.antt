@@ -1,4 +1,4 @@
-use Rattle.asg_grammar.specs.laws.JoinLaws.{graded_cut, after_cut}
+use Rattle.asg_grammar.proofs.Common.{graded_cut, after_cut}
 use Rattle.asg_grammar.proofs.fields.graded.Goals as goal
 
 pub returns-in_err-after : goal.returns-in_err-after

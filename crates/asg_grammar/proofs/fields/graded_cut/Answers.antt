@@ -1,4 +1,4 @@
-use Rattle.asg_grammar.specs.laws.ListLaws.{next_cut}
+use Rattle.asg_grammar.proofs.Common.{next_cut}
 use Rattle.asg_grammar.proofs.LongWords.{long_pair_word}
 use Rattle.asg_grammar.proofs.fields.graded_cut.Goals as goal
 

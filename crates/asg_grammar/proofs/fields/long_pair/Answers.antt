@@ -1,4 +1,4 @@
-use Rattle.asg_grammar.specs.laws.JoinLaws.{long_pair_cut, after_cut}
+use Rattle.asg_grammar.proofs.Common.{long_pair_cut, after_cut}
 use Rattle.asg_grammar.proofs.fields.long_pair.Goals as goal
 
 pub returns-in_err-after : goal.returns-in_err-after

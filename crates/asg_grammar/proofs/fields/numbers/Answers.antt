@@ -1,5 +1,4 @@
-use Rattle.std.proofs.Common.{length, sym, ap, arith}
-use Rattle.std.proofs.lemmas.Bool.{eqb-true, eqb-false}
+use Rattle.asg_grammar.proofs.Common.{length, sym, ap, arith, eqb-true, eqb-false}
 use Rattle.asg_grammar.proofs.ListedNumbers.{AreRead-all}
 use Rattle.asg_grammar.proofs.fields.numbers.Goals as goal
 use Rattle.asg_grammar.proofs.fields.numbers.Goals.{then-is_empty-via-then-is_empty, then-is_empty-via-else-is_empty+then-not-is_empty}

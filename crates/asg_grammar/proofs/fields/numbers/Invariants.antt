@@ -1,4 +1,4 @@
-use Rattle.std.proofs.Common.{length}
+use Rattle.asg_grammar.proofs.Common.{length}
 use Rattle.asg_grammar.proofs.ListedNumbers.{AreRead}
 use Rattle.asg_grammar.proofs.fields.numbers.Given as goal
 

@@ -1,5 +1,4 @@
-use Rattle.std.proofs.Common.{◌≡◌, arith, sym, ◌∙◌}
-use Rattle.asg_grammar.specs.laws.SpellingLaws.{wide, decimal_same}
+use Rattle.asg_grammar.proofs.Common.{◌≡◌, sym, ◌∙◌, arith, wide, decimal_same}
 use Rattle.asg_grammar.proofs.fields.positive.Goals as goal
 
 pub returns-then-number-eq0 : goal.returns-then-number-eq0

@@ -1,4 +1,4 @@
-use Rattle.asg_grammar.specs.laws.JoinLaws.{signed_pair_cut, after_cut}
+use Rattle.asg_grammar.proofs.Common.{signed_pair_cut, after_cut}
 use Rattle.asg_grammar.proofs.fields.signed_pair.Goals as goal
 
 pub returns-in_err-after : goal.returns-in_err-after

@@ -1,4 +1,4 @@
-use Rattle.std.proofs.Common.{length}
+use Rattle.asg_grammar.proofs.Common.{length}
 use Rattle.asg_grammar.proofs.ListedNumbers.{BeginsWith}
 use Rattle.asg_grammar.proofs.list_lines.leading_list.Given as goal
 

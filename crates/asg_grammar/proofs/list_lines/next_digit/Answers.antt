@@ -1,4 +1,4 @@
-use Rattle.std.proofs.Common.{arith}
+use Rattle.asg_grammar.proofs.Common.{arith}
 use Rattle.asg_grammar.proofs.SpelledDigits.{spaced_digit}
 use Rattle.asg_grammar.proofs.list_lines.next_digit.Goals as goal
 

@@ -1,4 +1,4 @@
-use Rattle.std.proofs.Common.{arith}
+use Rattle.asg_grammar.proofs.Common.{arith}
 use Rattle.asg_grammar.proofs.SpelledDigits.{first_digit, one_digit_more}
 use Rattle.asg_grammar.proofs.numerals.leading_number.Goals as goal
 

@@ -1,5 +1,4 @@
-use Rattle.std.proofs.Common.{◌≡◌, ◌<◌, ◌^◌, ◌++◌, length}
-use Rattle.std.specs.Fmt.{decimal}
+use Rattle.asg_grammar.proofs.Common.{◌≡◌, ◌^◌, ◌<◌, ◌++◌, length, decimal}
 use Rattle.asg_grammar.proofs.numerals.leading_number.Given as goal
 
 abbrev pub invariant-digits : goal.invariant-digits

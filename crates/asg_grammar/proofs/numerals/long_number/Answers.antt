@@ -1,5 +1,4 @@
-use Rattle.std.proofs.Common.{length, ap, arith}
-use Rattle.std.proofs.lemmas.Fmt.{length-decimal-le_wide}
+use Rattle.asg_grammar.proofs.Common.{length, ap, arith, length-decimal-le_wide}
 use Rattle.asg_grammar.proofs.SignedNumbers.{long_gives}
 use Rattle.asg_grammar.proofs.numerals.long_number.Goals as goal
 

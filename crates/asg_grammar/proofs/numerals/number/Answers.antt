@@ -1,4 +1,4 @@
-use Rattle.std.proofs.Common.{arith}
+use Rattle.asg_grammar.proofs.Common.{arith}
 use Rattle.asg_grammar.proofs.SignedNumbers.{small_gives}
 use Rattle.asg_grammar.proofs.numerals.number.Goals as goal
 

@@ -1,5 +1,4 @@
-use Rattle.std.proofs.Common.{sym, ◌∙◌, subst, arith}
-use Rattle.asg_grammar.specs.Spellings.{Spells, signed_spelling}
+use Rattle.asg_grammar.proofs.Common.{sym, ◌∙◌, subst, arith, Spells, signed_spelling}
 use Rattle.asg_grammar.proofs.SignedNumbers.{minus_none, minus_gives, plain_size, plain_gives}
 use Rattle.asg_grammar.proofs.numerals.signed_number.Goals as goal
 

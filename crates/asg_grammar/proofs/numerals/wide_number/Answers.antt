@@ -1,5 +1,4 @@
-use Rattle.std.proofs.Common.{refl, arith, lit≤}
-use Rattle.std.proofs.lemmas.Bool.{false≢true}
+use Rattle.asg_grammar.proofs.Common.{refl, arith, lit≤, false≢true}
 use Rattle.asg_grammar.proofs.SpelledDigits.{IsReading-none, IsReading-more, IsReading-all, IsReading-stops, not_plain}
 use Rattle.asg_grammar.proofs.numerals.wide_number.Goals as goal
 

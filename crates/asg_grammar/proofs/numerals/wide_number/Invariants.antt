@@ -1,4 +1,4 @@
-use Rattle.std.proofs.Common.{◌^◌}
+use Rattle.asg_grammar.proofs.Common.{◌^◌}
 use Rattle.asg_grammar.proofs.SpelledDigits.{IsReading}
 use Rattle.asg_grammar.proofs.numerals.wide_number.Given as goal
 

@@ -1,9 +1,4 @@
-use Rattle.std.proofs.Common.{◌≡◌, ◌∙◌, ◌<◌, ◌≤◌, ◌+◌, ◌*◌, ◌/◌, ◌%◌, ◌&&◌, ℕ, get_or, is_some, refl, sym, ap, arith, ⊎_elim}
-use Rattle.std.specs.Prelude.{bit_and}
-use Rattle.std.proofs.lemmas.Bool.{and_parts, cases_eq, cases_lt}
-use Rattle.asg_square.specs.BitTable.{has_bit, is_bit_set, word_count}
-use Rattle.asg_square.specs.Grid.{cell_at}
-use Rattle.asg_square.specs.laws.Places.{place_hit, place_missed}
+use Rattle.asg_level_verdicts.proofs.Common.{◌≡◌, ℕ, ◌+◌, ◌*◌, ◌/◌, ◌%◌, ◌<◌, ◌≤◌, ◌&&◌, get_or, is_some, bit_and, sym, refl, ap, ◌∙◌, ⊎_elim, arith, and_parts, cases_eq, cases_lt, has_bit, is_bit_set, word_count, place_hit, place_missed, cell_at}
 use Rattle.asg_level_verdicts.proofs.BitSquares.{word_bits}
 use Rattle.asg_level_verdicts.proofs.level_bits.copy_row.Goals as goal
 

@@ -1,6 +1,4 @@
-use Rattle.std.proofs.Common.{◌≡◌, ◌<◌, ◌*◌, ◌&&◌, ℕ, is_some}
-use Rattle.asg_square.specs.BitTable.{has_bit, word_count}
-use Rattle.asg_square.specs.Grid.{cell_at}
+use Rattle.asg_level_verdicts.proofs.Common.{◌≡◌, ℕ, ◌*◌, ◌<◌, ◌&&◌, is_some, has_bit, word_count, cell_at}
 use Rattle.asg_level_verdicts.proofs.level_bits.copy_row.Given as goal
 
 -- the words so far

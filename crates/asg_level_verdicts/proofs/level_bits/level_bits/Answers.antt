@@ -1,8 +1,4 @@
-use Rattle.std.proofs.Common.{◌≡◌, ◌∙◌, ◌<◌, ◌≤◌, ℕ, cond, Option, Some, None, sym, ap, subst, arith, ⊎_elim}
-use Rattle.std.proofs.lemmas.Bool.{cases_lt}
-use Rattle.asg_model.specs.Shapes.{square_side}
-use Rattle.asg_square.specs.BitTable.{has_bit}
-use Rattle.asg_level_verdicts.specs.LevelBits.{AreSizedBits, bits_at, value_in}
+use Rattle.asg_level_verdicts.proofs.Common.{◌≡◌, ℕ, ◌<◌, ◌≤◌, cond, Some, None, Option, sym, ap, ◌∙◌, subst, ⊎_elim, arith, cases_lt, has_bit, AreSizedBits, bits_at, value_in, square_side}
 use Rattle.asg_level_verdicts.proofs.BitSquares.{level_is}
 use Rattle.asg_level_verdicts.proofs.level_bits.level_bits.Goals as goal
 

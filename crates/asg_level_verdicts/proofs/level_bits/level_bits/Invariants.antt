@@ -1,5 +1,4 @@
-use Rattle.std.proofs.Common.{◌≡◌, ◌<◌, ◌≤◌, ℕ, None}
-use Rattle.asg_level_verdicts.specs.LevelBits.{AreSizedBits, bits_at, value_in}
+use Rattle.asg_level_verdicts.proofs.Common.{◌≡◌, ℕ, ◌<◌, ◌≤◌, None, AreSizedBits, bits_at, value_in}
 use Rattle.asg_level_verdicts.proofs.level_bits.level_bits.Given as goal
 
 -- the rows so far

@@ -1,4 +1,4 @@
-use Rattle.std.proofs.Common.{◌∙◌, cond, Some, sym, ap}
+use Rattle.asg_level_verdicts.proofs.Common.{cond, Some, sym, ap, ◌∙◌}
 use Rattle.asg_level_verdicts.proofs.BitSquares.{one_here, one_kept, zero_here, zero_kept}
 use Rattle.asg_level_verdicts.proofs.level_bits.put_value.Goals as goal
 

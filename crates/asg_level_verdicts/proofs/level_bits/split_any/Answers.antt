@@ -1,7 +1,4 @@
-use Rattle.std.proofs.Common.{◌≡◌, ◌∙◌, ℕ, cond, Option, Some, None, sym, ap}
-use Rattle.asg_square.specs.BitTable.{has_bit}
-use Rattle.asg_square.specs.Grid.{cell_at}
-use Rattle.asg_square.specs.Labels.{row_label}
+use Rattle.asg_level_verdicts.proofs.Common.{◌≡◌, ℕ, cond, Some, None, Option, sym, ap, ◌∙◌, has_bit, cell_at, row_label}
 use Rattle.asg_level_verdicts.proofs.BitSquares.{free_row, label_read, no_marks, none_where, value_free}
 use Rattle.asg_level_verdicts.proofs.level_bits.split_any.Goals as goal
 

@@ -1,10 +1,4 @@
-use Rattle.std.proofs.Common.{◌≡◌, ◌∙◌, ◌&&◌, ◌≤◌, not, true, Some, sym, ap, rules, to_z, of_z, w64}
-use Rattle.std.proofs.lemmas.Int.{to_z-of_z}
-use Rattle.asg_square.specs.BitTable.{has_bit}
-use Rattle.asg_square.specs.Grid.{cell_at}
-use Rattle.asg_proof.specs.Levels.{is_between}
-use Rattle.asg_level_verdicts.specs.LevelBits.{value_in, value_of}
-use Rattle.asg_level_verdicts.specs.LevelWalks.{level_value, passes_cost}
+use Rattle.asg_level_verdicts.proofs.Common.{◌≡◌, ◌≤◌, true, not, ◌&&◌, Some, sym, ap, ◌∙◌, to_z-of_z, w64, to_z, of_z, rules, has_bit, value_in, value_of, level_value, passes_cost, is_between, cell_at}
 use Rattle.asg_level_verdicts.proofs.BitSquares.{one_by_test, value_none}
 use Rattle.asg_level_verdicts.proofs.LevelStarts.{value_small}
 use Rattle.asg_level_verdicts.proofs.level_bits.split_cell.Goals as goal

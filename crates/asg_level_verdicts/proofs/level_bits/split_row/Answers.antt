@@ -1,7 +1,4 @@
-use Rattle.std.proofs.Common.{◌∙◌, ◌<◌, ◌≤◌, ◌*◌, refl, ap, subst, arith, ⊎_elim}
-use Rattle.std.proofs.lemmas.Bool.{cases_lt}
-use Rattle.asg_square.specs.BitTable.{has_bit, word_count}
-use Rattle.asg_square.specs.laws.Words.{bit_in_row}
+use Rattle.asg_level_verdicts.proofs.Common.{◌*◌, ◌<◌, ◌≤◌, refl, ap, ◌∙◌, subst, ⊎_elim, arith, cases_lt, has_bit, word_count, bit_in_row}
 use Rattle.asg_level_verdicts.proofs.level_bits.split_row.Goals as goal
 
 pub loop-number-init : goal.loop-number-init

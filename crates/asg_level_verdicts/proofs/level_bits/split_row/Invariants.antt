@@ -1,6 +1,4 @@
-use Rattle.std.proofs.Common.{◌≡◌, ◌<◌, ◌≤◌, ◌*◌, ℕ, None}
-use Rattle.asg_square.specs.BitTable.{word_count}
-use Rattle.asg_level_verdicts.specs.LevelBits.{AreSizedBits, bits_at, value_in}
+use Rattle.asg_level_verdicts.proofs.Common.{◌≡◌, ℕ, ◌*◌, ◌<◌, ◌≤◌, None, word_count, AreSizedBits, bits_at, value_in}
 use Rattle.asg_level_verdicts.proofs.level_bits.split_row.Given as goal
 
 -- the words so far

@@ -1,10 +1,4 @@
-use Rattle.std.proofs.Common.{◌≡◌, ◌∙◌, ◌<◌, ◌≤◌, ◌+◌, ◌-◌, ◌*◌, false, sym, ap, subst, arith, ⊎_elim}
-use Rattle.std.specs.Prelude.{◌==◌}
-use Rattle.std.proofs.lemmas.Bool.{cases_lt}
-use Rattle.std.proofs.lemmas.Nat.Bits.{bit_at-zero}
-use Rattle.asg_square.specs.BitTable.{has_bit, is_bit_set}
-use Rattle.asg_square.specs.Grid.{cell_at}
-use Rattle.asg_level_verdicts.specs.LevelBits.{bits_at, value_in}
+use Rattle.asg_level_verdicts.proofs.Common.{◌≡◌, ◌+◌, ◌-◌, ◌*◌, ◌<◌, ◌≤◌, false, ◌==◌, sym, ap, ◌∙◌, subst, ⊎_elim, arith, bit_at-zero, cases_lt, has_bit, is_bit_set, bits_at, value_in, cell_at}
 use Rattle.asg_level_verdicts.proofs.BitSquares.{value_none}
 use Rattle.asg_level_verdicts.proofs.level_bits.split_word.Goals as goal
 

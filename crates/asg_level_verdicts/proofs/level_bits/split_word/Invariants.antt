@@ -1,5 +1,4 @@
-use Rattle.std.proofs.Common.{◌≡◌, ◌<◌, ◌≤◌, ◌+◌, ◌*◌, ℕ}
-use Rattle.asg_level_verdicts.specs.LevelBits.{AreSizedBits, KeepsOthers, bits_at, value_in}
+use Rattle.asg_level_verdicts.proofs.Common.{◌≡◌, ℕ, ◌+◌, ◌*◌, ◌<◌, ◌≤◌, AreSizedBits, KeepsOthers, bits_at, value_in}
 use Rattle.asg_level_verdicts.proofs.level_bits.split_word.Given as goal
 
 -- the columns of the word so far

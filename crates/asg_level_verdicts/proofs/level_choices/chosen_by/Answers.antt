@@ -1,10 +1,4 @@
-use Rattle.std.proofs.Common.{◌≡◌, ◌∙◌, ◌<◌, ◌≤◌, None, get_or, length, map, sym, ap, subst, arith, ⊎_elim}
-use Rattle.std.specs.Prelude.{slice_set}
-use Rattle.std.specs.List.{range_with_len}
-use Rattle.std.proofs.lemmas.Bool.{cases_lt}
-use Rattle.std.proofs.lemmas.List.{get_or-set_other, get_or-set_same, get_or_default, length-set, same_lists}
-use Rattle.std.proofs.lemmas.List.FromFn.{get_or-map-range_with_len, length-map-range_with_len}
-use Rattle.asg_square.specs.Cells.{chosen_by}
+use Rattle.asg_level_verdicts.proofs.Common.{◌≡◌, ◌<◌, ◌≤◌, map, length, get_or, slice_set, None, sym, ap, ◌∙◌, subst, ⊎_elim, arith, length-set, get_or-set_other, get_or-set_same, cases_lt, get_or-map-range_with_len, get_or_default, length-map-range_with_len, range_with_len, same_lists, chosen_by}
 use Rattle.asg_level_verdicts.proofs.level_choices.chosen_by.Goals as goal
 
 -- the row is one of the square

@@ -1,5 +1,4 @@
-use Rattle.std.proofs.Common.{◌≡◌, ◌<◌, ℕ, length, get_or, None}
-use Rattle.asg_square.specs.Cells.{chosen_by}
+use Rattle.asg_level_verdicts.proofs.Common.{◌≡◌, ℕ, ◌<◌, length, get_or, None, chosen_by}
 use Rattle.asg_level_verdicts.proofs.level_choices.chosen_by.Given as goal
 
 -- the rows so far choose by the list

@@ -1,9 +1,4 @@
-use Rattle.std.proofs.Common.{◌≡◌, ◌∙◌, ◌<◌, None, get_or, length, sym, ap, subst, arith}
-use Rattle.std.specs.Option.{option_and_then}
-use Rattle.std.proofs.lemmas.List.FromFn.{get_or-map-range_with_len}
-use Rattle.std.proofs.lemmas.Option.{get_or_from_slice_get}
-use Rattle.asg_model.specs.Shapes.{square_side}
-use Rattle.asg_square.specs.Labels.{column_label, row_label}
+use Rattle.asg_level_verdicts.proofs.Common.{◌≡◌, ◌<◌, length, get_or, None, sym, ap, ◌∙◌, subst, arith, get_or-map-range_with_len, get_or_from_slice_get, square_side, column_label, row_label, option_and_then}
 use Rattle.asg_level_verdicts.proofs.level_choices.column_by.Goals as goal
 
 -- the row is a row of the instance, and its column is a copy of one

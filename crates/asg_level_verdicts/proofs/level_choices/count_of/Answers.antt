@@ -1,8 +1,4 @@
-use Rattle.std.proofs.Common.{◌≡◌, ◌+◌, ◌∙◌, length, ap, subst, arith, to_z, of_z, w64}
-use Rattle.std.specs.Prelude.{filter_map}
-use Rattle.std.specs.List.{range_with_len}
-use Rattle.std.proofs.lemmas.Int.{to_z-of_z}
-use Rattle.asg_model.specs.Values.{chosen_cost, costs_at}
+use Rattle.asg_level_verdicts.proofs.Common.{◌≡◌, ◌+◌, length, filter_map, ap, ◌∙◌, subst, arith, to_z-of_z, w64, to_z, of_z, range_with_len, chosen_cost, costs_at}
 use Rattle.asg_level_verdicts.proofs.LevelSums.{byte_few, byte_is, count_more}
 use Rattle.asg_level_verdicts.proofs.level_choices.count_of.Goals as goal
 

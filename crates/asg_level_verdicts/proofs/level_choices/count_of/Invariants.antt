@@ -1,7 +1,4 @@
-use Rattle.std.proofs.Common.{◌≡◌, ◌≤◌, length}
-use Rattle.std.specs.Prelude.{filter_map}
-use Rattle.std.specs.List.{range_with_len}
-use Rattle.asg_model.specs.Values.{chosen_cost, costs_at}
+use Rattle.asg_level_verdicts.proofs.Common.{◌≡◌, ◌≤◌, length, filter_map, range_with_len, chosen_cost, costs_at}
 use Rattle.asg_level_verdicts.proofs.level_choices.count_of.Given as goal
 
 -- those of the rows so far

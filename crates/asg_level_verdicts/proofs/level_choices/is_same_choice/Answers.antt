@@ -1,5 +1,4 @@
-use Rattle.std.proofs.Common.{◌∙◌, None, refl, sym, arith}
-use Rattle.std.proofs.lemmas.List.{get_or_default, same_lists}
+use Rattle.asg_level_verdicts.proofs.Common.{None, sym, refl, ◌∙◌, arith, get_or_default, same_lists}
 use Rattle.asg_level_verdicts.proofs.level_choices.is_same_choice.Goals as goal
 
 -- all rows choose the same

@@ -1,4 +1,4 @@
-use Rattle.std.proofs.Common.{◌≡◌, ◌<◌, ℕ, get_or, None}
+use Rattle.asg_level_verdicts.proofs.Common.{◌≡◌, ℕ, ◌<◌, get_or, None}
 use Rattle.asg_level_verdicts.proofs.level_choices.is_same_choice.Given as goal
 
 -- the rows so far choose the same

@@ -1,9 +1,4 @@
-use Rattle.std.proofs.Common.{◌≡◌, ◌∙◌, ℤ, Option, Some, length, sym, ap, subst, rules, to_z, of_z, w64}
-use Rattle.std.proofs.lemmas.Int.{to_z-of_z}
-use Rattle.asg_model.specs.Shapes.{square_side}
-use Rattle.asg_square.specs.BitTable.{BitTable}
-use Rattle.asg_level_verdicts.specs.declared.level_walks.Walk.{Walk}
-use Rattle.asg_levels.specs.UnitLists.{AreUnits, MarkZeros}
+use Rattle.asg_level_verdicts.proofs.Common.{◌≡◌, length, ℤ, Some, Option, sym, ap, ◌∙◌, subst, to_z-of_z, w64, to_z, of_z, rules, BitTable, Walk, AreUnits, MarkZeros, square_side}
 use Rattle.asg_level_verdicts.proofs.UnitLevels.{left_by, phases_are}
 use Rattle.asg_level_verdicts.proofs.level_units.take_units.Goals as goal
 

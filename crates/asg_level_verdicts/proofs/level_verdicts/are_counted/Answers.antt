@@ -1,10 +1,4 @@
-use Rattle.std.proofs.Common.{◌∙◌, ◌^◌, inl, inr, sym, subst}
-use Rattle.std.proofs.lemmas.Bool.{eq-eqb, eqb-true, false≢true}
-use Rattle.asg_monoids.specs.BoundedSums.{bounded_difference, plain_word}
-use Rattle.asg_monoids.specs.laws.Bounded.{bounded_laws}
-use Rattle.asg_proof.specs.Levels.{level_sums}
-use Rattle.asg_square.specs.Grid.{cell_at}
-use Rattle.asg_replays.specs.Replays.{AreReplayed, IsFirstBad}
+use Rattle.asg_level_verdicts.proofs.Common.{◌^◌, sym, ◌∙◌, subst, inl, inr, eq-eqb, eqb-true, false≢true, bounded_difference, plain_word, bounded_laws, level_sums, AreReplayed, IsFirstBad, cell_at}
 use Rattle.asg_replays.specs.laws.Replaying.{replayed-none}
 use Rattle.asg_level_verdicts.proofs.level_verdicts.are_counted.Goals as goal
 

@@ -1,7 +1,4 @@
-use Rattle.std.proofs.Common.{◌≡◌, ◌<◌, ◌≤◌, ◌∙◌, get_or, refl, sym, subst, arith, ⊎_elim}
-use Rattle.std.specs.Prelude.{IsTrue}
-use Rattle.std.proofs.lemmas.Bool.{cases_lt, false≢true}
-use Rattle.asg_square.specs.BitTable.{has_bit}
+use Rattle.asg_level_verdicts.proofs.Common.{◌≡◌, ◌<◌, ◌≤◌, get_or, IsTrue, sym, refl, ◌∙◌, subst, ⊎_elim, arith, cases_lt, false≢true, has_bit}
 use Rattle.asg_level_verdicts.proofs.level_verdicts.are_left.Goals as goal
 
 pub loop-row-preserved : goal.loop-row-preserved

@@ -1,6 +1,4 @@
-use Rattle.std.proofs.Common.{◌<◌, ℕ, get_or}
-use Rattle.std.specs.Prelude.{IsTrue}
-use Rattle.asg_square.specs.BitTable.{has_bit}
+use Rattle.asg_level_verdicts.proofs.Common.{ℕ, ◌<◌, get_or, IsTrue, has_bit}
 use Rattle.asg_level_verdicts.proofs.level_verdicts.are_left.Given as goal
 
 -- the cells of the rows so far are left

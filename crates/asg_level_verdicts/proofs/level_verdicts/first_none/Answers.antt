@@ -1,9 +1,4 @@
-use Rattle.std.proofs.Common.{◌≡◌, ◌∙◌, length, ap, subst, arith, sym}
-use Rattle.std.proofs.lemmas.Bool.{false≢true}
-use Rattle.std.proofs.lemmas.List.FromFn.{length-map-range_with_len}
-use Rattle.asg_square.specs.Cells.{chosen_by}
-use Rattle.asg_level_verdicts.specs.LevelReasons.{cost_before, left_before}
-use Rattle.asg_level_verdicts.specs.LevelWalks.{HasPassed}
+use Rattle.asg_level_verdicts.proofs.Common.{◌≡◌, length, sym, ap, ◌∙◌, subst, arith, false≢true, length-map-range_with_len, cost_before, left_before, HasPassed, chosen_by}
 use Rattle.asg_level_verdicts.proofs.LevelWhole.{none_there, passed_next}
 use Rattle.asg_level_verdicts.proofs.level_verdicts.first_none.Goals as goal
 

@@ -1,5 +1,4 @@
-use Rattle.asg_model.specs.Shapes.{square_side}
-use Rattle.asg_level_verdicts.specs.LevelWalks.{HasPassed, IsSized}
+use Rattle.asg_level_verdicts.proofs.Common.{HasPassed, IsSized, square_side}
 use Rattle.asg_level_verdicts.proofs.level_verdicts.first_none.Given as goal
 
 -- the walk stands behind the levels so far

@@ -1,7 +1,4 @@
-use Rattle.std.proofs.Common.{◌<◌, ◌∙◌, true, false, get_or, length, refl, sym, ap, subst}
-use Rattle.std.proofs.lemmas.Bool.{eq-eqb, eqb-true, false≢true}
-use Rattle.std.proofs.lemmas.List.FromFn.{length-map-range_with_len}
-use Rattle.asg_square.specs.Cells.{chosen_by}
+use Rattle.asg_level_verdicts.proofs.Common.{◌<◌, true, false, length, get_or, sym, refl, ap, ◌∙◌, subst, eq-eqb, eqb-true, false≢true, length-map-range_with_len, chosen_by}
 use Rattle.asg_level_verdicts.proofs.LevelWhole.{left_by_bits}
 use Rattle.asg_level_verdicts.proofs.level_verdicts.hold_in_all.Goals as goal
 

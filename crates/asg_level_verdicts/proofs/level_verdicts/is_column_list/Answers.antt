@@ -1,7 +1,4 @@
-use Rattle.std.proofs.Common.{◌≡◌, ◌≢◌, ◌∙◌, ◌<◌, ℕ, get_or, refl, sym, subst, arith}
-use Rattle.std.specs.Prelude.{IsTrue}
-use Rattle.std.proofs.lemmas.Bool.{false≢true}
-use Rattle.asg_square.specs.BitTable.{has_bit}
+use Rattle.asg_level_verdicts.proofs.Common.{◌≡◌, ℕ, ◌<◌, ◌≢◌, get_or, IsTrue, sym, refl, ◌∙◌, subst, arith, false≢true, has_bit}
 use Rattle.asg_level_verdicts.proofs.LevelColumns.{apart_next, columns_by, none_by, only_next, seen_next, within_next}
 use Rattle.asg_level_verdicts.proofs.level_verdicts.is_column_list.Goals as goal
 

@@ -1,6 +1,4 @@
-use Rattle.std.proofs.Common.{◌≡◌, ◌≢◌, ◌<◌, ℕ, get_or}
-use Rattle.std.specs.Prelude.{IsTrue, length}
-use Rattle.asg_square.specs.BitTable.{has_bit}
+use Rattle.asg_level_verdicts.proofs.Common.{◌≡◌, ℕ, ◌<◌, ◌≢◌, length, get_or, IsTrue, has_bit}
 use Rattle.asg_level_verdicts.proofs.level_verdicts.is_column_list.Given as goal
 
 -- the columns so far are below the side and different, and are those that were seen

@@ -1,8 +1,4 @@
-use Rattle.std.proofs.Common.{◌≡◌, ◌∙◌, ◌≤◌, length, sym, ap, arith, rules, to_z, of_z, w64}
-use Rattle.std.proofs.lemmas.Bool.{eq-eqb, eqb-true, false≢true}
-use Rattle.std.proofs.lemmas.Int.{to_z-of_z}
-use Rattle.asg_model.specs.Values.{costs_at, costs_of}
-use Rattle.asg_proof.specs.Levels.{is_after}
+use Rattle.asg_level_verdicts.proofs.Common.{◌≡◌, ◌≤◌, length, sym, ap, ◌∙◌, arith, to_z-of_z, w64, to_z, of_z, rules, eq-eqb, eqb-true, false≢true, costs_at, costs_of, is_after}
 use Rattle.asg_level_verdicts.proofs.level_verdicts.is_due.Goals as goal
 
 -- the cost isn't less

@@ -1,8 +1,4 @@
-use Rattle.std.proofs.Common.{◌∙◌, inl, sym, subst, arith}
-use Rattle.std.proofs.lemmas.Bool.{false≢true}
-use Rattle.asg_level_verdicts.specs.LevelReasons.{AreColumns, LevelsStand}
-use Rattle.asg_reasons.specs.Verdicts.{Tells, level_reasons}
-use Rattle.asg_level_verdicts.specs.laws.LevelTold.{no_columns_told}
+use Rattle.asg_level_verdicts.proofs.Common.{sym, ◌∙◌, subst, inl, arith, false≢true, AreColumns, LevelsStand, no_columns_told, Tells, level_reasons}
 use Rattle.asg_level_verdicts.proofs.level_verdicts.levels_verdict.Goals as goal
 
 -- the columns aren't different ones of the square

@@ -1,11 +1,4 @@
-use Rattle.std.proofs.Common.{◌≡◌, ◌∙◌, ℕ, [], Some, refl, sym, ap, subst, rules, to_z, of_z, w64}
-use Rattle.std.proofs.lemmas.Int.{to_z-of_z}
-use Rattle.std.proofs.lemmas.Bool.{false≢true}
-use Rattle.asg_model.specs.Shapes.{square_side}
-use Rattle.asg_square.specs.Cells.{choice_of}
-use Rattle.asg_square.specs.Grid.{cell_at}
-use Rattle.asg_proof.specs.Levels.{is_between, is_zero, left_for, level_square, without}
-use Rattle.asg_level_verdicts.specs.LevelWalks.{IsBehind, IsDue, IsLeft, IsSized}
+use Rattle.asg_level_verdicts.proofs.Common.{◌≡◌, ℕ, [], Some, sym, refl, ap, ◌∙◌, subst, to_z-of_z, w64, to_z, of_z, rules, false≢true, IsBehind, IsDue, IsLeft, IsSized, square_side, is_between, is_zero, left_for, level_square, without, choice_of, cell_at}
 use Rattle.asg_level_verdicts.proofs.LevelTaken.{is_one, left_is, not_due, refused_phases}
 use Rattle.asg_level_verdicts.proofs.level_verdicts.take_level.Goals as goal
 

@@ -1,7 +1,4 @@
-use Rattle.std.proofs.Common.{◌≡◌, ◌∙◌, ◌+◌, ◌<◌, ◌^◌, take, sym, ap, arith, rules}
-use Rattle.std.specs.Prelude.{sum_by}
-use Rattle.std.proofs.lemmas.List.{take_all}
-use Rattle.asg_proof.specs.declared.levels.Level.{Level}
+use Rattle.asg_level_verdicts.proofs.Common.{◌≡◌, ◌+◌, ◌^◌, ◌<◌, take, sum_by, sym, ap, ◌∙◌, arith, take_all, rules, Level}
 use Rattle.asg_level_verdicts.proofs.LevelSums.{total_more}
 use Rattle.asg_level_verdicts.proofs.level_verdicts.total.Goals as goal
 

@@ -1,6 +1,4 @@
-use Rattle.std.proofs.Common.{◌≡◌, ◌≤◌, ◌*◌, ◌^◌, take}
-use Rattle.std.specs.Prelude.{sum_by}
-use Rattle.asg_proof.specs.declared.levels.Level.{Level}
+use Rattle.asg_level_verdicts.proofs.Common.{◌≡◌, ◌*◌, ◌^◌, ◌≤◌, take, sum_by, Level}
 use Rattle.asg_level_verdicts.proofs.level_verdicts.total.Given as goal
 
 -- the counts of the levels so far

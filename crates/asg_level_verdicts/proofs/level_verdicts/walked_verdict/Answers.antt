@@ -1,13 +1,5 @@
-use Rattle.std.proofs.Common.{◌≡◌, ◌∙◌, ◌+◌, suc, inl, sym, ap, subst, arith, length}
-use Rattle.std.specs.Prelude.{pos}
-use Rattle.std.proofs.lemmas.Bool.{false≢true}
-use Rattle.asg_model.specs.Shapes.{square_side}
-use Rattle.asg_proof.specs.Levels.{is_between, without}
+use Rattle.asg_level_verdicts.proofs.Common.{◌≡◌, suc, ◌+◌, length, pos, sym, ap, ◌∙◌, subst, inl, arith, false≢true, LevelsStand, left_before, IsLeft, free_cost, hold_tells, level_tells, not_in_all_told, within_all, square_side, is_between, without, Tells, level_reasons}
 use Rattle.asg_reasons.specs.declared.verdicts.Verdict.TheVariants.{No}
-use Rattle.asg_level_verdicts.specs.LevelReasons.{LevelsStand, left_before}
-use Rattle.asg_level_verdicts.specs.LevelWalks.{IsLeft, free_cost}
-use Rattle.asg_reasons.specs.Verdicts.{Tells, level_reasons}
-use Rattle.asg_level_verdicts.specs.laws.LevelTold.{hold_tells, level_tells, not_in_all_told, within_all}
 use Rattle.asg_level_verdicts.proofs.LevelWhole.{in_the_end}
 use Rattle.asg_level_verdicts.proofs.level_verdicts.walked_verdict.Goals as goal
 

@@ -1,8 +1,4 @@
-use Rattle.std.proofs.Common.{◌≡◌}
-use Rattle.std.proofs.lemmas.Result.{IfOk-weaker}
-use Rattle.asg_model.specs.declared.parts.Cost.{Cost}
-use Rattle.asg_square.specs.Grid.{IsSquareBy}
-use Rattle.asg_level_verdicts.specs.LevelWalks.{IsCostSquare, free_cost}
+use Rattle.asg_level_verdicts.proofs.Common.{◌≡◌, IfOk-weaker, IsCostSquare, free_cost, Cost, IsSquareBy}
 use Rattle.asg_level_verdicts.proofs.level_walks.cost_square.Goals as goal
 
 pub returns-clause-square : goal.returns-clause-square

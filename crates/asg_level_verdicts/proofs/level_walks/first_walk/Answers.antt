@@ -1,5 +1,4 @@
-use Rattle.std.proofs.Common.{◌≡◌, ◌<◌, ◌∙◌, refl, sym, subst, arith}
-use Rattle.asg_model.specs.Shapes.{square_side}
+use Rattle.asg_level_verdicts.proofs.Common.{◌≡◌, ◌<◌, sym, refl, ◌∙◌, subst, arith, square_side}
 use Rattle.asg_level_verdicts.proofs.level_walks.first_walk.Goals as goal
 
 pub returns : goal.returns

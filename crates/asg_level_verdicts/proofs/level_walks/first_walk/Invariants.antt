@@ -1,6 +1,4 @@
-use Rattle.std.proofs.Common.{◌≡◌, ◌<◌, ℕ, is_some}
-use Rattle.asg_square.specs.BitTable.{has_bit}
-use Rattle.asg_square.specs.Grid.{cell_at}
+use Rattle.asg_level_verdicts.proofs.Common.{◌≡◌, ℕ, ◌<◌, is_some, has_bit, cell_at}
 use Rattle.asg_level_verdicts.proofs.level_walks.first_walk.Given as goal
 
 -- the rows so far

@@ -1,4 +1,4 @@
-use Rattle.std.proofs.Common.{◌≡◌, ◌<◌, sym, subst, arith}
+use Rattle.asg_level_verdicts.proofs.Common.{◌≡◌, ◌<◌, sym, subst, arith}
 use Rattle.asg_level_verdicts.proofs.level_walks.keep_zeros.Goals as goal
 
 pub returns-clause-left : goal.returns-clause-left

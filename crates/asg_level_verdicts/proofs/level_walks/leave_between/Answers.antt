@@ -1,11 +1,4 @@
-use Rattle.std.proofs.Common.{◌≡◌, ◌<◌, ◌≤◌, ◌∙◌, ◌&&◌, not, sym, ap, subst, arith, to_z, of_z, w64, ⊎_elim}
-use Rattle.std.proofs.lemmas.Bool.{cases_lt}
-use Rattle.std.proofs.lemmas.Int.{to_z-of_z}
-use Rattle.asg_square.specs.BitTable.{has_bit}
-use Rattle.asg_square.specs.Grid.{cell_at}
-use Rattle.asg_level_verdicts.specs.LevelWalks.{passes_cost}
-use Rattle.asg_model.specs.Shapes.{square_side}
-use Rattle.asg_proof.specs.Levels.{is_between}
+use Rattle.asg_level_verdicts.proofs.Common.{◌≡◌, ◌<◌, ◌≤◌, not, ◌&&◌, sym, ap, ◌∙◌, subst, ⊎_elim, arith, to_z-of_z, w64, to_z, of_z, cases_lt, has_bit, passes_cost, square_side, is_between, cell_at}
 use Rattle.asg_level_verdicts.proofs.LevelCells.{left_without}
 use Rattle.asg_level_verdicts.proofs.level_walks.leave_between.Goals as goal
 

@@ -1,8 +1,4 @@
-use Rattle.std.proofs.Common.{◌≡◌, ◌<◌, ◌≤◌, ◌&&◌, not, ℕ}
-use Rattle.asg_square.specs.BitTable.{has_bit}
-use Rattle.asg_square.specs.Grid.{cell_at}
-use Rattle.asg_proof.specs.Levels.{is_between}
-use Rattle.asg_level_verdicts.specs.LevelWalks.{passes_cost}
+use Rattle.asg_level_verdicts.proofs.Common.{◌≡◌, ℕ, ◌<◌, ◌≤◌, not, ◌&&◌, has_bit, passes_cost, is_between, cell_at}
 use Rattle.asg_level_verdicts.proofs.level_walks.leave_row.Given as goal
 
 -- the columns so far are those that stay, the others are as before

@@ -1,12 +1,4 @@
-use Rattle.std.proofs.Common.{◌≡◌, ◌≤◌, ◌<◌, ◌∙◌, ◌⊎◌, inl, inr, sym, ap, subst, arith, to_z, of_z, w64, ⊎_elim}
-use Rattle.std.proofs.lemmas.Int.{to_z-of_z}
-use Rattle.asg_square.specs.BitTable.{has_bit}
-use Rattle.asg_square.specs.Grid.{Grid}
-use Rattle.asg_level_verdicts.specs.LevelWalks.{level_value}
-use Rattle.std.proofs.lemmas.Bool.{cases_lt}
-use Rattle.asg_model.specs.Shapes.{square_side}
-use Rattle.asg_proof.specs.Levels.{level_square}
-use Rattle.asg_square.specs.Grid.{cell_at}
+use Rattle.asg_level_verdicts.proofs.Common.{◌≡◌, ◌<◌, ◌≤◌, ◌⊎◌, sym, ap, ◌∙◌, subst, inl, inr, ⊎_elim, arith, to_z-of_z, w64, to_z, of_z, cases_lt, has_bit, level_value, square_side, level_square, Grid, cell_at}
 use Rattle.asg_level_verdicts.proofs.LevelCells.{level_cell_is}
 use Rattle.asg_level_verdicts.proofs.LevelStarts.{outside_none, outside_level, level_value_is, unit_is_value}
 use Rattle.asg_level_verdicts.proofs.level_walks.level_start.Goals as goal

@@ -1,9 +1,4 @@
-use Rattle.std.proofs.Common.{◌≡◌, ◌<◌, ◌≤◌, ◌∙◌, sym, ap, subst, arith, to_z, of_z, w64, ⊎_elim}
-use Rattle.std.proofs.lemmas.Int.{to_z-of_z}
-use Rattle.std.proofs.lemmas.Bool.{cases_lt}
-use Rattle.asg_square.specs.BitTable.{has_bit}
-use Rattle.asg_square.specs.Grid.{Grid, cell_at}
-use Rattle.asg_level_verdicts.specs.LevelWalks.{level_value}
+use Rattle.asg_level_verdicts.proofs.Common.{◌≡◌, ◌<◌, ◌≤◌, sym, ap, ◌∙◌, subst, ⊎_elim, arith, to_z-of_z, w64, to_z, of_z, cases_lt, has_bit, level_value, Grid, cell_at}
 use Rattle.asg_level_verdicts.proofs.LevelStarts.{set_here, set_elsewhere}
 use Rattle.asg_level_verdicts.proofs.level_walks.set_row.Goals as goal
 

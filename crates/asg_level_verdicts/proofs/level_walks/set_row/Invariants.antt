@@ -1,7 +1,4 @@
-use Rattle.std.proofs.Common.{◌≡◌, ◌<◌, ℕ}
-use Rattle.asg_square.specs.BitTable.{has_bit}
-use Rattle.asg_square.specs.Grid.{cell_at}
-use Rattle.asg_level_verdicts.specs.LevelWalks.{level_value}
+use Rattle.asg_level_verdicts.proofs.Common.{◌≡◌, ℕ, ◌<◌, has_bit, level_value, cell_at}
 use Rattle.asg_level_verdicts.proofs.level_walks.set_row.Given as goal
 
 -- the columns so far

@@ -1,7 +1,4 @@
-use Rattle.std.proofs.Common.{◌∙◌, ◌&&◌, not, sym, ap, w64}
-use Rattle.std.proofs.lemmas.Int.{to_z-of_z}
-use Rattle.asg_proof.specs.Levels.{is_between}
-use Rattle.asg_level_verdicts.specs.LevelWalks.{passes_cost}
+use Rattle.asg_level_verdicts.proofs.Common.{not, ◌&&◌, sym, ap, ◌∙◌, to_z-of_z, w64, passes_cost, is_between}
 use Rattle.asg_level_verdicts.proofs.level_walks.stays.Goals as goal
 
 pub returns-then-is_left : goal.returns-then-is_left

@@ -1,8 +1,4 @@
-use Rattle.std.proofs.Common.{◌≡◌, Some, subst, arith, ⊎_elim}
-use Rattle.std.proofs.lemmas.Bool.{cases_eq}
-use Rattle.std.proofs.lemmas.Option.{slice_get_within}
-use Rattle.asg_model.specs.Live.{live_at}
-use Rattle.asg_model.specs.ValidChoice.{Chooses}
+use Rattle.asg_lex.proofs.Common.{◌≡◌, Some, subst, ⊎_elim, arith, cases_eq, slice_get_within, live_at, Chooses}
 use Rattle.asg_lex.proofs.choice_limits.limit_of.Goals as goal
 
 pub loop-row-preserved : goal.loop-row-preserved

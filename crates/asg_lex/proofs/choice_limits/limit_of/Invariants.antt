@@ -1,6 +1,4 @@
-use Rattle.std.proofs.Common.{◌+◌, ◌<◌, ◌≤◌}
-use Rattle.asg_live_cells.specs.Grades.{most_grade}
-use Rattle.asg_lex.specs.Starts.{AreUnderBefore}
+use Rattle.asg_lex.proofs.Common.{◌+◌, ◌<◌, ◌≤◌, AreUnderBefore, most_grade}
 use Rattle.asg_lex.proofs.choice_limits.limit_of.Given as goal
 
 -- the rows so far

@@ -1,5 +1,4 @@
-use Rattle.std.proofs.Common.{◌≡◌, ◌∙◌, subst, arith}
-use Rattle.asg_lex.specs.Groups.{FreesNamed}
+use Rattle.asg_lex.proofs.Common.{◌≡◌, ◌∙◌, subst, arith, FreesNamed}
 use Rattle.asg_lex.proofs.GroupSteps.{named_more}
 use Rattle.asg_lex.proofs.groups.free_rows.Goals as goal
 

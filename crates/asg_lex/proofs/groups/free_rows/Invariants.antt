@@ -1,5 +1,4 @@
-use Rattle.std.proofs.Common.{◌≡◌, ◌≤◌, length}
-use Rattle.asg_lex.specs.Groups.{FreesNamed}
+use Rattle.asg_lex.proofs.Common.{◌≡◌, ◌≤◌, length, FreesNamed}
 use Rattle.asg_lex.proofs.groups.free_rows.Given as goal
 
 -- the cells of the entries so far

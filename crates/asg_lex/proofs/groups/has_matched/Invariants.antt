@@ -1,6 +1,4 @@
-use Rattle.std.proofs.Common.{◌≤◌, ◌<◌, ℕ}
-use Rattle.asg_match.specs.Matching.{Matches}
-use Rattle.asg_live_cells.specs.LiveCells.{entry_at}
+use Rattle.asg_lex.proofs.Common.{ℕ, ◌<◌, ◌≤◌, entry_at, Matches}
 use Rattle.asg_lex.proofs.groups.has_matched.Given as goal
 
 -- none so far

@@ -1,12 +1,4 @@
-use Rattle.std.proofs.Common.{◌≡◌, ◌<◌, ◌≤◌, ◌∙◌, ℕ, Bool, true, false, not, List, [], ◌∷◌, length, refl, sym, subst, ap, arith}
-use Rattle.std.specs.Prelude.{◌==◌}
-use Rattle.std.proofs.lemmas.Bool.{false≢true, eqb-true}
-use Rattle.asg_match.specs.Matching.{IsPerfect}
-use Rattle.asg_square.specs.Cells.{IsAssignment}
-use Rattle.asg_square.specs.BitTable.{BitTable}
-use Rattle.asg_live_cells.specs.Marks.{IsMarked, MarksFewer}
-use Rattle.asg_levels.specs.UnitSteps.{bit_square}
-use Rattle.asg_lex.specs.LevelWork.{IsUnderway}
+use Rattle.asg_lex.proofs.Common.{◌≡◌, ℕ, ◌<◌, ◌≤◌, Bool, true, false, not, List, [], ◌∷◌, length, ◌==◌, sym, refl, ap, ◌∙◌, subst, arith, eqb-true, false≢true, BitTable, bit_square, IsUnderway, IsMarked, MarksFewer, IsPerfect, IsAssignment}
 use Rattle.asg_lex.proofs.GroupLemmas.{perfect_of, marked_none}
 use Rattle.asg_lex.proofs.GroupSteps.{freed_named}
 use Rattle.asg_lex.proofs.groups.take_group.Goals as goal

@@ -1,4 +1,4 @@
-use Rattle.std.proofs.Common.{◌≤◌}
+use Rattle.asg_lex.proofs.Common.{◌≤◌}
 use Rattle.asg_lex.proofs.guesses.lowered.Given as goal
 
 -- no more rows are counted than were seen

@@ -1,4 +1,4 @@
-use Rattle.asg_proof.specs.laws.LevelTurns.{left_last-is}
+use Rattle.asg_lex.proofs.Common.{left_last-is}
 use Rattle.asg_lex.proofs.laws.last_law.Goals as goal
 
 pub returns : goal.returns

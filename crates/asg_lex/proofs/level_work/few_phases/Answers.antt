@@ -1,6 +1,4 @@
-use Rattle.asg_proof.specs.Levels.{numbers_of}
-use Rattle.asg_levels.specs.UnitSteps.{bit_square}
-use Rattle.asg_levels.specs.laws.UnitLists.{HasSide-bits}
+use Rattle.asg_lex.proofs.Common.{bit_square, HasSide-bits, numbers_of}
 use Rattle.asg_lex.proofs.WorkSteps.{HasValues-bits, phases_few}
 use Rattle.asg_lex.proofs.level_work.few_phases.Goals as goal
 

@@ -1,7 +1,4 @@
-use Rattle.std.proofs.Common.{◌≡◌, ◌⊎◌, ◌<◌, ℕ, length}
-use Rattle.asg_match.specs.Matching.{AllAllowed, IsMatched}
-use Rattle.asg_live_cells.specs.Marks.{IsMarked}
-use Rattle.asg_lex.specs.LevelWork.{IsUnderway, IsNamedRow, GoesOn}
+use Rattle.asg_lex.proofs.Common.{◌≡◌, ℕ, ◌<◌, ◌⊎◌, length, IsUnderway, IsNamedRow, GoesOn, IsMarked, AllAllowed, IsMatched}
 use Rattle.asg_lex.proofs.level_work.serve_named.Given as goal
 
 -- only rows of the entries from the place on may be without a column

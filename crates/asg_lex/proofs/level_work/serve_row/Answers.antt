@@ -1,10 +1,5 @@
-use Rattle.std.proofs.Common.{◌≡◌, ◌<◌, ◌∙◌, length, refl, sym, subst, ap, arith, rules}
-use Rattle.std.specs.Prelude.{◌≢◌, All, AllPairs, None}
+use Rattle.asg_lex.proofs.Common.{◌≡◌, ◌<◌, ◌≢◌, length, None, All, AllPairs, sym, refl, ap, ◌∙◌, subst, arith, rules, IsUnderway, IsMarked, IsStuck, AllAllowed, IsMatched, column_at}
 use Rattle.asg_match.specs.declared.augmentation.Grown.TheVariants.{Longer, Short}
-use Rattle.asg_match.specs.Augmentation.{IsStuck}
-use Rattle.asg_match.specs.Matching.{AllAllowed, IsMatched, column_at}
-use Rattle.asg_live_cells.specs.Marks.{IsMarked}
-use Rattle.asg_lex.specs.LevelWork.{IsUnderway}
 use Rattle.asg_lex.proofs.level_work.serve_row.Goals as goal
 
 pub steps-init : goal.steps-init

@@ -1,7 +1,4 @@
-use Rattle.std.proofs.Common.{◌≡◌, ◌-◌, ◌≤◌, length}
-use Rattle.asg_match.specs.Matching.{AllAllowed}
-use Rattle.asg_live_cells.specs.Marks.{IsMarked}
-use Rattle.asg_lex.specs.LevelWork.{IsUnderway, GoesOn}
+use Rattle.asg_lex.proofs.Common.{◌≡◌, ◌-◌, ◌≤◌, length, IsUnderway, GoesOn, IsMarked, AllAllowed}
 use Rattle.asg_lex.proofs.level_work.serve_row.Given as goal
 
 abbrev pub invariant-steps : goal.invariant-steps

@@ -1,17 +1,4 @@
-use Rattle.std.proofs.Common.{◌∙◌, ◌∷◌, [], ◌++◌, ◌<◌, ◌≤◌, ℕ, Bool, true, false, length, cond, refl, sym, subst, ap, arith}
-use Rattle.std.specs.Prelude.{All}
-use Rattle.asg_order.specs.declared.words.Word.{Word}
-use Rattle.std.proofs.lemmas.List.Elements.{All-push}
-use Rattle.asg_proof.specs.Phases.{PhaseOf, IsPhase, ArePhases}
-use Rattle.asg_proof.specs.PromisedProofs.{IsUnitPhase}
-use Rattle.asg_match.specs.Augmentation.{IsStuck}
-use Rattle.asg_match.specs.Matching.{AllAllowed}
-use Rattle.asg_live_cells.specs.Marks.{IsMarked}
-use Rattle.asg_lex.specs.declared.level_work.Work.{Work}
-use Rattle.asg_lex.specs.LevelWork.{IsUnderway, square_now}
-use Rattle.asg_levels.specs.Tight.{Tightens}
-use Rattle.asg_levels.specs.UnitSteps.{CountsStep}
-use Rattle.asg_levels.specs.laws.UnitLists.{counts_more}
+use Rattle.asg_lex.proofs.Common.{ℕ, ◌<◌, ◌≤◌, Bool, true, false, cond, [], ◌∷◌, ◌++◌, length, All, sym, refl, ap, ◌∙◌, subst, arith, All-push, Tightens, CountsStep, counts_more, IsUnderway, square_now, Work, IsMarked, IsStuck, AllAllowed, Word, PhaseOf, IsPhase, ArePhases, IsUnitPhase}
 use Rattle.asg_lex.proofs.WorkSteps.{ArePhasesSoFar, phases_more, matched_more}
 use Rattle.asg_lex.proofs.StepMarks.{zeros_tight, next_by}
 use Rattle.asg_lex.proofs.level_work.step.Goals as goal

@@ -1,13 +1,4 @@
-use Rattle.std.proofs.Common.{◌≡◌, ◌∙◌, true, ℕ, List, Option, length, is_some, sym, subst, ap, arith}
-use Rattle.std.proofs.lemmas.List.Sums.{count_by-le-length}
-use Rattle.asg_model.specs.Problem.{Problem}
-use Rattle.asg_model.specs.Shapes.{square_side}
-use Rattle.asg_model.specs.ValidChoice.{IsValid}
-use Rattle.asg_square.specs.Cells.{choice_of}
-use Rattle.asg_square.specs.Grid.{Grid, IsPerm, grid_choice}
-use Rattle.asg_proof.specs.declared.levels.Level.{Level}
-use Rattle.asg_proof.specs.Levels.{ProvesLevels}
-use Rattle.asg_live_cells.specs.Grades.{free_grade, grade_of}
+use Rattle.asg_lex.proofs.Common.{◌≡◌, ℕ, true, List, length, is_some, Option, sym, ap, ◌∙◌, subst, arith, count_by-le-length, free_grade, grade_of, Problem, square_side, IsValid, ProvesLevels, Level, choice_of, Grid, IsPerm, grid_choice}
 use Rattle.asg_lex.proofs.StartLemmas.{perm_of_left}
 use Rattle.asg_lex.proofs.outcomes.best_of.Goals as goal
 

@@ -1,10 +1,5 @@
-use Rattle.std.proofs.Common.{length, sym, subst, ap, arith}
-use Rattle.std.specs.Prelude.{FitsSigned}
+use Rattle.asg_lex.proofs.Common.{length, FitsSigned, sym, ap, subst, arith, to_z-of_z, All-push, AreLevelParts, IsLevelPart, ArePhases}
 use Rattle.std.specs.Int.{w64}
-use Rattle.std.proofs.lemmas.List.Elements.{All-push}
-use Rattle.std.proofs.lemmas.Int.{to_z-of_z}
-use Rattle.asg_proof.specs.Phases.{ArePhases}
-use Rattle.asg_proof.specs.LevelLists.{AreLevelParts, IsLevelPart}
 use Rattle.asg_lex.proofs.runs.add_level.Goals as goal
 
 pub from_vec-requires : goal.from_vec-requires

@@ -1,4 +1,4 @@
-use Rattle.std.proofs.Common.{ℕ}
+use Rattle.asg_lex.proofs.Common.{ℕ}
 use Rattle.asg_lex.specs.RunStates.{IsRun}
 use Rattle.asg_lex.proofs.runs.take_all.Given as goal
 

@@ -1,17 +1,4 @@
-use Rattle.std.proofs.Common.{◌≡◌, ◌≤◌, ◌+◌, ◌-◌, ◌∙◌, ℕ, false, List, length, get_or, refl, sym, subst, ap, arith}
-use Rattle.asg_match.specs.Matching.{IsPerfect}
-use Rattle.std.specs.Prelude.{All}
-use Rattle.std.proofs.lemmas.List.Elements.{All-push}
-use Rattle.asg_model.specs.Shapes.{square_side}
-use Rattle.asg_square.specs.BitTable.{BitTable}
-use Rattle.asg_proof.specs.PromisedProofs.{IsUnitLevel, IsUnitPhase}
-use Rattle.asg_live_cells.specs.declared.live_cells.Entry.{Entry}
-use Rattle.asg_live_cells.specs.Marks.{IsMarked}
-use Rattle.asg_lex.specs.LevelWork.{AreSized, LeavesOut, TakesLevel}
-use Rattle.asg_live_cells.specs.declared.marks.Marks.{Marks}
-use Rattle.asg_live_cells.specs.Grades.{cost_of}
-use Rattle.asg_live_cells.specs.LiveCells.{entry_of, entry_at, IsPlaceOf}
-use Rattle.asg_lex.specs.Runs.{AreMarksOf}
+use Rattle.asg_lex.proofs.Common.{◌≡◌, ℕ, ◌+◌, ◌-◌, ◌≤◌, false, List, length, get_or, All, sym, refl, ap, ◌∙◌, subst, arith, All-push, BitTable, AreSized, LeavesOut, TakesLevel, AreMarksOf, cost_of, entry_of, entry_at, IsPlaceOf, IsMarked, Entry, Marks, IsPerfect, square_side, IsUnitLevel, IsUnitPhase}
 use Rattle.asg_lex.proofs.RunLemmas.{marks_out, marks_level}
 use Rattle.asg_lex.proofs.runs.take_cost.Goals as goal
 

@@ -1,7 +1,4 @@
-use Rattle.std.proofs.Common.{◌<◌, ◌∙◌, false, sym, subst}
-use Rattle.asg_match.specs.Matching.{IsPerfect}
-use Rattle.asg_model.specs.Shapes.{square_side}
-use Rattle.asg_live_cells.specs.Marks.{IsMarked}
+use Rattle.asg_lex.proofs.Common.{◌<◌, false, sym, ◌∙◌, subst, IsMarked, IsPerfect, square_side}
 use Rattle.asg_lex.proofs.RunLemmas.{left_assignment}
 use Rattle.asg_lex.proofs.runs.write_columns.Goals as goal
 

@@ -1,15 +1,4 @@
-use Rattle.std.proofs.Common.{◌≡◌, ◌∙◌, [], ℕ, sym, subst, arith}
-use Rattle.std.specs.Prelude.{All}
-use Rattle.std.proofs.lemmas.List.Elements.{All-nil}
-use Rattle.asg_match.specs.Matching.{IsPerfect}
-use Rattle.asg_model.specs.Shapes.{square_side}
-use Rattle.asg_proof.specs.LevelLists.{AreLevelParts, IsLevelPart}
-use Rattle.asg_proof.specs.PromisedProofs.{IsUnitLevel}
-use Rattle.asg_live_cells.specs.declared.marks.Marks.{Marks}
-use Rattle.asg_live_cells.specs.Grades.{free_grade, grade_of}
-use Rattle.asg_live_cells.specs.Marks.{IsMarked}
-use Rattle.asg_lex.specs.LevelWork.{AreSized}
-use Rattle.asg_lex.specs.Runs.{AreMarksOf}
+use Rattle.asg_lex.proofs.Common.{◌≡◌, ℕ, [], All, sym, ◌∙◌, subst, arith, All-nil, AreSized, AreMarksOf, free_grade, grade_of, IsMarked, Marks, IsPerfect, square_side, AreLevelParts, IsLevelPart, IsUnitLevel}
 use Rattle.asg_lex.proofs.StartLemmas.{first_place, first_marks}
 use Rattle.asg_lex.proofs.starts.first_run.Goals as goal
 

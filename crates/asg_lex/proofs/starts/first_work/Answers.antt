@@ -1,5 +1,4 @@
-use Rattle.std.proofs.Common.{◌≡◌, ◌*◌, length, refl, rules}
-use Rattle.asg_square.specs.BitTable.{word_count}
+use Rattle.asg_lex.proofs.Common.{◌≡◌, ◌*◌, length, refl, rules, word_count}
 use Rattle.asg_lex.proofs.starts.first_work.Goals as goal
 
 pub returns : goal.returns

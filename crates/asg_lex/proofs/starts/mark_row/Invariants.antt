@@ -1,7 +1,4 @@
-use Rattle.std.proofs.Common.{◌≡◌, ◌*◌, ◌<◌, ℕ}
-use Rattle.asg_square.specs.BitTable.{has_bit, word_count}
-use Rattle.asg_square.specs.Grid.{cell_at}
-use Rattle.asg_live_cells.specs.UnderWords.{is_under}
+use Rattle.asg_lex.proofs.Common.{◌≡◌, ℕ, ◌*◌, ◌<◌, has_bit, word_count, is_under, cell_at}
 use Rattle.asg_lex.proofs.starts.mark_row.Given as goal
 
 -- the words so far

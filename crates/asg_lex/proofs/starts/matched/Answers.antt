@@ -1,8 +1,4 @@
-use Rattle.std.proofs.Common.{refl, sym, subst}
-use Rattle.asg_model.specs.declared.bands.Band.TheVariants.{Under}
-use Rattle.asg_match.specs.HallSets.{AllowsCells}
-use Rattle.asg_live_cells.specs.Grades.{cost_of}
-use Rattle.asg_live_cells.specs.Marks.{IsMarked}
+use Rattle.asg_lex.proofs.Common.{sym, refl, subst, cost_of, IsMarked, AllowsCells, Under}
 use Rattle.asg_lex.proofs.StartLemmas.{marks_band, lies_in_band}
 use Rattle.asg_lex.proofs.starts.matched.Goals as goal
 

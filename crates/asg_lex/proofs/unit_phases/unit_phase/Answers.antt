@@ -1,10 +1,5 @@
-use Rattle.std.proofs.Common.{◌≡◌, ◌↔◌, ◌∙◌, ℕ, List, length, get_or, sym, subst, rules}
-use Rattle.std.specs.Prelude.{Contains, Option}
-use Rattle.std.proofs.lemmas.List.{get_or_default}
-use Rattle.asg_match.specs.Matching.{Matches}
+use Rattle.asg_lex.proofs.Common.{◌≡◌, ℕ, ◌↔◌, List, length, get_or, Contains, Option, sym, ◌∙◌, subst, rules, get_or_default, IsAmong, IsMatchedAmong, AreZeroAt, SplitsTree, Matches}
 use Rattle.asg_match.specs.Deficient.{IsColumnOf}
-use Rattle.asg_lex.specs.Marked.{IsAmong, IsMatchedAmong, AreZeroAt}
-use Rattle.asg_lex.specs.UnitPhases.{SplitsTree}
 use Rattle.asg_lex.proofs.unit_phases.unit_phase.Goals as goal
 
 among_is : (rows : List ℕ) (r : ℕ) → IsAmong rows (length rows) r ↔ Contains rows r

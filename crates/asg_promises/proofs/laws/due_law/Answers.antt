@@ -1,5 +1,4 @@
-use Rattle.std.proofs.Common.{◌∙◌, inl, inr, ap}
-use Rattle.asg_promises.specs.Requests.{asked_of}
+use Rattle.asg_promises.proofs.Common.{ap, ◌∙◌, inl, inr, asked_of}
 use Rattle.asg_promises.proofs.DueLaws.{Known, due_once, is_brief}
 use Rattle.asg_promises.proofs.laws.due_law.Goals as goal
 

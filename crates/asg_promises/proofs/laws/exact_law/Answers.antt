@@ -1,5 +1,4 @@
-use Rattle.std.proofs.Common.{subst}
-use Rattle.asg_promises.specs.Requests.{asked_of}
+use Rattle.asg_promises.proofs.Common.{subst, asked_of}
 use Rattle.asg_promises.proofs.StageLaws.{AllShort, exact_usage, exact_too_long, exact_refused, job_due}
 use Rattle.asg_promises.proofs.laws.exact_law.Goals as goal
 

@@ -1,4 +1,4 @@
-use Rattle.asg_promises.specs.Requests.{asked_of}
+use Rattle.asg_promises.proofs.Common.{asked_of}
 use Rattle.asg_promises.proofs.StageLaws.{usage_only}
 use Rattle.asg_promises.proofs.laws.usage_law.Goals as goal
 

@@ -1,7 +1,4 @@
-use Rattle.std.proofs.Common.{◌≡◌, ℕ, ◌<◌, length}
-use Rattle.std.specs.Prelude.{slice_get}
-use Rattle.std.specs.Option.{option_map}
-use Rattle.asg_samples.specs.Parts.{row_at}
+use Rattle.asg_samples.proofs.Common.{◌≡◌, ℕ, ◌<◌, length, slice_get, option_map, row_at}
 use Rattle.asg_samples.proofs.parts.rows_of.Given as goal
 
 -- the rows so far

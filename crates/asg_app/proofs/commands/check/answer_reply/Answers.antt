@@ -1,11 +1,4 @@
-use Rattle.std.proofs.Common.{◌≡◌, ◌∙◌, ap, refl, sym, subst}
-use Rattle.asg_doc.specs.Text.{texts_of}
-use Rattle.asg_answers.specs.Replies.{Answers}
-use Rattle.std.specs.Prelude.{IfOk}
-use Rattle.asg_scripts.specs.Scripts.{solved_instances}
-use Rattle.asg_answers.specs.declared.status.Status.TheVariants.{Document}
-use Rattle.asg_promises.specs.DueToCheck.{DueToCheck, NotRead}
-use Rattle.asg_answers.specs.Texts.{refused_document_text}
+use Rattle.asg_app.proofs.Common.{◌≡◌, IfOk, sym, refl, ap, ◌∙◌, subst, Answers, refused_document_text, Document, texts_of, DueToCheck, NotRead, solved_instances}
 use Rattle.asg_app.proofs.ReplyLemmas.{replied}
 use Rattle.asg_app.proofs.commands.check.answer_reply.Goals as goal
 

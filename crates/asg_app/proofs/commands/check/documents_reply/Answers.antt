@@ -1,12 +1,5 @@
-use Rattle.std.proofs.Common.{◌∙◌, refl, sym}
-use Rattle.asg_doc.specs.Text.{texts_of}
-use Rattle.asg_scripts.specs.Scripts.{solved_instances}
-use Rattle.asg_answers.specs.declared.status.Status.TheVariants.{Document}
-use Rattle.asg_promises.specs.DueToCheck.{DueToCheck, Miscounted, Read}
-use Rattle.asg_promises.specs.DueToJudge.{DueToJudge}
-use Rattle.asg_answers.specs.Texts.{refused_document_text}
+use Rattle.asg_app.proofs.Common.{sym, refl, ◌∙◌, refused_document_text, Document, texts_of, DueToCheck, Miscounted, Read, DueToJudge, solved_count, solved_instances}
 use Rattle.asg_app.proofs.ReplyLemmas.{owed_as, replied}
-use Rattle.asg_scripts.specs.Laws.{solved_count}
 use Rattle.asg_app.proofs.commands.check.documents_reply.Goals as goal
 
 pub returns-then-found-due : goal.returns-then-found-due

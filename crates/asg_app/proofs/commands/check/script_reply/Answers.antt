@@ -1,15 +1,4 @@
-use Rattle.std.proofs.Common.{◌≡◌, ℕ, List, None, sym, subst}
-use Rattle.std.specs.Prelude.{IfOk}
-use Rattle.std.proofs.lemmas.Result.{IfOk-weaker}
-use Rattle.asg_check.specs.declared.document_forms.Form.TheVariants.{Edit}
-use Rattle.asg_answers.specs.declared.status.Status.{Status}
-use Rattle.asg_scripts.specs.Laws.{held_passes}
-use Rattle.asg_scripts.specs.Scripts.{first_refused, script_in, solved_instances}
-use Rattle.asg_text.specs.declared.script_lines.Line.{Line}
-use Rattle.asg_answers.specs.Replies.{Answers}
-use Rattle.asg_promises.specs.DueToCheck.{DueToCheck}
-use Rattle.asg_promises.specs.ScriptStage.{DueForScript}
-use Rattle.asg_app.specs.Stops.{StopsScript}
+use Rattle.asg_app.proofs.Common.{◌≡◌, ℕ, List, IfOk, None, sym, subst, IfOk-weaker, Answers, Status, StopsScript, Edit, DueToCheck, DueForScript, held_passes, first_refused, script_in, solved_instances, Line}
 use Rattle.asg_app.proofs.JudgeStops.{refused_due}
 use Rattle.asg_app.proofs.commands.check.script_reply.Goals as goal
 

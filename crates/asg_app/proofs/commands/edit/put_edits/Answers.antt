@@ -1,9 +1,5 @@
-use Rattle.std.proofs.Common.{◌≡◌, None, sym, subst}
-use Rattle.asg_promises.specs.Sources.{content_at}
-use Rattle.asg_answers.specs.WrittenLines.{WritesAll, WritesFront}
-use Rattle.asg_scripts.specs.Scripts.{first_refused}
+use Rattle.asg_app.proofs.Common.{◌≡◌, None, sym, subst, WritesAll, WritesFront, content_at, held_passes, first_refused}
 use Rattle.asg_app.proofs.EditEnds.{Ends-done, Ends-fault, Ends-wanting, edits_algebraic, word_of}
-use Rattle.asg_scripts.specs.Laws.{held_passes}
 use Rattle.asg_app.proofs.commands.edit.put_edits.Goals as goal
 
 pub put_lines-requires : goal.put_lines-requires

@@ -1,8 +1,4 @@
-use Rattle.std.proofs.Common.{inl, true, Some, subst}
-use Rattle.asg_requests.specs.declared.requests.Request.TheVariants.{Work}
-use Rattle.asg_answers.specs.Replies.{bytes_of}
-use Rattle.asg_promises.specs.Due.{DueForJob, DueForPart}
-use Rattle.asg_app.specs.Edits.{StopsJob}
+use Rattle.asg_app.proofs.Common.{true, Some, subst, inl, bytes_of, StopsJob, DueForJob, DueForPart, Work}
 use Rattle.asg_app.proofs.EditEnds.{Ends-nothing, Ends-owed}
 use Rattle.asg_app.proofs.commands.edit.put_stop.Goals as goal
 

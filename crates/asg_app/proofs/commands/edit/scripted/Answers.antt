@@ -1,10 +1,5 @@
-use Rattle.std.proofs.Common.{◌≡◌, subst}
-use Rattle.std.proofs.lemmas.Result.{IfErr-weaker}
-use Rattle.asg_app.specs.Edits.{StopsJob}
-use Rattle.asg_app.specs.Stops.{StopsScript}
+use Rattle.asg_app.proofs.Common.{◌≡◌, subst, IfErr-weaker, StopsJob, StopsScript, content_at, HoldsLines, script_in}
 use Rattle.asg_app.specs.declared.stops.Stop.TheVariants.{NoMemory}
-use Rattle.asg_promises.specs.Sources.{content_at}
-use Rattle.asg_scripts.specs.Scripts.{HoldsLines, script_in}
 use Rattle.asg_app.proofs.EditEnds.{IsStarted-opened, edits_algebraic, script_stop, wanting_stop}
 use Rattle.asg_app.proofs.commands.edit.scripted.Goals as goal
 

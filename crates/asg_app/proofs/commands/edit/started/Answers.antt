@@ -1,6 +1,4 @@
-use Rattle.std.proofs.Common.{◌≡◌, subst}
-use Rattle.asg_promises.specs.InstanceFile.{Holds, instance_in}
-use Rattle.asg_app.specs.Stops.{StopsInstance}
+use Rattle.asg_app.proofs.Common.{◌≡◌, subst, StopsInstance, Holds, instance_in}
 use Rattle.asg_app.proofs.EditEnds.{instance_stop}
 use Rattle.asg_app.proofs.commands.edit.started.Goals as goal
 

@@ -1,4 +1,4 @@
-use Rattle.std.proofs.Common.{◌∙◌, sym}
+use Rattle.asg_app.proofs.Common.{sym, ◌∙◌}
 use Rattle.asg_app.proofs.commands.judge.acceptance.Goals as goal
 
 pub returns : goal.returns

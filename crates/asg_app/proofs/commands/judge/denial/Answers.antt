@@ -1,6 +1,4 @@
-use Rattle.std.proofs.Common.{◌∙◌}
-use Rattle.std.specs.Int.{w64}
-use Rattle.std.proofs.lemmas.Int.{to_z-of_z}
+use Rattle.asg_app.proofs.Common.{◌∙◌, to_z-of_z, w64}
 use Rattle.asg_app.proofs.ReplyLemmas.{no_said}
 use Rattle.asg_app.proofs.commands.judge.denial.Goals as goal
 

@@ -1,8 +1,4 @@
-use Rattle.std.proofs.Common.{◌+◌, ◌∙◌, ap, sym, subst}
-use Rattle.std.specs.Int.{w64}
-use Rattle.std.proofs.lemmas.Int.{to_z-of_z}
-use Rattle.asg_doc.specs.HasText.{HasText}
-use Rattle.asg_answers.specs.Texts.{no_text}
+use Rattle.asg_app.proofs.Common.{◌+◌, sym, ap, ◌∙◌, subst, to_z-of_z, no_text, HasText, w64}
 use Rattle.asg_app.proofs.JudgeLemmas.{judges_certified, judges_denied}
 use Rattle.asg_app.proofs.ReasonPlaces.{place_fits}
 use Rattle.asg_app.proofs.commands.judge.judge_document.Goals as goal

@@ -1,11 +1,4 @@
-use Rattle.std.proofs.Common.{◌≡◌, ◌≤◌, ◌+◌, ◌∷◌, ◌∙◌, None, ap, length, sym, subst, arith}
-use Rattle.std.proofs.lemmas.Result.{IfOk-weaker}
-use Rattle.asg_model.specs.Limits.{most_side}
-use Rattle.asg_model.specs.Refused.{PassesNegative}
-use Rattle.asg_model.specs.Shapes.{square_side}
-use Rattle.asg_scripts.specs.Scripts.{after_line, line_refusal, solved_instances}
-use Rattle.asg_scripts.specs.SolveLines.{solves}
-use Rattle.asg_app.specs.Solves.{JudgesOn}
+use Rattle.asg_app.proofs.Common.{◌≡◌, ◌+◌, ◌≤◌, ◌∷◌, length, None, sym, ap, ◌∙◌, subst, arith, IfOk-weaker, JudgesOn, most_side, PassesNegative, square_side, after_line, line_refusal, solved_instances, solves}
 use Rattle.asg_app.proofs.JudgeLemmas.{judges_edit}
 use Rattle.asg_app.proofs.commands.judge.judge_line.Goals as goal
 

@@ -1,5 +1,4 @@
-use Rattle.std.proofs.Common.{◌+◌, ap}
-use Rattle.std.proofs.lemmas.Result.{IfOk-weaker}
+use Rattle.asg_app.proofs.Common.{◌+◌, ap, IfOk-weaker}
 use Rattle.asg_app.proofs.JudgeLemmas.{IsJudging-first, IsJudging-more, judged_all, judged_denied, line_tried, line_within}
 use Rattle.asg_app.proofs.commands.judge.verdict.Goals as goal
 

@@ -1,4 +1,4 @@
-use Rattle.std.proofs.Common.{subst, sym}
+use Rattle.asg_app.proofs.Common.{sym, subst}
 use Rattle.asg_text.specs.RectTexts.{IsPlain}
 use Rattle.asg_promises.specs.laws.MadeInstances.{generated_is_plain}
 use Rattle.asg_app.proofs.commands.make.reply.Goals as goal

@@ -1,5 +1,4 @@
-use Rattle.std.proofs.Common.{subst}
-use Rattle.asg_brief.specs.BriefLines.{IsBriefRanking}
+use Rattle.asg_app.proofs.Common.{subst, IsBriefRanking}
 use Rattle.asg_app.proofs.BriefReplies.{ranked_line_due, none_line_due}
 use Rattle.asg_app.proofs.commands.rank.line_reply.Goals as goal
 

@@ -1,5 +1,4 @@
-use Rattle.std.proofs.Common.{refl}
-use Rattle.asg_promises.specs.DueToRank.{Unrankable}
+use Rattle.asg_app.proofs.Common.{refl, Unrankable}
 use Rattle.asg_app.proofs.commands.rank.none_reply.Goals as goal
 
 pub returns : goal.returns

@@ -1,8 +1,4 @@
-use Rattle.std.proofs.Common.{refl, sym, subst}
-use Rattle.asg_doc.specs.Text.{text_of}
-use Rattle.asg_answers.specs.declared.status.Status.TheVariants.{Done}
-use Rattle.asg_answers.specs.Tellings.{TellsRanking}
-use Rattle.asg_promises.specs.DueToRank.{DueToRank, Ranked}
+use Rattle.asg_app.proofs.Common.{sym, refl, subst, TellsRanking, Done, text_of, DueToRank, Ranked}
 use Rattle.asg_app.proofs.ReplyLemmas.{replied}
 use Rattle.asg_app.proofs.commands.rank.ranked_reply.Goals as goal
 

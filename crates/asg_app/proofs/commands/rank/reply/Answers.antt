@@ -1,9 +1,4 @@
-use Rattle.std.proofs.Common.{◌<◌, [], ◌∷◌, ap, refl, subst}
-use Rattle.asg_rank.specs.Rankings.{IsRefusal}
-use Rattle.asg_rank.specs.Rooms.{most_work}
-use Rattle.asg_answers.specs.declared.status.Status.TheVariants.{Instance}
-use Rattle.asg_promises.specs.DueToRank.{DueToRank, TooMuch}
-use Rattle.asg_answers.specs.Texts.{refused_instance_text}
+use Rattle.asg_app.proofs.Common.{◌<◌, [], ◌∷◌, refl, ap, subst, refused_instance_text, Instance, DueToRank, TooMuch, IsRefusal, most_work}
 use Rattle.asg_app.proofs.ReplyLemmas.{replied}
 use Rattle.asg_app.proofs.commands.rank.reply.Goals as goal
 

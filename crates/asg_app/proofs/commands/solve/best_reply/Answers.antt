@@ -1,5 +1,4 @@
-use Rattle.std.proofs.Common.{refl}
-use Rattle.asg_promises.specs.DueToSolve.{Solved}
+use Rattle.asg_app.proofs.Common.{refl, Solved}
 use Rattle.asg_app.proofs.commands.solve.best_reply.Goals as goal
 
 pub returns : goal.returns

@@ -1,9 +1,4 @@
-use Rattle.std.proofs.Common.{refl, sym, subst}
-use Rattle.std.specs.Prelude.{IfSome, true}
-use Rattle.asg_answers.specs.Replies.{bytes_of}
-use Rattle.asg_answers.specs.SolverLimits.{SolverTakes}
-use Rattle.asg_answers.specs.Tellings.{TellsBest}
-use Rattle.asg_promises.specs.DueToSolve.{Solved}
+use Rattle.asg_app.proofs.Common.{true, IfSome, sym, refl, subst, bytes_of, SolverTakes, TellsBest, Solved}
 use Rattle.asg_app.proofs.commands.solve.brief_reply.Goals as goal
 
 pub returns-in-Some : goal.returns-in-Some

@@ -1,5 +1,4 @@
-use Rattle.std.proofs.Common.{refl}
-use Rattle.asg_promises.specs.DueToSolve.{Unsolvable}
+use Rattle.asg_app.proofs.Common.{refl, Unsolvable}
 use Rattle.asg_app.proofs.commands.solve.none_reply.Goals as goal
 
 pub returns : goal.returns

@@ -1,9 +1,5 @@
-use Rattle.std.proofs.Common.{[], ◌∷◌, ap, refl, sym, subst}
-use Rattle.asg_answers.specs.declared.status.Status.TheVariants.{Instance}
-use Rattle.asg_answers.specs.SolverLimits.{SolverRefuses}
+use Rattle.asg_app.proofs.Common.{[], ◌∷◌, sym, refl, ap, subst, SolverRefuses, refused_instance_text, Instance, DueToSolve, TooLarge}
 use Rattle.asg_answers.specs.SolverRefusals.{IsSolverRefusal}
-use Rattle.asg_promises.specs.DueToSolve.{DueToSolve, TooLarge}
-use Rattle.asg_answers.specs.Texts.{refused_instance_text}
 use Rattle.asg_app.proofs.ReplyLemmas.{replied}
 use Rattle.asg_app.proofs.commands.solve.solver_reply.Goals as goal
 

@@ -1,7 +1,4 @@
-use Rattle.std.proofs.Common.{length, ◌≤◌, subst}
-use Rattle.std.proofs.lemmas.List.Elements.{All-map}
-use Rattle.asg_model.specs.Limits.{longest_file}
-use Rattle.asg_promises.specs.Sources.{AreShort}
+use Rattle.asg_app.proofs.Common.{◌≤◌, length, subst, All-map, longest_file, AreShort}
 use Rattle.asg_app.proofs.sources.Sources.at.Goals as goal
 
 pub returns-in-Some-clause-short : goal.returns-in-Some-clause-short

@@ -1,5 +1,5 @@
-use Rattle.std.proofs.Common.{sym, ◌∙◌}
-use Rattle.asg_grammar.specs.laws.LineCuts.{no_line, one_line}
+use Rattle.asg_grammar.proofs.Common.{sym, ◌∙◌, no_line}
+use Rattle.asg_grammar.specs.laws.LineCuts.{one_line}
 use Rattle.asg_grammar.proofs.line_cursor.Lines.first.Goals as goal
 
 pub returns-in_err-rest : goal.returns-in_err-rest

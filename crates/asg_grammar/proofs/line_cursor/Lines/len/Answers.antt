@@ -1,5 +1,4 @@
-use Rattle.std.proofs.Common.{sym, ap, ◌∙◌, length}
-use Rattle.asg_grammar.specs.laws.LineCuts.{length-whole_lines}
+use Rattle.asg_grammar.proofs.Common.{length, sym, ap, ◌∙◌, length-whole_lines}
 use Rattle.asg_grammar.proofs.line_cursor.Lines.len.Goals as goal
 
 pub returns : goal.returns

@@ -1,11 +1,5 @@
-use Rattle.std.proofs.Common.{subst}
-use Rattle.asg_grammar.specs.laws.LineLaws.{Halts-front, Halts-text}
+use Rattle.asg_grammar.proofs.Common.{subst, whole_lines, one_line, IsRead, behind, list_spelling, Halts-front, Halts-text, IsLegible-list}
 use Rattle.asg_grammar.specs.laws.PartLaws.{ReadsOrFails-err}
-use Rattle.asg_grammar.specs.laws.SpellingLaws.{IsLegible-list}
-use Rattle.asg_grammar.specs.Lines.{whole_lines}
-use Rattle.asg_grammar.specs.Parts.{one_line}
-use Rattle.asg_grammar.specs.Reading.{IsRead}
-use Rattle.asg_grammar.specs.Spellings.{behind, list_spelling}
 use Rattle.asg_grammar.proofs.ReadLines.{IsRead-list}
 use Rattle.asg_grammar.proofs.line_cursor.Lines.numbers.Goals as goal
 

@@ -1,10 +1,4 @@
-use Rattle.std.proofs.Common.{subst}
-use Rattle.asg_grammar.specs.laws.LineLaws.{Reads-line}
-use Rattle.asg_grammar.specs.laws.SpellingLaws.{IsLegible-pair}
-use Rattle.asg_grammar.specs.Lines.{whole_lines}
-use Rattle.asg_grammar.specs.Parts.{one_line}
-use Rattle.asg_grammar.specs.Reading.{IsRead}
-use Rattle.asg_grammar.specs.Spellings.{pair_spelling}
+use Rattle.asg_grammar.proofs.Common.{subst, whole_lines, one_line, IsRead, pair_spelling, Reads-line, IsLegible-pair}
 use Rattle.asg_grammar.proofs.ReadLines.{IsRead-pair}
 use Rattle.asg_grammar.proofs.line_cursor.Lines.pair.Goals as goal
 

@@ -1,4 +1,4 @@
-use Rattle.std.proofs.Common.{refl}
+use Rattle.asg_grammar.proofs.Common.{refl}
 use Rattle.asg_grammar.proofs.ReadLines.{ReadsLine-text}
 use Rattle.asg_grammar.proofs.line_cursor.Lines.read.Goals as goal
 

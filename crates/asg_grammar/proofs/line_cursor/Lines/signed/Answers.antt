@@ -1,5 +1,4 @@
-use Rattle.asg_grammar.specs.laws.LineLaws.{Reads-line}
-use Rattle.asg_grammar.specs.laws.SpellingLaws.{IsLegible-signed}
+use Rattle.asg_grammar.proofs.Common.{Reads-line, IsLegible-signed}
 use Rattle.asg_grammar.proofs.line_cursor.Lines.signed.Goals as goal
 
 pub returns : goal.returns

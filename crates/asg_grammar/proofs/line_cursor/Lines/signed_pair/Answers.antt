@@ -1,5 +1,4 @@
-use Rattle.asg_grammar.specs.laws.LineLaws.{Reads-line}
-use Rattle.asg_grammar.specs.laws.JoinLaws.{IsLegible-signed_pair}
+use Rattle.asg_grammar.proofs.Common.{IsLegible-signed_pair, Reads-line}
 use Rattle.asg_grammar.proofs.line_cursor.Lines.signed_pair.Goals as goal
 
 pub returns : goal.returns

@@ -1,5 +1,4 @@
-use Rattle.asg_answers.specs.declared.status.Status.TheVariants.{Done}
-use Rattle.asg_promises.specs.Sources.{content_at}
+use Rattle.asg_promises.proofs.Common.{Done, content_at}
 use Rattle.asg_promises.proofs.BriefLaws.{script_lines}
 use Rattle.asg_promises.proofs.EditLaws.{followed_told}
 use Rattle.asg_promises.proofs.StageLaws.{job_due}

@@ -1,6 +1,5 @@
 use Rattle.asg_check.specs.declared.document_forms.Form.TheVariants as forms
-use Rattle.asg_answers.specs.declared.status.Status.TheVariants.{Done, Nothing}
-use Rattle.asg_promises.specs.Sources.{content_at}
+use Rattle.asg_promises.proofs.Common.{Done, Nothing, content_at}
 use Rattle.asg_promises.proofs.BriefLaws.{none_line, ranked_line}
 use Rattle.asg_promises.proofs.RankLaws.{ranked_told, unrankable_told}
 use Rattle.asg_promises.proofs.StageLaws.{job_due}

@@ -1,6 +1,5 @@
 use Rattle.asg_check.specs.declared.document_forms.Form.TheVariants as forms
-use Rattle.asg_answers.specs.declared.status.Status.TheVariants.{Done, Nothing}
-use Rattle.asg_promises.specs.Sources.{content_at}
+use Rattle.asg_promises.proofs.Common.{Done, Nothing, content_at}
 use Rattle.asg_promises.proofs.BriefLaws.{best_line, none_line}
 use Rattle.asg_promises.proofs.SolveLaws.{solved_told, unsolvable_told}
 use Rattle.asg_promises.proofs.StageLaws.{job_due}

@@ -1,4 +1,4 @@
-use Rattle.std.proofs.Common.{subst}
+use Rattle.asg_promises.proofs.Common.{subst}
 use Rattle.asg_promises.proofs.CheckLaws.{check_judged, check_statuses, check_unread}
 use Rattle.asg_promises.proofs.StageLaws.{AllShort, job_due}
 use Rattle.asg_promises.proofs.laws.check_laws.check_law.Goals as goal

@@ -1,5 +1,4 @@
-use Rattle.asg_answers.specs.declared.status.Status.TheVariants.{Done}
-use Rattle.asg_promises.specs.Sources.{content_at}
+use Rattle.asg_promises.proofs.Common.{Done, content_at}
 use Rattle.asg_promises.proofs.CheckLaws.{checked_only}
 use Rattle.asg_promises.proofs.StageLaws.{job_due}
 use Rattle.asg_promises.proofs.laws.check_laws.checked_law.Goals as goal

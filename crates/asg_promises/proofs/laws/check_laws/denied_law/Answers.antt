@@ -1,5 +1,4 @@
-use Rattle.asg_answers.specs.declared.status.Status.TheVariants.{No}
-use Rattle.asg_promises.specs.Sources.{content_at}
+use Rattle.asg_promises.proofs.Common.{No, content_at}
 use Rattle.asg_promises.proofs.CheckLaws.{denied_only}
 use Rattle.asg_promises.proofs.StageLaws.{job_due}
 use Rattle.asg_promises.proofs.laws.check_laws.denied_law.Goals as goal

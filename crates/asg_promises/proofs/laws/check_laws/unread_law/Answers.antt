@@ -1,5 +1,5 @@
+use Rattle.asg_promises.proofs.Common.{content_at}
 use Rattle.asg_answers.specs.declared.status.Status.TheVariants.{Document}
-use Rattle.asg_promises.specs.Sources.{content_at}
 use Rattle.asg_promises.proofs.CheckLaws.{unread_only}
 use Rattle.asg_promises.proofs.StageLaws.{job_due}
 use Rattle.asg_promises.proofs.laws.check_laws.unread_law.Goals as goal

@@ -1,9 +1,4 @@
-use Rattle.std.proofs.Common.{length, sym, subst}
-use Rattle.asg_answers.specs.declared.status.Status.TheVariants.{Done}
-use Rattle.asg_promises.specs.Due.{DueForAsked}
-use Rattle.asg_promises.specs.Sources.{MayHoldAll}
-use Rattle.asg_promises.specs.Requests.{files_of}
-use Rattle.asg_answers.specs.Texts.{yes_text}
+use Rattle.asg_promises.proofs.Common.{length, sym, subst, yes_text, Done, DueForAsked, files_of, MayHoldAll}
 use Rattle.asg_promises.proofs.EditLaws.{accepted_documents}
 use Rattle.asg_promises.proofs.StageLaws.{job_due}
 use Rattle.asg_promises.proofs.laws.edit_laws.accepted_documents_law.Goals as goal

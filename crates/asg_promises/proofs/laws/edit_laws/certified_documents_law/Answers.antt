@@ -1,4 +1,4 @@
-use Rattle.asg_answers.specs.declared.status.Status.TheVariants.{Done}
+use Rattle.asg_promises.proofs.Common.{Done}
 use Rattle.asg_promises.proofs.EditLaws.{certified_only}
 use Rattle.asg_promises.proofs.StageLaws.{job_due}
 use Rattle.asg_promises.proofs.laws.edit_laws.certified_documents_law.Goals as goal

@@ -1,4 +1,4 @@
-use Rattle.std.proofs.Common.{subst}
+use Rattle.asg_promises.proofs.Common.{subst}
 use Rattle.asg_promises.proofs.EditLaws.{edit_followed, edit_refused, edit_statuses}
 use Rattle.asg_promises.proofs.StageLaws.{AllShort, job_due}
 use Rattle.asg_promises.proofs.laws.edit_laws.edit_law.Goals as goal

@@ -1,5 +1,4 @@
-use Rattle.asg_answers.specs.declared.status.Status.TheVariants.{Done}
-use Rattle.asg_promises.specs.Sources.{content_at}
+use Rattle.asg_promises.proofs.Common.{Done, content_at}
 use Rattle.asg_promises.proofs.EditLaws.{edited_only}
 use Rattle.asg_promises.proofs.StageLaws.{job_due}
 use Rattle.asg_promises.proofs.laws.edit_laws.edited_documents_law.Goals as goal

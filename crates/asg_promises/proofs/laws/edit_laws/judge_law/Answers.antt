@@ -1,4 +1,4 @@
-use Rattle.std.proofs.Common.{subst}
+use Rattle.asg_promises.proofs.Common.{subst}
 use Rattle.asg_promises.proofs.JudgeLaws.{judge_judged, judge_refused, judge_statuses, judge_unread}
 use Rattle.asg_promises.proofs.StageLaws.{AllShort, job_due}
 use Rattle.asg_promises.proofs.laws.edit_laws.judge_law.Goals as goal

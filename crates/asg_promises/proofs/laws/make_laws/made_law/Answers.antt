@@ -1,8 +1,6 @@
-use Rattle.std.proofs.Common.{subst}
-use Rattle.asg_promises.specs.Due.{DueForAsked}
+use Rattle.asg_promises.proofs.Common.{subst, DueForAsked, Make}
 use Rattle.asg_promises.specs.laws.MadeInstances.{generated_is_plain}
 use Rattle.asg_make.specs.Formula.{generated_problem}
-use Rattle.asg_requests.specs.declared.requests.Request.TheVariants.{Make}
 use Rattle.asg_promises.proofs.laws.make_laws.made_law.Goals as goal
 
 pub returns-clause-due : goal.returns-clause-due

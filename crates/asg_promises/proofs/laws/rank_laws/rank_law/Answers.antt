@@ -1,4 +1,4 @@
-use Rattle.std.proofs.Common.{subst}
+use Rattle.asg_promises.proofs.Common.{subst}
 use Rattle.asg_promises.proofs.RankLaws.{rank_nothing, rank_statuses, rank_too_much, rank_valid}
 use Rattle.asg_promises.proofs.StageLaws.{AllShort, job_due}
 use Rattle.asg_promises.proofs.laws.rank_laws.rank_law.Goals as goal

@@ -1,5 +1,4 @@
-use Rattle.asg_answers.specs.declared.status.Status.TheVariants.{Done, Nothing}
-use Rattle.asg_promises.specs.Sources.{content_at}
+use Rattle.asg_promises.proofs.Common.{Done, Nothing, content_at}
 use Rattle.asg_promises.proofs.RankLaws.{ranked_only, unrankable_only}
 use Rattle.asg_promises.proofs.StageLaws.{job_due}
 use Rattle.asg_promises.proofs.laws.rank_laws.ranked_law.Goals as goal

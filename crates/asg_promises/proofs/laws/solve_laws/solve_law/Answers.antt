@@ -1,4 +1,4 @@
-use Rattle.std.proofs.Common.{subst}
+use Rattle.asg_promises.proofs.Common.{subst}
 use Rattle.asg_promises.proofs.SolveLaws.{solve_nothing, solve_statuses, solve_too_large, solve_valid}
 use Rattle.asg_promises.proofs.StageLaws.{AllShort, job_due}
 use Rattle.asg_promises.proofs.laws.solve_laws.solve_law.Goals as goal

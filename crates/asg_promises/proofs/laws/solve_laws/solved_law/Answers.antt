@@ -1,6 +1,4 @@
-use Rattle.std.proofs.Common.{⊎_elim}
-use Rattle.asg_answers.specs.declared.status.Status.TheVariants.{Done, Nothing}
-use Rattle.asg_promises.specs.Sources.{content_at}
+use Rattle.asg_promises.proofs.Common.{⊎_elim, Done, Nothing, content_at}
 use Rattle.asg_promises.proofs.DocumentLength.{HallLaws, length-solved, length-unsolvable}
 use Rattle.asg_promises.proofs.SolveLaws.{solved_only, unsolvable_only}
 use Rattle.asg_promises.proofs.StageLaws.{job_due}

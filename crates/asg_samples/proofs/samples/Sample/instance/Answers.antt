@@ -1,4 +1,4 @@
-use Rattle.std.proofs.Common.{refl}
+use Rattle.asg_samples.proofs.Common.{refl}
 use Rattle.asg_samples.proofs.SampleLemmas.{sample_is}
 use Rattle.asg_samples.proofs.samples.Sample.instance.Goals as goal
 

@@ -2,7 +2,7 @@
 use Rattle.asg_algebra.proofs.Common.{◌≡◌, ℕ, ◌<◌, Bool, true, false, cond, ◌≢◌, List, length, set, Some, None, Option, sym, refl, ap, ◌∙◌, subst, ⊎_elim, length-set, get_or-set_other, cases_eq, get_or-set_at, Reduced, IsRest, IsRestOf, column_at, Matches, Monoid, cell_at}
 use Rattle.asg_square.specs.Masked.{keeps}
 use Rattle.asg_square.specs.laws.Masks.{cell_at-masked}
-use Rattle.asg_growth.specs.Masked.{masked_reduced}
+use Rattle.asg_kept.specs.Masked.{masked_reduced}
 
 module _ {V : Type 0} (M : Monoid V) (side : ℕ) (square : ℕ → ℕ → Option V) (index : V) (m : List (Option ℕ)) (root : ℕ) (below : root < length m) (rest : IsRest M side square index m) (keep : ℕ → ℕ → Bool) (kept : (r k : ℕ) → r ≢ root → Matches m r k → keep r k ≡ true) where
   abbrev cleared : List (Option ℕ)

@@ -1,8 +1,9 @@
 -- How a phase begins and ends, on its growth.
-use Rattle.asg_algebra.proofs.Common.{◌≡◌, ℕ, ◌+◌, ◌*◌, ◌<◌, ◌≤◌, cond, List, [], ◌∷◌, length, get_or, is_some, IsSome, slice_index, None, vec_len, Option, sym, refl, ap, ◌∙◌, subst, ⊎_elim, arith, le-ltb, cases_lt, false≢true, IsReduced, IsPhaseTo, Reduced, made_of, IsServed, ArePushed, unmatched, stage_of, IsAbsorbed, never, leads_in, IsSearch, IsReady, IsPlanted, HasNoLead, lead_at, place_at, IsRest, cut, IsUnderway, Growth, open_unseen, search_cell, Flips, column_at, IsMatched, AllAllowed, parents_in, HasDifferences, Monoid, IsOrderedMonoid, fold_of, Forest, phase_of, square_after, IsAdmittedPhase, is_some-after, IsPresent, Grid, cell_at}
+use Rattle.asg_algebra.proofs.Common.{◌≡◌, ℕ, ◌+◌, ◌*◌, ◌<◌, ◌≤◌, cond, List, [], ◌∷◌, length, get_or, is_some, IsSome, slice_index, None, vec_len, Option, sym, refl, ap, ◌∙◌, subst, ⊎_elim, arith, le-ltb, cases_lt, false≢true, IsReduced, IsPhaseTo, Reduced, made_of, IsServed, ArePushed, unmatched, stage_of, IsAbsorbed, never, leads_in, IsSearch, IsReady, IsPlanted, HasNoLead, lead_at, place_at, IsRest, cut, IsUnderway, Growth, open_unseen, search_cell, Flips, column_at, IsMatched, AllAllowed, parents_in, HasDifferences, Monoid, IsOrderedMonoid, fold_of, Forest, phase_of, square_after, IsAdmittedPhase, IsPresent, Grid, cell_at}
 use Rattle.asg_model.specs.Limits.{most_side}
 use Rattle.asg_match.specs.ColumnSet.{word_count}
 use Rattle.asg_match.specs.Deficient.{IsDeficient}
+use Rattle.asg_proof.specs.laws.PhaseSteps.{is_some-after}
 use Rattle.asg_growth.specs.Nearest.{AreNearest}
 use Rattle.asg_growth.specs.laws.NearestLemmas.{AreNearest-none}
 use Rattle.asg_algebra.proofs.PhaseEnds.{phase_ends, planted}

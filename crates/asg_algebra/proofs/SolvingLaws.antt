@@ -1,5 +1,5 @@
 -- Rows that are served one after another.
-use Rattle.asg_algebra.proofs.Common.{◌≡◌, ℕ, zero, suc, ◌+◌, ◌<◌, ◌≤◌, cond, List, [], ◌∷◌, ◌++◌, length, take, drop, is_some, is_none, IfSome, IsSome, Some, None, Option, sym, refl, ap, ◌∙◌, subst, ⊎_elim, append_assoc, arith, take-append-drop, cases_lt, count_by-le-length, false≢true, sum_by-append, take_more, IsReduced, Reduced, IsServed, LeadTo, KeepsRows, HasSolved, unmatched, stage_of, IsAbsorbed, IsRestOf, column_at, IsMatched, IsMatching, AllAllowed, IsPerfect, Monoid, IsOrderedMonoid, Forest, IsLive, phases_to, PhaseOf, cell_at}
+use Rattle.asg_algebra.proofs.Common.{◌≡◌, ℕ, ◌+◌, ◌<◌, ◌≤◌, cond, List, [], ◌∷◌, ◌++◌, length, take, drop, is_some, is_none, IfSome, IsSome, Some, None, Option, sym, refl, ap, ◌∙◌, subst, ⊎_elim, arith, take-append-drop, cases_lt, count_by-le-length, false≢true, sum_by-append, take_more, IsReduced, Reduced, IsServed, LeadTo, KeepsRows, HasSolved, unmatched, stage_of, IsAbsorbed, IsRestOf, column_at, IsMatched, IsMatching, AllAllowed, IsPerfect, Monoid, IsOrderedMonoid, Forest, IsLive, PhaseOf, cell_at}
 use Rattle.std.proofs.lemmas.List.{length-append}
 use Rattle.asg_algebra.proofs.SolvedLaws.{LeadTo-none, LeadTo-join, ArePushed-live, ArePushed-spare, ArePushed-side, ArePushed-list, ArePushed-kept}
 
@@ -8,7 +8,6 @@ pub record IsSolving {V : Type 0} (M : Monoid V) (difference : V → V → V) (b
   pub phases : List (PhaseOf V)
   pub lead : LeadTo M difference phases before now f f' trail last
   pub few : length phases ≤ unmatched (take root m)
-  pub left : length phases + unmatched m' ≤ unmatched m
   pub rows : KeepsRows M now m m'
   pub served : (r : ℕ) → r < root → IsMatched m' r
 
@@ -17,30 +16,6 @@ fewer : (o o' : Option ℕ) → (IsSome o → IsSome o') → unmatched (o' ∷ [
 fewer None o' keeps = count_by-le-length is_none (o' ∷ [])
 fewer (Some x) None keeps = absurd (false≢true (keeps refl))
 fewer (Some x) (Some y) keeps = omega arith
-
-unmatched-both : (o : Option ℕ) (m : List (Option ℕ)) → unmatched (o ∷ m) ≡ unmatched (o ∷ []) + unmatched m
-unmatched-both o m = sum_by-append (λ o. cond (is_none o) 1 0) (o ∷ []) m
-
-unmatched-matched : (o : Option ℕ) → IsSome o → unmatched (o ∷ []) ≡ 0
-unmatched-matched None e = absurd (false≢true e)
-unmatched-matched (Some x) e = refl
-
--- where every row that had a column has one
-unmatched-kept : (m m' : List (Option ℕ)) → length m' ≡ length m → ((r : ℕ) → IsMatched m r → IsMatched m' r) → unmatched m' ≤ unmatched m
-unmatched-kept [] [] e keeps = omega arith
-unmatched-kept [] (o' ∷ m') e keeps = absurd (omega (arith, e))
-unmatched-kept (o ∷ m) [] e keeps = omega arith
-unmatched-kept (o ∷ m) (o' ∷ m') e keeps =
-    omega (arith, unmatched-both o m, unmatched-both o' m', fewer o o' (keeps 0), unmatched-kept m m' (omega (arith, e)) (λ r. keeps (suc r)))
-
--- where besides one more row has a column
-unmatched-one : (m m' : List (Option ℕ)) (root : ℕ) → length m' ≡ length m → ((r : ℕ) → IsMatched m r → IsMatched m' r) → root < length m → IsMatched m' root → unmatched m' + unmatched (column_at m root ∷ []) ≤ unmatched m
-unmatched-one [] m' root e keeps h served = absurd (omega (arith, h))
-unmatched-one (o ∷ m) [] root e keeps h served = absurd (omega (arith, e))
-unmatched-one (o ∷ m) (o' ∷ m') zero e keeps h served =
-    omega (arith, unmatched-both o m, unmatched-both o' m', unmatched-matched o' served, unmatched-kept m m' (omega (arith, e)) (λ r. keeps (suc r)))
-unmatched-one (o ∷ m) (o' ∷ m') (suc root) e keeps h served =
-    omega (arith, unmatched-both o m, unmatched-both o' m', fewer o o' (keeps 0), unmatched-one m m' root (omega (arith, e)) (λ r. keeps (suc r)) (omega (arith, h)) served)
 
 unmatched-more : (m : List (Option ℕ)) (root : ℕ) → root < length m → unmatched (take (root + 1) m) ≡ unmatched (take root m) + unmatched (column_at m root ∷ [])
 unmatched-more m root h =
@@ -53,31 +28,12 @@ unmatched-le m n = omega (arith, sum_by-append (λ o. cond (is_none o) 1 0) (tak
 pub IsReduced-rest : {V : Type 0} (M : Monoid V) (reduced : Reduced V) (m : List (Option ℕ)) → IsRestOf M reduced m → IsReduced M reduced
 IsReduced-rest M reduced m rest = record { cells = rest.values; index = rest.index_is_value }
 
--- a solver did something, and then one went on
-pub HasSolved-join : {V : Type 0} (M : Monoid V) (laws : IsOrderedMonoid M) (difference : V → V → V) (first second third : Reduced V) (m m' m'' : List (Option ℕ)) (f g h : Forest V) (trail middle last : Option ℕ) → IsReduced M first → HasSolved M difference first second m m' f g trail middle → HasSolved M difference second third m' m'' g h middle last → unmatched m' + f.spare ≤ unmatched m + g.spare → HasSolved M difference first third m m'' f h trail last
-HasSolved-join M laws difference first second third m m' m'' f g h trail middle last is a b left = record {
-  phases = a.phases ++ b.phases;
-  lead = LeadTo-join M laws difference a.phases b.phases first second third f g h trail middle last is a.lead b.lead;
-  few = omega (arith, length-append a.phases b.phases, a.spare, b.few, left);
-  list = b.list ∙ ap (λ xs. xs ++ b.phases) a.list ∙ append_assoc (phases_to f trail) a.phases b.phases;
-  spare = omega (arith, length-append a.phases b.phases, a.spare, b.spare);
-  kept = λ t live. b.kept t (ap is_some (a.kept t live) ∙ live) ∙ a.kept t live;
-  live = b.live;
-  rows = record {
-    side = b.rows.side ∙ a.rows.side;
-    columns = b.rows.columns;
-    absorbed = b.rows.absorbed;
-    kept = λ r has. b.rows.kept r (a.rows.kept r has);
-  };
-}
-
 module _ {V : Type 0} (M : Monoid V) (laws : IsOrderedMonoid M) (difference : V → V → V) (before : Reduced V) (m : List (Option ℕ)) (f : Forest V) (trail : Option ℕ) (is : IsReduced M before) where
   pub IsSolving-start : IsMatching m → AllAllowed (IsAbsorbed M before.index (cell_at before.now)) m → IsSolving M difference before before m m f f trail trail 0
   IsSolving-start columns absorbed = record {
     phases = [];
     lead = LeadTo-none M laws difference before f trail is;
     few = omega arith;
-    left = omega arith;
     rows = record { side = refl; columns = columns; absorbed = absorbed; kept = λ r h. h };
     served = λ r h. absurd (omega (arith, h));
   }
@@ -98,7 +54,6 @@ module _ {V : Type 0} {M : Monoid V} {difference : V → V → V} {before now : 
     phases = s.phases ++ one.phases;
     lead = LeadTo-join M laws difference s.phases one.phases before now new f f' f'' trail last last' is s.lead one.lead;
     few = omega (arith, length-append s.phases one.phases, s.few, one.one, fewer (column_at m root) (column_at m' root) (s.rows.kept root), unmatched-more m root h);
-    left = omega (arith, length-append s.phases one.phases, s.left, one.one, unmatched-one m' m'' root one.rows.side one.rows.kept (omega (arith, h, s.rows.side)) one.served);
     rows = record {
       side = one.rows.side ∙ s.rows.side;
       columns = one.rows.columns;
@@ -124,10 +79,6 @@ module _ {V : Type 0} {M : Monoid V} {difference : V → V → V} {before now : 
 
   pub solving_live : IfSome trail (IsLive f) → IfSome last (IsLive f')
   solving_live live = ArePushed-live s.phases f f' trail last s.lead.pushed live
-
-  -- each record that was taken left one row fewer without a column
-  pub solving_left : unmatched m' + f.spare ≤ unmatched m + f'.spare
-  solving_left = omega (arith, s.left, ArePushed-spare s.phases f f' trail last s.lead.pushed)
 
   pub solving_side : f'.side ≡ f.side
   solving_side = ArePushed-side s.phases f f' trail last s.lead.pushed

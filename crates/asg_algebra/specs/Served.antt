@@ -1,5 +1,5 @@
 -- What the augmentation of one row does.
-use Rattle.std.specs.Prelude.{◌≡◌, ◌∷◌, [], ℕ, ◌≤◌, Bool, false, List, length, Option}
+use Rattle.std.specs.Prelude.{◌≡◌, ◌∷◌, [], ℕ, ◌≤◌, List, length, Option}
 use Rattle.asg_match.specs.Deficient.{IsDeficient}
 use Rattle.asg_match.specs.Matching.{column_at, IsMatched}
 use Rattle.asg_order.specs.Monoid.{Monoid}
@@ -7,7 +7,7 @@ use Rattle.asg_proof.specs.Phases.{PhaseOf}
 use Rattle.asg_square.specs.Cells.{IsPresent}
 use Rattle.asg_square.specs.Grid.{cell_at}
 use Rattle.asg_algebra.specs.declared.phases.Served.{Served}
-use Rattle.asg_algebra.specs.declared.phases.Served.TheVariants.{Has, Lacks, Full}
+use Rattle.asg_algebra.specs.declared.phases.Served.TheVariants.{Has, Lacks}
 use Rattle.asg_algebra.specs.Solved.{LeadTo, KeepsRows, unmatched}
 use Rattle.asg_algebra.specs.Stages.{Stage}
 
@@ -35,13 +35,11 @@ pub record IsUntouched {V : Type 0} (before after : Stage V)
   pub same_forest : after.forest ≡ before.forest
 
 -- what the augmentation of a row does: the row has a column; or all is as it was, and the rows are
--- deficient, or the square doesn't take every phase
-abbrev pub Serves : {V : Type 0} → Monoid V → (V → V → V) → Bool → Stage V → Stage V → Option ℕ → ℕ
+-- deficient
+abbrev pub Serves : {V : Type 0} → Monoid V → (V → V → V) → Stage V → Stage V → Option ℕ → ℕ
     → List ℕ → Served → Type 0
-Serves M difference _ before after trail root _ (Has last) =
+Serves M difference before after trail root _ (Has last) =
     IsServed M difference before after trail last root
-Serves M _ _ before after trail _ rows (Lacks last) =
+Serves M _ before after trail _ rows (Lacks last) =
     IsUntouched before after trail last
     × IsDeficient (IsPresent (cell_at after.square.now)) after.square.now.side rows
-Serves M _ takes_all before after trail _ _ (Full last) =
-    IsUntouched before after trail last × (takes_all ≡ false)

@@ -8,7 +8,7 @@ ghost use Rattle.asg_square.specs.Grid.{cell_at};
 ghost use Rattle.asg_growth.specs.Growing.{IsAbsorbed};
 ghost use Rattle.asg_algebra.specs.Solved.{KeepsRows};
 
-use asg_growth::ReducedSquare;
+use asg_kept::{RowSquare, cell_of};
 use asg_match::Matching;
 use asg_order::DMonoid;
 
@@ -22,14 +22,14 @@ fn absorbs<M: DMonoid>(m: &M, index: M::Value, value: M::Value) -> bool
 }
 
 // Whether there is a cell, and the index absorbs it.
-fn is_absorbed<M: DMonoid, S: ReducedSquare<M>>(m: &M, square: &S, row: u32, column: u32) -> bool
+fn is_absorbed<M: DMonoid, S: RowSquare<M>>(m: &M, square: &S, row: u32, column: u32) -> bool
     requires reduced { IsReduced (M.monoid_of m.now) (S.as_reduced square.now) }
     requires row { row < (S.as_reduced square.now).now.side }
     requires column { column < (S.as_reduced square.now).now.side }
     ensures { let reduced = S.as_reduced square.now in IsTrue result
         → IsAbsorbed (M.monoid_of m.now) reduced.index (cell_at reduced.now) row column }
 {
-    match square.at(row, column) {
+    match cell_of(square, row, column) {
         Some(value) => absorbs(m, square.index(), value),
         None => false,
     }
@@ -46,7 +46,7 @@ fn are_free(matching: &Matching, row: u32, column: u32) -> bool
 }
 
 // Gives a row a column, where both are free and the cell is absorbed.
-fn match_absorbed<M: DMonoid, S: ReducedSquare<M>>(
+fn match_absorbed<M: DMonoid, S: RowSquare<M>>(
     m: &M,
     square: &S,
     matching: &mut Matching,
@@ -69,7 +69,7 @@ fn match_absorbed<M: DMonoid, S: ReducedSquare<M>>(
 }
 
 /// Gives rows the columns of a list, each where both are free and the cell is absorbed.
-pub(crate) fn match_columns<M: DMonoid, S: ReducedSquare<M>>(
+pub(crate) fn match_columns<M: DMonoid, S: RowSquare<M>>(
     m: &M,
     square: &S,
     matching: &mut Matching,

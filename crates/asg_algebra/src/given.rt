@@ -14,7 +14,8 @@ use crate::absorbed_cells::match_columns;
 use crate::solving::Solved;
 use crate::square_solvers::{AssignedSquare, SolvedSquare};
 use crate::taken::take_phases;
-use asg_growth::ReducedSquare;
+use asg_admit::Reduced;
+use asg_kept::{Keeps, KeptSquare, RowSquare};
 use asg_match::Matching;
 use asg_order::DMonoid;
 use asg_pool::Region;
@@ -36,7 +37,7 @@ fn is_perfect(matching: &Matching) -> bool
 // Applies phases that are given, in a room for a phase, and gives rows the columns of a list; the
 // end where every row has one then, and `None` otherwise. Phases that are known to be admitted in
 // turn aren't tested.
-fn end_by<M: DMonoid, S: ReducedSquare<M>>(
+fn end_by<M: DMonoid, S: KeptSquare<M>>(
     m: &M,
     square: &mut S,
     matching: &mut Matching,
@@ -74,7 +75,7 @@ fn end_by<M: DMonoid, S: ReducedSquare<M>>(
 }
 
 // Solves a square as it is kept by phases and columns that are given, in a room for a phase.
-fn solve_in_room<M: DMonoid, S: ReducedSquare<M> + Drop>(
+fn solve_in_room<M: DMonoid, S: KeptSquare<M> + Drop>(
     m: &M,
     square: S,
     matching: &mut Matching,
@@ -118,7 +119,7 @@ fn solve_in_room<M: DMonoid, S: ReducedSquare<M> + Drop>(
 }
 
 // The same where the values of the reduced square aren't asked for.
-fn assign_in_room<M: DMonoid, S: ReducedSquare<M> + Drop>(
+fn assign_in_room<M: DMonoid, S: KeptSquare<M> + Drop>(
     m: &M,
     square: S,
     matching: &mut Matching,
@@ -158,69 +159,73 @@ fn assign_in_room<M: DMonoid, S: ReducedSquare<M> + Drop>(
     })
 }
 
-/// Solves a square as it is kept by phases and columns that are given, as
-/// [`SquareSolver::solve_given`](crate::SquareSolver::solve_given) does. Phases that are known to
-/// be admitted in turn aren't tested.
-pub(crate) fn solve_kept_given<M: DMonoid, S: ReducedSquare<M> + Drop>(
+/// Solves a reduced square by phases and columns that are given, from wherever they come: what
+/// [`solve_square`](crate::solve_square) gives where they solve it, and `None` where they don't.
+/// Each phase is tested before it is applied and pushed, unless few looks at the cells tell that all
+/// are admitted; the first that isn't admitted, or that hasn't 1 to side steps, ends it. Then each
+/// row gets its column of the list where no row before has it and the cell is absorbed, and where
+/// every row gets one the square is solved.
+///
+/// The matching is empty, no trail leads to the square, and the phases are at most as many as the
+/// rows and as the records spare. After `None` phases may have been pushed, and rows may have
+/// columns. The error is want of memory; then the matching and the region are as they were. The time
+/// is that of the tests: at most the side's square for each phase of sums that stay below the top,
+/// and for each step of other phases.
+pub fn solve_given<M: Keeps>(
     alloc: Global,
     m: &M,
-    square: S,
+    reduced: Reduced<M::Value>,
     matching: &mut Matching,
     region: &mut Region<M::Value>,
     given: &[Phase<M::Value>],
     columns: &[u32],
-    are_known: bool,
 ) -> Result<Option<SolvedSquare<M::Value>>, NoMemory>
-    requires reduced { IsReduced (M.monoid_of m.now) (S.as_reduced square) }
-    requires matching_side { length matching.old ≡ (S.as_reduced square).now.side }
+    requires reduced { IsReduced (M.monoid_of m.now) reduced }
+    requires matching_side { length matching.old ≡ reduced.now.side }
     requires empty { (r c : ℕ) → Matches matching.old r c → ⊥ }
     requires few { length given.now ≤ unmatched matching.old }
     requires spare { length given.now ≤ region.old.spare }
-    requires region_side { region.old.side ≡ (S.as_reduced square).now.side }
-    requires known { let reduced = S.as_reduced square in IsTrue are_known → AreAdmittedPhases
-        (M.monoid_of m.now) (M.difference m.now) reduced.now.side given.now
-        (cell_at reduced.now) }
+    requires region_side { region.old.side ≡ reduced.now.side }
     ensures solved { IfOk result (λ found. IfSome found (λ s. HasSolved (M.monoid_of m.now)
-        (M.difference m.now) (S.as_reduced square) s.reduced matching.old matching.new region.old
-        region.new None (last_of s.ended))) }
+        (M.difference m.now) reduced s.reduced matching.old matching.new region.old region.new None
+        (last_of s.ended))) }
     ensures ends { (rows : List ℕ) → IfOk result (λ found. IfSome found (λ s.
         EndsIn (M.monoid_of m.now) s.reduced matching.new rows s.ended)) }
     ensures kept_matching { OnErr result (matching.new ≡ matching.old) }
     ensures kept_region { OnErr result (region.new ≡ region.old) }
 {
+    let are_known = m.knows_admitted(alloc, &reduced.now, given)?;
+    let square = m.keep(alloc, reduced)?;
     let places = square.side() as usize + 1;
     let mut room = vec![in alloc; m.unit(); places]?;
     let room = room.as_mut_slice();
     Ok(solve_in_room(m, square, matching, region, given, columns, room, are_known))
 }
 
-/// The same where the values of the reduced square aren't asked for, as
-/// [`SquareSolver::assign_given`](crate::SquareSolver::assign_given) does.
-pub(crate) fn assign_kept_given<M: DMonoid, S: ReducedSquare<M> + Drop>(
+/// Does what [`solve_given`] does, under the same conditions, where the values of the reduced cells
+/// aren't asked for afterwards: they aren't written out.
+pub fn assign_given<M: Keeps>(
     alloc: Global,
     m: &M,
-    square: S,
+    reduced: Reduced<M::Value>,
     matching: &mut Matching,
     region: &mut Region<M::Value>,
     given: &[Phase<M::Value>],
     columns: &[u32],
-    are_known: bool,
 ) -> Result<Option<AssignedSquare<M::Value>>, NoMemory>
-    requires reduced { IsReduced (M.monoid_of m.now) (S.as_reduced square) }
-    requires matching_side { length matching.old ≡ (S.as_reduced square).now.side }
+    requires reduced { IsReduced (M.monoid_of m.now) reduced }
+    requires matching_side { length matching.old ≡ reduced.now.side }
     requires empty { (r c : ℕ) → Matches matching.old r c → ⊥ }
     requires few { length given.now ≤ unmatched matching.old }
     requires spare { length given.now ≤ region.old.spare }
-    requires region_side { region.old.side ≡ (S.as_reduced square).now.side }
-    requires known { let reduced = S.as_reduced square in IsTrue are_known → AreAdmittedPhases
-        (M.monoid_of m.now) (M.difference m.now) reduced.now.side given.now
-        (cell_at reduced.now) }
+    requires region_side { region.old.side ≡ reduced.now.side }
     ensures assigned { IfOk result (λ found. IfSome found (IsAssigned (M.monoid_of m.now)
-        (M.difference m.now) (S.as_reduced square) matching.old matching.new region.old
-        region.new)) }
+        (M.difference m.now) reduced matching.old matching.new region.old region.new)) }
     ensures kept_matching { OnErr result (matching.new ≡ matching.old) }
     ensures kept_region { OnErr result (region.new ≡ region.old) }
 {
+    let are_known = m.knows_admitted(alloc, &reduced.now, given)?;
+    let square = m.keep(alloc, reduced)?;
     let places = square.side() as usize + 1;
     let mut room = vec![in alloc; m.unit(); places]?;
     let room = room.as_mut_slice();

@@ -9,7 +9,7 @@ ghost use Rattle.asg_proof.specs.Steps.{HasSide, HasValues, assignment_fold};
 ghost use Rattle.asg_square.specs.Cells.{IsAssignment};
 ghost use Rattle.asg_square.specs.Masked.{keeps};
 ghost use Rattle.asg_growth.specs.Growing.{IsAbsorbed};
-ghost use Rattle.asg_growth.specs.Masked.{masked_reduced};
+ghost use Rattle.asg_kept.specs.Masked.{masked_reduced};
 ghost use Rattle.asg_growth.specs.Rest.{IsRest, IsRestOf};
 
 use asg_order::DMonoid;

@@ -3,11 +3,10 @@
 //! A reduced square and a matching in absorbed cells go in; a perfect assignment by absorbed cells
 //! comes out, or rows that have fewer columns than they are. Row by row an alternating tree grows
 //! over absorbed cells (`asg_growth`). When it reaches a free column, its path is flipped, the
-//! square settled once, and the phase pushed on a trail. The engine is generic
-//! in how the square is kept: squares of sums by dual variables while no sum reaches the top, any
-//! other by its cells. Contracts see what phases were pushed, that they are admitted in turn and
-//! lead from the old reduced square to the new one, and which cells are absorbed: it all follows
-//! from the laws of a d-monoid alone. `asg_objectives` solves the squares of instances here.
+//! square settled once, and the phase pushed on a trail. The engine is generic in how the square is
+//! kept (`asg_kept`). Contracts see what phases were pushed, that they are admitted in turn and lead
+//! from the old reduced square to the new one, and which cells are absorbed: it all follows from the
+//! laws of a d-monoid alone. `asg_objectives` solves the squares of instances here.
 #![tactic(auto)]
 
 mod absorbed_cells;
@@ -17,18 +16,16 @@ mod entered_squares;
 mod given;
 pub mod laws;
 mod phases;
-mod rewritten_squares;
 mod solving;
 mod square_solvers;
-mod sum_solvers;
 mod taken;
-mod tested_lists;
 
 pub use bench::Bench;
 pub use branching::{Branch, branch_from};
 pub use entered_squares::entered_square;
-pub use solving::{Progress, Solved, solve, solve_kept};
-pub use square_solvers::{AssignedSquare, SolvedSquare, SquareSolver};
+pub use given::{assign_given, solve_given};
+pub use solving::{Solved, solve};
+pub use square_solvers::{AssignedSquare, SolvedSquare, solve_square};
 
 /// There was not enough memory.
 pub type NoMemory = std::alloc::AllocError;

@@ -5,17 +5,17 @@ ghost use Rattle.std.specs.Prelude.{vec_len, vec_capacity, All, AllPairs, IfSome
 ghost use Rattle.asg_model.specs.Limits.{most_side};
 ghost use Rattle.asg_admit.specs.Reduced.{IsReduced, IsPhaseTo};
 ghost use Rattle.asg_match.specs.Matching.{IsFree, column_at};
-ghost use Rattle.asg_order.specs.Monoid.{fold_of};
 ghost use Rattle.asg_pool.specs.Forest.{IsLive};
 ghost use Rattle.asg_proof.specs.Phases.{IsAdmittedPhase};
 ghost use Rattle.asg_square.specs.Grid.{cell_at};
 ghost use Rattle.asg_growth.specs.Growths.{IsRoomy, Searches, IsReady, Closes, phase_in};
 ghost use Rattle.asg_growth.specs.Rest.{cut, IsRestOf};
-ghost use Rattle.asg_algebra.specs.Served.{made_of, Serves};
+ghost use Rattle.asg_algebra.specs.Served.{made_of, IsServed, Serves};
 ghost use Rattle.asg_algebra.specs.Solved.{ArePushed};
 ghost use Rattle.asg_algebra.specs.Stages.{stage_of};
 
-use asg_growth::{Growth, ReducedSquare, grow, plant, refill};
+use asg_growth::{Growth, grow, plant, refill};
+use asg_kept::KeptSquare;
 use asg_match::{Exit, Matching, flip};
 use asg_order::DMonoid;
 use asg_pool::{Region, Trail};
@@ -27,8 +27,6 @@ pub(crate) enum Served {
     Has(Option<Trail>),
     // The rows of the tree have too few columns; with the trail as it was.
     Lacks(Option<Trail>),
-    // The phase of the row can't be settled; with the trail as it was.
-    Full(Option<Trail>),
 }
 
 // Cuts marks to a number of steps.
@@ -54,7 +52,7 @@ fn close<M: DMonoid>(m: &M, growth: &mut Growth<M::Value>)
 }
 
 // Settles the phase of the search on the square and pushes it on the trail, if it has a step.
-fn keep<M: DMonoid, S: ReducedSquare<M>>(
+fn keep<M: DMonoid, S: KeptSquare<M>>(
     m: &M,
     reduced: &mut S,
     growth: &mut Growth<M::Value>,
@@ -65,8 +63,6 @@ fn keep<M: DMonoid, S: ReducedSquare<M>>(
     requires admitted { let before = S.as_reduced reduced.old in
         IsAdmittedPhase (M.monoid_of m.now) (M.difference m.now) before.now.side
         (phase_in growth.old) (cell_at before.now) }
-    requires takes { S.takes reduced.old m.now
-        (fold_of (M.monoid_of m.now) growth.old.steps.items) }
     requires roomy { IsRoomy (S.as_reduced reduced.old).now.side growth.old }
     requires few { vec_len growth.old.steps ≤ (S.as_reduced reduced.old).now.side }
     requires small { (S.as_reduced reduced.old).now.side ≤ most_side }
@@ -95,9 +91,8 @@ fn keep<M: DMonoid, S: ReducedSquare<M>>(
 }
 
 // After the last row of a phase: the path is flipped, and the square, the index and the trail
-// follow.
-// `Full` where the square can't take the phase; then all is as it was.
-fn finish<M: DMonoid, S: ReducedSquare<M>>(
+// follow. The last trail.
+fn finish<M: DMonoid, S: KeptSquare<M>>(
     m: &M,
     reduced: &mut S,
     matching: &mut Matching,
@@ -106,7 +101,7 @@ fn finish<M: DMonoid, S: ReducedSquare<M>>(
     trail: Option<Trail>,
     sum: M::Value,
     column: u32,
-) -> Served
+) -> Option<Trail>
     requires search { Searches (M.monoid_of m.now) (M.difference m.now) (S.as_reduced reduced.old)
         matching.old growth.old sum (vec_len growth.old.tree.rows) }
     requires ready { IsReady (M.monoid_of m.now) growth.old sum column }
@@ -116,24 +111,21 @@ fn finish<M: DMonoid, S: ReducedSquare<M>>(
     requires region_side { region.old.side ≡ (S.as_reduced reduced.old).now.side }
     requires reduced { IsReduced (M.monoid_of m.now) (S.as_reduced reduced.old) }
     ensures serves { (root : ℕ) → root ≡ slice_index growth.old.tree.rows.items 0
-        → Serves (M.monoid_of m.now) (M.difference m.now) S.takes_all
+        → IsServed (M.monoid_of m.now) (M.difference m.now)
         (stage_of (S.as_reduced reduced.old) matching.old region.old)
-        (stage_of (S.as_reduced reduced.new) matching.new region.new) trail root
-        growth.new.tree.rows.items result }
+        (stage_of (S.as_reduced reduced.new) matching.new region.new) trail result root }
     ensures tree { growth.new.tree ≡ growth.old.tree }
     ensures roomy { IsRoomy (S.as_reduced reduced.old).now.side growth.new }
 {
-    if !reduced.takes_sum(m, sum) {
-        return Served::Full(trail);
-    }
+    let _ = sum;
     let place = growth.tree.parents[column as usize];
     flip(matching, &growth.tree, Exit { place, column });
-    Served::Has(keep(m, reduced, growth, region, trail))
+    keep(m, reduced, growth, region, trail)
 }
 
 // Gives a row that has no column one, by at most one phase. `Lacks` where the rows of its tree have
-// too few columns, and `Full` where the square can't take its phase; then all is as it was.
-pub(crate) fn augment<M: DMonoid, S: ReducedSquare<M>>(
+// too few columns; then all is as it was.
+pub(crate) fn augment<M: DMonoid, S: KeptSquare<M>>(
     m: &M,
     reduced: &mut S,
     matching: &mut Matching,
@@ -150,7 +142,7 @@ pub(crate) fn augment<M: DMonoid, S: ReducedSquare<M>>(
     requires spare { 1 ≤ region.old.spare }
     requires live { IfSome trail (IsLive region.old) }
     requires region_side { region.old.side ≡ (S.as_reduced reduced.old).now.side }
-    ensures serves { Serves (M.monoid_of m.now) (M.difference m.now) S.takes_all
+    ensures serves { Serves (M.monoid_of m.now) (M.difference m.now)
         (stage_of (S.as_reduced reduced.old) matching.old region.old)
         (stage_of (S.as_reduced reduced.new) matching.new region.new) trail root
         growth.new.tree.rows.items result }
@@ -162,6 +154,8 @@ pub(crate) fn augment<M: DMonoid, S: ReducedSquare<M>>(
     let mut sum = plant(m, growth, root);
     match grow(m, reduced, matching, growth, &mut sum) {
         None => Served::Lacks(trail),
-        Some(column) => finish(m, reduced, matching, growth, region, trail, sum, column),
+        Some(column) => {
+            Served::Has(finish(m, reduced, matching, growth, region, trail, sum, column))
+        }
     }
 }

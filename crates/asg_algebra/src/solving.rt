@@ -7,7 +7,7 @@ ghost use Rattle.asg_match.specs.Matching.{AllAllowed, column_at};
 ghost use Rattle.asg_pool.specs.Forest.{IsLive};
 ghost use Rattle.asg_square.specs.Grid.{cell_at};
 ghost use Rattle.asg_algebra.specs.Benches.{IsBench};
-ghost use Rattle.asg_algebra.specs.Ended.{last_of, last_in, EndsIn, Stops};
+ghost use Rattle.asg_algebra.specs.Ended.{last_of, EndsIn};
 ghost use Rattle.asg_growth.specs.Growing.{IsAbsorbed};
 ghost use Rattle.asg_growth.specs.Rest.{IsRestOf};
 ghost use Rattle.asg_algebra.specs.Served.{Serves};
@@ -16,8 +16,8 @@ ghost use Rattle.asg_algebra.specs.Stages.{stage_of};
 
 use crate::bench::Bench;
 use crate::phases::{Served, augment};
-use asg_admit::Reduced;
-use asg_growth::{Growth, ReducedSquare};
+use asg_growth::Growth;
+use asg_kept::KeptSquare;
 use asg_match::Matching;
 use asg_order::DMonoid;
 use asg_pool::{Region, Trail};
@@ -31,17 +31,8 @@ pub enum Solved {
     Short(Option<Trail>),
 }
 
-/// How far [`solve_kept`] came.
-#[derive(Clone, Copy)]
-pub enum Progress {
-    /// All rows were served, or one can't be.
-    Ended(Solved),
-    /// The phase of a row can't be settled on the square as it is kept; with the last trail.
-    Full(Option<Trail>),
-}
-
 // Gives a row a column, if it has none.
-fn serve<M: DMonoid, S: ReducedSquare<M>>(
+fn serve<M: DMonoid, S: KeptSquare<M>>(
     m: &M,
     reduced: &mut S,
     matching: &mut Matching,
@@ -57,7 +48,7 @@ fn serve<M: DMonoid, S: ReducedSquare<M>>(
     requires spare { column_at matching.old root ≡ None → 1 ≤ region.old.spare }
     requires live { IfSome trail (IsLive region.old) }
     requires region_side { region.old.side ≡ (S.as_reduced reduced.old).now.side }
-    ensures serves { Serves (M.monoid_of m.now) (M.difference m.now) S.takes_all
+    ensures serves { Serves (M.monoid_of m.now) (M.difference m.now)
         (stage_of (S.as_reduced reduced.old) matching.old region.old)
         (stage_of (S.as_reduced reduced.new) matching.new region.new) trail root
         growth.new.tree.rows.items result }
@@ -69,16 +60,15 @@ fn serve<M: DMonoid, S: ReducedSquare<M>>(
     }
 }
 
-// Gives each row a column, up to the first whose tree has too few or whose phase the square can't
-// take.
-pub(crate) fn serve_all<M: DMonoid, S: ReducedSquare<M>>(
+// Gives each row a column, up to the first whose tree has too few.
+fn serve_all<M: DMonoid, S: KeptSquare<M>>(
     m: &M,
     reduced: &mut S,
     matching: &mut Matching,
     growth: &mut Growth<M::Value>,
     region: &mut Region<M::Value>,
     trail: Option<Trail>,
-) -> Progress
+) -> Solved
     requires rest { IsRestOf (M.monoid_of m.now) (S.as_reduced reduced.old) matching.old }
     requires small { (S.as_reduced reduced.old).now.side ≤ most_side }
     requires bench { IsBench (S.as_reduced reduced.old).now.side growth.old }
@@ -87,39 +77,42 @@ pub(crate) fn serve_all<M: DMonoid, S: ReducedSquare<M>>(
     requires region_side { region.old.side ≡ (S.as_reduced reduced.old).now.side }
     ensures solved { HasSolved (M.monoid_of m.now) (M.difference m.now) (S.as_reduced reduced.old)
         (S.as_reduced reduced.new) matching.old matching.new region.old region.new trail
-        (last_in result) }
-    ensures left { unmatched matching.new + region.old.spare
-        ≤ unmatched matching.old + region.new.spare }
-    ensures ends { Stops (M.monoid_of m.now) S.takes_all (S.as_reduced reduced.new) matching.new
+        (last_of result) }
+    ensures ends { EndsIn (M.monoid_of m.now) (S.as_reduced reduced.new) matching.new
         growth.new.tree.rows.items result }
     ensures bench { IsBench (S.as_reduced reduced.old).now.side growth.new }
 {
     let mut last = trail;
     for root in 0..matching.side() {
         match serve(m, reduced, matching, growth, region, last, root) {
-            Served::Lacks(same) => return Progress::Ended(Solved::Short(same)),
-            Served::Full(same) => return Progress::Full(same),
+            Served::Lacks(same) => return Solved::Short(same),
             Served::Has(next) => last = next,
         }
     }
-    Progress::Ended(Solved::Perfect(last))
+    Solved::Perfect(last)
 }
 
-/// Does what [`solve`] does, under the same conditions, on a square however it is kept, up to the
-/// first phase that it can't take as it is kept. It takes no memory.
+/// Gives every row a column by an absorbed cell, by shortest augmenting paths
+/// ([Tomizawa 1971], [Jonker and Volgenant 1987]) over a d-monoid
+/// [Burkard, Hahn and Zimmermann 1977], each followed by at most one phase that is pushed on the
+/// trail before it.
 ///
-/// `Ended`: as [`solve`] ends. `Full`: only a square that doesn't take every phase ends so, as one
-/// of sums by dual variables where one comes near the top. The phases up to there were applied and
-/// pushed, each row that had a column has one, and at least as many records are spare as rows have
-/// no column, so that the square with its cells written out is solved on from there.
-pub fn solve_kept<M: DMonoid, S: ReducedSquare<M>>(
+/// Each present cell and the index of the reduced square are values, however it is kept, each
+/// matched cell is absorbed by the index, at least as many records are spare as rows have no column,
+/// and the trail is live. The phases are admitted in turn from the old reduced square and lead to
+/// the new one; they are at most as many as rows had no column, and each has 1 to side steps. Every
+/// other live trail keeps its list and its parent. `Perfect`: every row has an absorbed cell, so
+/// that the product of the assignment is the index where the index was the unit at first. `Short`:
+/// the bench's violator has rows with fewer columns with present cells than they are. It takes no
+/// memory. The time grows with the cube of the side at most.
+pub fn solve<M: DMonoid, S: KeptSquare<M>>(
     m: &M,
     square: &mut S,
     matching: &mut Matching,
     bench: &mut Bench<M::Value>,
     region: &mut Region<M::Value>,
     trail: Option<Trail>,
-) -> Progress
+) -> Solved
     requires reduced { IsReduced (M.monoid_of m.now) (S.as_reduced square.old) }
     requires matching_side { length matching.old ≡ (S.as_reduced square.old).now.side }
     requires absorbed { let reduced = S.as_reduced square.old in
@@ -131,54 +124,11 @@ pub fn solve_kept<M: DMonoid, S: ReducedSquare<M>>(
     requires live { IfSome trail (IsLive region.old) }
     ensures solved { HasSolved (M.monoid_of m.now) (M.difference m.now) (S.as_reduced square.old)
         (S.as_reduced square.new) matching.old matching.new region.old region.new trail
-        (last_in result) }
-    ensures left { unmatched matching.new + region.old.spare
-        ≤ unmatched matching.old + region.new.spare }
-    ensures ends { Stops (M.monoid_of m.now) S.takes_all (S.as_reduced square.new) matching.new
+        (last_of result) }
+    ensures ends { EndsIn (M.monoid_of m.now) (S.as_reduced square.new) matching.new
         bench.new.rows result }
     ensures bench_side { bench.new.side ≡ bench.old.side }
 {
     let _ = (square.side(), matching.side());
     serve_all(m, square, matching, &mut bench.growth, region, trail)
-}
-
-/// Gives every row a column by an absorbed cell, by shortest augmenting paths
-/// ([Tomizawa 1971], [Jonker and Volgenant 1987]) over a d-monoid
-/// [Burkard, Hahn and Zimmermann 1977], each followed by at most one phase that is pushed on the
-/// trail before it.
-///
-/// Each present cell and the index of the reduced square are values, each matched cell is absorbed
-/// by the index, at least as many records are spare as rows have no column, and the trail is live.
-/// The phases are admitted in turn from the old reduced square and lead to the new one; they are at
-/// most as many as rows had no column, and each has 1 to side steps. Every other live trail keeps
-/// its list and its parent. `Perfect`: every row has an absorbed cell, so that the product of the
-/// assignment is the index where the index was the unit at first. `Short`: the bench's violator has
-/// rows with fewer columns with present cells than they are. It takes no memory. The time grows
-/// with the cube of the side at most.
-pub fn solve<M: DMonoid>(
-    m: &M,
-    reduced: &mut Reduced<M::Value>,
-    matching: &mut Matching,
-    bench: &mut Bench<M::Value>,
-    region: &mut Region<M::Value>,
-    trail: Option<Trail>,
-) -> Solved
-    requires reduced { IsReduced (M.monoid_of m.now) reduced.old }
-    requires matching_side { length matching.old ≡ reduced.old.now.side }
-    requires absorbed { AllAllowed
-        (IsAbsorbed (M.monoid_of m.now) reduced.old.index (cell_at reduced.old.now)) matching.old }
-    requires bench_side { bench.old.side ≡ reduced.old.now.side }
-    requires region_side { region.old.side ≡ reduced.old.now.side }
-    requires spare { unmatched matching.old ≤ region.old.spare }
-    requires live { IfSome trail (IsLive region.old) }
-    ensures solved { HasSolved (M.monoid_of m.now) (M.difference m.now) reduced.old reduced.new
-        matching.old matching.new region.old region.new trail (last_of result) }
-    ensures ends { EndsIn (M.monoid_of m.now) reduced.new matching.new bench.new.rows result }
-    ensures bench_side { bench.new.side ≡ bench.old.side }
-{
-    let _ = (reduced.now.side(), matching.side());
-    match serve_all(m, reduced, matching, &mut bench.growth, region, trail) {
-        Progress::Ended(solved) => solved,
-        Progress::Full(_) => unreachable!(),
-    }
 }

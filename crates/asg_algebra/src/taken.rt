@@ -7,14 +7,14 @@ ghost use Rattle.asg_proof.specs.Phases.{AreAdmittedPhases, IsAdmittedPhase};
 ghost use Rattle.asg_square.specs.Grid.{cell_at};
 ghost use Rattle.asg_algebra.specs.Solved.{LeadTo};
 
-use asg_growth::ReducedSquare;
-use asg_order::{DMonoid, fold};
+use asg_kept::KeptSquare;
+use asg_order::DMonoid;
 use asg_pool::{Region, Trail};
 use asg_proof::Phase;
 
-// Applies a phase where it is admitted, and tells whether it did. One that is known to be admitted
-// isn't tested, but where the square doesn't take its steps it isn't applied.
-fn apply_phase<M: DMonoid, S: ReducedSquare<M>>(
+// Applies a phase where it is admitted, and tells whether it is. One that is known to be admitted
+// isn't tested.
+fn apply_phase<M: DMonoid, S: KeptSquare<M>>(
     m: &M,
     square: &mut S,
     steps: &[M::Value],
@@ -39,15 +39,12 @@ fn apply_phase<M: DMonoid, S: ReducedSquare<M>>(
     if !is_known {
         return square.replay(m, steps, enters, leaves, room);
     }
-    if !square.takes_sum(m, fold(m, steps)) {
-        return false;
-    }
     square.settle(m, steps, enters, leaves, room);
     true
 }
 
 // Applies a phase and pushes it on a trail, where it is admitted; the new trail.
-fn take_phase<M: DMonoid, S: ReducedSquare<M>>(
+fn take_phase<M: DMonoid, S: KeptSquare<M>>(
     m: &M,
     square: &mut S,
     region: &mut Region<M::Value>,
@@ -86,9 +83,8 @@ fn take_phase<M: DMonoid, S: ReducedSquare<M>>(
 /// Applies phases that are given, from wherever they come, one after another, and pushes them on
 /// the last trail, which is that of the last phase then; whether all are admitted. It ends with the
 /// first that isn't, and the square serves no more. Each has 1 to side steps. Where they are known
-/// to be admitted in turn they aren't tested, but the first whose steps the square doesn't take
-/// ends it.
-pub(crate) fn take_phases<M: DMonoid, S: ReducedSquare<M>>(
+/// to be admitted in turn they aren't tested.
+pub(crate) fn take_phases<M: DMonoid, S: KeptSquare<M>>(
     m: &M,
     square: &mut S,
     region: &mut Region<M::Value>,

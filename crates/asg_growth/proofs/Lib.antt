@@ -2,4 +2,3 @@ pub mod Common
 pub mod OfferLemmas
 pub mod ScanLemmas
 pub mod EnteringLaws
-pub mod AppliedPhases

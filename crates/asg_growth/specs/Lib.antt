@@ -2,7 +2,6 @@ pub mod Growing
 pub mod Searching
 pub mod Keys
 pub mod Leads
-pub mod Masked
 pub mod Nearest
 pub mod Scanned
 pub mod Underway

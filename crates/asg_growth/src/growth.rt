@@ -12,7 +12,8 @@ ghost use Rattle.asg_growth.specs.Growths.{Searches, IsReady, HasNoLead, Ends};
 ghost use Rattle.asg_growth.specs.Growths.{Enters, CanRenew, Renews, Climbs, leads_in};
 
 use crate::nearest::nearest_in_word;
-use crate::reduced_squares::RowSquare;
+use crate::scanning::offer_row;
+use asg_kept::RowSquare;
 use asg_match::{Branches, Matching, remove};
 use asg_order::DMonoid;
 
@@ -141,8 +142,9 @@ fn look<M: DMonoid, S: RowSquare<M>>(
 {
     let row = growth.tree.rows[place as usize];
     let entered = growth.sums[place as usize];
-    reduced.offer_row(
+    offer_row(
         m,
+        reduced,
         matching,
         row,
         entered,

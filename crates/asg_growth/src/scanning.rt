@@ -1,27 +1,30 @@
 //! A row of the tree offers keys to the columns that weren't reached, word by word.
 
-ghost use Rattle.std.specs.Prelude.{◌≡◌, ℕ, [], ◌%◌, ◌<◌, ◌≤◌};
-ghost use Rattle.std.specs.Prelude.{IsTrue, Some, length, slice_index, slice_index_or};
+ghost use Rattle.std.specs.Prelude.{◌≡◌, ℕ, [], ◌+◌, ◌*◌, ◌%◌, ◌<◌, ◌≤◌};
+ghost use Rattle.std.specs.Prelude.{IsSome, IsTrue, Some, length, slice_index, slice_index_or};
+ghost use Rattle.asg_admit.specs.Reduced.{IsReduced};
 ghost use Rattle.asg_model.specs.Limits.{most_side};
 ghost use Rattle.asg_order.specs.Monoid.{IsValue};
-ghost use Rattle.asg_match.specs.ColumnSet.{HasBit, HasColumn};
-ghost use Rattle.asg_growth.specs.Leads.{leads_of, lead_at, Relaxes, Picks};
+ghost use Rattle.asg_match.specs.ColumnSet.{HasBit, HasColumn, IsColumnSet, word_count};
+ghost use Rattle.asg_square.specs.Grid.{cell_at};
+ghost use Rattle.asg_growth.specs.Leads.{leads_of, lead_at, OffersRow, Relaxes, Picks};
 ghost use Rattle.asg_growth.specs.Nearest.{IsWithin, AreNearest, HasKey, IsAnswered};
-ghost use Rattle.asg_growth.specs.Scanned.{AreValued, IsBoth, IsSoon};
+ghost use Rattle.asg_growth.specs.Scanned.{AreValued, IsBoth, IsSoon, values_of};
 
 use crate::leads::offer_key;
 use crate::nearest::{nearer, nearest_of};
-use crate::row_values::RowValues;
+use asg_kept::RowSquare;
 use asg_match::Matching;
 use asg_order::DMonoid;
 
 // Offers a column its key, from the row at a place. The nearest column of its word then, where it
 // was the given one before.
 #[inline]
-fn offer<M: DMonoid, R: RowValues<M>>(
+fn offer<M: DMonoid, S: RowSquare<M>>(
     m: &M,
+    square: &S,
     matching: &Matching,
-    values: &R,
+    row: u32,
     sum: M::Value,
     keys: &mut [M::Value],
     places: &mut [u32],
@@ -31,22 +34,24 @@ fn offer<M: DMonoid, R: RowValues<M>>(
     nearest: Option<u32>,
 ) -> Option<u32>
     requires sum { IsValue (M.monoid_of m.now) sum }
-    requires value { IsValue (M.monoid_of m.now)
-        (slice_index_or (R.values_of values.now) column (M.monoid_of m.now).unit) }
+    requires row { row < (S.as_reduced square.now).now.side }
+    requires column { column < (S.as_reduced square.now).now.side }
+    requires present { IsSome (cell_at (S.as_reduced square.now).now row column) }
+    requires value { let monoid = M.monoid_of m.now in IsValue monoid
+        (slice_index_or (values_of monoid (S.as_reduced square.now).now row) column monoid.unit) }
     requires old { IsTrue has_key → IsValue (M.monoid_of m.now)
         (slice_index_or keys.old column (M.monoid_of m.now).unit) }
-    requires column { column < length (R.values_of values.now) }
     requires matching { column < length matching.now }
     requires keys { column < length keys.old }
     requires places { column < length places.old }
     requires nearest { (k : ℕ) → nearest ≡ Some k → HasKey (M.monoid_of m.now) keys.old k }
     ensures { let monoid = M.monoid_of m.now in
-        IsAnswered monoid
-        (monoid.product sum (slice_index_or (R.values_of values.now) column monoid.unit)) place
+        let values = values_of monoid (S.as_reduced square.now).now row in
+        IsAnswered monoid (monoid.product sum (slice_index_or values column monoid.unit)) place
         column has_key (leads_of keys.old [] places.old) (leads_of keys.new [] places.new) nearest
         result }
 {
-    if !offer_key(m, values, sum, keys, places, place, column, has_key) {
+    if !offer_key(m, square, row, sum, keys, places, place, column, has_key) {
         return nearest;
     }
     nearer(m, matching, keys, nearest, column)
@@ -56,13 +61,13 @@ fn offer<M: DMonoid, R: RowValues<M>>(
 // whole word.
 const FEW: u32 = 12;
 
-// Columns of a word that are to be offered a key: those that are present and weren't reached,
-// without some whose key is at most the product of the sum and their value.
+// Columns of a word that are to be offered a key: those that weren't reached and at which the row
+// has a cell, without some whose key is at most the product of the sum and this cell.
 #[inline]
-fn candidates<M: DMonoid, R: RowValues<M>>(
+fn candidates<M: DMonoid, S: RowSquare<M>>(
     m: &M,
-    values: &R,
-    present: &[u64],
+    square: &S,
+    row: u32,
     sum: M::Value,
     unseen: &[u64],
     keys: &[M::Value],
@@ -70,22 +75,21 @@ fn candidates<M: DMonoid, R: RowValues<M>>(
     number: u32,
 ) -> u64
     requires sum { IsValue (M.monoid_of m.now) sum }
-    requires values { (k : ℕ) → HasColumn present.now k → HasColumn unseen.now k
-        → IsValue (M.monoid_of m.now)
-        (slice_index_or (R.values_of values.now) k (M.monoid_of m.now).unit) }
+    requires reduced { IsReduced (M.monoid_of m.now) (S.as_reduced square.now) }
+    requires row { row < (S.as_reduced square.now).now.side }
+    requires unseen { IsColumnSet (S.as_reduced square.now).now.side unseen.now }
     requires leads { AreValued (M.monoid_of m.now) (leads_of keys.now keyed.now []) unseen.now }
     requires words { number < length unseen.now }
-    requires present { length present.now ≡ length unseen.now }
     requires keyed { length keyed.now ≡ length unseen.now }
-    requires keys { length keys.now ≡ length (R.values_of values.now) }
+    requires keys { length keys.now ≡ (S.as_reduced square.now).now.side }
     ensures unseen { (k : ℕ) → HasBit result k → HasBit (slice_index unseen.now number) k }
-    ensures present { (k : ℕ) → HasBit result k → HasBit (slice_index present.now number) k }
-    ensures others { (k : ℕ) → IsBoth number present.now unseen.now k
-        → (HasBit result (k % 64) → ⊥)
-        → IsSoon (M.monoid_of m.now) (R.values_of values.now) sum
-        (leads_of keys.now keyed.now []) k }
+    ensures present { (k : ℕ) → k < 64 → HasBit result k
+        → IsSome (cell_at (S.as_reduced square.now).now row (64 * number + k)) }
+    ensures others { let monoid = M.monoid_of m.now in let now = (S.as_reduced square.now).now in
+        (k : ℕ) → IsBoth number (cell_at now row) unseen.now k → (HasBit result (k % 64) → ⊥)
+        → IsSoon monoid (values_of monoid now row) sum (leads_of keys.now keyed.now []) k }
 {
-    let offered = unseen[number as usize] & present[number as usize];
+    let offered = unseen[number as usize] & square.row_word(row, number);
     let known = keyed[number as usize];
     if 64 * (number as usize + 1) > keys.len() {
         return offered;
@@ -93,17 +97,17 @@ fn candidates<M: DMonoid, R: RowValues<M>>(
     if (offered & known).count_ones() <= FEW {
         return offered;
     }
-    offered & (values.lesser(m, sum, keys, number) | !known)
+    offered & (square.lesser(m, row, sum, keys, number) | !known)
 }
 
-// Offers each column of a word that is present and wasn't reached its key, from the row at a place.
-// The nearest column of the word then, where it was the given one before.
+// Offers each column of a word that wasn't reached and at which the row has a cell its key, from the
+// row's place. The nearest column of the word then, where it was the given one before.
 #[inline]
-fn scan_word<M: DMonoid, R: RowValues<M>>(
+fn scan_word<M: DMonoid, S: RowSquare<M>>(
     m: &M,
+    square: &S,
     matching: &Matching,
-    values: &R,
-    present: &[u64],
+    row: u32,
     sum: M::Value,
     unseen: &[u64],
     keys: &mut [M::Value],
@@ -114,24 +118,23 @@ fn scan_word<M: DMonoid, R: RowValues<M>>(
     nearest: Option<u32>,
 ) -> Option<u32>
     requires sum { IsValue (M.monoid_of m.now) sum }
-    requires values { (k : ℕ) → HasColumn present.now k → HasColumn unseen.now k
-        → IsValue (M.monoid_of m.now)
-        (slice_index_or (R.values_of values.now) k (M.monoid_of m.now).unit) }
+    requires reduced { IsReduced (M.monoid_of m.now) (S.as_reduced square.now) }
+    requires small { (S.as_reduced square.now).now.side ≤ most_side }
+    requires row { row < (S.as_reduced square.now).now.side }
+    requires unseen { IsColumnSet (S.as_reduced square.now).now.side unseen.now }
     requires leads { AreValued (M.monoid_of m.now) (leads_of keys.old keyed.old places.old)
         unseen.now }
-    requires within { (k : ℕ) → HasColumn unseen.now k → k < length (R.values_of values.now) }
-    requires small { length (R.values_of values.now) ≤ most_side }
-    requires matching { length matching.now ≡ length (R.values_of values.now) }
+    requires matching { length matching.now ≡ (S.as_reduced square.now).now.side }
     requires words { number < length unseen.now }
-    requires present { length present.now ≡ length unseen.now }
     requires keyed { length keyed.old ≡ length unseen.now }
-    requires keys { length keys.old ≡ length (R.values_of values.now) }
-    requires places { length places.old ≡ length (R.values_of values.now) }
+    requires keys { length keys.old ≡ (S.as_reduced square.now).now.side }
+    requires places { length places.old ≡ (S.as_reduced square.now).now.side }
     requires nearest { Picks (M.monoid_of m.now)
         (lead_at (M.monoid_of m.now) (leads_of keys.old keyed.old places.old))
         (IsWithin number unseen.now) nearest }
-    ensures relaxes { Relaxes (M.monoid_of m.now) (R.values_of values.now) sum place
-        (IsBoth number present.now unseen.now) (leads_of keys.old keyed.old places.old)
+    ensures relaxes { let monoid = M.monoid_of m.now in let now = (S.as_reduced square.now).now in
+        Relaxes monoid (values_of monoid now row) sum place
+        (IsBoth number (cell_at now row) unseen.now) (leads_of keys.old keyed.old places.old)
         (leads_of keys.new keyed.new places.new) }
     ensures leads { AreValued (M.monoid_of m.now) (leads_of keys.new keyed.new places.new)
         unseen.now }
@@ -139,7 +142,7 @@ fn scan_word<M: DMonoid, R: RowValues<M>>(
         (lead_at (M.monoid_of m.now) (leads_of keys.new keyed.new places.new))
         (IsWithin number unseen.now) result }
 {
-    let mut rest = candidates(m, values, present, sum, unseen, keys, keyed, number);
+    let mut rest = candidates(m, square, row, sum, unseen, keys, keyed, number);
     let mut word = keyed[number as usize];
     let mut nearest = nearest;
     'columns: while rest != 0 {
@@ -147,8 +150,9 @@ fn scan_word<M: DMonoid, R: RowValues<M>>(
         let has_key = word >> k & 1 == 1;
         nearest = offer(
             m,
+            square,
             matching,
-            values,
+            row,
             sum,
             keys,
             places,
@@ -164,14 +168,14 @@ fn scan_word<M: DMonoid, R: RowValues<M>>(
     nearest
 }
 
-// Offers each column that is present and wasn't reached its key, from the row at a place. The
-// column with the least key of those that weren't reached, if one has a key; of equal ones one that
-// no row has.
-pub(crate) fn scan<M: DMonoid, R: RowValues<M>>(
+/// Offers each column of a set at which a row of a square has a cell the product of a sum and this
+/// cell, from the row's place. The column of the set with the least key, if one has a key; of equal
+/// ones one that no row has.
+pub(crate) fn offer_row<M: DMonoid, S: RowSquare<M>>(
     m: &M,
+    square: &S,
     matching: &Matching,
-    values: &R,
-    present: &[u64],
+    row: u32,
     sum: M::Value,
     unseen: &[u64],
     keys: &mut [M::Value],
@@ -180,36 +184,35 @@ pub(crate) fn scan<M: DMonoid, R: RowValues<M>>(
     nearest: &mut [Option<u32>],
     place: u32,
 ) -> Option<u32>
+    requires reduced { IsReduced (M.monoid_of m.now) (S.as_reduced square.now) }
+    requires small { (S.as_reduced square.now).now.side ≤ most_side }
+    requires row { row < (S.as_reduced square.now).now.side }
     requires sum { IsValue (M.monoid_of m.now) sum }
-    requires values { (k : ℕ) → HasColumn present.now k → HasColumn unseen.now k
-        → IsValue (M.monoid_of m.now)
-        (slice_index_or (R.values_of values.now) k (M.monoid_of m.now).unit) }
+    requires unseen { IsColumnSet (S.as_reduced square.now).now.side unseen.now }
+    requires words { length unseen.now ≡ word_count (S.as_reduced square.now).now.side }
+    requires matching { length matching.now ≡ (S.as_reduced square.now).now.side }
+    requires keyed { length keyed.old ≡ length unseen.now }
+    requires keys { length keys.old ≡ (S.as_reduced square.now).now.side }
+    requires places { length places.old ≡ (S.as_reduced square.now).now.side }
     requires leads { AreValued (M.monoid_of m.now) (leads_of keys.old keyed.old places.old)
         unseen.now }
-    requires within { (k : ℕ) → HasColumn unseen.now k → k < length (R.values_of values.now) }
-    requires small { length (R.values_of values.now) ≤ most_side }
-    requires matching { length matching.now ≡ length (R.values_of values.now) }
-    requires present { length present.now ≡ length unseen.now }
-    requires words { length unseen.now ≤ most_side }
-    requires keyed { length keyed.old ≡ length unseen.now }
-    requires keys { length keys.old ≡ length (R.values_of values.now) }
-    requires places { length places.old ≡ length (R.values_of values.now) }
-    requires nearest { AreNearest (M.monoid_of m.now) (leads_of keys.old keyed.old places.old)
-        unseen.now nearest.old }
-    ensures relaxes { Relaxes (M.monoid_of m.now) (R.values_of values.now) sum place
-        (λ k. HasColumn present.now k × HasColumn unseen.now k)
+    requires nearest { AreNearest (M.monoid_of m.now)
+        (leads_of keys.old keyed.old places.old) unseen.now nearest.old }
+    ensures offers { let now = (S.as_reduced square.now).now in
+        OffersRow (M.monoid_of m.now) (cell_at now row) now.side sum place unseen.now
         (leads_of keys.old keyed.old places.old) (leads_of keys.new keyed.new places.new) }
-    ensures nearest { AreNearest (M.monoid_of m.now) (leads_of keys.new keyed.new places.new)
-        unseen.now nearest.new }
+    ensures nearest { AreNearest (M.monoid_of m.now)
+        (leads_of keys.new keyed.new places.new) unseen.now nearest.new }
     ensures picks { Picks (M.monoid_of m.now)
         (lead_at (M.monoid_of m.now) (leads_of keys.new keyed.new places.new))
         (HasColumn unseen.now) result }
 {
+    square.side();
     let mut best = None;
     for number in 0..unseen.len() as u32 {
         let former = nearest[number as usize];
         let found = scan_word(
-            m, matching, values, present, sum, unseen, keys, keyed, places, place, number, former,
+            m, square, matching, row, sum, unseen, keys, keyed, places, place, number, former,
         );
         nearest[number as usize] = found;
         best = nearest_of(m, matching, keys, best, found);

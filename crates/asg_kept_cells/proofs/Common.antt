@@ -26,7 +26,7 @@ pub use Rattle.asg_proof.specs.Phases.{AreAdmittedPhases, AreAdmittedSteps, IsAd
 pub use Rattle.asg_proof.specs.Steps.{HasSide, HasValues, IsAdmittedStep, stepped}
 pub use Rattle.asg_proof.specs.laws.PhaseLists.{AreAdmittedPhases-front, steps_value}
 pub use Rattle.asg_proof.specs.laws.Squares.{HasSide-cell_at}
-pub use Rattle.asg_replays.specs.Replays.{AreAdmittedFrom, AreReplayed, IsAdmittedFrom, IsBadFrom, IsReplayed, LeadOn}
+pub use Rattle.asg_replays.specs.Replays.{AreAdmittedFrom, AreReplayed, IsAdmittedFrom, IsFirstBad, IsReplayed}
 pub use Rattle.asg_replays.specs.laws.PhaseWords.{admitted-take, phase-once, phases-once}
 pub use Rattle.asg_replays.specs.laws.Replaying.{phase-words, refused-words, replayed-none, replayed-push, unread-words}
 pub use Rattle.asg_square.specs.Grid.{Grid, HasLabelsOf, IsGrid, cell_at}

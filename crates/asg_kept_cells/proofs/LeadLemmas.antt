@@ -1,5 +1,5 @@
 -- Phases that are known to be admitted.
-use Rattle.asg_kept_cells.proofs.Common.{◌≡◌, ℕ, zero, suc, ◌<◌, Bool, true, false, ◌≢◌, List, [], ◌∷◌, map, length, get_or, take, drop, IfSome, Some, None, All, Option, sym, refl, ap, ◌∙◌, subst, arith, take-append-drop, length-map, take-map, IsReduced, Reduced, Monoid, IsValue, IsOrderedMonoid, Word, PhaseOf, phase_of, worded, after_phase, after_phases, AreAdmittedPhases, IsAdmittedPhase, AreAdmittedPhases-front, AreAdmittedFrom, AreReplayed, IsAdmittedFrom, IsBadFrom, LeadOn, admitted-take, phase-once, phases-once, phase-words, replayed-none, unread-words, cell_at}
+use Rattle.asg_kept_cells.proofs.Common.{◌≡◌, ℕ, zero, suc, ◌<◌, Bool, true, false, ◌≢◌, List, [], ◌∷◌, map, length, get_or, take, drop, IfSome, Some, None, All, Option, sym, refl, ap, ◌∙◌, subst, arith, take-append-drop, length-map, take-map, IsReduced, Reduced, Monoid, IsValue, IsOrderedMonoid, Word, PhaseOf, phase_of, worded, after_phase, after_phases, AreAdmittedPhases, IsAdmittedPhase, AreAdmittedPhases-front, AreAdmittedFrom, AreReplayed, IsAdmittedFrom, IsFirstBad, admitted-take, phase-once, phases-once, phase-words, unread-words, cell_at}
 use Rattle.asg_order.specs.Words.{HasWords}
 
 module _ {V : Type 0} (M : Monoid V) (difference : V → V → V) (word_of : V → Word) (value_of : Word → Option V) (spelled : HasWords M word_of value_of) where
@@ -38,15 +38,12 @@ module _ {V : Type 0} (M : Monoid V) (difference : V → V → V) (word_of : V �
       subst (λ n. IsAdmittedFrom M difference word_of n (cell_at before.now) (get_or words i d)) (sym a.labels.side)
       (subst (λ cells. IsAdmittedFrom M difference word_of side cells (get_or words i d)) (sym a.cells) after)
 
--- none of admitted phases is bad, so replaying them leads on by all
-pub none_bad : {V : Type 0} (M : Monoid V) (laws : IsOrderedMonoid M) (difference : V → V → V) (word_of : V → Word) (words : List (PhaseOf Word)) (before after : Reduced V) (found : Option ℕ) → IsReduced M before
-    → AreAdmittedFrom M difference word_of before.now.side (cell_at before.now) words → IfSome found (IsBadFrom M difference word_of words 0 before) → (found ≡ None → LeadOn M difference word_of (take 0 words) words before after)
+-- none of admitted phases is bad, so replaying them leads by all
+pub none_bad : {V : Type 0} (M : Monoid V) (difference : V → V → V) (word_of : V → Word) (words : List (PhaseOf Word)) (before after : Reduced V) (found : Option ℕ)
+    → AreAdmittedFrom M difference word_of before.now.side (cell_at before.now) words → IfSome found (IsFirstBad M difference word_of before.now.side (cell_at before.now) words) → (found ≡ None → AreReplayed M difference word_of words before after)
     → AreReplayed M difference word_of words before after
-none_bad {V} M laws difference word_of words before after found reduced all bad none = by found refl bad
+none_bad {V} M difference word_of words before after found all bad none = by found refl bad
   where
-    start : AreReplayed M difference word_of [] before before
-    start = replayed-none M laws difference word_of before reduced
-
-    by : (o : Option ℕ) → found ≡ o → IfSome o (IsBadFrom M difference word_of words 0 before) → AreReplayed M difference word_of words before after
-    by None e b = none e before reduced start
-    by (Some place) e b = absurd ((b before reduced start).bad (admitted-take M difference word_of before.now.side (cell_at before.now) (suc place) words all))
+    by : (o : Option ℕ) → found ≡ o → IfSome o (IsFirstBad M difference word_of before.now.side (cell_at before.now) words) → AreReplayed M difference word_of words before after
+    by None e b = none e
+    by (Some place) e b = absurd (b.bad (admitted-take M difference word_of before.now.side (cell_at before.now) (suc place) words all))

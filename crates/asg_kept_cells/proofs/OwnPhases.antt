@@ -1,5 +1,5 @@
 -- The index of phases after another, from the kept cells of a square.
-use Rattle.asg_kept_cells.proofs.Common.{◌≡◌, ℕ, suc, ◌<◌, List, [], ◌∷◌, map, take, sym, refl, ap, ◌∙◌, subst, fun_ext, IsReduced, KeepsLabels, Reduced, BitTable, AreAdmittedWithin, HaveIndexAfter, from_kept, Monoid, IsValue, IsOrderedMonoid, fold_of, Word, PhaseOf, worded, IsAdmittedPhase, AreAdmittedPhases, HasValues, steps_value, AreAdmittedFrom, IsAdmittedFrom, IsBadFrom, LeadOn, admitted-take, replayed-none, Grid, cell_at, keeps, masked_grid, cell_at-masked}
+use Rattle.asg_kept_cells.proofs.Common.{◌≡◌, ℕ, suc, ◌<◌, List, [], ◌∷◌, map, take, sym, refl, ap, ◌∙◌, subst, fun_ext, IsReduced, KeepsLabels, Reduced, BitTable, AreAdmittedWithin, HaveIndexAfter, from_kept, Monoid, IsValue, IsOrderedMonoid, fold_of, Word, PhaseOf, worded, IsAdmittedPhase, AreAdmittedPhases, HasValues, steps_value, AreAdmittedFrom, AreReplayed, IsAdmittedFrom, IsFirstBad, admitted-take, Grid, cell_at, keeps, masked_grid, cell_at-masked}
 use Rattle.asg_order.specs.laws.Products.{neutral_right}
 
 module _ {V : Type 0} (M : Monoid V) (laws : IsOrderedMonoid M) (difference : V → V → V) (word_of : V → Word) (Q : Grid V) (kept : BitTable) (before : V) (is_value : IsValue M before) where
@@ -27,9 +27,8 @@ module _ {V : Type 0} (M : Monoid V) (laws : IsOrderedMonoid M) (difference : V 
     }
 
     -- phases that lead on from it have the index that it ends with
-    pub index_led : IsReduced M start → (own : List (PhaseOf Word)) (after : Reduced V) → LeadOn M difference word_of (take 0 own) own start after → HaveIndexAfter M difference word_of Q kept before own after.index
-    index_led reduced own after lead =
-        let led = lead start reduced (replayed-none M laws difference word_of start reduced) in
+    pub index_led : (own : List (PhaseOf Word)) (after : Reduced V) → AreReplayed M difference word_of own start after → HaveIndexAfter M difference word_of Q kept before own after.index
+    index_led own after led =
         record {
           admitted = record {
             phases = led.phases;
@@ -42,12 +41,12 @@ module _ {V : Type 0} (M : Monoid V) (laws : IsOrderedMonoid M) (difference : V 
         }
 
     -- where one is bad they aren't admitted
-    pub index_bad : IsReduced M start → (own : List (PhaseOf Word)) (place : ℕ) → IsBadFrom M difference word_of own 0 start place → ¬ AreAdmittedWithin M difference word_of Q kept own
-    index_bad reduced own place bad = λ all.
+    pub index_bad : (own : List (PhaseOf Word)) (place : ℕ) → IsFirstBad M difference word_of R.side (cell_at R) own place → ¬ AreAdmittedWithin M difference word_of Q kept own
+    index_bad own place bad = λ all.
         let here : AreAdmittedFrom M difference word_of R.side (cell_at R) own =
         subst (λ n. AreAdmittedFrom M difference word_of n (cell_at R) own) (sym labels.side)
         (subst (λ square. AreAdmittedFrom M difference word_of Q.side square own) (sym same_cells) all) in
-        (bad start reduced (replayed-none M laws difference word_of start reduced)).bad
+        bad.bad
         (admitted-take M difference word_of R.side (cell_at R) (suc place) own here)
 
 -- the kept cells of a square of values are values

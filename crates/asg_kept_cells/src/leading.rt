@@ -76,7 +76,7 @@ fn replay_phases<M: Written>(
     ensures { IfOk result (λ _. AreReplayed (M.monoid_of m.now) (M.difference m.now)
         (M.word_of m.now) phases.now reduced.old reduced.new) }
 {
-    let _bad = first_bad(alloc, m, reduced, phases, 0)?;
+    let _bad = first_bad(alloc, m, reduced, phases)?;
     Ok(())
 }
 

@@ -83,7 +83,7 @@ fn index_of_all<M: Written>(
     let mut now = square.copy(alloc)?;
     take_out(&mut now, kept);
     let mut reduced = Reduced { now, index: before };
-    match first_bad(alloc, m, &mut reduced, own, 0)? {
+    match first_bad(alloc, m, &mut reduced, own)? {
         Some(_place) => Ok(None),
         None => Ok(Some(reduced.index)),
     }

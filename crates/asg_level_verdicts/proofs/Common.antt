@@ -21,7 +21,6 @@ pub use Rattle.asg_model.specs.declared.parts.Cost.{Cost}
 pub use Rattle.asg_model.specs.declared.parts.Place.{Place}
 pub use Rattle.asg_model.specs.declared.parts.Place.TheVariants.{All, Exactly}
 pub use Rattle.asg_monoids.specs.BoundedSums.{bounded_difference, plain_word}
-pub use Rattle.asg_monoids.specs.laws.Bounded.{bounded_laws}
 pub use Rattle.asg_proof.specs.Levels.{IsLeftAssignment, IsLevel, counted_as, has_cost, is_after, is_between, is_zero, last_cost, left_after, left_for, left_last, left_so_far, level_square, level_sums, numbers_of, without}
 pub use Rattle.asg_proof.specs.Phases.{AreAdmittedPhases, after_phases, index_of}
 pub use Rattle.asg_proof.specs.declared.levels.Level.{Level}

@@ -1,5 +1,6 @@
 -- A level is one after those before it, or not, by what a walk over its square tells.
-use Rattle.asg_level_verdicts.proofs.Common.{◌≡◌, ℕ, suc, ◌^◌, Bool, List, ℤ, Option, sym, ap, ◌∙◌, subst, inl, inr, fun_ext, BitTable, IsDue, IsLeft, IsRefused, Admitted, from_parts, numbers_back, to_parts, Problem, square_side, bounded_difference, plain_word, bounded_laws, IsLevel, is_zero, left_after, left_for, level_square, level_sums, numbers_of, after_phases, index_of, Level, index_is_value, AreAdmittedFrom, AreReplayed, IsFirstBad, choice_of, cell_at}
+use Rattle.asg_level_verdicts.proofs.Common.{◌≡◌, ℕ, suc, ◌^◌, Bool, List, ℤ, Option, sym, ap, ◌∙◌, subst, inl, inr, fun_ext, BitTable, IsDue, IsLeft, IsRefused, Admitted, from_parts, numbers_back, to_parts, Problem, square_side, bounded_difference, plain_word, IsLevel, is_zero, left_after, left_for, level_square, level_sums, numbers_of, after_phases, index_of, Level, index_is_value, AreAdmittedFrom, AreReplayed, IsFirstBad, choice_of, cell_at}
+use Rattle.asg_monoids.specs.laws.Bounded.{bounded_laws}
 use Rattle.asg_admit.specs.declared.reduced.Reduced.{Reduced}
 use Rattle.asg_replays.specs.laws.PhaseWords.{admitted-take}
 

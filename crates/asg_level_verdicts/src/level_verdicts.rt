@@ -145,7 +145,7 @@ fn are_counted(alloc: Global, reduced: &mut Reduced<u128>, level: &Level) -> Res
         → IsRefused level.now.phases reduced.old level.now.count) }
 {
     let sums = Bounded { top: 1 << 120 };
-    match first_bad(alloc, &sums, reduced, level.phases.as_slice(), 0)? {
+    match first_bad(alloc, &sums, reduced, level.phases.as_slice())? {
         Some(_place) => Ok(false),
         None => Ok(reduced.index == u128::from(level.count)),
     }

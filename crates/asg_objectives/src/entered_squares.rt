@@ -11,8 +11,9 @@ ghost use Rattle.asg_objectives.specs.FoldOutcomes.{IsFoldOutcome};
 use crate::NoMemory;
 use crate::guessed_squares::guessed_outcome;
 use crate::solved_squares::outcome;
-use asg_algebra::{SquareSolver, entered_square};
+use asg_algebra::entered_square;
 use asg_duals::Guess;
+use asg_kept::Keeps;
 use asg_model::Instance;
 use asg_order::{Kind, Ordered};
 use asg_proof::Outcome;
@@ -27,7 +28,7 @@ fn entered_outcome<K: Kind>(
     square: Square<<K::M as Ordered>::Value>,
 ) -> Result<Outcome, NoMemory>
 where
-    K::M: SquareSolver,
+    K::M: Keeps,
     requires passes { PassesNegative (K.objective kind.now) inst.now }
     requires reach { most_cost ≤ K.reach kind.now }
     requires square { let unit = (K.M.monoid_of (K.monoid kind.now)).unit in
@@ -50,7 +51,7 @@ fn guessed_entered_outcome<K: Kind>(
     guess: &Guess<<K::M as Ordered>::Value>,
 ) -> Result<Option<Outcome>, NoMemory>
 where
-    K::M: SquareSolver,
+    K::M: Keeps,
     requires passes { PassesNegative (K.objective kind.now) inst.now }
     requires reach { most_cost ≤ K.reach kind.now }
     requires square { let unit = (K.M.monoid_of (K.monoid kind.now)).unit in
@@ -79,7 +80,7 @@ where
 /// augmenting paths over a d-monoid [Burkard, Hahn and Zimmermann 1977].
 pub fn algebraic<K: Kind>(alloc: Global, kind: &K, inst: &Instance) -> Result<Outcome, NoMemory>
 where
-    K::M: SquareSolver,
+    K::M: Keeps,
     requires side { square_side inst.now ≤ most_side }
     requires passes { PassesNegative (K.objective kind.now) inst.now }
     requires reach { most_cost ≤ K.reach kind.now }
@@ -103,7 +104,7 @@ pub(crate) fn guessed_algebraic<K: Kind>(
     guess: Option<Guess<<K::M as Ordered>::Value>>,
 ) -> Result<Outcome, NoMemory>
 where
-    K::M: SquareSolver,
+    K::M: Keeps,
     requires side { square_side inst.now ≤ most_side }
     requires passes { PassesNegative (K.objective kind.now) inst.now }
     requires reach { most_cost ≤ K.reach kind.now }

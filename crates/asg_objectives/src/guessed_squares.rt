@@ -13,7 +13,8 @@ use crate::solved_squares::best;
 use crate::workspaces::Workspace;
 use asg_admit::Reduced;
 use asg_algebra::laws::fold_law;
-use asg_algebra::{AssignedSquare, Solved, SquareSolver};
+use asg_algebra::{AssignedSquare, Solved, assign_given};
+use asg_kept::Keeps;
 use asg_model::Instance;
 use asg_proof::{Outcome, Phase};
 use asg_square::Square;
@@ -22,7 +23,7 @@ use std::alloc::Global;
 
 // Solves a square in a workspace by phases and columns that were guessed; `None` where they don't
 // solve it. It has the square from then on.
-fn solve_guessed<M: SquareSolver>(
+fn solve_guessed<M: Keeps>(
     alloc: Global,
     m: &M,
     square: Square<M::Value>,
@@ -40,8 +41,9 @@ fn solve_guessed<M: SquareSolver>(
         now: square,
         index: m.unit(),
     };
-    m.assign_given(
+    assign_given(
         alloc,
+        m,
         reduced,
         &mut workspace.matching,
         &mut workspace.region,
@@ -52,7 +54,7 @@ fn solve_guessed<M: SquareSolver>(
 
 // The outcome of the square of an instance that was solved in a workspace; `None` where not every
 // row has a column.
-fn found_outcome<M: SquareSolver>(
+fn found_outcome<M: Keeps>(
     alloc: Global,
     m: &M,
     inst: &Instance,
@@ -85,7 +87,7 @@ fn found_outcome<M: SquareSolver>(
 
 // The outcome of the square of an instance that may have been solved in a workspace; `None` where
 // it wasn't.
-fn outcome_if_solved<M: SquareSolver>(
+fn outcome_if_solved<M: Keeps>(
     alloc: Global,
     m: &M,
     inst: &Instance,
@@ -111,7 +113,7 @@ fn outcome_if_solved<M: SquareSolver>(
 }
 
 // The outcome of the square of an instance in a workspace, by phases and columns that were guessed.
-fn guessed_outcome_in<M: SquareSolver>(
+fn guessed_outcome_in<M: Keeps>(
     alloc: Global,
     m: &M,
     inst: &Instance,
@@ -135,7 +137,7 @@ fn guessed_outcome_in<M: SquareSolver>(
 /// The outcome of the square of an instance, whose present cells are values and whose free cells
 /// are units, by phases and columns that were guessed; `None` where they don't pass the tests or
 /// don't solve it. The error is want of memory.
-pub(crate) fn guessed_outcome<M: SquareSolver>(
+pub(crate) fn guessed_outcome<M: Keeps>(
     alloc: Global,
     m: &M,
     inst: &Instance,

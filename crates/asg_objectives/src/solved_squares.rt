@@ -22,7 +22,8 @@ use crate::trail_phases::trail_phases;
 use crate::workspaces::Workspace;
 use asg_admit::Reduced;
 use asg_algebra::laws::fold_law;
-use asg_algebra::{Solved, SolvedSquare, SquareSolver};
+use asg_algebra::{Solved, SolvedSquare, solve_square};
+use asg_kept::Keeps;
 use asg_match::{Matching, Pairing, hall_list, perfect_or_hall};
 use asg_model::{Choice, Instance};
 use asg_order::Written;
@@ -164,7 +165,7 @@ pub(crate) fn is_short<V: Copy>(alloc: Global, square: &Square<V>) -> Result<boo
 }
 
 // Solves a square in a workspace. It has the square from then on.
-fn solve_in<M: SquareSolver>(
+fn solve_in<M: Keeps>(
     alloc: Global,
     m: &M,
     square: Square<M::Value>,
@@ -179,8 +180,9 @@ fn solve_in<M: SquareSolver>(
         now: square,
         index: m.unit(),
     };
-    m.solve_square(
+    solve_square(
         alloc,
+        m,
         reduced,
         &mut workspace.matching,
         &mut workspace.bench,
@@ -190,7 +192,7 @@ fn solve_in<M: SquareSolver>(
 }
 
 /// The outcome of the square of an instance that was solved in a workspace.
-pub(crate) fn outcome_of<M: SquareSolver>(
+pub(crate) fn outcome_of<M: Keeps>(
     alloc: Global,
     m: &M,
     inst: &Instance,
@@ -219,7 +221,7 @@ pub(crate) fn outcome_of<M: SquareSolver>(
 }
 
 // The outcome of the square of an instance that is solved in a workspace.
-fn outcome_in<M: SquareSolver>(
+fn outcome_in<M: Keeps>(
     alloc: Global,
     m: &M,
     inst: &Instance,
@@ -241,7 +243,7 @@ fn outcome_in<M: SquareSolver>(
 /// Solves the square of an instance, whose present cells are values and whose free cells are units:
 /// a valid choice with phases that prove its fold, or a Hall set of the whole instance. Whether
 /// some rows have too few present cells is told first. The error is want of memory.
-pub(crate) fn outcome<M: SquareSolver>(
+pub(crate) fn outcome<M: Keeps>(
     alloc: Global,
     m: &M,
     inst: &Instance,

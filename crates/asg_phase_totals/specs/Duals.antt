@@ -39,8 +39,8 @@ pub record IsGreaterOf (from to : ℕ) (row : ℕ → Option ℕ) (other greates
   pub reached : (greatest ≡ other) ⊎ ((k : ℕ) × (row k ≡ Some greatest))
 
 -- what dual variables keep: there is one for each row and column, none is greater than the index,
--- that of a column is at most each present cell with that of the row more, and no number passes the
--- bound
+-- that of a column is at most each present cell with that of the row more, no cell passes the
+-- greatest number, and no number the bound
 pub record AreDuals (bound : ℕ) (Q : Grid ℕ) (rows columns : List ℕ) (index greatest : ℕ) : Type 0 where
   pub grid : IsGrid Q
   pub row_count : length rows ≡ Q.side
@@ -48,7 +48,7 @@ pub record AreDuals (bound : ℕ) (Q : Grid ℕ) (rows columns : List ℕ) (inde
   pub rows_within : (r : ℕ) → r < Q.side → slice_index rows r ≤ index
   pub columns_within : (k : ℕ) → k < Q.side → slice_index columns k ≤ index
   pub cells : (r k x : ℕ) → cell_at Q r k ≡ Some x → slice_index columns k ≤ x + slice_index rows r
-  pub is_greatest : IsGreatest Q.side (cell_at Q) greatest
+  pub above : (r k x : ℕ) → r < Q.side → cell_at Q r k ≡ Some x → x ≤ greatest
   pub few_index : index ≤ bound
   pub few_greatest : greatest ≤ bound
 
@@ -57,14 +57,6 @@ pub record AreDuals (bound : ℕ) (Q : Grid ℕ) (rows columns : List ℕ) (inde
 pub record HasRoom (top : ℕ) (reduced : Reduced ℕ) (sum : ℕ) : Type 0 where
   pub index : reduced.index + sum < top
   pub cells : (r k x : ℕ) → cell_at reduced.now r k ≡ Some x → x + sum < top
-
--- sums come near the top: the index, or some present cell with the index twice, reaches it with the
--- sum more
-abbrev pub IsNearTop : ℕ → Reduced ℕ → ℕ → Type 0
-IsNearTop top reduced sum =
-    (top ≤ reduced.index + sum)
-    ⊎ ((r : ℕ) × (k : ℕ) × (x : ℕ) × (cell_at reduced.now r k ≡ Some x)
-    × (top ≤ x + 2 * reduced.index + sum))
 
 -- the sum of the first so many numbers
 abbrev pub sum_before : List ℕ → ℕ → ℕ

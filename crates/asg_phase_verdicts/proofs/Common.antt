@@ -1,6 +1,5 @@
 -- The names that proofs of this crate cite most, passed on from one place. Declares nothing.
-pub use Rattle.asg_model.proofs.Kit.{All, All-weaker, IfOk, IfOk-weaker, IfSome, IfSome_then, List, Option, [], ap, arith, false≢true, fun_ext, inl, inr, length, map, min, nat_tests, pos, refl, subst, suc, sym, take, true, unsigned_abs, ℕ, ◌+◌, ◌<◌, ◌^◌, ◌∙◌, ◌∷◌, ◌≡◌, ◌≢◌, ◌≤◌, ◌⊎◌}
-pub use Rattle.asg_admit.specs.Reduced.{IsReduced}
+pub use Rattle.asg_model.proofs.Kit.{IfOk, IfOk-weaker, IfSome, IfSome_then, List, Option, [], ap, arith, false≢true, fun_ext, inl, inr, min, nat_tests, pos, refl, subst, suc, sym, take, true, unsigned_abs, ℕ, ◌+◌, ◌<◌, ◌^◌, ◌∙◌, ◌∷◌, ◌≡◌, ◌≢◌, ◌≤◌, ◌⊎◌}
 pub use Rattle.asg_admit.specs.declared.reduced.Reduced.{Reduced}
 pub use Rattle.asg_model.specs.Problem.{Problem}
 pub use Rattle.asg_model.specs.Shapes.{square_side}
@@ -9,21 +8,18 @@ pub use Rattle.asg_model.specs.declared.objectives.Objective.TheVariants.{Bottle
 pub use Rattle.asg_model.specs.declared.parts.Cost.{Cost}
 pub use Rattle.asg_monoids.specs.BoundedSums.{bounded_difference, bounded_sums, bounded_value, narrow_top, plain_word}
 pub use Rattle.asg_monoids.specs.Entered.{cost_reach, is_sum_objective, peak_entered, sum_entered, time_entered, top_of}
-pub use Rattle.asg_monoids.specs.Grades.{graded, graded_difference, graded_value, graded_word}
 pub use Rattle.asg_monoids.specs.laws.Bounded.{bounded_laws, bounded_word_laws}
 pub use Rattle.asg_order.specs.Bridge.{choice_fold}
 pub use Rattle.asg_order.specs.Monoid.{IsOrderedMonoid, IsValue, Monoid}
 pub use Rattle.asg_order.specs.declared.words.Word.{Word}
 pub use Rattle.asg_phase_verdicts.specs.Replays.{StandsFor, StandsFrom, StandsOver}
-pub use Rattle.asg_phase_verdicts.specs.SumReplays.{StopsAt}
-pub use Rattle.asg_proof.specs.Phases.{AreAdmittedPhases, PhaseOf, index_of, phase_of}
+pub use Rattle.asg_proof.specs.Phases.{AreAdmittedPhases, PhaseOf, index_of}
 pub use Rattle.asg_proof.specs.laws.LiveCosts.{lies_within}
 pub use Rattle.asg_reasons.specs.Verdicts.{Tells, phase_reasons}
 pub use Rattle.asg_reasons.specs.declared.verdicts.Verdict.TheVariants.{No, Yes}
-pub use Rattle.asg_replays.specs.Replays.{AreAdmittedFrom, AreReplayed, IsAdmittedFrom, IsFirstBad, IsReplayed, IsStart}
+pub use Rattle.asg_replays.specs.Replays.{AreAdmittedFrom, AreReplayed, IsFirstBad, IsStart}
 pub use Rattle.asg_replays.specs.WholeLists.{HaveIndex}
 pub use Rattle.asg_replays.specs.laws.LiveCosts.{live_values}
-pub use Rattle.asg_replays.specs.laws.Replaying.{first-bad, phase-words, refused-words, replayed-none, replayed-push, unread-words}
 pub use Rattle.asg_replays.specs.laws.Starts.{start_of}
 pub use Rattle.asg_square.specs.Cells.{square_cell}
 pub use Rattle.asg_square.specs.Grid.{cell_at}

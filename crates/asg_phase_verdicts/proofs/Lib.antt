@@ -1,4 +1,3 @@
 pub mod Common
-pub mod Outcomes
 pub mod NarrowSums
 pub mod PhaseTold

@@ -1,24 +1,15 @@
--- Sums in 64 bits are sums below a greater top, and sums that stop at a cap are sums in 64 bits.
-use Rattle.asg_phase_verdicts.proofs.Common.{◌≡◌, ℕ, ◌≤◌, min, true, ◌⊎◌, List, Option, sym, ap, ◌∙◌, subst, inl, inr, arith, nat_tests, IsReduced, Reduced, Problem, Objective, Sum, SumMax, Cost, bounded_sums, bounded_difference, narrow_top, plain_word, cost_reach, sum_entered, top_of, IsValue, Word, PhaseOf, AreAdmittedPhases, index_of, IsStart, HaveIndex}
+-- Sums in 64 bits, and sums that stop at a cap.
+use Rattle.asg_phase_verdicts.proofs.Common.{◌≡◌, ℕ, ◌≤◌, min, true, ◌⊎◌, List, Option, sym, ap, ◌∙◌, subst, inl, inr, arith, fun_ext, nat_tests, Reduced, Problem, square_side, Objective, Sum, SumMax, Cost, bounded_sums, bounded_difference, narrow_top, plain_word, cost_reach, sum_entered, top_of, IsValue, Word, PhaseOf, AreAdmittedPhases, index_of, IsStart, HaveIndex, square_cell, cell_at}
 use Rattle.asg_order.specs.Entering.{MayEnter}
 use Rattle.asg_monoids.specs.NarrowObjectives.{is_narrow_objective}
 
--- what holds where sums stop at a top holds where they stop at one that is no less
-module _ (low top : ℕ) (wide : low ≤ top) where
-  -- values
-  pub value_up : (x : ℕ) → IsValue (bounded_sums low) x → IsValue (bounded_sums top) x
-  value_up x is = grind (arith, nat_tests)
-
-  -- reduced squares
-  pub reduced_up : (reduced : Reduced ℕ) → IsReduced (bounded_sums low) reduced → IsReduced (bounded_sums top) reduced
-  reduced_up reduced is = record {
-    cells = λ r k x hr hk at. value_up x (is.cells r k x hr hk at);
-    index = value_up reduced.index is.index;
-  }
-
-  -- squares of an instance
-  pub start_up : (enter : Cost → ℕ) (X : Problem) (start : Reduced ℕ) → IsStart (bounded_sums low) enter X start → IsStart (bounded_sums top) enter X start
-  start_up enter X start is = record { square = is.square; index = is.index; reduced = reduced_up start is.reduced }
+-- an index from the square of an instance is one from its cells
+pub start_index : (low top : ℕ) (enter : Cost → ℕ) (X : Problem) (start : Reduced ℕ) (index : ℕ) (words : List (PhaseOf Word)) → IsStart (bounded_sums low) enter X start
+    → HaveIndex (bounded_sums top) bounded_difference plain_word start.now.side (cell_at start.now) index words → HaveIndex (bounded_sums top) bounded_difference plain_word (square_side X) (square_cell X 0 enter) index words
+start_index low top enter X start index words at have =
+    let cells : cell_at start.now ≡ square_cell X 0 enter = fun_ext (λ r. fun_ext (λ k. at.square.cells r k)) in
+    subst (λ side. HaveIndex (bounded_sums top) bounded_difference plain_word side (square_cell X 0 enter) index words) at.square.labels.side
+    (subst (λ square. HaveIndex (bounded_sums top) bounded_difference plain_word start.now.side square index words) cells have)
 
 -- a number cut at a cap is at most the cap
 pub capped_value : (x cap : ℕ) → IsValue (bounded_sums cap) (min x cap)

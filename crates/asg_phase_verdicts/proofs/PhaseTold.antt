@@ -1,7 +1,8 @@
 -- What the verdict on phases tells.
-use Rattle.asg_phase_verdicts.proofs.Common.{◌≡◌, ℕ, suc, ◌+◌, ◌^◌, ◌<◌, true, ◌≢◌, ◌⊎◌, List, [], ◌∷◌, take, pos, Option, sym, refl, ap, ◌∙◌, subst, inl, inr, arith, fun_ext, Reduced, Problem, square_side, Objective, Sum, SumMax, SumPair, Capped, Bottleneck, BottleneckMax, TimeCost, Cost, bounded_sums, bounded_difference, plain_word, is_sum_objective, top_of, sum_entered, peak_entered, time_entered, graded, graded_difference, graded_word, choice_fold, Monoid, IsValue, IsOrderedMonoid, Word, StandsFor, StandsFrom, StandsOver, PhaseOf, index_of, Tells, phase_reasons, No, Yes, AreAdmittedFrom, AreReplayed, IsFirstBad, IsStart, HaveIndex, square_cell, cell_at}
+use Rattle.asg_phase_verdicts.proofs.Common.{◌≡◌, ℕ, suc, ◌+◌, ◌^◌, ◌<◌, true, ◌≢◌, ◌⊎◌, List, [], ◌∷◌, take, pos, Option, sym, refl, ap, ◌∙◌, subst, inl, inr, arith, fun_ext, Reduced, Problem, square_side, Objective, Sum, SumMax, SumPair, Capped, Bottleneck, BottleneckMax, TimeCost, Cost, bounded_sums, bounded_difference, plain_word, is_sum_objective, top_of, sum_entered, peak_entered, time_entered, choice_fold, Monoid, IsValue, IsOrderedMonoid, Word, StandsFor, StandsFrom, StandsOver, PhaseOf, index_of, Tells, phase_reasons, No, Yes, AreAdmittedFrom, AreReplayed, IsFirstBad, IsStart, HaveIndex, square_cell, cell_at}
 use Rattle.asg_order.specs.Words.{HasWords}
 use Rattle.asg_model.specs.Objectives.{is_bottleneck}
+use Rattle.asg_monoids.specs.Grades.{graded, graded_difference, graded_word}
 use Rattle.asg_monoids.specs.Maxima.{maxima, maxima_difference}
 use Rattle.asg_proof.specs.laws.PhaseLists.{index_is_value}
 use Rattle.asg_reasons.specs.declared.verdicts.Reason.TheVariants.{BadPhase, IndexDiffers}

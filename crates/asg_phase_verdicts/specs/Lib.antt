@@ -1,4 +1,3 @@
 pub mod PhaseReasons
 pub mod Replays
-pub mod SumReplays
 pub mod laws

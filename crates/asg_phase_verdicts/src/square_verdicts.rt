@@ -1,38 +1,62 @@
 //! What stands against phases that are replayed from a square.
 
-ghost use Rattle.std.specs.Prelude.{◌≡◌, ◌≢◌, ◌⊎◌, ◌↔◌, ◌≤◌, length, pos, IsTrue, IfOk};
+ghost use Rattle.std.specs.Prelude.{◌≡◌, ◌≢◌, ◌⊎◌, ◌↔◌, pos, IsTrue, IfOk};
 ghost use Rattle.asg_admit.specs.Reduced.{IsReduced};
 ghost use Rattle.asg_order.specs.Monoid.{IsValue};
-ghost use Rattle.asg_phase_verdicts.specs.Replays.{TellsFrom};
+ghost use Rattle.asg_square.specs.Grid.{cell_at};
+ghost use Rattle.asg_reasons.specs.Verdicts.{Tells, phase_reasons};
+ghost use Rattle.asg_phase_verdicts.specs.Replays.{StandsFrom};
 
 use crate::NoMemory;
+use crate::known_indices::KnowsIndex;
 use asg_admit::Reduced;
-use asg_order::{Ordered, Written};
+use asg_kept::{Keeps, KeptSquare, RowSquare};
+use asg_order::Ordered;
 use asg_proof::WrittenPhase;
 use asg_reasons::{Reason, Verdict};
 use asg_replays::first_bad;
 use std::alloc::Global;
 
-// The verdict on phases that are to have the value as their index, of which those before a place
-// led to the reduced square. The error is want of memory.
-pub(crate) fn square_verdict<M: Written>(
+// The verdict on phases that are to be admitted in turn from the square, of which no step was taken
+// yet, and to have the value as their index: by few looks at the cells for all of them, and where
+// these don't tell it phase by phase. The error is want of memory.
+pub(crate) fn square_verdict<M: KnowsIndex>(
     alloc: Global,
     m: &M,
-    before: Reduced<M::Value>,
+    start: Reduced<M::Value>,
     phases: &[WrittenPhase],
-    from: usize,
     value: M::Value,
 ) -> Result<Verdict, NoMemory>
-    requires reduced { IsReduced (M.monoid_of m.now) before }
-    requires from { from ≤ length phases.now }
+    requires reduced { IsReduced (M.monoid_of m.now) start }
+    requires unit { start.index ≡ (M.monoid_of m.now).unit }
     requires value { IsValue (M.monoid_of m.now) value }
-    ensures { IfOk result (TellsFrom (M.monoid_of m.now) (M.difference m.now) (M.word_of m.now)
-        phases.now from before value) }
+    ensures { IfOk result (Tells (StandsFrom (M.monoid_of m.now) (M.difference m.now)
+        (M.word_of m.now) start.now.side (cell_at start.now) value phases.now) phase_reasons) }
 {
-    let mut reduced = before;
-    match first_bad(alloc, m, &mut reduced, phases, from)? {
+    match m.known_index(alloc, &start.now, phases)? {
+        Some(index) => Ok(index_verdict(m, index, value)),
+        None => replays_verdict(alloc, m, start, phases, value),
+    }
+}
+
+// The same phase by phase.
+fn replays_verdict<M: Keeps>(
+    alloc: Global,
+    m: &M,
+    start: Reduced<M::Value>,
+    phases: &[WrittenPhase],
+    value: M::Value,
+) -> Result<Verdict, NoMemory>
+    requires reduced { IsReduced (M.monoid_of m.now) start }
+    requires unit { start.index ≡ (M.monoid_of m.now).unit }
+    requires value { IsValue (M.monoid_of m.now) value }
+    ensures { IfOk result (Tells (StandsFrom (M.monoid_of m.now) (M.difference m.now)
+        (M.word_of m.now) start.now.side (cell_at start.now) value phases.now) phase_reasons) }
+{
+    let mut square = m.keep(alloc, start)?;
+    match first_bad(alloc, m, &mut square, phases)? {
         Some(place) => Ok(Reason::BadPhase.verdict_at_part(place)),
-        None => Ok(index_verdict(m, reduced.index, value)),
+        None => Ok(index_verdict(m, square.index(), value)),
     }
 }
 

@@ -48,22 +48,6 @@ pub record IsFirstBad {V : Type 0} (M : Monoid V) (difference : V → V → V) (
   pub before : AreAdmittedFrom M difference word_of side square (take place words)
   pub bad : ¬ AreAdmittedFrom M difference word_of side square (take (suc place) words)
 
--- from each square from which the words lead to one reduced square, the others lead to another
-abbrev pub LeadOn : {V : Type 0} → Monoid V → (V → V → V) → (V → Word) → List (PhaseOf Word)
-    → List (PhaseOf Word) → Reduced V → Reduced V → Type 0
-LeadOn {V} M difference word_of words others before after =
-    (start : Reduced V) → IsReduced M start → AreReplayed M difference word_of words start before
-    → AreReplayed M difference word_of others start after
-
--- from each square from which the first so many phases lead to the reduced square, the first bad
--- one has this place
-abbrev pub IsBadFrom : {V : Type 0} → Monoid V → (V → V → V) → (V → Word) → List (PhaseOf Word) → ℕ
-    → Reduced V → ℕ → Type 0
-IsBadFrom {V} M difference word_of words from before place =
-    (start : Reduced V) → IsReduced M start
-    → AreReplayed M difference word_of (take from words) start before
-    → IsFirstBad M difference word_of start.now.side (cell_at start.now) words place
-
 -- the square is that of the instance, and no step was taken
 pub record IsStart {V : Type 0} (M : Monoid V) (enter : Cost → V) (X : Problem) (start : Reduced V)
     : Type 0 where

@@ -1,11 +1,10 @@
 //! Phases as documents have them, replayed on the square of an instance.
 //!
 //! The steps of a phase are words; each is read as a value of the monoid, and the phases are
-//! applied in turn to a reduced square, up to the first that isn't admitted after those before it.
-//! Long phases are applied by parts, so that their values never stand in memory all at once.
-//! One pass over the cells can tell that a whole list of phases of sums is admitted, and where sums
-//! fit in 64 bits, a whole list can be replayed by dual variables, so that the cells are written
-//! once.
+//! applied in turn to a reduced square, however it is kept, up to the first that isn't admitted
+//! after those before it. Long phases are applied by parts, so that their values never stand in
+//! memory all at once. One pass over the cells can tell that a whole list of phases of sums is
+//! admitted.
 //! Contracts say from which square the phases are admitted, and to which they lead. The checkers of
 //! phases, of levels and of search trees stand on it.
 #![tactic(auto)]

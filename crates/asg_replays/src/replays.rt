@@ -1,19 +1,18 @@
 //! Phases, replayed on the square of an instance.
 
 ghost use Rattle.std.specs.Prelude.{◌≡◌, ◌≢◌, ◌-◌, ◌<◌, ◌≤◌, ◌^◌, false, None, List, length};
-ghost use Rattle.std.specs.Prelude.{All, IsTrue, IfOk, IfSome, map, take};
+ghost use Rattle.std.specs.Prelude.{All, IsTrue, IfOk, IfSome, map};
 ghost use Rattle.asg_admit.specs.Reduced.{IsReduced};
 ghost use Rattle.asg_order.specs.Monoid.{IsValue};
 ghost use Rattle.asg_proof.specs.Phases.{phase_of};
 ghost use Rattle.asg_square.specs.Grid.{cell_at};
 ghost use Rattle.asg_replays.specs.PhaseParts.{counted_from, first_part, part_of, steps_between};
-ghost use Rattle.asg_replays.specs.Replays.{IsAdmittedFrom, IsBadFrom, IsReplayed, LeadOn};
+ghost use Rattle.asg_replays.specs.Replays.{AreReplayed, IsAdmittedFrom, IsFirstBad, IsReplayed};
 
 use crate::NoMemory;
-use asg_admit::Reduced;
+use asg_kept::KeptSquare;
 use asg_order::{Ordered, Written};
 use asg_proof::{Steps, WrittenPhase};
-use asg_settling::replay_within;
 use std::alloc::Global;
 
 /// Reads the values that have the words, in order, into the list in place of what it had, and tells
@@ -118,9 +117,9 @@ fn marks_from(alloc: Global, marks: &[u32], from: usize) -> Result<Vec<u32>, NoM
 // where it is admitted, and tells whether it is; where it isn't, the square means nothing more. The
 // steps are read into the list of values, which keeps its room, as the other list does. The error
 // is want of memory.
-fn replay_between<M: Written>(
+fn replay_between<M: Written, S: KeptSquare<M>>(
     m: &M,
-    reduced: &mut Reduced<M::Value>,
+    square: &mut S,
     values: &mut Vec<M::Value>,
     room: &mut Vec<M::Value>,
     words: &Steps<'_>,
@@ -129,52 +128,46 @@ fn replay_between<M: Written>(
     enters: &[u32],
     leaves: &[u32],
 ) -> Result<bool, NoMemory>
-    requires reduced { IsReduced (M.monoid_of m.now) reduced.old }
+    requires reduced { IsReduced (M.monoid_of m.now) (S.as_reduced square.old) }
     requires order { from ≤ to }
     requires within { to ≤ length words.now }
     ensures applied { let part = phase_of (steps_between from to words.now) enters.now leaves.now in
         IfOk result (λ is. IsTrue is → IsReplayed (M.monoid_of m.now)
-        (M.difference m.now) (M.word_of m.now) part reduced.old reduced.new) }
+        (M.difference m.now) (M.word_of m.now) part (S.as_reduced square.old)
+        (S.as_reduced square.new)) }
     ensures refused { let part = phase_of (steps_between from to words.now) enters.now leaves.now in
         IfOk result (λ is. is ≡ false → ¬ IsAdmittedFrom (M.monoid_of m.now)
-        (M.difference m.now) (M.word_of m.now) reduced.old.now.side (cell_at reduced.old.now)
-        part) }
+        (M.difference m.now) (M.word_of m.now) (S.as_reduced square.old).now.side
+        (cell_at (S.as_reduced square.old).now) part) }
 {
     if !read_between(m, words, from, to, values)? {
         return Ok(false);
     }
     make_room(m, room, values.len())?;
-    Ok(replay_within(
-        m,
-        reduced,
-        values.as_slice(),
-        enters,
-        leaves,
-        room.as_mut_slice(),
-    ))
+    Ok(square.replay(m, values.as_slice(), enters, leaves, room.as_mut_slice()))
 }
 
 // The same of the first so many steps of a phase.
-fn replay_first<M: Written>(
+fn replay_first<M: Written, S: KeptSquare<M>>(
     m: &M,
-    reduced: &mut Reduced<M::Value>,
+    square: &mut S,
     values: &mut Vec<M::Value>,
     room: &mut Vec<M::Value>,
     phase: &WrittenPhase,
     to: usize,
 ) -> Result<bool, NoMemory>
-    requires reduced { IsReduced (M.monoid_of m.now) reduced.old }
+    requires reduced { IsReduced (M.monoid_of m.now) (S.as_reduced square.old) }
     requires within { to ≤ length phase.now.steps }
     ensures applied { IfOk result (λ is. IsTrue is → IsReplayed (M.monoid_of m.now)
-        (M.difference m.now) (M.word_of m.now) (first_part to phase.now) reduced.old
-        reduced.new) }
+        (M.difference m.now) (M.word_of m.now) (first_part to phase.now) (S.as_reduced square.old)
+        (S.as_reduced square.new)) }
     ensures refused { IfOk result (λ is. is ≡ false → ¬ IsAdmittedFrom (M.monoid_of m.now)
-        (M.difference m.now) (M.word_of m.now) reduced.old.now.side (cell_at reduced.old.now)
-        (first_part to phase.now)) }
+        (M.difference m.now) (M.word_of m.now) (S.as_reduced square.old).now.side
+        (cell_at (S.as_reduced square.old).now) (first_part to phase.now)) }
 {
     replay_between(
         m,
-        reduced,
+        square,
         values,
         room,
         &phase.steps(),
@@ -186,31 +179,31 @@ fn replay_first<M: Written>(
 }
 
 // The same of the steps of a phase from one place up to and without another.
-fn replay_part<M: Written>(
+fn replay_part<M: Written, S: KeptSquare<M>>(
     alloc: Global,
     m: &M,
-    reduced: &mut Reduced<M::Value>,
+    square: &mut S,
     values: &mut Vec<M::Value>,
     room: &mut Vec<M::Value>,
     phase: &WrittenPhase,
     from: usize,
     to: usize,
 ) -> Result<bool, NoMemory>
-    requires reduced { IsReduced (M.monoid_of m.now) reduced.old }
+    requires reduced { IsReduced (M.monoid_of m.now) (S.as_reduced square.old) }
     requires order { from ≤ to }
     requires within { to ≤ length phase.now.steps }
     ensures applied { IfOk result (λ is. IsTrue is → IsReplayed (M.monoid_of m.now)
-        (M.difference m.now) (M.word_of m.now) (part_of from to phase.now) reduced.old
-        reduced.new) }
+        (M.difference m.now) (M.word_of m.now) (part_of from to phase.now)
+        (S.as_reduced square.old) (S.as_reduced square.new)) }
     ensures refused { IfOk result (λ is. is ≡ false → ¬ IsAdmittedFrom (M.monoid_of m.now)
-        (M.difference m.now) (M.word_of m.now) reduced.old.now.side (cell_at reduced.old.now)
-        (part_of from to phase.now)) }
+        (M.difference m.now) (M.word_of m.now) (S.as_reduced square.old).now.side
+        (cell_at (S.as_reduced square.old).now) (part_of from to phase.now)) }
 {
     let enters = marks_from(alloc, phase.enters(), from)?;
     let leaves = marks_from(alloc, phase.leaves(), from)?;
     replay_between(
         m,
-        reduced,
+        square,
         values,
         room,
         &phase.steps(),
@@ -224,30 +217,31 @@ fn replay_part<M: Written>(
 // Applies a phase where it is admitted, and tells whether it is; where it isn't, the square means
 // nothing more. A long one is applied by parts, so that its values never stand in memory all at
 // once. The error is want of memory.
-fn replay_words<M: Written>(
+fn replay_words<M: Written, S: KeptSquare<M>>(
     alloc: Global,
     m: &M,
-    reduced: &mut Reduced<M::Value>,
+    square: &mut S,
     values: &mut Vec<M::Value>,
     room: &mut Vec<M::Value>,
     phase: &WrittenPhase,
 ) -> Result<bool, NoMemory>
-    requires { IsReduced (M.monoid_of m.now) reduced.old }
+    requires { IsReduced (M.monoid_of m.now) (S.as_reduced square.old) }
     ensures applied { IfOk result (λ is. IsTrue is → IsReplayed (M.monoid_of m.now)
-        (M.difference m.now) (M.word_of m.now) phase.now reduced.old reduced.new) }
+        (M.difference m.now) (M.word_of m.now) phase.now (S.as_reduced square.old)
+        (S.as_reduced square.new)) }
     ensures refused { IfOk result (λ is. is ≡ false → ¬ IsAdmittedFrom (M.monoid_of m.now)
-        (M.difference m.now) (M.word_of m.now) reduced.old.now.side (cell_at reduced.old.now)
-        phase.now) }
+        (M.difference m.now) (M.word_of m.now) (S.as_reduced square.old).now.side
+        (cell_at (S.as_reduced square.old).now) phase.now) }
 {
     let count = phase.steps().len();
-    let most = most_steps(reduced.now.side());
+    let most = most_steps(square.side());
     let mut to = end_of(0, most, count);
-    if !replay_first(m, reduced, values, room, phase, to)? {
+    if !replay_first(m, square, values, room, phase, to)? {
         return Ok(false);
     }
     'parts: while to < count {
         let end = end_of(to, most, count);
-        if !replay_part(alloc, m, reduced, values, room, phase, to, end)? {
+        if !replay_part(alloc, m, square, values, room, phase, to, end)? {
             return Ok(false);
         }
         to = end;
@@ -255,31 +249,27 @@ fn replay_words<M: Written>(
     Ok(true)
 }
 
-/// Applies the phases from a place on in turn, up to the first that isn't admitted after those
-/// before it, and gives its place. Where all are admitted there is none. The error is want of
-/// memory.
-pub fn first_bad<M: Written>(
+/// Applies phases in turn, up to the first that isn't admitted after those before it, and gives its
+/// place. Where all are admitted there is none. The error is want of memory.
+pub fn first_bad<M: Written, S: KeptSquare<M>>(
     alloc: Global,
     m: &M,
-    reduced: &mut Reduced<M::Value>,
+    square: &mut S,
     phases: &[WrittenPhase],
-    from: usize,
 ) -> Result<Option<usize>, NoMemory>
-    requires reduced { IsReduced (M.monoid_of m.now) reduced.old }
-    requires from { from ≤ length phases.now }
+    requires { IsReduced (M.monoid_of m.now) (S.as_reduced square.old) }
     ensures place { IfOk result (λ found. IfSome found (λ place. place < length phases.now)) }
-    ensures bad { IfOk result (λ found. IfSome found (IsBadFrom (M.monoid_of m.now)
-        (M.difference m.now) (M.word_of m.now) phases.now from reduced.old)) }
-    ensures none { IfOk result (λ found. found ≡ None → LeadOn (M.monoid_of m.now)
-        (M.difference m.now) (M.word_of m.now) (take from phases.now) phases.now
-        reduced.old reduced.new) }
-    ensures reduced { IfOk result (λ found. found ≡ None
-        → IsReduced (M.monoid_of m.now) reduced.new) }
+    ensures bad { IfOk result (λ found. IfSome found (IsFirstBad (M.monoid_of m.now)
+        (M.difference m.now) (M.word_of m.now) (S.as_reduced square.old).now.side
+        (cell_at (S.as_reduced square.old).now) phases.now)) }
+    ensures none { IfOk result (λ found. found ≡ None → AreReplayed (M.monoid_of m.now)
+        (M.difference m.now) (M.word_of m.now) phases.now (S.as_reduced square.old)
+        (S.as_reduced square.new)) }
 {
     let mut values = Vec::new(alloc);
     let mut room = Vec::new(alloc);
-    for place in from..phases.len() {
-        if !replay_words(alloc, m, reduced, &mut values, &mut room, &phases[place])? {
+    for place in 0..phases.len() {
+        if !replay_words(alloc, m, square, &mut values, &mut room, &phases[place])? {
             return Ok(Some(place));
         }
     }

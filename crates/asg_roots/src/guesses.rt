@@ -1,10 +1,10 @@
 //! Few phases that may solve the square of an instance, guessed.
 
 use crate::NoMemory;
-use asg_algebra::SquareSolver;
 use asg_duals::{
     Duals, Guess, capped_guess, grade_guess, pair_guess, peak_guess, short_phases, tight_duals,
 };
+use asg_kept::Keeps;
 use asg_model::Objective;
 use asg_monoids::{Bounded, Graded, Greatest, NarrowSums};
 use asg_proof::Phase;
@@ -48,7 +48,7 @@ fn guessed<V: Copy>(guess: Option<Guess<V>>) -> Option<Hint<V>> {
 }
 
 /// The monoids of the objectives, each with the way to guess few phases that solve its squares.
-pub trait RootGuess: SquareSolver {
+pub trait RootGuess: Keeps {
     /// Phases and a column for each row that may solve the square of an instance whose live costs
     /// entered for the objective; `None` where none are guessed. No clause says that they solve it.
     /// The error is want of memory.

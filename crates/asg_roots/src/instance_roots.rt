@@ -10,7 +10,8 @@ ghost use Rattle.asg_roots.specs.Roots.{IsInstanceRoot};
 use crate::NoMemory;
 use crate::guesses::{Hint, RootGuess};
 use crate::roots::{Root, hinted_root, solve_root};
-use asg_algebra::{SquareSolver, entered_square};
+use asg_algebra::entered_square;
+use asg_kept::Keeps;
 use asg_model::Instance;
 use asg_order::{Kind, Ordered};
 use asg_square::Square;
@@ -26,7 +27,7 @@ fn entered_root<K: Kind>(
     records: u32,
 ) -> Result<Root<<K::M as Ordered>::Value>, NoMemory>
 where
-    K::M: SquareSolver,
+    K::M: Keeps,
     requires passes { PassesNegative (K.objective kind.now) inst.now }
     requires reach { most_cost ≤ K.reach kind.now }
     requires square { let unit = (K.M.monoid_of (K.monoid kind.now)).unit in
@@ -50,7 +51,7 @@ fn hinted_entered_root<K: Kind>(
     hint: &Hint<<K::M as Ordered>::Value>,
 ) -> Result<Option<Root<<K::M as Ordered>::Value>>, NoMemory>
 where
-    K::M: SquareSolver,
+    K::M: Keeps,
     requires passes { PassesNegative (K.objective kind.now) inst.now }
     requires reach { most_cost ≤ K.reach kind.now }
     requires square { let unit = (K.M.monoid_of (K.monoid kind.now)).unit in
@@ -72,7 +73,7 @@ fn anew_root<K: Kind>(
     records: u32,
 ) -> Result<Root<<K::M as Ordered>::Value>, NoMemory>
 where
-    K::M: SquareSolver,
+    K::M: Keeps,
     requires side { square_side inst.now ≤ most_side }
     requires passes { PassesNegative (K.objective kind.now) inst.now }
     requires reach { most_cost ≤ K.reach kind.now }
@@ -95,7 +96,7 @@ fn tried_root<K: Kind>(
     hint: &Hint<<K::M as Ordered>::Value>,
 ) -> Result<Root<<K::M as Ordered>::Value>, NoMemory>
 where
-    K::M: SquareSolver,
+    K::M: Keeps,
     requires side { square_side inst.now ≤ most_side }
     requires passes { PassesNegative (K.objective kind.now) inst.now }
     requires reach { most_cost ≤ K.reach kind.now }

@@ -10,7 +10,8 @@ use crate::NoMemory;
 use crate::guesses::Hint;
 use crate::workplaces::{Workplace, fresh_workplace};
 use asg_admit::Reduced;
-use asg_algebra::{Bench, Solved, SolvedSquare, SquareSolver};
+use asg_algebra::{Bench, Solved, SolvedSquare, solve_given, solve_square};
+use asg_kept::Keeps;
 use asg_match::Matching;
 use asg_pool::Region;
 use asg_proof::Phase;
@@ -54,7 +55,7 @@ fn rooted<V: Copy>(solved: SolvedSquare<V>, place: Workplace<V>) -> Root<V>
 
 // Solves a square from the unit on by the engine, in a fresh workplace. The error is want of
 // memory.
-fn solve_in<M: SquareSolver>(
+fn solve_in<M: Keeps>(
     alloc: Global,
     m: &M,
     square: Square<M::Value>,
@@ -72,13 +73,13 @@ fn solve_in<M: SquareSolver>(
     };
     let matching = &mut place.matching;
     let bench = &mut place.bench;
-    let solved = m.solve_square(alloc, reduced, matching, bench, &mut place.region, None)?;
+    let solved = solve_square(alloc, m, reduced, matching, bench, &mut place.region, None)?;
     Ok(solved)
 }
 
 // The same by phases and columns that are given; `None` where they don't pass the tests or don't
 // solve it.
-fn solve_given_in<M: SquareSolver>(
+fn solve_given_in<M: Keeps>(
     alloc: Global,
     m: &M,
     square: Square<M::Value>,
@@ -98,13 +99,21 @@ fn solve_given_in<M: SquareSolver>(
         index: m.unit(),
     };
     let matching = &mut place.matching;
-    let found = m.solve_given(alloc, reduced, matching, &mut place.region, phases, columns)?;
+    let found = solve_given(
+        alloc,
+        m,
+        reduced,
+        matching,
+        &mut place.region,
+        phases,
+        columns,
+    )?;
     Ok(found)
 }
 
 /// Solves a square from the unit on by the engine, in a region with so many records. The error is
 /// want of memory. The time grows with the cube of the side at most.
-pub(crate) fn solve_root<M: SquareSolver>(
+pub(crate) fn solve_root<M: Keeps>(
     alloc: Global,
     m: &M,
     square: Square<M::Value>,
@@ -126,7 +135,7 @@ pub(crate) fn solve_root<M: SquareSolver>(
 
 // The same by phases and columns that are given; `None` where they don't pass the tests or don't
 // solve it.
-fn given_root<M: SquareSolver>(
+fn given_root<M: Keeps>(
     alloc: Global,
     m: &M,
     square: Square<M::Value>,
@@ -155,7 +164,7 @@ fn given_root<M: SquareSolver>(
 }
 
 /// The same by a hint, whose phases may be more than the rows; `None` where it doesn't solve it.
-pub(crate) fn hinted_root<M: SquareSolver>(
+pub(crate) fn hinted_root<M: Keeps>(
     alloc: Global,
     m: &M,
     square: Square<M::Value>,

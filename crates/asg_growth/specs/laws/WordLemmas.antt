@@ -1,12 +1,11 @@
 -- Columns of sets, word by word and bit by bit.
-use Rattle.std.proofs.Common.{◌≡◌, ◌↔◌, ◌⊎◌, inl, inr, ℕ, ◌+◌, ◌*◌, ◌/◌, ◌%◌, ◌<◌, ◌≤◌, ◌^◌, List, Option, length, get_or, sym, ◌∙◌, ap, subst, arith, ⊎_elim, w64, Fits, eqb}
-use Rattle.std.specs.Prelude.{bit_and, bit_or, IsSome, is_some}
+use Rattle.std.proofs.Common.{◌≡◌, ◌↔◌, ◌⊎◌, inl, inr, ℕ, ◌+◌, ◌*◌, ◌/◌, ◌%◌, ◌<◌, ◌≤◌, ◌^◌, List, length, get_or, sym, ◌∙◌, ap, subst, arith, ⊎_elim, w64, Fits}
+use Rattle.std.specs.Prelude.{bit_and, bit_or}
 use Rattle.std.specs.Int.{bit_at, bit_not, trailing_zeros}
 use Rattle.std.proofs.Math.Facts.{Fits-lt-pow}
-use Rattle.std.proofs.lemmas.Bool.{cases_eq, cases_lt, eqb-true}
+use Rattle.std.proofs.lemmas.Bool.{cases_eq, cases_lt}
 use Rattle.std.proofs.lemmas.List.{get_or_past}
 use Rattle.std.proofs.lemmas.Nat.Bits.{bit_at-lt, bit_at_and, bit_at_or, bit_at_not}
-use Rattle.asg_bit_rows.specs.BitTable.{AreWordsOf}
 use Rattle.asg_match.specs.ColumnSet.{HasBit, HasColumn}
 use Rattle.asg_bit_rows.specs.laws.Bits.{with_bit, without_bit, bit_below, HasBit-zero, HasBit-with, HasBit-with_same, HasBit-with_kept, HasBit-without, HasBit-without_other, HasBit-trailing_zeros, without_bit-lt}
 
@@ -118,10 +117,3 @@ module _ (number rest : ℕ) (some : rest ≡ 0 → ⊥) (fits : Fits w64 rest) 
   -- the next column is below the side
   pub next_under : (words : List ℕ) (side : ℕ) → IsAmong rest number words → ((k : ℕ) → HasColumn words k → k < side) → next_column < side
   next_under words side among below = below next_column (next_in words among)
-
--- the words of a row say which of its cells are present
-pub present_some : {V : Type 0} (row : ℕ → Option V) (side : ℕ) (words : List ℕ) → AreWordsOf (λ k. is_some (row k)) side words → (k : ℕ) → k < side → HasColumn words k → IsSome (row k)
-present_some row side words are k h has = sym (are.each k (omega (arith, are.count))) ∙ ap (λ b. eqb b 1) has
-
-pub some_present : {V : Type 0} (row : ℕ → Option V) (side : ℕ) (words : List ℕ) → AreWordsOf (λ k. is_some (row k)) side words → (k : ℕ) → k < side → IsSome (row k) → HasColumn words k
-some_present row side words are k h there = eqb-true (bit_at (get_or words (k / 64) 0) (k % 64)) 1 (are.each k (omega (arith, are.count)) ∙ there)

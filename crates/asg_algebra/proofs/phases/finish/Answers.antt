@@ -23,15 +23,6 @@ keep-requires-clause-admitted g c =
     let at = place_read laws has s refl r.ready.least c.index-place.result.now c.index-place.ensures in
     (finished_phase laws has s r.ready at c.flip.ensures).0
 
-pub takes_sum-requires-clause-sum : goal.takes_sum-requires-clause-sum
-takes_sum-requires-clause-sum g c = c.requires.search.underway.sum_is_value
-
-pub keep-requires-clause-takes : goal.keep-requires-clause-takes
-keep-requires-clause-takes g c =
-    let m = c.args.m.now in
-    subst (g.S.ReducedSquare.takes c.args.reduced.now m) c.requires.search.underway.sums_are.now
-    (c.takes_sum.ensures.takes c.if-not-takes_sum.false)
-
 pub keep-requires-clause-few : goal.keep-requires-clause-few
 keep-requires-clause-few g c =
     let m = c.args.m.now in

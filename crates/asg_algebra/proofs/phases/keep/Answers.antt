@@ -1,4 +1,4 @@
-use Rattle.asg_algebra.proofs.Common.{◌≡◌, ◌+◌, ◌<◌, ◌≤◌, List, [], length, vec_len, vec_capacity, sym, refl, ap, ◌∙◌, subst, arith, eqb-true, eqb-false, nil_from_length, IsPhaseTo, made_of, ArePushed, IsPush, phase_in, fold_of, IsAdmittedPhase, phase_of, cell_at}
+use Rattle.asg_algebra.proofs.Common.{◌≡◌, ◌+◌, ◌<◌, ◌≤◌, List, [], length, vec_len, vec_capacity, sym, refl, ap, ◌∙◌, subst, arith, eqb-true, eqb-false, nil_from_length, IsPhaseTo, made_of, ArePushed, IsPush, phase_in, IsAdmittedPhase, phase_of, cell_at}
 use Rattle.asg_algebra.proofs.PhaseEnds.{no_steps, ArePushed-made}
 use Rattle.asg_algebra.proofs.phases.keep.Given.{Over}
 use Rattle.asg_algebra.proofs.phases.keep.Goals as goal
@@ -37,12 +37,6 @@ settle-requires-clause-admitted g c =
     let enters = c.deref-2.ensures.value ∙ closes.enters in
     let leaves = c.deref-3.ensures.value ∙ closes.leaves in
     subst (λ A. A) (λ i. IsAdmittedPhase (g.M.Ordered.monoid_of m) (g.M.DMonoid.difference m) before.now.side (phase_of ((sym steps) i) ((sym enters) i) ((sym leaves) i)) (cell_at before.now)) c.requires.admitted
-
-pub settle-requires-clause-takes : goal.settle-requires-clause-takes
-settle-requires-clause-takes g c =
-    let m = c.args.m.now in
-    let steps = c.deref.ensures.value ∙ ap (λ v. v.items) c.close.ensures.steps in
-    subst (λ A. A) (λ i. g.S.ReducedSquare.takes c.args.reduced.now m (fold_of (g.M.Ordered.monoid_of m) ((sym steps) i))) c.requires.takes
 
 pub settle-requires-clause-room : goal.settle-requires-clause-room
 settle-requires-clause-room g c =

@@ -1,5 +1,5 @@
-use Rattle.asg_algebra.proofs.Common.{sym, ap, ◌∙◌, subst, arith, IsBench, HasSolved, unmatched}
-use Rattle.asg_algebra.proofs.SolvingLaws.{IsReduced-rest, solving_left, IsSolving-start, IsSolving-next, solving_spare, solving_live, solving_side, HasSolved-from}
+use Rattle.asg_algebra.proofs.Common.{sym, ap, ◌∙◌, subst, arith, IsBench, HasSolved}
+use Rattle.asg_algebra.proofs.SolvingLaws.{IsReduced-rest, IsSolving-start, IsSolving-next, solving_spare, solving_live, solving_side, HasSolved-from}
 use Rattle.asg_algebra.proofs.solving.serve_all.Goals as goal
 
 pub loop-root-init : goal.loop-root-init
@@ -28,25 +28,6 @@ returns-in-Lacks-clause-solved g c =
     let same = c.in-Lacks.ensures.serves.0 in
     subst (λ A. A) (λ i. HasSolved (g.M.Ordered.monoid_of c.args.m.now) (g.M.DMonoid.difference c.args.m.now) (g.S.RowSquare.as_reduced c.args.reduced.now) ((sym same.same_square) i) c.args.matching.now ((sym same.same_matching) i) c.args.region.now ((sym same.same_forest) i) c.args.trail ((sym same.same_trail) i))
     (HasSolved-from c.loop-root.invariant.solving c.requires.live)
-
-pub returns-in-Full-clause-solved : goal.returns-in-Full-clause-solved
-returns-in-Full-clause-solved g c =
-    let same = c.in-Full.ensures.serves.0 in
-    subst (λ A. A) (λ i. HasSolved (g.M.Ordered.monoid_of c.args.m.now) (g.M.DMonoid.difference c.args.m.now) (g.S.RowSquare.as_reduced c.args.reduced.now) ((sym same.same_square) i) c.args.matching.now ((sym same.same_matching) i) c.args.region.now ((sym same.same_forest) i) c.args.trail ((sym same.same_trail) i))
-    (HasSolved-from c.loop-root.invariant.solving c.requires.live)
-
-pub returns-in-Lacks-clause-left : goal.returns-in-Lacks-clause-left
-returns-in-Lacks-clause-left g c =
-    let same = c.in-Lacks.ensures.serves.0 in
-    omega (arith, solving_left c.loop-root.invariant.solving, ap unmatched same.same_matching, ap (λ f. f.spare) same.same_forest)
-
-pub returns-in-Full-clause-left : goal.returns-in-Full-clause-left
-returns-in-Full-clause-left g c =
-    let same = c.in-Full.ensures.serves.0 in
-    omega (arith, solving_left c.loop-root.invariant.solving, ap unmatched same.same_matching, ap (λ f. f.spare) same.same_forest)
-
-pub returns-clause-left : goal.returns-clause-left
-returns-clause-left g c = solving_left c.loop-root.invariant.solving
 
 pub loop-root-preserved : goal.loop-root-preserved
 loop-root-preserved g c =

@@ -1,4 +1,5 @@
-use Rattle.asg_growth.proofs.Common.{get_or, set, sym, refl, ap, ◌∙◌, subst, true≢false, false≢true, get_or_from_slice_get, IsValue, IsLe}
+use Rattle.asg_growth.proofs.Common.{get_or, set, sym, refl, ap, ◌∙◌, subst, true≢false, false≢true, IsValue, IsLe}
+use Rattle.asg_growth.proofs.ScanLemmas.{values_at}
 use Rattle.asg_growth.proofs.leads.offer_key.Goals as goal
 
 pub op-key-requires-clause-left : goal.op-key-requires-clause-left
@@ -7,8 +8,7 @@ op-key-requires-clause-left g c = c.requires.sum
 pub op-key-requires-clause-right : goal.op-key-requires-clause-right
 op-key-requires-clause-right g c =
     let M = g.M.Ordered.monoid_of c.args.m.now in
-    let values = g.R.RowValues.values_of c.args.values.now in
-    let value_is = sym (get_or_from_slice_get values c.args.column c.value_at.result M.unit c.value_at.ensures) in
+    let value_is = sym (values_at M (g.S.RowSquare.as_reduced c.args.square.now).now c.args.row c.args.column c.value.result c.requires.column c.value.ensures) in
     subst (IsValue M) (sym value_is) c.requires.value
 
 pub is_lower-requires-clause-column : goal.is_lower-requires-clause-column
@@ -26,8 +26,7 @@ returns-then-not-is_lower-clause-taken g c = λ h. absurd (false≢true h)
 pub returns-then-not-is_lower-clause-kept : goal.returns-then-not-is_lower-clause-kept
 returns-then-not-is_lower-clause-kept g c = λ _.
     let M = g.M.Ordered.monoid_of c.args.m.now in
-    let values = g.R.RowValues.values_of c.args.values.now in
-    let value_is = sym (get_or_from_slice_get values c.args.column c.value_at.result M.unit c.value_at.ensures) in
+    let value_is = sym (values_at M (g.S.RowSquare.as_reduced c.args.square.now).now c.args.row c.args.column c.value.result c.requires.column c.value.ensures) in
     let key_is = c.op-key.ensures.product ∙ ap (M.product c.args.sum) value_is in
     let old = get_or c.args.keys.now c.args.column M.unit in
     let no = c.if-not-is_lower.true in
@@ -36,8 +35,7 @@ returns-then-not-is_lower-clause-kept g c = λ _.
 pub returns-clause-taken : goal.returns-clause-taken
 returns-clause-taken g c = λ _.
     let M = g.M.Ordered.monoid_of c.args.m.now in
-    let values = g.R.RowValues.values_of c.args.values.now in
-    let value_is = sym (get_or_from_slice_get values c.args.column c.value_at.result M.unit c.value_at.ensures) in
+    let value_is = sym (values_at M (g.S.RowSquare.as_reduced c.args.square.now).now c.args.row c.args.column c.value.result c.requires.column c.value.ensures) in
     let key_is = c.op-key.ensures.product ∙ ap (M.product c.args.sum) value_is in
     let old = get_or c.args.keys.now c.args.column M.unit in
     record {

@@ -1,10 +1,14 @@
-use Rattle.asg_phase_verdicts.proofs.Common.{sym, ap, ◌∙◌, subst, choice_fold, IsValue, StandsOver, Tells, phase_reasons, IsStart, replayed-none}
+use Rattle.asg_phase_verdicts.proofs.Common.{sym, ap, ◌∙◌, subst, choice_fold, IsValue, StandsOver, Tells, phase_reasons, IsStart}
 use Rattle.asg_phase_verdicts.proofs.PhaseTold.{told_over}
 use Rattle.asg_phase_verdicts.proofs.phase_verdicts.replayed_verdict.Goals as goal
 
 pub square_verdict-requires-clause-reduced : goal.square_verdict-requires-clause-reduced
 square_verdict-requires-clause-reduced g c =
     (subst (λ n. IsStart (g.K.M.Ordered.monoid_of n) (g.K.Kind.entered c.args.kind.now) c.args.inst.now c.in_ok-start.start) (sym c.monoid.ensures) c.in_ok-start.ensures).reduced
+
+pub square_verdict-requires-clause-unit : goal.square_verdict-requires-clause-unit
+square_verdict-requires-clause-unit g c =
+    (subst (λ n. IsStart (g.K.M.Ordered.monoid_of n) (g.K.Kind.entered c.args.kind.now) c.args.inst.now c.in_ok-start.start) (sym c.monoid.ensures) c.in_ok-start.ensures).index
 
 pub square_verdict-requires-clause-value : goal.square_verdict-requires-clause-value
 square_verdict-requires-clause-value g c =
@@ -22,4 +26,4 @@ returns g c =
     c.monoid.ensures
     (told_over (g.K.M.Ordered.monoid_of m) (g.K.M.DMonoid.difference m) (g.K.M.Written.word_of m) enter X c.in_ok-start.start c.chosen_fold-fold.result
     c.args.choice.now c.args.phases.now c.in_ok-verdict.verdict at fold
-    (c.in_ok-verdict.ensures c.in_ok-start.start at.reduced at.index (replayed-none (g.K.M.Ordered.monoid_of m) (g.met.K.M.Ordered.laws m) (g.K.M.DMonoid.difference m) (g.K.M.Written.word_of m) c.in_ok-start.start at.reduced)))
+    c.in_ok-verdict.ensures)

@@ -6,7 +6,7 @@ returns-then-not-branch-clause-refused g c =
     let m = c.args.m.now in
     let part = phase_of (steps_between c.args.from c.args.to c.args.words.now) c.args.enters.now c.args.leaves.now in
     λ off.
-    unread-words (g.M.Ordered.monoid_of m) (g.M.DMonoid.difference m) (g.M.Written.word_of m) (g.M.Written.value_of m) (g.met.M.Written.word_laws m) c.args.reduced.now.now.side (cell_at c.args.reduced.now.now) part
+    unread-words (g.M.Ordered.monoid_of m) (g.M.DMonoid.difference m) (g.M.Written.word_of m) (g.M.Written.value_of m) (g.met.M.Written.word_laws m) (g.S.RowSquare.as_reduced c.args.square.now).now.side (cell_at (g.S.RowSquare.as_reduced c.args.square.now).now) part
     (c.in_ok-read_between.ensures.none c.if-not-branch.true)
 
 pub returns-clause-applied : goal.returns-clause-applied
@@ -18,9 +18,9 @@ returns-clause-applied g c =
       first = record {
         phase = phase_of c.as_slice.result.now c.args.enters.now c.args.leaves.now;
         written = phase-words word_of _ _ _ part (ap (λ xs. map word_of xs) c.as_slice.ensures.value ∙ spelled) refl refl;
-        admitted = c.replay_within.ensures.admitted.0 is;
+        admitted = c.replay.ensures.admitted.0 is;
       };
-      leads = c.replay_within.ensures.applied is;
+      leads = c.replay.ensures.applied is;
     }
 
 pub returns-clause-refused : goal.returns-clause-refused
@@ -32,7 +32,7 @@ returns-clause-refused g c =
     let part = phase_of (steps_between c.args.from c.args.to c.args.words.now) c.args.enters.now c.args.leaves.now in
     let spelled = c.in_ok-read_between.ensures.words c.if-not-branch.false in
     λ off.
-    refused-words M (g.M.DMonoid.difference m) word_of (g.M.Written.value_of m) (g.met.M.Written.word_laws m) c.args.reduced.now.now.side (cell_at c.args.reduced.now.now) part phase
+    refused-words M (g.M.DMonoid.difference m) word_of (g.M.Written.value_of m) (g.met.M.Written.word_laws m) (g.S.RowSquare.as_reduced c.args.square.now).now.side (cell_at (g.S.RowSquare.as_reduced c.args.square.now).now) part phase
     (subst (All (IsValue M)) (sym c.as_slice.ensures.value) (c.in_ok-read_between.ensures.values c.if-not-branch.false))
     (phase-words word_of _ _ _ part (ap (λ xs. map word_of xs) c.as_slice.ensures.value ∙ spelled) refl refl)
-    (λ admitted. false≢true (sym off ∙ c.replay_within.ensures.admitted.1 admitted))
+    (λ admitted. false≢true (sym off ∙ c.replay.ensures.admitted.1 admitted))

@@ -6,7 +6,7 @@ abbrev pub invariant-parts : goal.invariant-parts
 invariant-parts g l = record {
   count : l.count ≡ length l.phase.steps;
   within : l.to ≤ l.count;
-  led : IsReplayed (g.M.Ordered.monoid_of l.m) (g.M.DMonoid.difference l.m) (g.M.Written.word_of l.m) (first_part l.to l.phase) l.fn.reduced l.reduced;
+  led : IsReplayed (g.M.Ordered.monoid_of l.m) (g.M.DMonoid.difference l.m) (g.M.Written.word_of l.m) (first_part l.to l.phase) (g.S.RowSquare.as_reduced l.fn.square) (g.S.RowSquare.as_reduced l.square);
 }
 
 abbrev pub decreases-parts : goal.decreases-parts

@@ -1,5 +1,0 @@
-pub mod Common
-mod DualLemmas
-mod LesserLemmas
-mod DualPhases
-mod NarrowPhases

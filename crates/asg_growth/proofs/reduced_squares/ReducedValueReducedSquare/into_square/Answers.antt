@@ -1,8 +1,0 @@
-use Rattle.asg_growth.proofs.Common.{refl}
-use Rattle.asg_growth.proofs.reduced_squares.ReducedValueReducedSquare.into_square.Goals as goal
-
-pub returns : goal.returns
-returns g c = record {
-  labels = record { side = refl; rows = refl; row_labels = refl; column_labels = refl };
-  present = λ r k. refl;
-}

@@ -1,0 +1,4 @@
+pub mod NarrowRows
+pub mod KeptSums
+pub mod KeptRows
+pub mod Masked

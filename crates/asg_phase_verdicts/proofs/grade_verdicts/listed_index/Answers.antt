@@ -1,7 +1,0 @@
-use Rattle.asg_phase_verdicts.proofs.Common.{arith}
-use Rattle.asg_phase_verdicts.proofs.grade_verdicts.listed_index.Goals as goal
-
-pub returns-in-Some : goal.returns-in-Some
-returns-in-Some c =
-    let lead = rw c.in-Some.is at c.in_ok-index.ensures in
-    (lead c.args.m.now.inner.top (omega arith)).have

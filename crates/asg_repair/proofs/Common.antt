@@ -43,7 +43,7 @@ pub use Rattle.asg_proof.specs.laws.PhaseLists.{AreAdmittedPhases-append, after_
 pub use Rattle.asg_proof.specs.laws.Squares.{HasSide-square_cell, HasValues-square_cell}
 pub use Rattle.asg_repair.specs.ClearedRows.{IsClearedOf}
 pub use Rattle.asg_repair.specs.Opening.{IsOpened}
-pub use Rattle.asg_repair.specs.Sessions.{AreAbsorbed, AreAbsorbedAfter, AreTogether, IsAnswerRoom, IsBestBy, IsGiven, IsSession, IsSized, SessionOf, ids_in, sure_columns}
+pub use Rattle.asg_repair.specs.Sessions.{AreAbsorbed, AreAbsorbedAfter, AreTogether, IsAnswerRoom, IsBestBy, IsGiven, IsSession, parts_of, IsSized, SessionOf, ids_in, sure_columns}
 pub use Rattle.asg_repair.specs.declared.answers.AnswerRoom.{AnswerRoom}
 pub use Rattle.asg_repair.specs.declared.answers.Given.TheVariants.{Open}
 pub use Rattle.asg_repair.specs.declared.opening.Opened.{Opened}

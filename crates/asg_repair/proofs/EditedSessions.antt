@@ -1,14 +1,14 @@
 -- What a session keeps is kept by an edit.
-use Rattle.asg_repair.proofs.Common.{◌≡◌, ℕ, ◌≤◌, Bool, true, false, ◌&&◌, ◌||◌, length, take, nat_eq, nat_lt, Some, None, sym, ap, ◌∙◌, subst, arith, take_all, eqb-true, and_parts, edited_rows, edited_side, Touches, NamesPlaces, IsLed, IsLedBut, places_of, phases_in, IsCutTo, IsPrepared, NamedPlaces, PhaseChain, column_at, edited, refusal_of, IsInstance, Problem, square_side, Edit, Objective, Cost, MayEnter, Monoid, IsValue, AreKept, AreAdmittedPhases, IsClearedOf, AreAbsorbedAfter, IsGiven, IsSession, IsSized, ids_in, sure_columns, AnswerRoom, Open, Work, square_cell}
+use Rattle.asg_repair.proofs.Common.{◌≡◌, ℕ, ◌≤◌, Bool, true, false, ◌&&◌, ◌||◌, length, take, nat_eq, nat_lt, Some, None, sym, ap, ◌∙◌, subst, arith, take_all, eqb-true, and_parts, edited_rows, edited_side, Touches, NamesPlaces, IsLed, IsLedBut, places_of, phases_in, IsCutTo, IsPrepared, NamedPlaces, PhaseChain, column_at, edited, refusal_of, IsInstance, Problem, square_side, Edit, Objective, Cost, MayEnter, Monoid, IsValue, AreKept, AreAdmittedPhases, IsClearedOf, AreAbsorbedAfter, IsGiven, IsSession, parts_of, IsSized, ids_in, sure_columns, AnswerRoom, Open, Work, square_cell}
 use Rattle.asg_repair.proofs.EditSteps.{MaySolve-edited, absorbed_edited, column_kept, length-sure, still_whole, sure_kept, uncut}
 use Rattle.asg_kept_phases.specs.laws.LedEdits.{IsLedBut-edited}
 use Rattle.asg_kept_phases.specs.laws.PassedEdits.{NamesPlaces-passed}
 
 module _ {V : Type 0} (M : Monoid V) (difference : V → V → V) (enter : Cost → V) (objective : Objective) (reach : ℕ) (X : Problem) (work : Work V) (phases : PhaseChain V) (led cut : Bool) (room : AnswerRoom)
-    (session : IsSession M difference enter objective reach X work phases led cut room)
+    (session : IsSession M difference enter objective reach X (parts_of work phases led cut room))
   where
     -- the phases are prepared
-    pub IsSession-prepared : (after : PhaseChain V) → IsPrepared phases after → IsSession M difference enter objective reach X work after led cut room
+    pub IsSession-prepared : (after : PhaseChain V) → IsPrepared phases after → IsSession M difference enter objective reach X (parts_of work after led cut room)
     IsSession-prepared after is =
         let same = sym is.phases in
         let columns = sure_columns cut work.matching in
@@ -124,7 +124,7 @@ module _ {V : Type 0} (M : Monoid V) (difference : V → V → V) (enter : Cost 
                   M difference enter (phases_in phases) instance (session.together.absorbed whole.0))
 
               -- what a session keeps
-              pub IsSession-edited : ((cost : Cost) → MayEnter objective reach cost → IsValue M (enter cost)) → IsInstance Y → square_side X ≤ prepared.region.spare → (stays now_led : Bool) → stays ≡ (led && nat_eq kept count) → (now_led ≡ true → stays ≡ true) → (now_led ≡ true → IsLed M difference enter Y (phases_in after) later.reduced) → IsSession M difference enter objective reach Y later after now_led now_cut (record room { given = Open })
+              pub IsSession-edited : ((cost : Cost) → MayEnter objective reach cost → IsValue M (enter cost)) → IsInstance Y → square_side X ≤ prepared.region.spare → (stays now_led : Bool) → stays ≡ (led && nat_eq kept count) → (now_led ≡ true → stays ≡ true) → (now_led ≡ true → IsLed M difference enter Y (phases_in after) later.reduced) → IsSession M difference enter objective reach Y (parts_of later after now_led now_cut (record room { given = Open }))
               IsSession-edited values now spare stays now_led stays_is only led_is = record {
                 may_solve = MaySolve-edited M enter objective reach X edit session.may_solve passes values now;
                 sized = sized;

@@ -1,5 +1,5 @@
 -- A session whose answer was found.
-use Rattle.asg_repair.proofs.Common.{◌≡◌, ℕ, true, false, ◌≢◌, sym, refl, subst, false≢true, IsLed, MaySolve, phases_in, IsPhaseChain, PhaseChain, Problem, square_side, Objective, Cost, Monoid, AreAbsorbed, AreAbsorbedAfter, AreTogether, ids_in, IsAnswerRoom, IsGiven, IsSession, IsSized, AnswerRoom, Open, Work}
+use Rattle.asg_repair.proofs.Common.{◌≡◌, ℕ, true, false, ◌≢◌, sym, refl, subst, false≢true, IsLed, MaySolve, phases_in, IsPhaseChain, PhaseChain, Problem, square_side, Objective, Cost, Monoid, AreAbsorbed, AreAbsorbedAfter, AreTogether, ids_in, IsAnswerRoom, IsGiven, IsSession, parts_of, IsSized, AnswerRoom, Open, Work}
 use Rattle.asg_repair.proofs.SessionLemmas.{AreAbsorbedAfter-led}
 
 module _ {V : Type 0} (M : Monoid V) (difference : V → V → V) (enter : Cost → V) (X : Problem) (before after : Work V) (chain : PhaseChain V)
@@ -16,7 +16,7 @@ module _ {V : Type 0} (M : Monoid V) (difference : V → V → V) (enter : Cost 
           (AreAbsorbedAfter-led M difference enter X (phases_in chain) before.reduced led before.matching absorbed.absorbed);
     }
 
-    pub IsSession-found : (objective : Objective) (reach : ℕ) (room : AnswerRoom) → MaySolve M enter objective reach X → IsSized X after → IsPhaseChain chain → chain.region.side ≡ square_side X → IsAnswerRoom X room → room.given ≢ Open → IsGiven M difference enter X (phases_in chain) after.matching room.given room.choice (ids_in room) → IsSession M difference enter objective reach X after chain true false room
+    pub IsSession-found : (objective : Objective) (reach : ℕ) (room : AnswerRoom) → MaySolve M enter objective reach X → IsSized X after → IsPhaseChain chain → chain.region.side ≡ square_side X → IsAnswerRoom X room → room.given ≢ Open → IsGiven M difference enter X (phases_in chain) after.matching room.given room.choice (ids_in room) → IsSession M difference enter objective reach X (parts_of after chain true false room)
     IsSession-found objective reach room may_solve sized is side answers some given = record {
       may_solve = may_solve;
       sized = sized;

@@ -109,16 +109,29 @@ pub record AreTogether {V : Type 0} (M : Monoid V) (difference : V → V → V) 
   pub absorbed : cut ≡ false
       → AreAbsorbedAfter M difference enter X (phases_in phases) work.matching
 
+-- the parts of a session: what it solves in, its phases, whether they led to the square, whether
+-- one was cut, and the room of its answers
+pub record Parts (V : Type 0) : Type 0 where
+  pub work : Work V
+  pub phases : PhaseChain V
+  pub led : Bool
+  pub was_cut : Bool
+  pub room : AnswerRoom
+
+abbrev pub parts_of : {V : Type 0} → Work V → PhaseChain V → Bool → Bool → AnswerRoom → Parts V
+parts_of work phases led was_cut room =
+    record { work = work; phases = phases; led = led; was_cut = was_cut; room = room }
+
 -- what a session keeps
 pub record IsSession {V : Type 0} (M : Monoid V) (difference : V → V → V) (enter : Cost → V)
-    (objective : Objective) (reach : ℕ) (X : Problem) (work : Work V) (phases : PhaseChain V)
-    (led cut : Bool) (room : AnswerRoom) : Type 0 where
+    (objective : Objective) (reach : ℕ) (X : Problem) (parts : Parts V) : Type 0 where
   pub may_solve : MaySolve M enter objective reach X
-  pub sized : IsSized X work
-  pub chain : IsPhaseChain phases
-  pub region_side : phases.region.side ≡ square_side X
-  pub together : AreTogether M difference enter X work phases led cut
-  pub spare : room.given ≡ Open → square_side X ≤ phases.region.spare
-  pub answer_room : IsAnswerRoom X room
-  pub given_is : IsGiven M difference enter X (phases_in phases) (sure_columns cut work.matching)
-      room.given room.choice (ids_in room)
+  pub sized : IsSized X parts.work
+  pub chain : IsPhaseChain parts.phases
+  pub region_side : parts.phases.region.side ≡ square_side X
+  pub together : AreTogether M difference enter X parts.work parts.phases parts.led parts.was_cut
+  pub spare : parts.room.given ≡ Open → square_side X ≤ parts.phases.region.spare
+  pub answer_room : IsAnswerRoom X parts.room
+  pub given_is : IsGiven M difference enter X (phases_in parts.phases)
+      (sure_columns parts.was_cut parts.work.matching) parts.room.given parts.room.choice
+      (ids_in parts.room)

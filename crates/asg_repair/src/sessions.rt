@@ -42,7 +42,7 @@ pub struct Session<K: Kind + Drop> {
 
 impl<K: Kind + Drop> Model for Session<K> {
     ghost use Rattle.asg_kept_phases.specs.PhaseChains.{phases_in};
-    ghost use Rattle.asg_repair.specs.Sessions.{SessionOf, IsSession, sure_columns, ids_in};
+    ghost use Rattle.asg_repair.specs.Sessions.{SessionOf, IsSession, parts_of, sure_columns, ids_in};
 
     ghost Value = { SessionOf K K.M.Value };
 
@@ -58,7 +58,7 @@ impl<K: Kind + Drop> Model for Session<K> {
 
     ghost invariant = { λ s. IsSession (K.M.monoid_of (K.monoid s.kind))
         (K.M.difference (K.monoid s.kind)) (K.entered s.kind) (K.objective s.kind) (K.reach s.kind)
-        s.inst s.work s.phases s.is_led s.is_cut s.room };
+        s.inst (parts_of s.work s.phases s.is_led s.is_cut s.room) };
 }
 
 impl<K: Kind + Drop> Session<K> {

@@ -1,4 +1,4 @@
-use Rattle.asg_repair.proofs.Common.{◌≡◌, ℕ, true, length, take, Some, None, sym, ap, ◌∙◌, subst, edited_side, Touches, IsLed, MaySolve, IsLedBut, phases_in, column_at, refusal_of, IsInstance, Problem, square_side, AreKept, IsSession, IsSized, SessionOf, sure_columns, Open, square_cell}
+use Rattle.asg_repair.proofs.Common.{◌≡◌, ℕ, true, length, take, Some, None, sym, ap, ◌∙◌, subst, edited_side, Touches, IsLed, MaySolve, IsLedBut, phases_in, column_at, refusal_of, IsInstance, Problem, square_side, AreKept, IsSession, parts_of, IsSized, SessionOf, sure_columns, Open, square_cell}
 use Rattle.asg_repair.proofs.EditSteps.{IsSized-edited, MaySolve-edited}
 use Rattle.asg_repair.proofs.EditedSessions.{IsLedBut-kept, IsSession-edited, IsSession-prepared, kept_columns, kept_count, kept_phases}
 use Rattle.asg_repair.proofs.sessions.Session.apply.Given.{Over}
@@ -23,7 +23,7 @@ invariant_of-self g c =
     let o = g.K.Kind.objective s.kind in
     let far = g.K.Kind.reach s.kind in
     let phases = c.edit_instance.new.phases in
-    subst (λ (Y : Problem). IsSession M d e o far Y s.work phases s.is_led s.is_cut s.room) (sym c.in_err-kept.ensures.unchanged)
+    subst (λ (Y : Problem). IsSession M d e o far Y (parts_of s.work phases s.is_led s.is_cut s.room)) (sym c.in_err-kept.ensures.unchanged)
     (IsSession-prepared M d e o far s.inst s.work s.phases s.is_led s.is_cut s.room c.self.invariant phases c.in_err-kept.ensures.prepared)
 
 -- ---- the edit is followed
@@ -91,7 +91,7 @@ invariant_of-self-2 g c =
     let work = c.follow_edit-self-inside.new.work in
     let after = c.follow_edit-self-inside.new.phases in
     let followed = c.follow_edit-self-inside.ensures in
-    subst (λ (Y : Problem). IsSession M d e o far Y work after led c.is_cut_by-self-inside.result (record s.room { given = Open })) (sym now)
+    subst (λ (Y : Problem). IsSession M d e o far Y (parts_of work after led c.is_cut_by-self-inside.result (record s.room { given = Open }))) (sym now)
     (IsSession-edited M d e o far X s.work s.phases s.is_led s.is_cut s.room c.self.invariant c.args.edit (passed g c)
     prepared c.in_ok-kept.ensures.prepared c.len-count.result c.in_ok-kept.kept c.len-count.ensures c.in_ok-kept.ensures.kept
     after followed.cut c.places_of-places.result c.places_of-places.ensures

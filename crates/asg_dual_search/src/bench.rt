@@ -3,9 +3,7 @@
 ghost use Rattle.std.specs.Prelude.{◌≡◌, length};
 
 use crate::NoMemory;
-use crate::numbers::{Number, set};
-use crate::places::{NONE, at, mark, name, put};
-use crate::tables::{Table, padded};
+use asg_dual_numbers::{NONE, Number, Table, at, mark, name, padded, put, set};
 use std::alloc::Global;
 
 // The columns of rows so far, the dual variables of columns, and room for searches.

@@ -3,10 +3,8 @@
 
 use crate::NoMemory;
 use crate::bench::Bench;
-use crate::numbers::{Number, set, value};
 use crate::paths::augment;
-use crate::places::{at, name, put};
-use crate::tables::Table;
+use asg_dual_numbers::{Number, Table, at, name, put, set, value};
 use std::alloc::Global;
 
 // The most rows that enter first.

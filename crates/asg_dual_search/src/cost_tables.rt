@@ -4,12 +4,9 @@ ghost use Rattle.std.specs.Prelude.{◌≡◌, length};
 
 use crate::NoMemory;
 use crate::bench::Bench;
-use crate::class_bench::ClassBench;
-use crate::class_solving::place_rows;
-use crate::numbers::{Number, value};
-use crate::places::{at, put};
 use crate::solving::{solve, solve_few};
-use crate::tables::{Table, padded};
+use asg_class_search::{ClassBench, place_rows};
+use asg_dual_numbers::{Number, Table, at, padded, put, value};
 use std::alloc::Global;
 
 // How far costs may lie from the first one of the table to count as near.

@@ -1,7 +1,7 @@
 //! How far the numbers of a square reach.
 
 use crate::NoMemory;
-use crate::cell_numbers::{NO_NUMBER, Numbers};
+use asg_dual_numbers::{NO_NUMBER, Numbers};
 use std::alloc::Global;
 
 // The least number of each row of a square of numbers, and the greatest of all.

@@ -1,8 +1,7 @@
 //! Lower bounds of the greatest number of an assignment, from rows and from columns.
 
 use crate::NoMemory;
-use crate::cell_numbers::{NO_NUMBER, Numbers};
-use crate::places::put;
+use asg_dual_numbers::{NO_NUMBER, Numbers, put};
 use std::alloc::Global;
 
 /// A limit below which there is no assignment, with the marks that show it. The rows that enter at

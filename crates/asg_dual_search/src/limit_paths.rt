@@ -2,10 +2,8 @@
 
 use crate::bench::Bench;
 use crate::first_bounds::Bound;
-use crate::numbers::Number;
 use crate::paths::{close, open};
-use crate::places::{NONE, at, name, put};
-use crate::tables::Table;
+use asg_dual_numbers::{NONE, Number, Table, at, name, put};
 
 // From where numbers are too great, and what stands for one that is missing.
 pub(crate) const MISSING: u64 = (1 << 31) - 3;

@@ -1,9 +1,7 @@
 //! Tables of the numbers of squares.
 
 use crate::NoMemory;
-use crate::cell_numbers::{NO_NUMBER, Numbers};
-use crate::numbers::Number;
-use crate::tables::{Table, padded};
+use asg_dual_numbers::{NO_NUMBER, Number, Numbers, Table, padded};
 use std::alloc::Global;
 
 // Writes numbers, and for each that is missing what stands for it.

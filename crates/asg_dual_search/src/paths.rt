@@ -1,9 +1,7 @@
 //! Shortest augmenting paths [Jonker and Volgenant 1987].
 
 use crate::bench::Bench;
-use crate::numbers::{Number, set, value};
-use crate::places::{NONE, at, name, put};
-use crate::tables::{Table, padded};
+use asg_dual_numbers::{NONE, Number, Table, at, name, padded, put, set, value};
 
 // How a search ended: the free column with its distance, and how many columns were done before it.
 #[derive(Clone, Copy)]

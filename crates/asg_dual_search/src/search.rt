@@ -1,18 +1,13 @@
 //! The search for an assignment of least sum with dual variables.
 
 use crate::NoMemory;
-use crate::arc_duals::found_by_arcs;
-use crate::arcs::{Arcs, arcs_of};
-use crate::cell_numbers::Numbers;
-use crate::class_tables::{ClassRow, class_ranges, class_table, near_class_table};
-use crate::classes::{Classes, are_even, classes_of};
-use crate::found::Found;
-use crate::near_cells::near_base;
-use crate::ranges::Ranges;
-use crate::sums::Sums;
 use crate::table_duals::found_by_table;
-use crate::tables::Table;
 use crate::widths::{is_narrow, is_settled_narrow, narrow_absent, wide_absent};
+use asg_class_search::{
+    Arcs, ClassRow, Classes, Ranges, arcs_of, are_even, class_ranges, class_table, classes_of,
+    found_by_arcs, near_base, near_class_table,
+};
+use asg_dual_numbers::{Found, Numbers, Sums, Table};
 use asg_square::Square;
 use std::alloc::Global;
 

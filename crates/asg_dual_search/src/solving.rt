@@ -3,11 +3,9 @@
 use crate::NoMemory;
 use crate::bench::Bench;
 use crate::coarse_to_fine::refine;
-use crate::numbers::Number;
 use crate::paths::augment;
-use crate::places::at;
 use crate::starts::{start, start_few};
-use crate::tables::Table;
+use asg_dual_numbers::{Number, Table, at};
 use std::alloc::Global;
 
 // How many rows the paths of all rows may go through for each row, before the table is solved from

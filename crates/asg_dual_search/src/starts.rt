@@ -2,9 +2,7 @@
 //! transfer and two passes of augmenting row reduction.
 
 use crate::bench::Bench;
-use crate::numbers::{Number, set, value};
-use crate::places::{NONE, at, name, put};
-use crate::tables::Table;
+use asg_dual_numbers::{NONE, Number, Served, Table, at, name, put, set, value};
 
 // The most row scans of a pass for each row.
 const MOST_SCANS: u64 = 4;
@@ -70,17 +68,6 @@ fn transfer<N: Number>(bench: &mut Bench<N>, table: &Table<N>) -> usize {
         }
     }
     count
-}
-
-// What became of a waiting row.
-#[derive(Clone, Copy)]
-pub(crate) enum Served {
-    // It has a column, and no other row lost it.
-    Alone,
-    // It has a column at once at less than the next, and this row lost it.
-    Ahead(u32),
-    // It has a column, or waits itself, and this row is to wait for the next pass.
-    Tied(u32),
 }
 
 // Gives a waiting row its least column, which falls until the next one is as near. Of columns that

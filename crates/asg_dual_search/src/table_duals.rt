@@ -2,15 +2,9 @@
 
 use crate::NoMemory;
 use crate::bench::Bench;
-use crate::class_bench::ClassBench;
-use crate::class_solving::place_rows;
-use crate::classes::Classes;
-use crate::found::Found;
-use crate::numbers::{Number, value};
-use crate::places::{amount, at, name, put_amount};
-use crate::placings::{Placing, found_by};
 use crate::solving::{solve, solve_few};
-use crate::tables::Table;
+use asg_class_search::{ClassBench, Classes, Placing, found_by, place_rows};
+use asg_dual_numbers::{Found, Number, Table, amount, at, name, put_amount, value};
 use std::alloc::Global;
 
 // The cells of the rows of a table at their classes, with the least cells of rows that were taken

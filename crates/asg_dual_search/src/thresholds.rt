@@ -2,14 +2,11 @@
 
 use crate::NoMemory;
 use crate::bench::Bench;
-use crate::cell_numbers::Numbers;
 use crate::extents::extents_of;
 use crate::first_bounds::{Bound, first_bound};
 use crate::limit_paths::{MISSING, lift, pair_at, serve};
 use crate::number_tables::table_by;
-use crate::numbers::Number;
-use crate::places::at;
-use crate::tables::Table;
+use asg_dual_numbers::{Number, Numbers, Table, at};
 use std::alloc::Global;
 
 // The columns of rows within the least limit, to which the bound rises, by a bench on which no row

@@ -1,6 +1,6 @@
 //! In numbers of which width a square is solved, and what stands for its absent cells.
 
-use crate::ranges::Ranges;
+use asg_class_search::Ranges;
 
 // The most by which cells of a row may differ for numbers of 32 bits: where no cell is absent, and
 // where some are.

@@ -6,7 +6,8 @@ ghost use Rattle.asg_duals.specs.Tight.{AreTight};
 use crate::NoMemory;
 use crate::duals::Duals;
 use crate::tightness::tested;
-use asg_dual_search::{Found, Search};
+use asg_dual_numbers::Found;
+use asg_dual_search::Search;
 use asg_square::Square;
 use std::alloc::Global;
 

@@ -2,7 +2,7 @@
 
 use crate::NoMemory;
 use crate::readings::Reading;
-use asg_dual_search::{NO_NUMBER, Numbers};
+use asg_dual_numbers::{NO_NUMBER, Numbers};
 use asg_square::Square;
 use std::alloc::Global;
 

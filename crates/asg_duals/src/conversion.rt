@@ -4,7 +4,7 @@ ghost use Rattle.std.specs.Prelude.{◌≡◌, ◌<◌, ◌≤◌, ◌^◌, ℕ,
 
 use crate::NoMemory;
 use crate::duals::Duals;
-use asg_dual_search::Conversion;
+use asg_dual_phases::Conversion;
 use asg_proof::Phase;
 use std::alloc::Global;
 

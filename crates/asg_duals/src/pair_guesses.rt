@@ -5,7 +5,7 @@ use crate::guesses::Guess;
 use crate::plain_guesses::plain_guess;
 use crate::readings::{FIRST_UNIT, Firsts, Seconds};
 use crate::retold_phases::append_multiplied;
-use asg_dual_search::moves_of;
+use asg_dual_phases::moves_of;
 use asg_square::Square;
 use std::alloc::Global;
 

@@ -7,7 +7,8 @@ use crate::conversion::short_phases;
 use crate::duals::Duals;
 use crate::guesses::Guess;
 use crate::readings::{Reading, amount};
-use asg_dual_search::{Found, Numbers, Search};
+use asg_dual_numbers::{Found, Numbers};
+use asg_dual_search::Search;
 use asg_square::Square;
 use std::alloc::Global;
 

@@ -1,6 +1,6 @@
 //! Ways to read the cells of a square as numbers.
 
-use asg_dual_search::NO_NUMBER;
+use asg_dual_numbers::NO_NUMBER;
 
 // Stands for all numbers from it on.
 const TOO_GREAT: u64 = 1 << 63;

@@ -5,13 +5,12 @@ ghost use Rattle.std.specs.Prelude.{◌≡◌, length};
 use crate::NoMemory;
 use crate::children::{Child, EMPTY};
 use crate::gaps::measure_in;
-use crate::lanes::Lanes;
 use crate::paths::{End, Errand, Reach, search};
 use crate::places::{NONE, at, name, put};
 use crate::rooms::Room;
 use crate::search_tables::{Cells, SearchTable};
 use crate::shifts::shift_path;
-use crate::tables::Table;
+use asg_rank_numbers::{Lanes, Table};
 use std::alloc::Global;
 
 /// A part of all answers, with an answer in it and dual variables at which it is tight.

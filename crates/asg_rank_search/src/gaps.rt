@@ -3,9 +3,8 @@
 ghost use Rattle.std.specs.Prelude.{◌≡◌, length};
 
 use crate::benches::Parent;
-use crate::lanes::{Lanes, set, value};
 use crate::rooms::Room;
-use crate::tables::Table;
+use asg_rank_numbers::{Lanes, Table, set, value};
 
 // Opens a pass from the last row of a part up: no row was gone through, and none takes the column
 // of another.

@@ -8,17 +8,13 @@
 mod benches;
 mod children;
 mod gaps;
-mod lanes;
 mod limits;
-mod narrow_lanes;
 mod paths;
 mod places;
 mod queues;
 mod rooms;
 mod search_tables;
 mod shifts;
-mod tables;
-mod wide_lanes;
 
 pub use benches::{Bench, Growth, Parent};
 pub use children::FIXED;

@@ -1,10 +1,9 @@
 //! Shortest paths from a row that loses its column.
 
 use crate::benches::Parent;
-use crate::lanes::{Lanes, value};
 use crate::places::{NONE, fill, name};
 use crate::rooms::Room;
-use crate::tables::Table;
+use asg_rank_numbers::{Lanes, Table, value};
 
 // How a search ended, and at which distance.
 #[derive(Clone, Copy)]

@@ -3,9 +3,8 @@
 ghost use Rattle.std.specs.Prelude.{◌≡◌, length};
 
 use crate::NoMemory;
-use crate::lanes::{Lanes, set, value};
 use crate::places::{NONE, at, name, put};
-use crate::tables::Table;
+use asg_rank_numbers::{Lanes, Table, set, value};
 use std::alloc::Global;
 
 // The lists that a search goes by.

@@ -3,7 +3,7 @@
 ghost use Rattle.std.specs.Prelude.{◌≡◌, length};
 
 use crate::NoMemory;
-use crate::tables::Table;
+use asg_rank_numbers::Table;
 use std::alloc::Global;
 
 /// How wide the numbers of a search are.

@@ -2,11 +2,10 @@
 
 ghost use Rattle.std.specs.Prelude.{◌≡◌, length};
 
-use crate::lanes::{Lanes, value};
 use crate::paths::{Errand, Reach};
 use crate::places::{NONE, name, put};
 use crate::rooms::Room;
-use crate::tables::Table;
+use asg_rank_numbers::{Lanes, Table, value};
 
 // A column of a path: its distance, and how many columns were done before it.
 #[derive(Clone, Copy)]

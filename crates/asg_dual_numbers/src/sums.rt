@@ -5,14 +5,16 @@ use crate::cell_numbers::{NO_NUMBER, Numbers};
 use asg_square::Square;
 use std::alloc::Global;
 
-// The cells of a square, row by row, and of each row the bits of those that are present, in so many
-// words.
+/// The cells of a square, row by row, and of each row the bits of those that are present, in so many
+/// words.
 #[derive(Drop)]
-pub(crate) struct Sums<'a> {
+pub struct Sums<'a> {
+    /// How many rows there are, and cells in each.
     pub side: u32,
+    /// The cells, row by row.
     pub values: &'a [u64],
-    pub words: Vec<u64>,
-    pub wide: usize,
+    words: Vec<u64>,
+    wide: usize,
 }
 
 // The part of a list from a multiple of a width on, of that width; nothing outside.
@@ -71,8 +73,8 @@ fn word_of(numbers: &[u64], number: usize) -> u64 {
 }
 
 impl<'a> Sums<'a> {
-    // The sums of a square. The error is want of memory.
-    pub(crate) fn of_square(alloc: Global, square: &'a Square<u64>) -> Result<Sums<'a>, NoMemory> {
+    /// The sums of a square. The error is want of memory.
+    pub fn of_square(alloc: Global, square: &'a Square<u64>) -> Result<Sums<'a>, NoMemory> {
         let side = square.side();
         let wide = (side as usize).saturating_add(63) / 64;
         let mut words = Vec::with_capacity(alloc, wide.saturating_mul(side as usize))?;
@@ -87,8 +89,8 @@ impl<'a> Sums<'a> {
         })
     }
 
-    // Numbers as sums. The error is want of memory.
-    pub(crate) fn of_numbers(alloc: Global, numbers: &'a Numbers) -> Result<Sums<'a>, NoMemory> {
+    /// Numbers as sums. The error is want of memory.
+    pub fn of_numbers(alloc: Global, numbers: &'a Numbers) -> Result<Sums<'a>, NoMemory> {
         let side = numbers.side;
         let wide = (side as usize).saturating_add(63) / 64;
         let mut words = Vec::with_capacity(alloc, wide.saturating_mul(side as usize))?;
@@ -106,20 +108,20 @@ impl<'a> Sums<'a> {
         })
     }
 
-    // The cells of a row, nothing where there is no such row.
+    /// The cells of a row, nothing where there is no such row.
     #[inline]
-    pub(crate) fn row_values(&self, row: u32) -> &[u64] {
+    pub fn row_values(&self, row: u32) -> &[u64] {
         part(self.values, row, self.side as usize)
     }
 
-    // The bits of the present cells of a row, nothing where there is no such row.
+    /// The bits of the present cells of a row, nothing where there is no such row.
     #[inline]
-    pub(crate) fn row_words(&self, row: u32) -> &[u64] {
+    pub fn row_words(&self, row: u32) -> &[u64] {
         part(self.words.as_slice(), row, self.wide)
     }
 
-    // Whether a cell is present.
-    pub(crate) fn has(&self, row: u32, column: u32) -> bool {
+    /// Whether a cell is present.
+    pub fn has(&self, row: u32, column: u32) -> bool {
         let words = self.row_words(row);
         let number = (column / 64) as usize;
         column < self.side && number < words.len() && words[number] >> (column % 64) & 1 == 1

@@ -2,9 +2,7 @@
 
 ghost use Rattle.std.specs.Prelude.{◌≡◌, length};
 
-use crate::numbers::Number;
-use crate::places::amount;
-use crate::sums::Sums;
+use asg_dual_numbers::{Number, Sums, amount};
 
 // How far below the first cell the numbers of a table begin; near cells are less than twice as far
 // above that.
@@ -34,7 +32,7 @@ pub(crate) fn put_near<N: Number>(cells: &mut [N], values: &[u64], count: usize,
     bits < 2 * NEAR
 }
 
-// What is taken away from the cells of a square that are near the first one.
-pub(crate) fn near_base(sums: &Sums<'_>) -> u64 {
+/// What is taken away from the cells of a square that are near the first one.
+pub fn near_base(sums: &Sums<'_>) -> u64 {
     amount(sums.values, 0).saturating_sub(NEAR)
 }

@@ -2,8 +2,7 @@
 
 ghost use Rattle.std.specs.Prelude.{◌≡◌, length};
 
-use crate::numbers::Number;
-use crate::places::put_amount;
+use asg_dual_numbers::{Number, put_amount};
 
 // The greatest width of all cells for the least of all to be taken away from each row.
 const MOST_WIDTH: u64 = 1 << 28;
@@ -16,12 +15,15 @@ pub(crate) struct Range {
     pub is_whole: bool,
 }
 
-// The rows of a square: what is taken away from each, by how much a cell is above that at most, and
-// whether no cell is absent. It is the least cell of all, or that of each row.
+/// The rows of a square: what is taken away from each, by how much a cell is above that at most, and
+/// whether no cell is absent. It is the least cell of all, or that of each row.
 #[derive(Drop)]
-pub(crate) struct Ranges {
+pub struct Ranges {
+    /// What is taken away from each row.
     pub leasts: Vec<u64>,
+    /// By how much a cell is above that at most.
     pub widest: u64,
+    /// Whether no cell is absent.
     pub is_whole: bool,
 }
 

@@ -3,7 +3,7 @@
 ghost use Rattle.std.specs.Prelude.{◌≡◌, length};
 
 use crate::NoMemory;
-use crate::places::NONE;
+use asg_dual_numbers::NONE;
 use std::alloc::Global;
 
 // A column at a distance.

@@ -2,20 +2,23 @@
 
 use crate::NoMemory;
 use crate::classes::Classes;
-use crate::found::Found;
-use crate::numbers::{Number, value};
-use crate::places::{NONE, amount, at, name, put, put_amount};
+use asg_dual_numbers::{Found, NONE, Number, amount, at, name, put, put_amount, value};
 use std::alloc::Global;
 
-// The classes of the counted rows with their cells, which are 0 at rows without a class, with the
-// dual variables of classes and a number that is no less, and by how much columns that are copies
-// of none may rise.
+/// The classes of the counted rows with their cells, which are 0 at rows without a class, with the
+/// dual variables of classes and a number that is no less, and by how much columns that are copies
+/// of none may rise.
 #[derive(Clone, Copy)]
-pub(crate) struct Placing<'a, N: Number> {
+pub struct Placing<'a, N: Number> {
+    /// The class of each counted row.
     pub class_of: &'a [u32],
+    /// Its cell there.
     pub cells: &'a [u64],
+    /// The dual variable of each class.
     pub duals: &'a [N],
+    /// A number no less than any dual variable.
     pub greatest: i64,
+    /// By how much columns that are copies of none may rise.
     pub outside: u64,
 }
 
@@ -104,9 +107,9 @@ fn falls_of(
     Ok(falls)
 }
 
-// The assignment of a square of this side, and its dual variables, by those of its classes. The
-// error is want of memory.
-pub(crate) fn found_by<N: Number>(
+/// The assignment of a square of this side, and its dual variables, by those of its classes. The
+/// error is want of memory.
+pub fn found_by<N: Number>(
     alloc: Global,
     side: u32,
     classes: &Classes,

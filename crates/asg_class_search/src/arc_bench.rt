@@ -3,7 +3,7 @@
 use crate::NoMemory;
 use crate::arcs::Arcs;
 use crate::heaps::Heap;
-use crate::places::{NONE, put};
+use asg_dual_numbers::{NONE, put};
 use std::alloc::Global;
 
 // The columns of rows so far, and room for searches.

@@ -3,8 +3,8 @@
 use crate::NoMemory;
 use crate::merges::{Amounts, Left, merge};
 use crate::phases::phase_of;
-use crate::places::amount;
 use crate::spans::{Spans, first_amounts};
+use asg_dual_numbers::amount;
 use asg_proof::Phase;
 use std::alloc::Global;
 

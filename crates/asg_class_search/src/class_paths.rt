@@ -1,9 +1,7 @@
 //! Shortest augmenting paths through classes: a class that is full leads on to all its rows.
 
 use crate::class_bench::ClassBench;
-use crate::numbers::{Number, set, value};
-use crate::places::{NONE, at, name, put};
-use crate::tables::Table;
+use asg_dual_numbers::{NONE, Number, Table, at, name, put, set, value};
 
 // How a search ended: the class with room and its distance, and how many classes were done before
 // it.

@@ -2,9 +2,7 @@
 
 use crate::arc_bench::ArcBench;
 use crate::arcs::Arcs;
-use crate::numbers::{set, value};
-use crate::places::{NONE, at, name, put};
-use crate::starts::Served;
+use asg_dual_numbers::{NONE, Served, at, name, put, set, value};
 
 // The most row scans of a pass for each row.
 const MOST_SCANS: usize = 8;

@@ -1,7 +1,7 @@
 //! What phases of sums take from rows and add to columns in all.
 
 use crate::NoMemory;
-use crate::places::{amount, put_amount};
+use asg_dual_numbers::{amount, put_amount};
 use asg_proof::Phase;
 use std::alloc::Global;
 

@@ -3,31 +3,32 @@
 
 use crate::NoMemory;
 use crate::near_cells::are_present;
-use crate::places::{NONE, at, put};
-use crate::sums::Sums;
+use asg_dual_numbers::{NONE, Sums, at, put};
 use asg_square::Square;
 use std::alloc::Global;
 
-// The rows of a square that stand for rows of the instance, and its columns by classes of copies.
+/// The rows of a square that stand for rows of the instance, and its columns by classes of copies.
 #[derive(Drop)]
-pub(crate) struct Classes {
+pub struct Classes {
+    /// The rows that stand for rows of the instance.
     pub rows: Vec<u32>,
-    // The first column of each class, and how many columns it has.
-    pub firsts: Vec<u32>,
+    // The first column of each class.
+    pub(crate) firsts: Vec<u32>,
+    /// How many columns each class has.
     pub rooms: Vec<u32>,
     // The first column that is a copy of none; there are none behind it that are.
-    pub extra: u32,
-    // How many of the rows take columns that are copies of none.
+    pub(crate) extra: u32,
+    /// How many of the rows take columns that are copies of none.
     pub outside: usize,
-    // How many columns all classes have, the first ones of the square.
+    /// How many columns all classes have, the first ones of the square.
     pub room: usize,
-    // Whether each class has one column, that of its own place.
+    /// Whether each class has one column, that of its own place.
     pub is_plain: bool,
 }
 
 impl Classes {
-    // Of a square of this side each row and each column by itself. The error is want of memory.
-    pub(crate) fn apart(alloc: Global, side: u32) -> Result<Classes, NoMemory> {
+    /// Of a square of this side each row and each column by itself. The error is want of memory.
+    pub fn apart(alloc: Global, side: u32) -> Result<Classes, NoMemory> {
         let count = side as usize;
         let mut rows = Vec::with_capacity(alloc, count)?;
         let mut firsts = Vec::with_capacity(alloc, count)?;
@@ -46,8 +47,8 @@ impl Classes {
         })
     }
 
-    // Whether some rows or columns of a square of this side are alike.
-    pub(crate) fn are_fewer(&self, side: usize) -> bool {
+    /// Whether some rows or columns of a square of this side are alike.
+    pub fn are_fewer(&self, side: usize) -> bool {
         self.rows.len() < side || self.firsts.len() < side
     }
 }
@@ -91,9 +92,9 @@ fn are_plain(firsts: &[u32], rooms: &[u32]) -> bool {
     true
 }
 
-// The rows and columns of a square by what they stand for, where its cells are these sums. The
-// error is want of memory.
-pub(crate) fn classes_of<V: Copy>(
+/// The rows and columns of a square by what they stand for, where its cells are these sums. The
+/// error is want of memory.
+pub fn classes_of<V: Copy>(
     alloc: Global,
     square: &Square<V>,
     sums: &Sums<'_>,
@@ -142,9 +143,9 @@ fn is_even(sums: &Sums<'_>, row: u32, extra: u32, takes: bool) -> bool {
     true
 }
 
-// Whether all counted rows may take columns that are copies of none, or no such row may, and all
-// other rows any of the others. So it is in squares of instances.
-pub(crate) fn are_even<V: Copy>(square: &Square<V>, sums: &Sums<'_>, classes: &Classes) -> bool {
+/// Whether all counted rows may take columns that are copies of none, or no such row may, and all
+/// other rows any of the others. So it is in squares of instances.
+pub fn are_even<V: Copy>(square: &Square<V>, sums: &Sums<'_>, classes: &Classes) -> bool {
     for row in 0..square.side() {
         let is_good = if square.row_label(row).is_some() {
             is_even(sums, row, classes.extra, classes.outside > 0)

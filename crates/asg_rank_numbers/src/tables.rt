@@ -9,16 +9,19 @@ use std::alloc::Global;
 // From where a number stands for a cell that is absent.
 const ABSENT: u64 = 1 << 61;
 
-// A table, row by row; each row has `wide` places, of which the first `columns` are cells. Behind
-// the last row stands the row of the columns that no row has.
+/// A table, row by row; each row has `wide` places, of which the first `columns` are cells. Behind
+/// the last row stands the row of the columns that no row has.
 #[derive(Drop)]
-pub(crate) struct Table<N: Lanes> {
+pub struct Table<N: Lanes> {
+    /// How many rows there are, but for the last one.
     pub rows: usize,
+    /// How many cells a row has.
     pub columns: usize,
+    /// How many places a row has.
     pub wide: usize,
-    // Whether each number that was entered is less than what stands for an absent one.
+    /// Whether each number that was entered is less than what stands for an absent one.
     pub is_exact: bool,
-    pub cells: Vec<N>,
+    cells: Vec<N>,
 }
 
 // The places of a row of so many cells: whole sixteens.
@@ -43,8 +46,8 @@ fn write_cells<N: Lanes>(cells: &mut [N], numbers: &[u64], rises: &[u64], fall: 
 }
 
 impl<N: Lanes> Table<N> {
-    // A table without a number. The error is want of memory.
-    pub(crate) fn make(alloc: Global, rows: usize, columns: usize) -> Result<Table<N>, NoMemory> {
+    /// A table without a number. The error is want of memory.
+    pub fn make(alloc: Global, rows: usize, columns: usize) -> Result<Table<N>, NoMemory> {
         let wide = padded(columns);
         let places = rows.saturating_add(1).saturating_mul(wide);
         Ok(Table {
@@ -56,9 +59,9 @@ impl<N: Lanes> Table<N> {
         })
     }
 
-    // The numbers of a row, nothing where there is no such row.
+    /// The numbers of a row, nothing where there is no such row.
     #[inline]
-    pub(crate) fn row(&self, row: usize) -> &[N] {
+    pub fn row(&self, row: usize) -> &[N] {
         let first = row.wrapping_mul(self.wide);
         let end = first.wrapping_add(self.wide);
         if first <= end && end <= self.cells.len() {
@@ -68,15 +71,15 @@ impl<N: Lanes> Table<N> {
         }
     }
 
-    // The number of a row in a column, as if the rows were one list.
+    /// The number of a row in a column, as if the rows were one list.
     #[inline]
-    pub(crate) fn number(&self, row: usize, column: usize) -> N {
+    pub fn number(&self, row: usize, column: usize) -> N {
         let place = row.wrapping_mul(self.wide).wrapping_add(column);
         value(self.cells.as_slice(), place)
     }
 
-    // Enters a row.
-    pub(crate) fn enter(&mut self, row: usize, numbers: &[u64], rises: &[u64], fall: u64) {
+    /// Enters a row.
+    pub fn enter(&mut self, row: usize, numbers: &[u64], rises: &[u64], fall: u64) {
         let first = row.wrapping_mul(self.wide);
         let end = first.wrapping_add(self.wide);
         if first <= end && end <= self.cells.len() {
@@ -85,8 +88,8 @@ impl<N: Lanes> Table<N> {
         }
     }
 
-    // Enters the row of the columns that no row has: a number of 0 everywhere.
-    pub(crate) fn enter_spare(&mut self, rises: &[u64], floor: u64) {
+    /// Enters the row of the columns that no row has: a number of 0 everywhere.
+    pub fn enter_spare(&mut self, rises: &[u64], floor: u64) {
         let first = self.rows.wrapping_mul(self.wide);
         let count = rises.len().min(self.columns);
         for column in 0..count {

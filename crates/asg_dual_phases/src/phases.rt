@@ -1,7 +1,7 @@
 //! Phases by what rows fall and columns rise in all.
 
 use crate::NoMemory;
-use crate::places::{name, put};
+use asg_dual_numbers::{name, put};
 use asg_proof::Phase;
 use std::alloc::Global;
 

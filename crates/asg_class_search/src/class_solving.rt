@@ -4,9 +4,7 @@ use crate::NoMemory;
 use crate::class_bench::ClassBench;
 use crate::class_paths::{augment_from, augment_from_any};
 use crate::classes::Classes;
-use crate::numbers::{Number, set, value};
-use crate::places::{NONE, at, name, put};
-use crate::tables::Table;
+use asg_dual_numbers::{NONE, Number, Table, at, name, put, set, value};
 use std::alloc::Global;
 
 // The most classes whose least numbers are found anew class by class.
@@ -128,9 +126,9 @@ fn place_all_but<N: Number>(bench: &mut ClassBench<N>, table: &Table<N>, outside
     true
 }
 
-// Gives all rows but so many a class, with the least sum. Whether these have one. The error is want
-// of memory.
-pub(crate) fn place_rows<N: Number>(
+/// Gives all rows but so many a class, with the least sum. Whether these have one. The error is want
+/// of memory.
+pub fn place_rows<N: Number>(
     alloc: Global,
     bench: &mut ClassBench<N>,
     table: &Table<N>,

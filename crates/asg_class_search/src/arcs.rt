@@ -2,20 +2,19 @@
 
 use crate::NoMemory;
 use crate::classes::Classes;
-use crate::places::{amount, at, name};
-use crate::sums::Sums;
+use asg_dual_numbers::{Sums, amount, at, name};
 use std::alloc::Global;
 
 // Of so many cells of the counted rows at most one is present, for lists of arcs to serve.
 const SPARSE: usize = 8;
 
-// The present cells of counted rows: the place of the first one of each row, and behind the last
-// row the number of all; of each its column and its value.
+/// The present cells of counted rows: the place of the first one of each row, and behind the last
+/// row the number of all; of each its column and its value.
 #[derive(Drop)]
-pub(crate) struct Arcs {
-    pub starts: Vec<u32>,
-    pub columns: Vec<u32>,
-    pub cells: Vec<i64>,
+pub struct Arcs {
+    pub(crate) starts: Vec<u32>,
+    pub(crate) columns: Vec<u32>,
+    pub(crate) cells: Vec<i64>,
 }
 
 impl Arcs {
@@ -88,9 +87,9 @@ fn list_rows(arcs: &mut Arcs, sums: &Sums<'_>, rows: &[u32]) -> Result<(), NoMem
     Ok(())
 }
 
-// The present cells of the counted rows, where they are few and each column is a class of its own;
-// `None` otherwise. The error is want of memory.
-pub(crate) fn arcs_of(
+/// The present cells of the counted rows, where they are few and each column is a class of its own;
+/// `None` otherwise. The error is want of memory.
+pub fn arcs_of(
     alloc: Global,
     sums: &Sums<'_>,
     classes: &Classes,

@@ -4,8 +4,7 @@ use crate::arc_bench::ArcBench;
 use crate::arc_starts::reduce_rows;
 use crate::arcs::Arcs;
 use crate::heaps::Entry;
-use crate::numbers::{set, value};
-use crate::places::{NONE, at, name, put};
+use asg_dual_numbers::{NONE, at, name, put, set, value};
 
 // Lessens the keys of the columns of a row to what it reaches, with so much less.
 fn relax(bench: &mut ArcBench, arcs: &Arcs, row: u32, base: i64) {

@@ -3,8 +3,8 @@
 
 ghost use Rattle.std.specs.Prelude.{◌≡◌, length};
 
-use crate::places::{NONE, amount, at, name, put, put_amount};
 use crate::spans::Spans;
+use asg_dual_numbers::{NONE, amount, at, name, put, put_amount};
 
 // By how much each row falls in a phase, and by how much the column of each row rises.
 #[derive(Drop)]

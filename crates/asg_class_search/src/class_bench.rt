@@ -3,37 +3,36 @@
 ghost use Rattle.std.specs.Prelude.{◌≡◌, length};
 
 use crate::NoMemory;
-use crate::numbers::Number;
-use crate::places::{NONE, at, mark, put};
-use crate::tables::{Table, padded};
+use asg_dual_numbers::{NONE, Number, Table, at, mark, padded, put};
 use std::alloc::Global;
 
-// The classes of rows so far, the dual variables of classes, and room for searches.
+/// The classes of rows so far, the dual variables of classes, and room for searches.
 #[derive(Drop)]
-pub(crate) struct ClassBench<N: Number> {
-    // The dual variable of each class: a cell is its number less it.
+pub struct ClassBench<N: Number> {
+    /// The dual variable of each class: a cell is its number less it.
     pub duals: Vec<N>,
+    /// The class of each row.
     pub class_of: Vec<u32>,
     // The first row of each class, and of each row those before and behind it in its class.
-    pub first_rows: Vec<u32>,
-    pub earlier: Vec<u32>,
-    pub later: Vec<u32>,
+    pub(crate) first_rows: Vec<u32>,
+    pub(crate) earlier: Vec<u32>,
+    pub(crate) later: Vec<u32>,
     // How many rows each class has room for, and a bit for each that has room.
-    pub rooms: Vec<u32>,
-    pub free: Vec<u64>,
+    pub(crate) rooms: Vec<u32>,
+    pub(crate) free: Vec<u64>,
     // Of each class the shortest distance so far, alone and with its dual variable, and the row
     // that it is reached from; of each sixteen of classes the least distance, less one.
-    pub keys: Vec<N>,
-    pub limits: Vec<N>,
-    pub blocks: Vec<N>,
-    pub came: Vec<u32>,
+    pub(crate) keys: Vec<N>,
+    pub(crate) limits: Vec<N>,
+    pub(crate) blocks: Vec<N>,
+    pub(crate) came: Vec<u32>,
     // The classes that are done in order, and the distance of each class that is.
-    pub done: Vec<u32>,
-    pub reached: Vec<N>,
-    // Of each class the least number of the rows that have no class, and its row; the dual variable
-    // of these rows.
-    pub leasts: Vec<N>,
-    pub least_rows: Vec<u32>,
+    pub(crate) done: Vec<u32>,
+    pub(crate) reached: Vec<N>,
+    // Of each class the least number of the rows that have no class, and its row.
+    pub(crate) leasts: Vec<N>,
+    pub(crate) least_rows: Vec<u32>,
+    /// The dual variable of the rows that have no class.
     pub level: N,
 }
 
@@ -112,9 +111,9 @@ fn all_free<N: Number>(alloc: Global, table: &Table<N>) -> Result<Vec<u64>, NoMe
 }
 
 impl<N: Number> ClassBench<N> {
-    // A bench over a table of so many rows, whose classes have room for so many of them each; no
-    // row has a class. The error is want of memory.
-    pub(crate) fn make(
+    /// A bench over a table of so many rows, whose classes have room for so many of them each; no
+    /// row has a class. The error is want of memory.
+    pub fn make(
         alloc: Global,
         table: &Table<N>,
         rows: usize,

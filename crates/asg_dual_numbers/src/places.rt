@@ -2,12 +2,12 @@
 
 ghost use Rattle.std.specs.Prelude.{◌≡◌, length};
 
-// No row or column.
-pub(crate) const NONE: u32 = u32::MAX;
+/// No row or column.
+pub const NONE: u32 = u32::MAX;
 
-// The place as a name of a row or column, none where it is too great.
+/// The place as a name of a row or column, none where it is too great.
 #[inline]
-pub(crate) fn name(place: usize) -> u32 {
+pub fn name(place: usize) -> u32 {
     if place < 4294967295 {
         place as u32
     } else {
@@ -15,9 +15,9 @@ pub(crate) fn name(place: usize) -> u32 {
     }
 }
 
-// The name at a place, none outside.
+/// The name at a place, none outside.
 #[inline]
-pub(crate) fn at(names: &[u32], place: usize) -> u32 {
+pub fn at(names: &[u32], place: usize) -> u32 {
     if place < names.len() {
         names[place]
     } else {
@@ -25,8 +25,9 @@ pub(crate) fn at(names: &[u32], place: usize) -> u32 {
     }
 }
 
+/// Writes a name at a place, nothing outside.
 #[inline]
-pub(crate) fn put(names: &mut [u32], place: usize, name: u32)
+pub fn put(names: &mut [u32], place: usize, name: u32)
     ensures { length names.new ≡ length names.old }
 {
     if place < names.len() {
@@ -34,9 +35,9 @@ pub(crate) fn put(names: &mut [u32], place: usize, name: u32)
     }
 }
 
-// The amount at a place, 0 outside.
+/// The amount at a place, 0 outside.
 #[inline]
-pub(crate) fn amount(amounts: &[u64], place: usize) -> u64 {
+pub fn amount(amounts: &[u64], place: usize) -> u64 {
     if place < amounts.len() {
         amounts[place]
     } else {
@@ -44,8 +45,9 @@ pub(crate) fn amount(amounts: &[u64], place: usize) -> u64 {
     }
 }
 
+/// Writes an amount at a place, nothing outside.
 #[inline]
-pub(crate) fn put_amount(amounts: &mut [u64], place: usize, amount: u64)
+pub fn put_amount(amounts: &mut [u64], place: usize, amount: u64)
     ensures { length amounts.new ≡ length amounts.old }
 {
     if place < amounts.len() {
@@ -53,9 +55,9 @@ pub(crate) fn put_amount(amounts: &mut [u64], place: usize, amount: u64)
     }
 }
 
-// Sets or clears the bit of a column, in words of 64.
+/// Sets or clears the bit of a column, in words of 64.
 #[inline]
-pub(crate) fn mark(words: &mut [u64], column: usize, is: bool)
+pub fn mark(words: &mut [u64], column: usize, is: bool)
     ensures { length words.new ≡ length words.old }
 {
     let place = column / 64;

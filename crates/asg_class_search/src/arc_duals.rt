@@ -5,9 +5,8 @@ use crate::arc_bench::ArcBench;
 use crate::arc_paths::solve_arcs;
 use crate::arcs::Arcs;
 use crate::classes::Classes;
-use crate::found::Found;
-use crate::places::{at, put_amount};
 use crate::placings::{Placing, found_by};
+use asg_dual_numbers::{Found, at, put_amount};
 use std::alloc::Global;
 
 // The cells of rows by the arcs by which they have their columns.
@@ -45,9 +44,9 @@ fn found_on_bench(
     Ok(Some(found))
 }
 
-// An assignment of a square of this side with dual variables, by the arcs of its counted rows;
-// `None` where none was found. The error is want of memory.
-pub(crate) fn found_by_arcs(
+/// An assignment of a square of this side with dual variables, by the arcs of its counted rows;
+/// `None` where none was found. The error is want of memory.
+pub fn found_by_arcs(
     alloc: Global,
     side: u32,
     classes: &Classes,

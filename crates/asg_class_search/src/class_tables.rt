@@ -4,16 +4,13 @@
 use crate::NoMemory;
 use crate::classes::Classes;
 use crate::near_cells::{are_present, put_near};
-use crate::numbers::Number;
-use crate::places::{amount, at, put_amount};
 use crate::ranges::{Ranges, Spread, put_word, ranges_by, row_range};
-use crate::sums::Sums;
-use crate::tables::{Table, padded};
+use asg_dual_numbers::{Number, Sums, Table, amount, at, padded, put_amount};
 use std::alloc::Global;
 
-// Room for the cells of a row at the first columns of classes, with a bit for each that is present.
+/// Room for the cells of a row at the first columns of classes, with a bit for each that is present.
 #[derive(Drop)]
-pub(crate) struct ClassRow {
+pub struct ClassRow {
     values: Vec<u64>,
     words: Vec<u64>,
 }
@@ -42,8 +39,8 @@ fn first_amounts(amounts: &[u64], count: usize) -> &[u64] {
 }
 
 impl ClassRow {
-    // Room for the cells of a row. The error is want of memory.
-    pub(crate) fn make(alloc: Global, classes: &Classes) -> Result<ClassRow, NoMemory> {
+    /// Room for the cells of a row. The error is want of memory.
+    pub fn make(alloc: Global, classes: &Classes) -> Result<ClassRow, NoMemory> {
         let count = classes.firsts.len();
         Ok(ClassRow {
             values: vec![in alloc; 0; count]?,
@@ -95,9 +92,9 @@ impl ClassRow {
     }
 }
 
-// The ranges of the rows. Where rows may take columns that are copies of none, all rows have one
-// range. The error is want of memory.
-pub(crate) fn class_ranges(
+/// The ranges of the rows. Where rows may take columns that are copies of none, all rows have one
+/// range. The error is want of memory.
+pub fn class_ranges(
     alloc: Global,
     sums: &Sums<'_>,
     classes: &Classes,
@@ -126,9 +123,9 @@ fn put_cells<N: Number>(numbers: &mut [N], values: &[u64], words: &[u64], least:
     }
 }
 
-// The table of the rows: each cell is what is taken away from its row less, and an absent one is
-// this number. The error is want of memory.
-pub(crate) fn class_table<N: Number>(
+/// The table of the rows: each cell is what is taken away from its row less, and an absent one is
+/// this number. The error is want of memory.
+pub fn class_table<N: Number>(
     alloc: Global,
     sums: &Sums<'_>,
     classes: &Classes,
@@ -156,9 +153,9 @@ pub(crate) fn class_table<N: Number>(
     Ok(Table { side, wide, cells })
 }
 
-// The table of the rows with so much less; `None` where a cell is absent, or not near. The error is
-// want of memory.
-pub(crate) fn near_class_table<N: Number>(
+/// The table of the rows with so much less; `None` where a cell is absent, or not near. The error is
+/// want of memory.
+pub fn near_class_table<N: Number>(
     alloc: Global,
     sums: &Sums<'_>,
     classes: &Classes,

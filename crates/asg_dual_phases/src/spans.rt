@@ -10,7 +10,7 @@ ghost use Rattle.std.specs.Prelude.{◌≡◌, length};
 
 use crate::NoMemory;
 use crate::merges::Amounts;
-use crate::places::{NONE, amount, at, name, put_amount};
+use asg_dual_numbers::{NONE, amount, at, name, put_amount};
 use std::alloc::Global;
 
 // The spans of pairs: from low to high, by row.

@@ -1,16 +1,3 @@
 pub mod Common
 pub mod ListTexts
-pub mod Leaves
-pub mod PhaseParts
-pub mod WindowParts
-pub mod LevelParts
-pub mod AnswerParts
-pub mod NodeParts
-pub mod RankingParts
-pub mod ClaimParts
-pub mod DocumentTexts
-pub mod RefusedLines
-pub mod DocumentLines
-pub mod TextLaws
 pub mod WorkedDocuments
-pub mod WorkedRefusals

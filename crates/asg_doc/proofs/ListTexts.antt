@@ -1,5 +1,7 @@
 -- Texts of lists, one member more.
-use Rattle.asg_doc.proofs.Common.{◌≡◌, ℕ, ◌+◌, ◌<◌, Bool, List, [], ◌∷◌, ◌++◌, map, length, get_or, take, ℤ, codes, decimal, flat_map, sym, ap, ◌∙◌, append_assoc, flat_map_more, map-append, signed_decimal, take_more, spaced, spaced_costs, column_text, spaced_columns, ended, cell_line, step_text, spaced_steps, window_line, ended-append, Word, Window}
+use Rattle.asg_doc.proofs.Common.{◌≡◌, ℕ, ◌+◌, ◌<◌, Bool, List, [], ◌∷◌, ◌++◌, map, length, get_or, take, ℤ, codes, decimal, flat_map, sym, ap, ◌∙◌, append_assoc, flat_map_more, map-append, signed_decimal, take_more, spaced, spaced_costs, column_text, spaced_columns, ended, cell_line, step_text, spaced_steps, window_line, Word}
+use Rattle.asg_grammar.specs.laws.LineCuts.{ended-append}
+use Rattle.asg_proof.specs.declared.windows.Window.{Window}
 
 pub costs_more : (costs : List ℤ) (i : ℕ) (cost : ℤ) → i < length costs
     → spaced_costs (take i costs) ++ 32 ∷ signed_decimal (get_or costs i cost) ≡ spaced_costs (take (i + 1) costs)

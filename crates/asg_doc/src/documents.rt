@@ -108,14 +108,6 @@ pub struct Document {
     pub claim: Claim,
 }
 
-// What the status of a document says.
-#[derive(Clone, Copy, Debug, PartialEq, Eq)]
-pub(crate) enum Status {
-    Best,
-    Nothing,
-    Ranked,
-}
-
 /// The form that the values of an objective have in a document.
 #[derive(Clone, Copy, Debug, PartialEq, Eq)]
 pub enum ValueForm {
@@ -125,13 +117,4 @@ pub enum ValueForm {
     Two,
     /// A list of signed numbers of 64 bits, each after a space.
     Many,
-}
-
-// What the first line of a proof says.
-#[derive(Debug, Drop)]
-pub(crate) enum ProofHead {
-    Phases(u32),
-    Below(Ids),
-    Windows(u32),
-    Levels(u32),
 }

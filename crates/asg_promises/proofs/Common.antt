@@ -13,7 +13,7 @@ pub use Rattle.asg_check.specs.Certifies.{Certifies, CertifiesClaim}
 pub use Rattle.asg_check.specs.TrueClaim.{ClaimsTruly, IsTrueClaim}
 pub use Rattle.asg_check.specs.declared.document_forms.Form.{Form}
 pub use Rattle.asg_doc.specs.HasText.{AreRows, HasAnswerText, HasClaimText, HasColumnText, HasLevelText, HasPhaseText, HasText, HaveLevelText, IsWrittenValue}
-pub use Rattle.asg_doc.specs.RefusedLine.{AllHaveText, IsRefusedLine}
+pub use Rattle.asg_doc_reader.specs.RefusedLine.{AllHaveText, IsRefusedLine}
 pub use Rattle.asg_doc.specs.Text.{cell_line, column_text, ended, level_lines, perm_line, phase_lines, spaced, spaced_columns, spaced_costs, spaced_steps, step_text, text_of, texts_of, value_line}
 pub use Rattle.asg_doc.specs.Words.{HasWord, command_word, form_of}
 pub use Rattle.asg_doc.specs.declared.documents.Answer.{Answer}

@@ -3,7 +3,7 @@ use Rattle.std.specs.Prelude.{◌≡◌, ◌≢◌, ℕ, List, Option, Some, Non
 use Rattle.asg_model.specs.declared.objectives.Objective.{Objective}
 use Rattle.asg_model.specs.Problem.{Problem}
 use Rattle.asg_doc.specs.declared.documents.Document.{Document}
-use Rattle.asg_doc.specs.RefusedLine.{AllHaveText, IsNoText, IsRefusedLine}
+use Rattle.asg_doc_reader.specs.RefusedLine.{AllHaveText, IsNoText, IsRefusedLine}
 use Rattle.asg_doc.specs.Text.{texts_of}
 use Rattle.asg_check.specs.declared.document_forms.Form.{Form}
 use Rattle.asg_check.specs.declared.document_forms.Form.TheVariants.{Solve, Rank}

@@ -6,7 +6,7 @@ use Rattle.asg_model.specs.Instances.{IsInstance}
 use Rattle.asg_model.specs.Problem.{Problem}
 use Rattle.asg_doc.specs.declared.documents.Document.{Document}
 use Rattle.asg_doc.specs.HasText.{HasText}
-use Rattle.asg_doc.specs.RefusedLine.{AllHaveText, IsNoText, IsRefusedLine}
+use Rattle.asg_doc_reader.specs.RefusedLine.{AllHaveText, IsNoText, IsRefusedLine}
 use Rattle.asg_doc.specs.Text.{text_of, texts_of}
 use Rattle.asg_check.specs.declared.document_forms.Form.{Form}
 use Rattle.asg_check.specs.declared.document_forms.Form.TheVariants.{Solve, Edit}

@@ -24,7 +24,7 @@ ghost use Rattle.asg_answers.specs.Texts.{usage_text, refused_instance_text};
 
 use asg_brief::laws::brief_line_law;
 use asg_check::laws::one_reason;
-use asg_doc::{refused_line, unique_reading};
+use asg_doc_reader::{refused_line, unique_reading};
 use asg_model::laws::shape_law;
 use asg_words::laws::request_law;
 

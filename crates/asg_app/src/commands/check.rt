@@ -4,7 +4,7 @@
 ghost use Rattle.std.specs.Prelude.{◌≡◌, ◌≤◌, ◌∷◌, [], IfOk, None, length};
 ghost use Rattle.asg_check.specs.declared.document_forms.Form.TheVariants.{Edit};
 ghost use Rattle.asg_check.specs.DocumentForm.{MayBeAsked};
-ghost use Rattle.asg_doc.specs.RefusedLine.{AllHaveText};
+ghost use Rattle.asg_doc_reader.specs.RefusedLine.{AllHaveText};
 ghost use Rattle.asg_doc.specs.Text.{texts_of};
 ghost use Rattle.asg_model.specs.Limits.{longest_file, most_side};
 ghost use Rattle.asg_model.specs.Refused.{PassesNegative};
@@ -20,7 +20,8 @@ use crate::scripts::script_lines;
 use crate::stops::stop_reply;
 use asg_answers::{Reply, Status};
 use asg_check::Form;
-use asg_doc::{DocRefusal, Document, read};
+use asg_doc::Document;
+use asg_doc_reader::{DocRefusal, read};
 use asg_model::{Instance, NoMemory};
 use asg_reasons::Verdict;
 use asg_requests::Job;

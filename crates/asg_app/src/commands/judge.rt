@@ -2,7 +2,7 @@
 
 ghost use Rattle.std.specs.Prelude.{◌≡◌, ◌+◌, ◌<◌, ◌≤◌, ◌∷◌, ℕ, List, IfOk, None, OnOk, length};
 ghost use Rattle.asg_check.specs.DocumentForm.{MayBeAsked};
-ghost use Rattle.asg_doc.specs.RefusedLine.{AllHaveText};
+ghost use Rattle.asg_doc_reader.specs.RefusedLine.{AllHaveText};
 ghost use Rattle.asg_model.specs.Edits.{edited, refusal_of};
 ghost use Rattle.asg_model.specs.Limits.{most_side};
 ghost use Rattle.asg_model.specs.Problem.{Problem};

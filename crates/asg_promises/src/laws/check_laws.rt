@@ -23,7 +23,7 @@ ghost use Rattle.asg_answers.specs.Texts.{yes_text};
 
 use super::instance_law;
 use super::solve_laws::solved_law;
-use asg_doc::unique_reading;
+use asg_doc_reader::unique_reading;
 
 /// A request to check ends with the status 0, 3, 5, 6 or 10, unless a fault or want of memory cuts
 /// it short. Where the files are told, none is too long and the first holds an instance, it is 5

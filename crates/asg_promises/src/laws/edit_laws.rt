@@ -4,7 +4,7 @@ ghost use Rattle.std.specs.Prelude.{◌≡◌, ◌≤◌, ◌⊎◌, ℕ, List, 
 ghost use Rattle.asg_model.specs.Limits.{longest_file};
 ghost use Rattle.asg_model.specs.Problem.{Problem};
 ghost use Rattle.asg_doc.specs.declared.documents.Document.{Document as Answered};
-ghost use Rattle.asg_doc.specs.RefusedLine.{AllHaveText};
+ghost use Rattle.asg_doc_reader.specs.RefusedLine.{AllHaveText};
 ghost use Rattle.asg_doc.specs.Text.{texts_of};
 ghost use Rattle.asg_requests.specs.declared.requests.Job.{Job};
 ghost use Rattle.asg_requests.specs.declared.requests.Task.TheVariants.{Edit, Check};
@@ -19,7 +19,7 @@ ghost use Rattle.asg_promises.specs.Promised.{AreCertified, AskAlike, IsEdited, 
 ghost use Rattle.asg_promises.specs.Requests.{AsksFor};
 ghost use Rattle.asg_answers.specs.Texts.{refused_script_text, yes_text};
 
-use asg_doc::unique_reading;
+use asg_doc_reader::unique_reading;
 
 /// A request to edit ends with the status 0, 3, 4 or 10, unless a fault or want of memory cuts it
 /// short. Where the files are told, none is too long and the first holds an instance, it is 4 where

@@ -1,4 +1,5 @@
-use Rattle.asg_doc.proofs.Common.{List, ℤ, FitsSigned, All, subst, IsWrittenValue, ValueForm, Many, w64}
+use Rattle.asg_doc.proofs.Common.{List, ℤ, FitsSigned, All, subst, IsWrittenValue, Many, w64}
+use Rattle.asg_doc.specs.declared.documents.ValueForm.{ValueForm}
 use Rattle.asg_doc.specs.declared.documents.ValueForm.TheVariants as forms
 use Rattle.asg_doc.proofs.line_writer.emit_numbers.Goals as goal
 

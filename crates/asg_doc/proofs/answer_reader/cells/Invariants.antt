@@ -1,5 +1,0 @@
-use Rattle.asg_doc.proofs.Common.{cell_part, counted, IsRead}
-use Rattle.asg_doc.proofs.answer_reader.cells.Given as goal
-
-abbrev pub invariant-loop : goal.invariant-loop
-invariant-loop l = IsRead (counted l.counter cell_part) l.fn.lines l.lines l.cells.items

@@ -1,5 +1,0 @@
-use Rattle.asg_doc.proofs.Common.{phase_part, counted, IsRead}
-use Rattle.asg_doc.proofs.phase_reader.phases.Given as goal
-
-abbrev pub invariant-loop : goal.invariant-loop
-invariant-loop l = IsRead (counted l.counter (phase_part l.has_grades)) l.fn.lines l.lines l.phases.items

@@ -1,5 +1,0 @@
-use Rattle.asg_doc.proofs.Common.{window_part, counted, IsRead}
-use Rattle.asg_doc.proofs.window_reader.windows.Given as goal
-
-abbrev pub invariant-loop : goal.invariant-loop
-invariant-loop l = IsRead (counted l.counter window_part) l.fn.lines l.lines l.windows.items

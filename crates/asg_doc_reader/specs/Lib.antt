@@ -1,0 +1,3 @@
+pub mod WordSpellings
+pub mod DocumentParts
+pub mod RefusedLine

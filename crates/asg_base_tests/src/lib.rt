@@ -2,18 +2,8 @@
 #![tactic(auto)]
 
 #[cfg(test)]
-mod of_io;
-#[cfg(test)]
 mod of_make;
 #[cfg(test)]
 mod of_model;
 #[cfg(test)]
-mod of_parts;
-#[cfg(test)]
 mod of_samples;
-#[cfg(test)]
-mod of_scripts;
-#[cfg(test)]
-mod of_text;
-#[cfg(test)]
-mod of_words;

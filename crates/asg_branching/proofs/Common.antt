@@ -11,8 +11,8 @@ pub use Rattle.asg_branching.specs.declared.desks.Desk.{Desk}
 pub use Rattle.asg_branching.specs.declared.searches.Search.{Search}
 pub use Rattle.asg_branching.specs.laws.SlotSteps.{AreLive, slots_offered, slots_stay}
 pub use Rattle.asg_growth.specs.Growing.{IsAbsorbed}
-pub use Rattle.asg_growth.specs.Masked.{masked_reduced}
 pub use Rattle.asg_growth.specs.Rest.{IsRestOf}
+pub use Rattle.asg_kept.specs.Masked.{masked_reduced}
 pub use Rattle.asg_match.specs.HallSets.{GivesHallSets}
 pub use Rattle.asg_match.specs.Matching.{IsMatched, IsPerfect, Matches, column_at}
 pub use Rattle.asg_match.specs.laws.Matchings.{Matches-below, Matches-same, Matches-set_other, Some-from_test}

@@ -11,7 +11,7 @@ ghost use Rattle.asg_model.specs.Sums.{count_below};
 ghost use Rattle.asg_order.specs.Monoid.{IsValue};
 ghost use Rattle.asg_algebra.specs.Branches.{Branches};
 ghost use Rattle.asg_algebra.specs.Stages.{stage_of};
-ghost use Rattle.asg_growth.specs.Masked.{masked_reduced};
+ghost use Rattle.asg_kept.specs.Masked.{masked_reduced};
 ghost use Rattle.asg_growth.specs.Rest.{IsRestOf};
 ghost use Rattle.asg_pool.specs.Forest.{IsLive};
 ghost use Rattle.asg_square.specs.Masked.{keeps};

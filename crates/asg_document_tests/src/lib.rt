@@ -2,6 +2,4 @@
 #![tactic(auto)]
 
 #[cfg(test)]
-mod of_check;
-#[cfg(test)]
 mod of_doc;

@@ -2,10 +2,6 @@
 #![tactic(auto)]
 
 #[cfg(test)]
-mod of_admit;
-#[cfg(test)]
 mod of_algebra;
 #[cfg(test)]
 mod of_duals;
-#[cfg(test)]
-mod samples;

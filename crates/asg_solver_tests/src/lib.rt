@@ -4,8 +4,6 @@
 #[cfg(test)]
 mod of_grade_lists;
 #[cfg(test)]
-mod of_lex;
-#[cfg(test)]
 mod of_objectives;
 #[cfg(test)]
 mod of_rank;
@@ -13,7 +11,3 @@ mod of_rank;
 mod of_table_phases;
 #[cfg(test)]
 mod of_table_sums;
-#[cfg(test)]
-mod of_thresh;
-#[cfg(test)]
-mod of_window;

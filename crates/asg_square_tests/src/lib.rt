@@ -4,10 +4,4 @@
 #[cfg(test)]
 mod of_match;
 #[cfg(test)]
-mod of_monoids;
-#[cfg(test)]
-mod of_pool;
-#[cfg(test)]
-mod of_proof;
-#[cfg(test)]
 mod of_square;

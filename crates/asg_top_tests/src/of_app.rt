@@ -1,17 +1,9 @@
-//! Tests of `asg_app`.
+//! Tests of `asg_app`: requests to solve, refusals and statuses.
 
 mod algebraic_runs;
 mod balanced_tests;
 mod bottleneck_runs;
-mod brief_tests;
-mod check_tests;
-mod edit_runs;
-mod edit_tests;
 mod lex_tests;
-mod make_tests;
-mod memory_runs;
-mod phase_tests;
-mod rank_tests;
 mod refused_tests;
 mod solve_tests;
 mod status_tests;

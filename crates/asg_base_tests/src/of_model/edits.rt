@@ -1,177 +1,97 @@
 //! Edits of the worked square of three rows, and those that are refused.
 
+use self::Change::{Column, Out, Put, Row};
 use crate::of_model::squares::{BOTH, Cells, PLAIN, square};
-use asg_model::*;
+use asg_model::EditRefusal::{
+    ColumnDropped, CostRange, LastRow, NegativeCost, NoSuchColumn, NoSuchRow, RowDropped,
+};
+use asg_model::Objective::{Capped, Lex, Sum, SumPair, TimeCost};
+use asg_model::{Cost, Edit, EditRefusal, Instance, Objective};
 use asg_samples::{Fault, Sample};
 use std::alloc::Global;
 use std::test::Fail;
 
+// An edit in few words, by ids: the cost of a cell, or a cell, a row or a column that is taken out.
+#[derive(Clone, Copy)]
+enum Change {
+    Put(u32, u32, i64, i64),
+    Out(u32, u32),
+    Row(u32),
+    Column(u32),
+}
+
+// The edit itself.
+fn edit_of(change: Change) -> Edit {
+    match change {
+        Change::Put(row, col, a, b) => Edit::Cost {
+            row,
+            col,
+            cost: Cost { a, b },
+        },
+        Change::Out(row, col) => Edit::Forbid { row, col },
+        Change::Row(row) => Edit::DropRow { row },
+        Change::Column(col) => Edit::DropColumn { col },
+    }
+}
+
 // An edit for an objective, and its refusal.
-type Step = (Objective, Edit, Option<EditRefusal>);
+type Step = (Objective, Change, Option<EditRefusal>);
 
 // A row is dropped, and named again.
 const DROPS: [Step; 9] = [
-    (
-        Objective::Sum,
-        Edit::Cost {
-            row: 9,
-            col: 9,
-            cost: Cost { a: 0, b: 0 },
-        },
-        Some(EditRefusal::NoSuchRow),
-    ),
-    (
-        Objective::Sum,
-        Edit::Cost {
-            row: 1,
-            col: 9,
-            cost: Cost { a: 0, b: 0 },
-        },
-        Some(EditRefusal::NoSuchColumn),
-    ),
-    (Objective::Sum, Edit::DropRow { row: 2 }, None),
-    (
-        Objective::Sum,
-        Edit::DropRow { row: 2 },
-        Some(EditRefusal::RowDropped),
-    ),
-    (
-        Objective::Sum,
-        Edit::Cost {
-            row: 2,
-            col: 1,
-            cost: Cost {
-                a: 1_000_000_001,
-                b: 0,
-            },
-        },
-        Some(EditRefusal::RowDropped),
-    ),
-    (
-        Objective::Sum,
-        Edit::Cost {
-            row: 1,
-            col: 1,
-            cost: Cost {
-                a: 1_000_000_001,
-                b: 0,
-            },
-        },
-        Some(EditRefusal::CostRange),
-    ),
-    (
-        Objective::TimeCost,
-        Edit::Cost {
-            row: 1,
-            col: 1,
-            cost: Cost {
-                a: 0,
-                b: -1_000_000_001,
-            },
-        },
-        Some(EditRefusal::CostRange),
-    ),
-    (Objective::Sum, Edit::DropRow { row: 1 }, None),
-    (
-        Objective::Sum,
-        Edit::DropRow { row: 3 },
-        Some(EditRefusal::LastRow),
-    ),
+    (Sum, Put(9, 9, 0, 0), Some(NoSuchRow)),
+    (Sum, Put(1, 9, 0, 0), Some(NoSuchColumn)),
+    (Sum, Row(2), None),
+    (Sum, Row(2), Some(RowDropped)),
+    (Sum, Put(2, 1, 1_000_000_001, 0), Some(RowDropped)),
+    (Sum, Put(1, 1, 1_000_000_001, 0), Some(CostRange)),
+    (TimeCost, Put(1, 1, 0, -1_000_000_001), Some(CostRange)),
+    (Sum, Row(1), None),
+    (Sum, Row(3), Some(LastRow)),
 ];
 
 // A column is closed, cells are taken out and come back, and costs are refused for an objective.
 const CELLS: [Step; 10] = [
-    (Objective::Lex, Edit::DropColumn { col: 2 }, None),
-    (
-        Objective::Lex,
-        Edit::Forbid { row: 1, col: 2 },
-        Some(EditRefusal::ColumnDropped),
-    ),
-    (
-        Objective::Lex,
-        Edit::DropColumn { col: 2 },
-        Some(EditRefusal::ColumnDropped),
-    ),
-    (
-        Objective::Capped(5),
-        Edit::Cost {
-            row: 1,
-            col: 1,
-            cost: Cost { a: -1, b: 0 },
-        },
-        Some(EditRefusal::NegativeCost),
-    ),
-    (
-        Objective::TimeCost,
-        Edit::Cost {
-            row: 1,
-            col: 1,
-            cost: Cost { a: 0, b: -1 },
-        },
-        Some(EditRefusal::NegativeCost),
-    ),
-    (
-        Objective::Sum,
-        Edit::Cost {
-            row: 1,
-            col: 1,
-            cost: Cost { a: -1, b: 7 },
-        },
-        None,
-    ),
-    (Objective::Sum, Edit::Forbid { row: 1, col: 3 }, None),
-    (Objective::Sum, Edit::Forbid { row: 1, col: 3 }, None),
-    (Objective::Sum, Edit::Forbid { row: 2, col: 3 }, None),
-    (
-        Objective::Sum,
-        Edit::Cost {
-            row: 2,
-            col: 3,
-            cost: Cost {
-                a: 1_000_000_000,
-                b: 0,
-            },
-        },
-        None,
-    ),
+    (Lex, Column(2), None),
+    (Lex, Out(1, 2), Some(ColumnDropped)),
+    (Lex, Column(2), Some(ColumnDropped)),
+    (Capped(5), Put(1, 1, -1, 0), Some(NegativeCost)),
+    (TimeCost, Put(1, 1, 0, -1), Some(NegativeCost)),
+    (Sum, Put(1, 1, -1, 7), None),
+    (Sum, Out(1, 3), None),
+    (Sum, Out(1, 3), None),
+    (Sum, Out(2, 3), None),
+    (Sum, Put(2, 3, 1_000_000_000, 0), None),
 ];
+
+// The parts of the cost of a live cell.
+type Parts = Option<(i64, i64)>;
 
 // Edits, and the costs of the live cells behind them, row by row.
-type Edited = (&'static [Step], [Option<Cost>; 9]);
+type Edited = (&'static [Step], [Parts; 9]);
 
-static EDITED: [Edited; 2] = [
-    (
-        &DROPS,
-        [
-            None,
-            None,
-            None,
-            None,
-            None,
-            None,
-            Some(Cost { a: 3, b: 6 }),
-            Some(Cost { a: 2, b: 4 }),
-            Some(Cost { a: 2, b: 4 }),
-        ],
-    ),
-    (
-        &CELLS,
-        [
-            Some(Cost { a: -1, b: 7 }),
-            None,
-            None,
-            Some(Cost { a: 2, b: 4 }),
-            None,
-            Some(Cost {
-                a: 1_000_000_000,
-                b: 0,
-            }),
-            Some(Cost { a: 3, b: 6 }),
-            None,
-            Some(Cost { a: 2, b: 4 }),
-        ],
-    ),
+// The costs 3:6 and 2:4.
+const THREE_SIX: Parts = Some((3, 6));
+
+const TWO_FOUR: Parts = Some((2, 4));
+
+const LEFT: [Parts; 9] = [
+    None, None, None, None, None, None, THREE_SIX, TWO_FOUR, TWO_FOUR,
 ];
+
+const CHANGED: [Parts; 9] = [
+    Some((-1, 7)),
+    None,
+    None,
+    TWO_FOUR,
+    None,
+    Some((1_000_000_000, 0)),
+    THREE_SIX,
+    None,
+    TWO_FOUR,
+];
+
+static EDITED: [Edited; 2] = [(&DROPS, LEFT), (&CELLS, CHANGED)];
 
 // The edits, for a caller that needn't know them.
 fn edits() -> &'static [Edited] {
@@ -188,11 +108,12 @@ fn refusal_of(inst: &mut Instance, objective: Objective, edit: Edit) -> Option<E
 
 // Whether each edit is refused as it is to be, and told to be before.
 fn are_answered(inst: &mut Instance, steps: &[Step]) -> bool {
-    for (objective, edit, want) in steps {
-        if inst.refusal(*objective, *edit) != *want {
+    for (objective, change, want) in steps {
+        let edit = edit_of(*change);
+        if inst.refusal(*objective, edit) != *want {
             return false;
         }
-        if refusal_of(inst, *objective, *edit) != *want {
+        if refusal_of(inst, *objective, edit) != *want {
             return false;
         }
     }
@@ -200,9 +121,13 @@ fn are_answered(inst: &mut Instance, steps: &[Step]) -> bool {
 }
 
 // Whether the live cells of three rows and three columns have these costs.
-fn has_costs(inst: &Instance, want: &[Option<Cost>; 9]) -> bool {
+fn has_costs(inst: &Instance, want: &[Parts; 9]) -> bool {
     for place in 0..9u32 {
-        if inst.live(place / 3, place % 3) != want[place as usize] {
+        let parts = match inst.live(place / 3, place % 3) {
+            Some(cost) => Some((cost.a, cost.b)),
+            None => None,
+        };
+        if parts != want[place as usize] {
             return false;
         }
     }
@@ -234,12 +159,8 @@ const WITHOUT_SECONDS: Sample<'static> = Sample {
 
 // Whether one cell of an instance gets a second part, and no other.
 fn gets_second(inst: &mut Instance) -> bool {
-    let edit = Edit::Cost {
-        row: 2,
-        col: 2,
-        cost: Cost { a: 4, b: 8 },
-    };
-    refusal_of(inst, Objective::SumPair, edit).is_none()
+    let edit = edit_of(Put(2, 2, 4, 8));
+    refusal_of(inst, SumPair, edit).is_none()
         && inst.live(1, 1) == Some(Cost { a: 4, b: 8 })
         && inst.live(1, 2) == Some(Cost { a: 5, b: 0 })
 }

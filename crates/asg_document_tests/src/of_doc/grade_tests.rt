@@ -2,6 +2,7 @@
 
 use crate::of_doc::phase_tests::TIME;
 use asg_doc::*;
+use asg_doc_reader::read;
 use asg_model::{Objective, Value};
 use asg_order::Word;
 use asg_proof::{Proof, Steps, WrittenPhase};

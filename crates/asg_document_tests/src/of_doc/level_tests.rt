@@ -1,7 +1,6 @@
 //! Documents of `lex`, read and written.
 
-use crate::of_doc::phase_tests::{first_not_rewritten, refused};
-use std::alloc::{AllocError, Global};
+use crate::of_doc::phase_tests::{first_not_refused, first_not_rewritten};
 use std::test::Fail;
 
 // Documents with levels: those that prove the best choice for the costs `4 1 3 / 2 0 5 / 3 2 2`,
@@ -41,31 +40,19 @@ static LINES: [(&[u8], u32); 11] = [
     (b" 1\nperm 1\nlevel 0 1 0\nlevel 0 1 0\nend\n", 11),
 ];
 
-// The line in which a document is refused that has this behind `proof levels`, or 0.
-fn refused_levels(alloc: Global, rest: &[u8]) -> Result<u32, AllocError> {
-    let front = b"status best\nvalue 1\ncells 1\n1 1\nproof levels";
-    let mut text = Vec::from_slice(alloc, front)?;
-    text.extend_from_slice(rest)?;
-    refused(alloc, b"lex", &text)
-}
-
 // The lines, for a caller that needn't know them.
 fn lines() -> &'static [(&'static [u8], u32)] {
     &LINES
 }
 
-// The first of the lines that isn't refused where it is to be.
-fn first_not_refused(alloc: Global) -> Result<Option<&'static [u8]>, AllocError> {
-    for (rest, line) in lines() {
-        if refused_levels(alloc, rest)? != *line {
-            return Ok(Some(rest));
-        }
-    }
-    Ok(None)
-}
+// What comes before them.
+const FRONT: &[u8] = b"status best\nvalue 1\ncells 1\n1 1\nproof levels";
 
 #[test]
 fn lines_of_levels_are_refused(rt: HostRuntime) -> Result<(), Fail> {
-    assert_eq!(rt; first_not_refused(rt.alloc())?, None);
+    assert_eq!(rt;
+        first_not_refused(rt.alloc(), b"lex", FRONT, lines())?,
+        None
+    );
     Ok(())
 }

@@ -1,8 +1,9 @@
 //! Documents of the algebraic objectives, read and written.
 
-ghost use Rattle.asg_doc.specs.RefusedLine.{AllHaveText};
+ghost use Rattle.asg_doc_reader.specs.RefusedLine.{AllHaveText};
 
 use asg_doc::*;
+use asg_doc_reader::{DocRefusal, read};
 use asg_io::MemorySink;
 use asg_page::{Page, finish};
 use std::alloc::{AllocError, Global};
@@ -38,7 +39,7 @@ const WRITTEN: [&[u8]; 7] = [
 ];
 
 // The objective, a text behind its line, and the line in which it is refused; 0 where it is read.
-static LINES: [(&[u8], &[u8], u32); 24] = [
+static LINES: [(&[u8], &[u8], u32); 11] = [
     (b"capped=0", b"", 3),
     (b"capped=05", b"", 3),
     (b"capped=1000000000001", b"", 3),
@@ -48,83 +49,31 @@ static LINES: [(&[u8], &[u8], u32); 24] = [
     (b"pair", b"status best\nvalue 3\n", 5),
     (b"time-cost", b"status best\nvalue 3 4\n", 5),
     (b"pair", b"status best\nvalue 3:-0\n", 5),
-    (
-        b"sum",
-        b"status best\nvalue 3\ncells 1\n1 1\nproof phases 4294967296\n",
-        8,
-    ),
-    (
-        b"sum",
-        b"status best\nvalue 3\ncells 1\n1 1\nproof phases 01\n",
-        8,
-    ),
-    (
-        b"sum",
-        b"status best\nvalue 3\ncells 1\n1 1\nproof phases 0\nend\n",
-        0,
-    ),
-    (
-        b"sum",
-        b"status best\nvalue 3\ncells 1\n1 1\nproof phases 1\nend\n",
-        9,
-    ),
-    (
-        b"sum",
-        b"status best\nvalue 3\ncells 1\n1 1\nproof phases 1\nsteps\n",
-        9,
-    ),
-    (
-        b"sum",
-        b"status best\nvalue 3\ncells 1\n1 1\nproof phases 1\nsteps 1 \n",
-        9,
-    ),
-    (
-        b"sum",
-        b"status best\nvalue 3\ncells 1\n1 1\nproof phases 1\nsteps 1 01\n",
-        9,
-    ),
-    (
-        b"sum",
-        b"status best\nvalue 3\ncells 1\n1 1\nproof phases 1\nsteps 1:1\n",
-        9,
-    ),
-    (
-        b"time-cost",
-        b"status best\nvalue 3:4\ncells 1\n1 1\nproof phases 1\nsteps 1\n",
-        9,
-    ),
-    (
-        b"time-cost",
-        b"status best\nvalue 3:4\ncells 1\n1 1\nproof phases 1\nsteps 18446744073709551616:1\n",
-        9,
-    ),
-    (
-        b"sum",
-        b"status best\nvalue 3\ncells 1\n1 1\nproof phases 1\n\
-          steps 340282366920938463463374607431768211456\n",
-        9,
-    ),
-    (
-        b"sum",
-        b"status best\nvalue 3\ncells 1\n1 1\nproof phases 1\nsteps 1\nleaves 1\n",
-        10,
-    ),
-    (
-        b"sum",
-        b"status best\nvalue 3\ncells 1\n1 1\nproof phases 1\nsteps 1\nenters 0\nleaves\n",
-        11,
-    ),
-    (
-        b"sum",
-        b"status best\nvalue 3\ncells 1\n1 1\nproof phases 1\nsteps 1\nenters 0\nleaves 1\nend\n",
-        0,
-    ),
-    (
-        b"sum",
-        b"status best\nvalue 3\ncells 1\n1 1\nproof phases 4294967295\n\
-          steps 1\nenters 0\nleaves 1\nend\n",
-        12,
-    ),
+    (b"time-cost", TIME_COST_STEPS_1, 9),
+    (b"time-cost", TIME_COST_STEPS_PAST, 9),
+];
+
+// Phases of `time-cost` of which a step has no grade, and one whose grade is past 64 bits.
+const TIME_COST_STEPS_1: &[u8] = b"status best\nvalue 3:4\ncells 1\n1 1\nproof phases 1\nsteps 1\n";
+
+const TIME_COST_STEPS_PAST: &[u8] =
+    b"status best\nvalue 3:4\ncells 1\n1 1\nproof phases 1\nsteps 18446744073709551616:1\n";
+
+// A text behind the word of a proof of `sum` by phases, and the line in which it is refused.
+static PHASES: [(&[u8], u32); 13] = [
+    (b" 4294967296\n", 8),
+    (b" 01\n", 8),
+    (b" 0\nend\n", 0),
+    (b" 1\nend\n", 9),
+    (b" 1\nsteps\n", 9),
+    (b" 1\nsteps 1 \n", 9),
+    (b" 1\nsteps 1 01\n", 9),
+    (b" 1\nsteps 1:1\n", 9),
+    (b" 1\nsteps 340282366920938463463374607431768211456\n", 9),
+    (b" 1\nsteps 1\nleaves 1\n", 10),
+    (b" 1\nsteps 1\nenters 0\nleaves\n", 11),
+    (b" 1\nsteps 1\nenters 0\nleaves 1\nend\n", 0),
+    (b" 4294967295\nsteps 1\nenters 0\nleaves 1\nend\n", 12),
 ];
 
 // A length that no text here reaches.
@@ -241,7 +190,7 @@ fn lines() -> &'static [(&'static [u8], &'static [u8], u32)] {
 }
 
 // The first of the lines that isn't refused where it is to be.
-fn first_not_refused(alloc: Global) -> Result<Option<&'static [u8]>, AllocError> {
+fn first_line_not_refused(alloc: Global) -> Result<Option<&'static [u8]>, AllocError> {
     for (objective, text, line) in lines() {
         if refused(alloc, objective, text)? != *line {
             return Ok(Some(text));
@@ -250,8 +199,47 @@ fn first_not_refused(alloc: Global) -> Result<Option<&'static [u8]>, AllocError>
     Ok(None)
 }
 
+// The line in which a document is refused that has this behind a front, or 0.
+fn refused_behind(
+    alloc: Global,
+    objective: &[u8],
+    front: &[u8],
+    rest: &[u8],
+) -> Result<u32, AllocError> {
+    let mut text = Vec::from_slice(alloc, front)?;
+    text.extend_from_slice(rest)?;
+    refused(alloc, objective, &text)
+}
+
+// The first of the texts that isn't refused where it is to be behind a front; 0 where it is read.
+pub(crate) fn first_not_refused(
+    alloc: Global,
+    objective: &[u8],
+    front: &[u8],
+    texts: &'static [(&'static [u8], u32)],
+) -> Result<Option<&'static [u8]>, AllocError> {
+    for (rest, line) in texts {
+        if refused_behind(alloc, objective, front, rest)? != *line {
+            return Ok(Some(rest));
+        }
+    }
+    Ok(None)
+}
+
+// The phases, for a caller that needn't know them.
+fn phases() -> &'static [(&'static [u8], u32)] {
+    &PHASES
+}
+
+// What comes before the phases.
+const FRONT: &[u8] = b"status best\nvalue 3\ncells 1\n1 1\nproof phases";
+
 #[test]
 fn lines_are_refused(rt: HostRuntime) -> Result<(), Fail> {
-    assert_eq!(rt; first_not_refused(rt.alloc())?, None);
+    assert_eq!(rt; first_line_not_refused(rt.alloc())?, None);
+    assert_eq!(rt;
+        first_not_refused(rt.alloc(), b"sum", FRONT, phases())?,
+        None
+    );
     Ok(())
 }

@@ -1,10 +1,11 @@
 //! Documents of rankings, read and written.
 
-use crate::of_doc::phase_tests::{first_not_rewritten, refused};
+use crate::of_doc::phase_tests::{first_not_refused, first_not_rewritten};
 use asg_doc::*;
+use asg_doc_reader::read;
 use asg_model::Value;
 use asg_rankings::{Mark, Node};
-use std::alloc::{AllocError, Global};
+use std::alloc::Global;
 use std::test::Fail;
 
 // The two choices for the costs `1 2 / 4 3`, and their tree.
@@ -175,13 +176,6 @@ static NODES: [(&[u8], u32); 15] = [
     (b" 2\nnode 0 0 open 0\nend\n", 12),
 ];
 
-// The line in which a ranking is refused that has this behind a front, or 0.
-fn refused_behind(alloc: Global, front: &[u8], rest: &[u8]) -> Result<u32, AllocError> {
-    let mut text = Vec::from_slice(alloc, front)?;
-    text.extend_from_slice(rest)?;
-    refused(alloc, b"sum", &text)
-}
-
 // The lines, for a caller that needn't know them.
 fn lines() -> &'static [(&'static [u8], u32)] {
     &LINES
@@ -192,28 +186,17 @@ fn nodes() -> &'static [(&'static [u8], u32)] {
     &NODES
 }
 
-// The first text behind the front that isn't refused where it is to be.
-fn first_not_refused(
-    alloc: Global,
-    front: &[u8],
-    texts: &'static [(&'static [u8], u32)],
-) -> Result<Option<&'static [u8]>, AllocError> {
-    for (rest, line) in texts {
-        if refused_behind(alloc, front, rest)? != *line {
-            return Ok(Some(rest));
-        }
-    }
-    Ok(None)
-}
-
 const ANSWERED: &[u8] = b"status ranked\ncount 1\nanswers 1\nanswer 3\ncells 1\n1 1\nproof tree";
 
 #[test]
 fn refused_lines_of_rankings(rt: HostRuntime) -> Result<(), Fail> {
     assert_eq!(rt;
-        first_not_refused(rt.alloc(), b"status ranked\n", lines())?,
+        first_not_refused(rt.alloc(), b"sum", b"status ranked\n", lines())?,
         None
     );
-    assert_eq!(rt; first_not_refused(rt.alloc(), ANSWERED, nodes())?, None);
+    assert_eq!(rt;
+        first_not_refused(rt.alloc(), b"sum", ANSWERED, nodes())?,
+        None
+    );
     Ok(())
 }

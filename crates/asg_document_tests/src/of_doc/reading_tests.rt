@@ -1,10 +1,11 @@
 //! Documents of the bottleneck objectives, read.
 
-use crate::of_doc::phase_tests::{refused, refused_line};
+use crate::of_doc::phase_tests::{first_not_refused, refused_line};
 use asg_doc::*;
+use asg_doc_reader::read;
 use asg_model::{Objective, Value};
 use asg_proof::Proof;
-use std::alloc::{AllocError, Global};
+use std::alloc::Global;
 use std::test::Fail;
 
 const BEST: &[u8] = b"assignment 1\ncommand solve\nobjective bottleneck\nstatus best\nvalue 2\n\
@@ -121,7 +122,7 @@ const TEXTS: [(&[u8], u32); 5] = [
 ];
 
 // The first of these texts that isn't refused where it is to be.
-fn first_not_refused(alloc: Global) -> Option<&'static [u8]> {
+fn first_text_not_refused(alloc: Global) -> Option<&'static [u8]> {
     for (text, line) in &TEXTS {
         if refused_line(alloc, text) != *line {
             return Some(text);
@@ -135,19 +136,12 @@ fn claims() -> &'static [(&'static [u8], u32)] {
     &CLAIMS
 }
 
-// The first of the claims that isn't.
-fn first_claim_not_refused(alloc: Global) -> Result<Option<&'static [u8]>, AllocError> {
-    for (claim, line) in claims() {
-        if refused(alloc, b"bottleneck-max", claim)? != *line {
-            return Ok(Some(claim));
-        }
-    }
-    Ok(None)
-}
-
 #[test]
 fn refused_lines(rt: HostRuntime) -> Result<(), Fail> {
-    assert_eq!(rt; first_not_refused(rt.alloc()), None);
-    assert_eq!(rt; first_claim_not_refused(rt.alloc())?, None);
+    assert_eq!(rt; first_text_not_refused(rt.alloc()), None);
+    assert_eq!(rt;
+        first_not_refused(rt.alloc(), b"bottleneck-max", b"", claims())?,
+        None
+    );
     Ok(())
 }

@@ -1,10 +1,11 @@
 //! Documents of `balanced`, read and written.
 
-use crate::of_doc::phase_tests::{first_not_rewritten, refused};
+use crate::of_doc::phase_tests::{first_not_refused, first_not_rewritten};
 use asg_doc::*;
+use asg_doc_reader::read;
 use asg_model::{Objective, Value};
 use asg_proof::{Proof, Window};
-use std::alloc::{AllocError, Global};
+use std::alloc::Global;
 use std::test::Fail;
 
 // Three windows that prove the least spread of the costs `4 1 3 / 2 0 5 / 3 2 2`.
@@ -95,31 +96,19 @@ fn windows_are_read(rt: HostRuntime) {
     assert!(rt; reads_balanced(rt.alloc()));
 }
 
-// The refused line of a document with this text behind its proof by windows.
-fn refused_windows(alloc: Global, rest: &[u8]) -> Result<u32, AllocError> {
-    let head = b"status best\nvalue 3\ncells 1\n1 1\nproof windows";
-    let mut text = Vec::from_slice(alloc, head)?;
-    text.extend_from_slice(rest)?;
-    refused(alloc, b"balanced", &text)
-}
-
 // The lines, for a caller that needn't know them.
 fn lines() -> &'static [(&'static [u8], u32)] {
     &LINES
 }
 
-// The first of the lines that isn't refused where it is to be.
-fn first_not_refused(alloc: Global) -> Result<Option<&'static [u8]>, AllocError> {
-    for (rest, line) in lines() {
-        if refused_windows(alloc, rest)? != *line {
-            return Ok(Some(rest));
-        }
-    }
-    Ok(None)
-}
+// What comes before them.
+const FRONT: &[u8] = b"status best\nvalue 3\ncells 1\n1 1\nproof windows";
 
 #[test]
 fn lines_of_windows_are_refused(rt: HostRuntime) -> Result<(), Fail> {
-    assert_eq!(rt; first_not_refused(rt.alloc())?, None);
+    assert_eq!(rt;
+        first_not_refused(rt.alloc(), b"balanced", FRONT, lines())?,
+        None
+    );
     Ok(())
 }

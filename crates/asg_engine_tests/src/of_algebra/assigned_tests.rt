@@ -6,12 +6,12 @@ ghost use Rattle.asg_admit.specs.Reduced.{IsReduced};
 use crate::of_algebra::desks::{Desk, desk_for, has_perfect};
 use crate::of_algebra::given_tests::{one_phase, two_phases};
 use crate::of_algebra::solver_tests::{COLUMNS, GRADED, GRADES, NARROW_THREE, PEAKS, SUMS, THREE};
-use crate::samples::reduced_of;
 use asg_admit::Reduced;
-use asg_algebra::{AssignedSquare, NoMemory, SquareSolver};
+use asg_algebra::{AssignedSquare, NoMemory, assign_given};
+use asg_kept::Keeps;
 use asg_monoids::{Bounded, Greatest, NarrowSums};
 use asg_proof::Phase;
-use asg_samples::Fault;
+use asg_samples::{Fault, reduced_of};
 use asg_square::Square;
 use std::alloc::Global;
 use std::test::Fail;
@@ -53,7 +53,7 @@ fn was_expected<V: Copy>(found: Option<AssignedSquare<V>>, desk: Desk<V>, column
 }
 
 // Whether the phases and the columns assign a square at a desk, with no column taken.
-fn is_assigned_at<M: SquareSolver>(
+fn is_assigned_at<M: Keeps>(
     alloc: Global,
     m: &M,
     reduced: Reduced<M::Value>,
@@ -68,8 +68,9 @@ fn is_assigned_at<M: SquareSolver>(
     requires spare { reduced.now.side ≤ desk.region.spare }
 {
     let mut desk = desk;
-    let found = m.assign_given(
+    let found = assign_given(
         alloc,
+        m,
         reduced,
         &mut desk.matching,
         &mut desk.region,
@@ -86,7 +87,7 @@ fn is_assigned_at<M: SquareSolver>(
 }
 
 // The same of a square with these cells.
-fn is_assigned<M: SquareSolver>(
+fn is_assigned<M: Keeps>(
     alloc: Global,
     m: &M,
     side: u32,

@@ -6,14 +6,13 @@ ghost use Rattle.asg_order.specs.Monoid.{IsValue};
 
 use crate::of_algebra::desks::{Desk, desk_for};
 use crate::of_algebra::solver_tests::{NARROW_THREE, PEAKS};
-use crate::samples::reduced_of;
 use asg_admit::Reduced;
 use asg_algebra::{Branch, branch_from};
 use asg_match::Matching;
 use asg_model::limits::MOST_SIDE;
 use asg_monoids::{Greatest, NarrowSums};
 use asg_order::DMonoid;
-use asg_samples::Fault;
+use asg_samples::{Fault, reduced_of};
 use std::alloc::Global;
 use std::test::Fail;
 

@@ -7,12 +7,12 @@ use crate::of_algebra::desks::{Desk, desk_for};
 use crate::of_algebra::solver_tests::{
     COLUMNS, GRADED, GRADES, NARROW_HIGH, NARROW_THREE, PEAKS, SUMS, THREE, told,
 };
-use crate::samples::reduced_of;
 use asg_admit::Reduced;
-use asg_algebra::{NoMemory, SolvedSquare, SquareSolver};
+use asg_algebra::{NoMemory, SolvedSquare, solve_given};
+use asg_kept::Keeps;
 use asg_monoids::{Bounded, Greatest, NarrowSums};
 use asg_proof::Phase;
-use asg_samples::Fault;
+use asg_samples::{Fault, reduced_of};
 use std::alloc::Global;
 use std::test::Fail;
 
@@ -48,7 +48,7 @@ fn expected_index<V: Copy>(
 }
 
 // The index of a square, where the phases and the columns solve it at a desk, with no column taken.
-fn index_at<M: SquareSolver>(
+fn index_at<M: Keeps>(
     alloc: Global,
     m: &M,
     reduced: Reduced<M::Value>,
@@ -63,8 +63,9 @@ fn index_at<M: SquareSolver>(
     requires spare { reduced.now.side ≤ desk.region.spare }
 {
     let mut desk = desk;
-    let found = m.solve_given(
+    let found = solve_given(
         alloc,
+        m,
         reduced,
         &mut desk.matching,
         &mut desk.region,
@@ -81,7 +82,7 @@ fn index_at<M: SquareSolver>(
 }
 
 // The same of a square with these cells.
-fn index_by<M: SquareSolver>(
+fn index_by<M: Keeps>(
     alloc: Global,
     m: &M,
     side: u32,

@@ -4,11 +4,11 @@ ghost use Rattle.std.specs.Prelude.{◌≡◌, ◌≤◌, None, replicate};
 ghost use Rattle.asg_admit.specs.Reduced.{IsReduced};
 
 use crate::of_algebra::desks::{Desk, desk_for, has_perfect};
-use crate::samples::reduced_of;
 use asg_admit::Reduced;
-use asg_algebra::{NoMemory, SolvedSquare, SquareSolver};
+use asg_algebra::{NoMemory, SolvedSquare, solve_square};
+use asg_kept::Keeps;
 use asg_monoids::{Bounded, Graded, Greatest, NarrowSums};
-use asg_samples::Fault;
+use asg_samples::{Fault, reduced_of};
 use std::alloc::Global;
 use std::test::Fail;
 
@@ -28,7 +28,7 @@ pub(crate) fn told<V: Copy>(solved: SolvedSquare<V>, desk: Desk<V>, columns: &[u
 }
 
 // What is told of a square once it is solved at a desk, with no column taken.
-fn answer_at<M: SquareSolver>(
+fn answer_at<M: Keeps>(
     alloc: Global,
     m: &M,
     reduced: Reduced<M::Value>,
@@ -42,8 +42,9 @@ fn answer_at<M: SquareSolver>(
     requires spare { reduced.now.side ≤ desk.region.spare }
 {
     let mut desk = desk;
-    let found = m.solve_square(
+    let found = solve_square(
         alloc,
+        m,
         reduced,
         &mut desk.matching,
         &mut desk.bench,
@@ -60,7 +61,7 @@ fn answer_at<M: SquareSolver>(
 }
 
 // The same of a square with these cells.
-fn answer<M: SquareSolver>(
+fn answer<M: Keeps>(
     alloc: Global,
     m: &M,
     side: u32,

@@ -5,13 +5,12 @@
 ghost use Rattle.std.specs.Prelude.{◌<◌};
 ghost use Rattle.asg_admit.specs.Reduced.{IsReduced};
 
-use crate::samples::reduced_of;
 use asg_admit::{Reduced, replay};
 use asg_duals::{Guess, capped_guess, grade_guess, pair_guess, peak_guess};
 use asg_monoids::{Bounded, Graded, Greatest};
 use asg_order::DMonoid;
 use asg_proof::Phase;
-use asg_samples::Fault;
+use asg_samples::{Fault, reduced_of};
 use std::alloc::Global;
 use std::test::Fail;
 

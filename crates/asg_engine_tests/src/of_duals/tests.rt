@@ -5,14 +5,12 @@ ghost use Rattle.std.specs.Prelude.{◌≡◌};
 ghost use Rattle.asg_admit.specs.Reduced.{IsReduced};
 ghost use Rattle.asg_monoids.specs.BoundedSums.{bounded_sums, narrow_top};
 
-use crate::samples::reduced_of;
 use asg_admit::Reduced;
-use asg_dual_squares::{DualSquare, Replayed};
 use asg_duals::{Duals, first_duals, short_phases, tight_duals};
+use asg_kept::{DualSquare, Keeps, KeptSquare, RowSquare, cell_of};
 use asg_monoids::NarrowSums;
-use asg_phase_totals::NARROW_TOP;
 use asg_proof::Phase;
-use asg_samples::Fault;
+use asg_samples::{Fault, reduced_of};
 use asg_square::NoMemory;
 use std::alloc::Global;
 use std::test::Fail;
@@ -47,22 +45,22 @@ fn products(alloc: Global) -> Result<Vec<Option<u64>>, Fault> {
 }
 
 // Applies phases, where each is admitted; whether all were.
-fn all_apply(narrow: &mut DualSquare<u64>, phases: &[Phase<u64>], room: &mut [u64]) -> bool {
-    for k in 0..phases.len() {
+fn all_apply(narrow: &mut DualSquare<u64>, phases: &[Phase<u64>], room: &mut [u64]) -> bool
+    requires { IsReduced (bounded_sums narrow_top) narrow.old }
+{
+    'phases: for k in 0..phases.len() {
         let phase = &phases[k];
         if phase.steps().len() >= room.len() {
             return false;
         }
-        match narrow.replay(
-            NARROW_TOP,
+        if !narrow.replay(
+            &NarrowSums,
             phase.steps(),
             phase.enters(),
             phase.leaves(),
             room,
         ) {
-            Replayed::Applied => {}
-            Replayed::Refused => return false,
-            Replayed::Full => return false,
+            return false;
         }
     }
     true
@@ -74,7 +72,7 @@ fn are_zero(narrow: &DualSquare<u64>, columns: &[u32]) -> bool {
         if row as usize >= columns.len() || columns[row as usize] >= narrow.side() {
             return false;
         }
-        if narrow.row(row).value(columns[row as usize]) != 0 {
+        if cell_of(narrow, row, columns[row as usize]) != Some(0) {
             return false;
         }
     }
@@ -89,9 +87,9 @@ fn applied(
 ) -> Result<Option<DualSquare<u64>>, NoMemory>
     requires { IsReduced (bounded_sums narrow_top) reduced }
 {
-    let mut narrow = DualSquare::make(alloc, NARROW_TOP, reduced)?;
-    let places = (narrow.side() as usize).saturating_add(1);
+    let places = (reduced.now.side() as usize).saturating_add(1);
     let mut room = vec![in alloc; 0u64; places]?;
+    let mut narrow = NarrowSums.keep(alloc, reduced)?;
     if all_apply(&mut narrow, phases, room.as_mut_slice()) {
         Ok(Some(narrow))
     } else {

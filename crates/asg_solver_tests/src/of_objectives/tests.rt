@@ -5,7 +5,7 @@ ghost use Rattle.asg_model.specs.Limits.{most_cost};
 ghost use Rattle.asg_model.specs.Objectives.{is_algebraic};
 
 use crate::of_objectives::samples::{BEST, BEST_FAR, Best, CAPPED, FAR, ONE_COLUMN, PLAIN};
-use asg_algebra::SquareSolver;
+use asg_kept::Keeps;
 use asg_model::limits::MOST_SIDE;
 use asg_model::{Band, Choice, Instance, Objective, Value};
 use asg_monoids::{PeakKind, SumKind, TimeKind};
@@ -107,7 +107,7 @@ fn outcome_by<K: Kind>(
     inst: &Instance,
 ) -> Result<Option<Outcome>, NoMemory>
 where
-    K::M: SquareSolver,
+    K::M: Keeps,
     requires { most_cost ≤ K.reach kind.now }
 {
     if inst.side() > MOST_SIDE || negative(kind.objective(), inst).is_some() {
@@ -136,7 +136,7 @@ fn gives(
 // Whether the outcome by a kind is a best choice.
 fn gives_by<K: Kind>(alloc: Global, inst: &Instance, kind: &K, best: Best) -> Result<bool, NoMemory>
 where
-    K::M: SquareSolver,
+    K::M: Keeps,
     requires { most_cost ≤ K.reach kind.now }
 {
     match outcome_by(alloc, kind, inst)? {

@@ -1,184 +1,147 @@
 //! Requests with an algebraic objective, for the tests of runs over memory.
 
-use crate::of_app::memory_runs::Case;
+use asg_runs::{ASN, Case, Cases, RECT, SQUARE};
 
 /// The requests, for a caller that needn't know them.
-pub(crate) fn algebraic() -> &'static [Case] {
+pub(crate) fn algebraic() -> &'static [Cases] {
     &ALGEBRAIC
 }
 
 // Requests to solve with their answers: each objective with its ties and its sign, fewer rows to be
 // placed, greater capacities, graphs, tables with absent cells, and instances without a valid
 // choice.
-static ALGEBRAIC: [Case; 24] = [
+const OF_SUM: [Case; 11] = [
     (
-        "sum",
         &[],
-        "3\n4 1 3\n2 0 5\n3 2 2\n",
+        SQUARE,
         0,
-        "status best\nvalue 5\ncells 3\n1 2\n2 1\n3 3\nproof phases ",
+        "value 5\ncells 3\n1 2\n2 1\n3 3\nproof phases ",
     ),
     (
-        "sum",
         &["--place", "2"],
-        "3\n4 1 3\n2 0 5\n3 2 2\n",
+        SQUARE,
         0,
-        "status best\nvalue 2\ncells 2\n2 2\n3 3\nproof phases ",
+        "value 2\ncells 2\n2 2\n3 3\nproof phases ",
     ),
     (
-        "sum",
         &["--each", "2"],
-        "3\n4 1 3\n2 0 5\n3 2 2\n",
+        SQUARE,
         0,
-        "status best\nvalue 3\ncells 3\n1 2\n2 2\n3 3\nproof phases ",
+        "value 3\ncells 3\n1 2\n2 2\n3 3\nproof phases ",
     ),
     // The one entered cost is the unit, so that no step is taken.
     (
-        "sum",
         &[],
         "1\n-1000000000\n",
         0,
-        "status best\nvalue -1000000000\ncells 1\n1 1\nproof phases 0\nend\n",
+        "value -1000000000\ncells 1\n1 1\nproof phases 0\nend\n",
     ),
+    (&[], "2\n-5 -3\n-5 -4", 0, "value -9\ncells 2\n1 1\n2 2\n"),
     (
-        "sum",
-        &[],
-        "2\n-5 -3\n-5 -4",
-        0,
-        "status best\nvalue -9\ncells 2\n1 1\n2 2\n",
-    ),
-    (
-        "sum",
-        &["--format", "asn"],
+        ASN,
         "c a small instance\np asn 6 9\nn 1\nn 2\nn 3\na 1 4 4\na 1 5 1\na 1 6 3\na 2 4 2\n\
          a 2 5 0\na 2 6 5\na 3 4 3\na 3 5 2\na 3 6 2\n",
         0,
-        "status best\nvalue 5\ncells 3\n1 5\n2 4\n3 6\n",
+        "value 5\ncells 3\n1 5\n2 4\n3 6\n",
     ),
     (
-        "sum",
-        &["--format", "rect"],
+        RECT,
         "2 3\n5 - 1\n- 2 1\n",
         0,
-        "status best\nvalue 3\ncells 2\n1 3\n2 2\n",
+        "value 3\ncells 2\n1 3\n2 2\n",
     ),
     (
-        "sum",
         &["--format", "rect", "--each", "2"],
         "3 2\n1 9:5\n1 9\n7:1 2",
         0,
-        "status best\nvalue 4\ncells 3\n1 1\n2 1\n3 2\n",
+        "value 4\ncells 3\n1 1\n2 1\n3 2\n",
     ),
+    (ASN, "p asn 4 2\nn 1\nn 2\na 1 3 5\na 2 3 6\n", 1, "hall "),
+    (ASN, "p asn 4 2\nn 1\nn 2\na 1 3 5\na 1 3 5\n", 1, "hall "),
     (
-        "sum",
-        &["--format", "asn"],
-        "p asn 4 2\nn 1\nn 2\na 1 3 5\na 2 3 6\n",
-        1,
-        "status none\nhall ",
-    ),
-    (
-        "sum",
-        &["--format", "asn"],
-        "p asn 4 2\nn 1\nn 2\na 1 3 5\na 1 3 5\n",
-        1,
-        "status none\nhall ",
-    ),
-    (
-        "sum",
         &["--format", "rect", "--place", "2"],
         "3 2\n1 -\n2 -\n- -\n",
         1,
-        "status none\nhall ",
+        "hall ",
     ),
+];
+
+const OF_SUM_MAX: [Case; 3] = [
     (
-        "sum-max",
         &[],
-        "3\n4 1 3\n2 0 5\n3 2 2\n",
+        SQUARE,
         0,
-        "status best\nvalue 11\ncells 3\n1 1\n2 3\n3 2\nproof phases ",
+        "value 11\ncells 3\n1 1\n2 3\n3 2\nproof phases ",
     ),
+    (&["--place", "1"], SQUARE, 0, "value 5\ncells 1\n2 3\n"),
+    (RECT, "1 1\n-\n", 1, "hall 1\nend\n"),
+];
+
+const OF_PAIR: [Case; 2] = [
     (
-        "sum-max",
-        &["--place", "1"],
-        "3\n4 1 3\n2 0 5\n3 2 2\n",
-        0,
-        "status best\nvalue 5\ncells 1\n2 3\n",
-    ),
-    (
-        "sum-max",
-        &["--format", "rect"],
-        "1 1\n-\n",
-        1,
-        "status none\nhall 1\nend\n",
-    ),
-    (
-        "pair",
         &[],
         "2\n1:9 1:2\n1:3 1:1\n",
         0,
-        "status best\nvalue 2:5\ncells 2\n1 2\n2 1\nproof phases ",
+        "value 2:5\ncells 2\n1 2\n2 1\nproof phases ",
     ),
     (
-        "pair",
         &[],
         "2\n0:9 1:-9\n1:-9 0:9\n",
         0,
-        "status best\nvalue 0:18\ncells 2\n1 1\n2 2\n",
+        "value 0:18\ncells 2\n1 1\n2 2\n",
     ),
+];
+
+const OF_CAPPED_FIVE: [Case; 1] = [(&[], SQUARE, 0, "value 5\ncells 3\n")];
+
+const OF_CAPPED_SIX: [Case; 1] = [(
+    &[],
+    SQUARE,
+    0,
+    "value 5\ncells 3\n1 2\n2 1\n3 3\nproof phases ",
+)];
+
+const OF_CAPPED_MOST: [Case; 1] = [(
+    RECT,
+    "2 3\n5 - 1\n- 2 1\n",
+    0,
+    "value 3\ncells 2\n1 3\n2 2\n",
+)];
+
+const OF_TIME_COST: [Case; 5] = [
     (
-        "capped=5",
-        &[],
-        "3\n4 1 3\n2 0 5\n3 2 2\n",
-        0,
-        "status best\nvalue 5\ncells 3\n",
-    ),
-    (
-        "capped=6",
-        &[],
-        "3\n4 1 3\n2 0 5\n3 2 2\n",
-        0,
-        "status best\nvalue 5\ncells 3\n1 2\n2 1\n3 3\nproof phases ",
-    ),
-    (
-        "capped=1000000000000",
-        &["--format", "rect"],
-        "2 3\n5 - 1\n- 2 1\n",
-        0,
-        "status best\nvalue 3\ncells 2\n1 3\n2 2\n",
-    ),
-    (
-        "time-cost",
         &[],
         "2\n3:5 3:1\n3:1 3:9\n",
         0,
-        "status best\nvalue 3:2\ncells 2\n1 2\n2 1\nproof phases ",
+        "value 3:2\ncells 2\n1 2\n2 1\nproof phases ",
     ),
     (
-        "time-cost",
         &[],
         "2\n3:5 1:0\n1:0 3:1\n",
         0,
-        "status best\nvalue 1:0\ncells 2\n1 2\n2 1\nproof phases ",
+        "value 1:0\ncells 2\n1 2\n2 1\nproof phases ",
     ),
     (
-        "time-cost",
         &["--place", "1"],
         "2\n3:5 -1:7\n-1:6 3:1\n",
         0,
-        "status best\nvalue -1:6\ncells 1\n2 1\n",
+        "value -1:6\ncells 1\n2 1\n",
     ),
     (
-        "time-cost",
         &["--each", "2"],
         "2\n2:1 3:1\n2:4 3:0\n",
         0,
-        "status best\nvalue 2:5\ncells 2\n1 1\n2 1\n",
+        "value 2:5\ncells 2\n1 1\n2 1\n",
     ),
-    (
-        "time-cost",
-        &["--format", "rect"],
-        "2 1\n1\n2\n",
-        1,
-        "status none\nhall ",
-    ),
+    (RECT, "2 1\n1\n2\n", 1, "hall "),
+];
+
+static ALGEBRAIC: [Cases; 7] = [
+    ("sum", &OF_SUM),
+    ("sum-max", &OF_SUM_MAX),
+    ("pair", &OF_PAIR),
+    ("capped=5", &OF_CAPPED_FIVE),
+    ("capped=6", &OF_CAPPED_SIX),
+    ("capped=1000000000000", &OF_CAPPED_MOST),
+    ("time-cost", &OF_TIME_COST),
 ];

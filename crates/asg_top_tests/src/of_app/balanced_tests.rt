@@ -1,54 +1,33 @@
 //! Requests with the objective `balanced`, as runs over memory.
 
-use crate::of_app::memory_runs::{Case, THREE, ends, held};
-use crate::of_app::solve_tests::is_answered;
+use crate::of_app::solve_tests::first_unanswered;
+use asg_runs::{ASN, Case, RECT, SQUARE, THREE, ends, held};
 use std::alloc::{AllocError, Global};
 use std::test::Fail;
 
 // Requests to solve with their answers: a square, fewer rows to be placed, a greater capacity, a
 // table with absent cells, a graph without a valid choice, and one cell, which needs no window.
 static BALANCED: [Case; 6] = [
+    (&[], SQUARE, 0, "value 1\ncells 3\n"),
+    (&["--place", "2"], SQUARE, 0, "value 0\ncells 2\n"),
     (
-        "balanced",
-        &[],
-        "3\n4 1 3\n2 0 5\n3 2 2\n",
-        0,
-        "status best\nvalue 1\ncells 3\n",
-    ),
-    (
-        "balanced",
-        &["--place", "2"],
-        "3\n4 1 3\n2 0 5\n3 2 2\n",
-        0,
-        "status best\nvalue 0\ncells 2\n",
-    ),
-    (
-        "balanced",
         &["--format", "rect", "--each", "2"],
         "2 1\n1\n2\n",
         0,
-        "status best\nvalue 1\ncells 2\n1 1\n2 1\nproof windows ",
+        "value 1\ncells 2\n1 1\n2 1\nproof windows ",
     ),
     (
-        "balanced",
-        &["--format", "rect"],
+        RECT,
         "2 3\n5 - 1\n- 2 1\n",
         0,
-        "status best\nvalue 1\ncells 2\n1 3\n2 2\nproof windows ",
+        "value 1\ncells 2\n1 3\n2 2\nproof windows ",
     ),
+    (ASN, "p asn 4 2\nn 1\nn 2\na 1 3 5\na 2 3 6\n", 1, "hall "),
     (
-        "balanced",
-        &["--format", "asn"],
-        "p asn 4 2\nn 1\nn 2\na 1 3 5\na 2 3 6\n",
-        1,
-        "status none\nhall ",
-    ),
-    (
-        "balanced",
         &[],
         "1\n-1000000000\n",
         0,
-        "status best\nvalue 0\ncells 1\n1 1\nproof windows 0\nend\n",
+        "value 0\ncells 1\n1 1\nproof windows 0\nend\n",
     ),
 ];
 
@@ -59,9 +38,7 @@ fn balanced() -> &'static [Case] {
 
 #[test]
 fn balanced_documents(rt: HostRuntime) -> Result<(), Fail> {
-    for case in balanced() {
-        assert!(rt; is_answered(rt.alloc(), case)?, "{}", case.2);
-    }
+    assert_eq!(rt; first_unanswered(rt.alloc(), "balanced", balanced())?, None);
     Ok(())
 }
 

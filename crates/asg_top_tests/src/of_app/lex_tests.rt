@@ -1,7 +1,7 @@
 //! Requests with the objective `lex`, as runs over memory.
 
-use crate::of_app::memory_runs::{Case, THREE, ends, held};
-use crate::of_app::solve_tests::is_answered;
+use crate::of_app::solve_tests::first_unanswered;
+use asg_runs::{ASN, Case, RECT, SQUARE, THREE, ends, held};
 use std::alloc::{AllocError, Global};
 use std::test::Fail;
 
@@ -10,53 +10,36 @@ use std::test::Fail;
 // cell.
 static LEX: [Case; 7] = [
     (
-        "lex",
         &[],
-        "3\n4 1 3\n2 0 5\n3 2 2\n",
+        SQUARE,
         0,
-        "status best\nvalue 2 2 1\ncells 3\n1 2\n2 1\n3 3\nproof levels 2\nperm 2 1 3\n",
+        "value 2 2 1\ncells 3\n1 2\n2 1\n3 3\nproof levels 2\nperm 2 1 3\n",
     ),
+    (&[], "2\n1 2\n1 2\n", 0, "value 2 1\ncells 2\n1 "),
     (
-        "lex",
-        &[],
-        "2\n1 2\n1 2\n",
-        0,
-        "status best\nvalue 2 1\ncells 2\n1 ",
-    ),
-    (
-        "lex",
         &["--place", "2"],
-        "3\n4 1 3\n2 0 5\n3 2 2\n",
+        SQUARE,
         0,
-        "status best\nvalue 2 0\ncells 2\n2 2\n3 3\nproof levels 2\n",
+        "value 2 0\ncells 2\n2 2\n3 3\nproof levels 2\n",
     ),
     (
-        "lex",
         &["--format", "rect", "--each", "2"],
         "2 1\n1\n2\n",
         0,
-        "status best\nvalue 2 1\ncells 2\n1 1\n2 1\nproof levels 2\n",
+        "value 2 1\ncells 2\n1 1\n2 1\nproof levels 2\n",
     ),
     (
-        "lex",
-        &["--format", "rect"],
+        RECT,
         "2 3\n5 - 1\n- 2 1\n",
         0,
-        "status best\nvalue 2 1\ncells 2\n1 3\n2 2\nproof levels 2\n",
+        "value 2 1\ncells 2\n1 3\n2 2\nproof levels 2\n",
     ),
+    (ASN, "p asn 4 2\nn 1\nn 2\na 1 3 5\na 2 3 6\n", 1, "hall "),
     (
-        "lex",
-        &["--format", "asn"],
-        "p asn 4 2\nn 1\nn 2\na 1 3 5\na 2 3 6\n",
-        1,
-        "status none\nhall ",
-    ),
-    (
-        "lex",
         &[],
         "1\n-1000000000\n",
         0,
-        "status best\nvalue -1000000000\ncells 1\n1 1\nproof levels 1\nperm 1\n\
+        "value -1000000000\ncells 1\n1 1\nproof levels 1\nperm 1\n\
          level -1000000000 1 1\nsteps 1\nenters 0\nleaves 1\nend\n",
     ),
 ];
@@ -68,9 +51,7 @@ fn lexicographic() -> &'static [Case] {
 
 #[test]
 fn lexicographic_documents(rt: HostRuntime) -> Result<(), Fail> {
-    for case in lexicographic() {
-        assert!(rt; is_answered(rt.alloc(), case)?, "{}", case.2);
-    }
+    assert_eq!(rt; first_unanswered(rt.alloc(), "lex", lexicographic())?, None);
     Ok(())
 }
 

@@ -1,6 +1,6 @@
 //! Instances that are refused, as runs over memory.
 
-use crate::of_app::memory_runs::{ends, held};
+use asg_runs::{ends, held};
 use std::alloc::{AllocError, Global};
 use std::test::Fail;
 

@@ -2,58 +2,81 @@
 
 use crate::of_app::algebraic_runs::algebraic;
 use crate::of_app::bottleneck_runs::bottleneck;
-use crate::of_app::check_tests::{Faulty, is_stopped};
-use crate::of_app::memory_runs::{Case, Ran, ends, held, run_over, run_within};
 use asg_app::Status;
+use asg_runs::{Case, Faulty, Ran, THREE, ends, held, is_stopped, run_over, run_within};
 use std::alloc::{AllocError, Global};
 use std::test::Fail;
 
 const USAGE: &str = "usage: asg solve OBJECTIVE INSTANCE | rank OBJECTIVE INSTANCE --count K | \
     edit OBJECTIVE INSTANCE SCRIPT | check OBJECTIVE INSTANCE ANSWER | make SEED SIDE\n";
 
+// The status line of a document that is written with a status of a run.
+fn status_line(code: u8) -> &'static str {
+    if code == 0 {
+        "status best"
+    } else {
+        "status none"
+    }
+}
+
 // Whether a run has the status of a case, and its document begins as the case says.
-fn is_written(alloc: Global, case: &Case, ran: &Ran) -> Result<bool, AllocError> {
-    let (objective, lines) = (case.0, case.4);
-    let text = format!(in alloc; "assignment 1\ncommand solve\nobjective {objective}\n{lines}")?;
-    Ok(ran.code == case.3 && ran.written.starts_with(text.as_bytes()))
+fn is_written(alloc: Global, objective: &str, case: &Case, ran: &Ran) -> Result<bool, AllocError> {
+    let (status, lines) = (status_line(case.2), case.3);
+    let head = format!(in alloc; "assignment 1\ncommand solve\nobjective {objective}\n")?;
+    let text = format!(in alloc; "{head}{status}\n{lines}")?;
+    Ok(ran.code == case.2 && ran.written.starts_with(text.as_bytes()))
 }
 
 // Whether what a run wrote is accepted.
-fn is_accepted(alloc: Global, case: &Case, ran: &Ran) -> Result<bool, AllocError> {
-    let words = ["check", case.0, "f", "g"];
-    let files = held(case.2.as_bytes(), &ran.written);
-    ends(alloc, &words, case.1, files, (0, b"yes 1\n"))
+fn is_accepted(alloc: Global, objective: &str, case: &Case, ran: &Ran) -> Result<bool, AllocError> {
+    let words = ["check", objective, "f", "g"];
+    let files = held(case.1.as_bytes(), &ran.written);
+    ends(alloc, &words, case.0, files, (0, b"yes 1\n"))
 }
 
 // The run that solves a case.
-fn solved(alloc: Global, case: &Case) -> Result<Ran, AllocError> {
-    let words = ["solve", case.0, "f"];
-    run_over(alloc, &words, case.1, held(case.2.as_bytes(), b""))
+fn solved(alloc: Global, objective: &str, case: &Case) -> Result<Ran, AllocError> {
+    let words = ["solve", objective, "f"];
+    run_over(alloc, &words, case.0, held(case.1.as_bytes(), b""))
 }
 
 // Whether a run has the status of a case and its document, and the document is accepted.
-fn is_right(alloc: Global, case: &Case, ran: &Ran) -> Result<bool, AllocError> {
-    Ok(is_written(alloc, case, ran)? && is_accepted(alloc, case, ran)?)
+fn is_right(alloc: Global, objective: &str, case: &Case, ran: &Ran) -> Result<bool, AllocError> {
+    Ok(is_written(alloc, objective, case, ran)? && is_accepted(alloc, objective, case, ran)?)
 }
 
 // Whether the run that solves a case has them.
-pub(crate) fn is_answered(alloc: Global, case: &Case) -> Result<bool, AllocError> {
-    let ran = solved(alloc, case)?;
-    is_right(alloc, case, &ran)
+fn is_answered(alloc: Global, objective: &str, case: &Case) -> Result<bool, AllocError> {
+    let ran = solved(alloc, objective, case)?;
+    is_right(alloc, objective, case, &ran)
+}
+
+/// The file of the first case of an objective that isn't answered so.
+pub(crate) fn first_unanswered(
+    alloc: Global,
+    objective: &str,
+    cases: &'static [Case],
+) -> Result<Option<&'static str>, AllocError> {
+    for case in cases {
+        if !is_answered(alloc, objective, case)? {
+            return Ok(Some(case.1));
+        }
+    }
+    Ok(None)
 }
 
 #[test]
 fn bottleneck_documents(rt: HostRuntime) -> Result<(), Fail> {
-    for case in bottleneck() {
-        assert!(rt; is_answered(rt.alloc(), case)?, "{}", case.2);
+    for (objective, cases) in bottleneck() {
+        assert_eq!(rt; first_unanswered(rt.alloc(), objective, cases)?, None);
     }
     Ok(())
 }
 
 #[test]
 fn algebraic_documents(rt: HostRuntime) -> Result<(), Fail> {
-    for case in algebraic() {
-        assert!(rt; is_answered(rt.alloc(), case)?, "{}", case.2);
+    for (objective, cases) in algebraic() {
+        assert_eq!(rt; first_unanswered(rt.alloc(), objective, cases)?, None);
     }
     Ok(())
 }
@@ -147,7 +170,7 @@ fn faults() -> &'static [Faulty] {
 #[test]
 fn faults_of_shelf_and_sink(rt: HostRuntime) -> Result<(), Fail> {
     for case in faults() {
-        assert!(rt; is_stopped(rt.alloc(), case)?);
+        assert!(rt; is_stopped(rt.alloc(), THREE, b"", case)?);
     }
     assert!(rt; Status::TooLong.code() == 10);
     Ok(())

@@ -1,4 +1,4 @@
-use Rattle.asg_branching.proofs.Common.{◌≡◌, length, slice_set, None, sym, ap, ◌∙◌, subst, arith, length-set, get_or-set_same, Branches, stage_of, masked_reduced, IsRestOf, column_at}
+use Rattle.asg_branching.proofs.Common.{◌≡◌, length, slice_set, None, sym, ap, ◌∙◌, subst, arith, length-set, get_or-set_same, Branches, stage_of, IsRestOf, masked_reduced, column_at}
 use Rattle.asg_branching.proofs.GrowStarts.{branch_length}
 use Rattle.asg_branching.proofs.children.grow.Goals as goal
 

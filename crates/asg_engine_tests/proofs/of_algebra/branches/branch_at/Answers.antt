@@ -1,5 +1,8 @@
 -- No row has a column yet, and a kept cell is a cell of the square.
-use Rattle.asg_engine_tests.proofs.Common.{◌≡◌, length, is_some, None, sym, ap, ◌∙◌, subst, length-replicate, IsMatching, Matches, Matches-empty, IsMatching-empty, some_kept, kept_some}
+use Rattle.asg_engine_tests.proofs.Common.{◌≡◌, length, is_some, None, sym, ap, ◌∙◌, subst, length-replicate, Matches, Matches-empty}
+use Rattle.asg_match.specs.Matching.{IsMatching}
+use Rattle.asg_match.specs.laws.Matchings.{IsMatching-empty}
+use Rattle.asg_square.specs.laws.Masks.{kept_some, some_kept}
 use Rattle.asg_engine_tests.proofs.of_algebra.branches.branch_at.Goals as goal
 
 pub branch_from-branch-requires-clause-rest : goal.branch_from-branch-requires-clause-rest

@@ -1,4 +1,4 @@
-use Rattle.asg_admit.specs.Reduced.{IsReduced}
+use Rattle.asg_engine_tests.proofs.Common.{IsReduced}
 use Rattle.asg_engine_tests.proofs.of_duals.guess_tests.all_apply.Given as goal
 
 -- the cells and the index are values after the phases so far

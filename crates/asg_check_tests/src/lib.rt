@@ -1,0 +1,5 @@
+//! Tests of the crates below.
+#![tactic(auto)]
+
+#[cfg(test)]
+mod of_check;

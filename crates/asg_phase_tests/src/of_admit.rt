@@ -1,0 +1,4 @@
+//! Tests of `asg_admit` and `asg_settling`.
+
+mod masked;
+mod tests;

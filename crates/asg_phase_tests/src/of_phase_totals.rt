@@ -1,0 +1,3 @@
+//! Tests of `asg_phase_totals`.
+
+mod tests;

@@ -24,6 +24,8 @@ pub(crate) struct ArcBench {
     pub touches: usize,
     pub done: Vec<u32>,
     pub reached: Vec<i64>,
+    // How many are done.
+    pub dones: usize,
     pub heap: Heap,
     pub waiting: Vec<u32>,
     pub later: Vec<u32>,
@@ -134,6 +136,7 @@ impl ArcBench {
             touches: 0,
             done,
             reached,
+            dones: 0,
             heap,
             waiting,
             later,

@@ -6,7 +6,7 @@ use crate::arc_paths::solve_arcs;
 use crate::arcs::Arcs;
 use crate::classes::Classes;
 use crate::placings::{Placing, found_by};
-use asg_dual_numbers::{Found, at, put_amount};
+use asg_dual_numbers::{Found, NONE, at, name, put_amount};
 use std::alloc::Global;
 
 // The cells of rows by the arcs by which they have their columns.
@@ -60,4 +60,50 @@ pub fn found_by_arcs(
     let found = found_on_bench(alloc, side, classes, arcs, &mut bench);
     drop(bench);
     found
+}
+
+/// What a search over arcs comes to.
+#[derive(Drop)]
+pub enum ArcLead {
+    /// The column of each row, and of each column its dual variable, at most 0.
+    Found { columns: Vec<u32>, duals: Vec<i64> },
+    /// Rows that reach fewer columns than they are.
+    Short(Vec<u32>),
+}
+
+// The first row that has no column, and the rows whose columns the last search reached.
+fn short_rows(alloc: Global, bench: &ArcBench) -> Result<Vec<u32>, NoMemory> {
+    let mut rows = Vec::with_capacity(alloc, bench.dones.saturating_add(1))?;
+    for row in 0..bench.column_of.len() {
+        if bench.column_of[row] == NONE {
+            rows.push(name(row))?;
+            break;
+        }
+    }
+    for place in 0..bench.dones {
+        let column = at(bench.done.as_slice(), place) as usize;
+        rows.push(at(bench.row_of.as_slice(), column))?;
+    }
+    Ok(rows)
+}
+
+/// Columns of rows with dual variables of the columns, of which there are so many, by the arcs of
+/// the rows; where not every row gets one, rows that reach too few. Nothing is tested. The error is
+/// want of memory.
+pub fn lead_by_arcs(alloc: Global, arcs: &Arcs, columns: usize) -> Result<ArcLead, NoMemory> {
+    let mut bench = ArcBench::make(alloc, arcs, columns)?;
+    if !solve_arcs(&mut bench, arcs) {
+        let rows = short_rows(alloc, &bench);
+        drop(bench);
+        return Ok(ArcLead::Short(rows?));
+    }
+    let ArcBench {
+        column_of,
+        duals,
+        ..
+    } = bench;
+    Ok(ArcLead::Found {
+        columns: column_of,
+        duals,
+    })
 }

@@ -51,6 +51,7 @@ fn search(bench: &mut ArcBench, arcs: &Arcs, root: u32) -> u32 {
     let mut row = root;
     let mut base = 0;
     for count in 0..bench.duals.len().saturating_add(1) {
+        bench.dones = count;
         relax(bench, arcs, row, base);
         let entry = nearest(bench, arcs.columns.len());
         if entry.column == NONE {

@@ -18,6 +18,31 @@ pub struct Arcs {
 }
 
 impl Arcs {
+    /// No arcs, with room for so many, of so many rows. The error is want of memory.
+    pub fn none(alloc: Global, rows: usize, count: usize) -> Result<Arcs, NoMemory> {
+        let mut starts = Vec::with_capacity(alloc, rows.saturating_add(1))?;
+        starts.push(0)?;
+        Ok(Arcs {
+            starts,
+            columns: Vec::with_capacity(alloc, count)?,
+            cells: Vec::with_capacity(alloc, count)?,
+        })
+    }
+
+    /// One more arc of the row that is not ended: its column, and its value, below 2^62. The error
+    /// is want of memory.
+    pub fn push(&mut self, column: u32, cell: i64) -> Result<(), NoMemory> {
+        self.columns.push(column)?;
+        self.cells.push(cell)?;
+        Ok(())
+    }
+
+    /// Ends a row; what is pushed from here on is of the next one. The error is want of memory.
+    pub fn end_row(&mut self) -> Result<(), NoMemory> {
+        self.starts.push(name(self.columns.len()))?;
+        Ok(())
+    }
+
     // The places of a row's arcs: the first, and that behind the last.
     #[inline]
     pub(crate) fn of_row(&self, row: u32) -> (usize, usize) {
@@ -68,9 +93,7 @@ fn list_row(arcs: &mut Arcs, sums: &Sums<'_>, row: u32) -> Result<(), NoMemory> 
             let column = number
                 .wrapping_mul(64)
                 .wrapping_add(rest.trailing_zeros() as usize);
-            arcs.columns.push(name(column))?;
-            arcs.cells
-                .push((amount(values, column) % (1 << 62)) as i64)?;
+            arcs.push(name(column), (amount(values, column) % (1 << 62)) as i64)?;
             rest &= rest.wrapping_sub(1);
         }
     }
@@ -80,10 +103,9 @@ fn list_row(arcs: &mut Arcs, sums: &Sums<'_>, row: u32) -> Result<(), NoMemory> 
 // Lists the present cells of rows.
 fn list_rows(arcs: &mut Arcs, sums: &Sums<'_>, rows: &[u32]) -> Result<(), NoMemory> {
     for row in rows {
-        arcs.starts.push(name(arcs.columns.len()))?;
         list_row(arcs, sums, *row)?;
+        arcs.end_row()?;
     }
-    arcs.starts.push(name(arcs.columns.len()))?;
     Ok(())
 }
 
@@ -102,11 +124,7 @@ pub fn arcs_of(
     if count > rows.saturating_mul(classes.firsts.len()) / SPARSE {
         return Ok(None);
     }
-    let mut arcs = Arcs {
-        starts: Vec::with_capacity(alloc, rows.saturating_add(1))?,
-        columns: Vec::with_capacity(alloc, count)?,
-        cells: Vec::with_capacity(alloc, count)?,
-    };
+    let mut arcs = Arcs::none(alloc, rows, count)?;
     match list_rows(&mut arcs, sums, classes.rows.as_slice()) {
         Ok(()) => Ok(Some(arcs)),
         Err(want) => {

@@ -22,7 +22,7 @@ mod near_cells;
 mod placings;
 mod ranges;
 
-pub use arc_duals::found_by_arcs;
+pub use arc_duals::{ArcLead, found_by_arcs, lead_by_arcs};
 pub use arcs::{Arcs, arcs_of};
 pub use class_bench::ClassBench;
 pub use class_solving::place_rows;

@@ -1,22 +1,22 @@
 //! Outcomes of `capped` by the costs as they stand, without a square.
 
-ghost use Rattle.std.specs.Prelude.{◌<◌, IfOk, IfSome};
+ghost use Rattle.std.specs.Prelude.{◌<◌, ◌≤◌, IfOk, IfSome};
 ghost use Rattle.asg_model.specs.declared.objectives.Objective.TheVariants.{Capped};
+ghost use Rattle.asg_model.specs.Limits.{most_side};
 ghost use Rattle.asg_model.specs.Refused.{PassesNegative};
 ghost use Rattle.asg_model.specs.Shapes.{square_side};
 ghost use Rattle.asg_monoids.specs.BoundedSums.{narrow_top};
 ghost use Rattle.asg_proof.specs.Outcomes.{IsOutcome};
 ghost use Rattle.asg_proof.specs.PromisedProofs.{GivesFewPhases};
-ghost use Rattle.asg_table_phases.specs.TableSquares.{IsTableSquare};
 
 use crate::NoMemory;
-use crate::table_outcomes::duals_of;
+use crate::table_duals::duals_of;
 use crate::trail_phases::words_of;
 use asg_duals::short_phases;
 use asg_model::{Choice, Instance, Objective};
 use asg_monoids::NarrowSums;
 use asg_proof::{Outcome, Phase, Proof};
-use asg_table_phases::{is_table_square, proves_capped};
+use asg_table_phases::proves_capped;
 use asg_table_sums::{choice_of, lead};
 use asg_values::is_valid;
 use std::alloc::Global;
@@ -30,7 +30,7 @@ fn proved_outcome(
     phases: Vec<Phase<u64>>,
 ) -> Result<Option<Outcome>, NoMemory>
     requires cap { cap < narrow_top }
-    requires table { IsTableSquare inst.now }
+    requires side { square_side inst.now ≤ most_side }
     requires passes { PassesNegative (Capped cap) inst.now }
     ensures outcome { IfOk result (λ found. IfSome found (IsOutcome (Capped cap) inst.now)) }
     ensures phases { IfOk result (λ found. IfSome found (GivesFewPhases (square_side inst.now))) }
@@ -48,29 +48,26 @@ fn proved_outcome(
 
 /// The outcome of `capped` with a cap below 2^62, by phases of plain sums that are guessed and
 /// tested over the costs as they stand; `None` where none pass, as where the costs of a least choice
-/// add up to more than the cap. That is so too where not all rows are placed, each in a column of
-/// its own, there are more or fewer columns than rows, a row is inactive, a column is closed, a cell
-/// is absent, or costs of a row differ by 2^30 or more; no clause says when. The error is want of
-/// memory.
+/// add up to more than the cap. That is so too where a row is inactive, a column is closed, a cell is
+/// absent, or costs of a row differ by 2^30 or more, and, where rows stay out, any by 2^27 or more;
+/// no clause says when. The error is want of memory.
 pub(crate) fn capped_by_table(
     alloc: Global,
     cap: u64,
     inst: &Instance,
 ) -> Result<Option<Outcome>, NoMemory>
     requires cap { cap < narrow_top }
+    requires side { square_side inst.now ≤ most_side }
     requires passes { PassesNegative (Capped cap) inst.now }
     ensures outcome { IfOk result (λ found. IfSome found (IsOutcome (Capped cap) inst.now)) }
     ensures phases { IfOk result (λ found. IfSome found (GivesFewPhases (square_side inst.now))) }
 {
-    if !is_table_square(inst) {
-        return Ok(None);
-    }
     let Some(lead) = lead(alloc, Objective::Sum, inst)? else {
         return Ok(None);
     };
     let rows = inst.rows().len() as u32;
     let choice = choice_of(alloc, rows, lead.columns.as_slice(), inst.columns().len())?;
-    let duals = duals_of(alloc, Objective::Capped(cap), inst, lead)?;
+    let duals = duals_of(alloc, Objective::Capped(cap), inst, &lead)?;
     let phases = short_phases(alloc, &duals)?;
     proved_outcome(alloc, cap, inst, choice, phases)
 }

@@ -16,6 +16,7 @@ ghost use Rattle.asg_square.specs.Grid.{IsSquareOf};
 use crate::NoMemory;
 use crate::guessed_squares::guessed_outcome;
 use crate::solved_squares::{is_short, outcome};
+use crate::sparse_outcomes::outcome_by_arcs;
 use crate::table_outcomes::outcome_by_table;
 use asg_duals::{Duals, first_duals, short_phases, tight_duals};
 use asg_model::{Cost, Instance, Objective};
@@ -171,8 +172,27 @@ fn outcome_by_square(
     by_tight_duals(alloc, objective, inst)
 }
 
+// The same by lists of the live cells, where these are few, and else over a square.
+fn by_arcs_or_square(
+    alloc: Global,
+    objective: Objective,
+    inst: &Instance,
+) -> Result<Outcome, NoMemory>
+    requires objective { IsTrue (is_narrow_objective objective) }
+    requires side { square_side inst.now ≤ most_side }
+    requires passes { PassesNegative objective inst.now }
+    ensures outcome { IfOk result (IsOutcome objective inst.now) }
+    ensures phases { IfOk result (GivesFewPhases (square_side inst.now)) }
+{
+    match outcome_by_arcs(alloc, objective, inst)? {
+        Some(found) => Ok(found),
+        None => outcome_by_square(alloc, objective, inst),
+    }
+}
+
 /// The outcome of `sum` or `sum-max`: by phases that are guessed and tested over the costs as they
-/// stand, where the square is the table of costs, and otherwise by sums in 64 bits over the square.
+/// stand, or over its live cells, where these are few; and where none pass by sums in 64 bits over the
+/// square.
 /// The error is want of memory.
 pub(crate) fn by_narrow_sums(
     alloc: Global,
@@ -187,6 +207,6 @@ pub(crate) fn by_narrow_sums(
 {
     match outcome_by_table(alloc, objective, inst)? {
         Some(found) => Ok(found),
-        None => outcome_by_square(alloc, objective, inst),
+        None => by_arcs_or_square(alloc, objective, inst),
     }
 }

@@ -1,5 +1,5 @@
-//! The index of phases of sums, where one pass in 64 bits tells it: over the table of costs, where the
-//! square of the instance is that, or over the cells of the square.
+//! The index of phases of sums, where one pass in 64 bits tells it: over the table of costs, or over
+//! the cells of the square.
 
 ghost use Rattle.std.specs.Prelude.{◌≡◌, ◌⊎◌, ◌<◌, ◌≤◌, ℕ, IsTrue, IfOk, IfSome};
 ghost use Rattle.asg_model.specs.declared.objectives.Objective.TheVariants.{Capped, Sum, SumMax};
@@ -21,12 +21,11 @@ use asg_phase_totals::PhaseTotals;
 use asg_proof::WrittenPhase;
 use asg_proof::laws::lesser_tops_law;
 use asg_replays::{has_long, list_index, take_all};
-use asg_table_phases::{fits_capped_table, fits_table, is_table_square};
+use asg_table_phases::{fits_capped_table, fits_table};
 use std::alloc::Global;
 
-// The index of phases that are admitted in turn from the square of an instance, where that is its
-// table, and one pass over the costs tells that they are. Otherwise nothing is told. The error is
-// want of memory.
+// The index of phases that are admitted in turn from the square of an instance, where one pass over
+// the costs tells that they are. Otherwise nothing is told. The error is want of memory.
 fn table_index(
     alloc: Global,
     objective: Objective,
@@ -35,14 +34,12 @@ fn table_index(
 ) -> Result<Option<u64>, NoMemory>
     requires narrow { (objective ≡ Sum) ⊎ (objective ≡ SumMax) }
     requires instance { IsInstance inst.now }
+    requires side { square_side inst.now ≤ most_side }
     ensures { IfOk result (λ found. IfSome found (λ index. (top : ℕ) → narrow_top ≤ top
         → HaveIndex (bounded_sums top) bounded_difference plain_word (square_side inst.now)
         (square_cell inst.now 0 (sum_entered objective)) index phases.now)) }
 {
-    if !is_table_square(inst) {
-        return Ok(None);
-    }
-    let mut totals = PhaseTotals::none(alloc, inst.rows().len() as u32)?;
+    let mut totals = PhaseTotals::none(alloc, inst.side())?;
     if !take_all(alloc, &NarrowSums, &mut totals, phases)? {
         return Ok(None);
     }
@@ -101,15 +98,13 @@ fn capped_table_index(
     inst: &Instance,
     phases: &[WrittenPhase],
 ) -> Result<Option<u64>, NoMemory>
-    requires { IsInstance inst.now }
+    requires instance { IsInstance inst.now }
+    requires side { square_side inst.now ≤ most_side }
     ensures { IfOk result (λ found. IfSome found (λ index.
         HaveIndex (bounded_sums narrow_top) bounded_difference plain_word (square_side inst.now)
         (square_cell inst.now 0 (sum_entered (Capped cap))) index phases.now)) }
 {
-    if !is_table_square(inst) {
-        return Ok(None);
-    }
-    let mut totals = PhaseTotals::none(alloc, inst.rows().len() as u32)?;
+    let mut totals = PhaseTotals::none(alloc, inst.side())?;
     if !take_all(alloc, &NarrowSums, &mut totals, phases)? {
         return Ok(None);
     }

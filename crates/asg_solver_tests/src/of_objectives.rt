@@ -1,4 +1,5 @@
 //! Tests of `asg_objectives`.
 
+mod few_cells;
 pub(crate) mod samples;
-mod tests;
+pub(crate) mod tests;

@@ -1,7 +1,7 @@
--- Phases whose totals fit a table are admitted from the square of the instance.
-use Rattle.asg_table_phases.proofs.Common.{◌≡◌, ℕ, ◌*◌, ◌<◌, ◌≤◌, List, length, unsigned_abs, Option, sym, ◌∙◌, subst, arith, IsInstance, most_cost, Problem, square_side, Objective, Cost, bounded_sums, bounded_difference, narrow_top, sum_entered, AreTotals, CountAndRaise, EndAtLeast0, StayBelow, Totals, sum_of_steps, PhaseOf, AreAdmittedPhases, square_cell, FitTotals, IsTableSquare}
+-- Phases whose totals fit an instance are admitted from its square.
+use Rattle.asg_table_phases.proofs.Common.{◌≡◌, ℕ, ◌*◌, ◌<◌, ◌≤◌, List, length, unsigned_abs, Option, Some, ⊎_elim, subst, arith, IsInstance, most_cost, Problem, square_side, Objective, Cost, bounded_sums, bounded_difference, narrow_top, sum_entered, AreTotals, CountAndRaise, EndAtLeast0, StayBelow, Totals, sum_of_steps, PhaseOf, AreAdmittedPhases, square_cell, FitTotals}
 use Rattle.asg_table_phases.proofs.RowCosts.{near}
-use Rattle.asg_table_phases.proofs.TableCells.{cell_of, side_is}
+use Rattle.asg_table_phases.proofs.TableCells.{IsEntered, IsFree, cell_of}
 
 -- what the one-pass law says
 abbrev pub OnePass : Type 0
@@ -13,20 +13,29 @@ OnePass =
     → CountAndRaise side phases
     → AreAdmittedPhases (bounded_sums top) bounded_difference side phases square
 
-module _ (objective : Objective) (few : (x : Cost) → unsigned_abs x.a ≤ most_cost → sum_entered objective x ≤ 2 * most_cost) (X : Problem) (instance : IsInstance X) (table : IsTableSquare X) (totals : Totals) (count : length totals.rows ≡ length X.rows) (fit : FitTotals objective X totals) where
-  -- they are admitted
-  pub fit_admitted : OnePass → (top : ℕ) (phases : List (PhaseOf ℕ)) → narrow_top ≤ top → AreTotals phases totals → AreAdmittedPhases (bounded_sums top) bounded_difference (square_side X) phases (square_cell X 0 (sum_entered objective))
-  fit_admitted law top phases above are =
-      law top (square_side X) phases (square_cell X 0 (sum_entered objective))
-      (omega (arith, fit.few, are.sum, above))
-      (λ r k x hr hk is.
-      let cell = cell_of X table (sum_entered objective) r k x hr hk is in
-      let small = few cell.cost (near X instance r k cell.cost cell.live) in
-      omega (arith, small, cell.is, fit.few, are.sum, above))
-      (λ r k x hr hk is.
-      let cell = cell_of X table (sum_entered objective) r k x hr hk is in
-      let row : r < length totals.rows = omega (arith, hr, side_is X table, count) in
-      let column : k < length totals.rows = omega (arith, hk, side_is X table, count) in
-      let fits = fit.ends r row k cell.cost cell.live in
-      omega (arith, fits, cell.is, are.rows r row, are.columns k column))
-      (subst (λ n. CountAndRaise n phases) (count ∙ sym (side_is X table)) are.right)
+module _ (objective : Objective) (few : (x : Cost) → unsigned_abs x.a ≤ most_cost → sum_entered objective x ≤ 2 * most_cost) (X : Problem) (instance : IsInstance X) where
+  -- a present cell is at most the greatest entered cost
+  cell_few : (r k x : ℕ) → square_cell X 0 (sum_entered objective) r k ≡ Some x → x ≤ 2 * most_cost
+  cell_few r k x is =
+      ⊎_elim
+      (λ (cell : IsEntered X (sum_entered objective) r k x).
+      let small = few cell.cost (near X instance r cell.column cell.cost cell.live) in
+      omega (arith, small, cell.is))
+      (λ (cell : IsFree X r k x). omega (arith, cell.is))
+      (cell_of X (sum_entered objective) r k x is)
+
+  module _ (totals : Totals) (count : length totals.rows ≡ square_side X) (fit : FitTotals objective X totals) where
+    -- they are admitted
+    pub fit_admitted : OnePass → (top : ℕ) (phases : List (PhaseOf ℕ)) → narrow_top ≤ top → AreTotals phases totals → AreAdmittedPhases (bounded_sums top) bounded_difference (square_side X) phases (square_cell X 0 (sum_entered objective))
+    fit_admitted law top phases above are =
+        law top (square_side X) phases (square_cell X 0 (sum_entered objective))
+        (omega (arith, fit.few, are.sum, above))
+        (λ r k x hr hk is.
+        let small = cell_few r k x is in
+        omega (arith, small, fit.few, are.sum, above))
+        (λ r k x hr hk is.
+        let row : r < length totals.rows = omega (arith, hr, count) in
+        let column : k < length totals.rows = omega (arith, hk, count) in
+        let fits = fit.ends r k x hr hk is in
+        omega (arith, fits, are.rows r row, are.columns k column))
+        (subst (λ n. CountAndRaise n phases) count are.right)

@@ -1,5 +1,6 @@
 pub mod Common
 mod TableCells
+mod ColumnCopies
 mod RowCosts
 mod AdmittedTables
 mod ProvedChoices

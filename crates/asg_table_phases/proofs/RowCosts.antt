@@ -1,5 +1,6 @@
 -- The costs of a row as they stand in its table, and what they enter as.
-use Rattle.asg_table_phases.proofs.Common.{◌≡◌, ℕ, ◌+◌, ◌*◌, ◌<◌, ◌≤◌, min, Bool, true, false, cond, ◌&&◌, List, length, ℤ, pos, ◌+ℤ◌, ◌-ℤ◌, ◌≤ℤ◌, IfSome, slice_index_or, unsigned_abs, Some, None, Option, int_eq, sym, refl, ap, ◌∙◌, subst, ⊎_elim, arith, and_parts, cases_lt, false≢true, ints, option_map_or, slice_get_past, IsInstance, most_cost, cost_at, is_active, is_open, live_at, Problem, absent, table_cost, AreRowParts, Objective, Capped, Sum, SumMax, Cost, shifted, sum_entered, turned, is_narrow_objective, first_part_in_range}
+use Rattle.asg_table_phases.specs.TableRows.{FitsCost}
+use Rattle.asg_table_phases.proofs.Common.{◌≡◌, ℕ, ◌+◌, ◌*◌, ◌<◌, ◌≤◌, min, Bool, true, false, cond, ◌&&◌, List, length, ℤ, pos, ◌+ℤ◌, ◌-ℤ◌, ◌≤ℤ◌, IfSome, slice_index_or, unsigned_abs, Some, None, Option, int_eq, sym, refl, ap, ◌∙◌, subst, ⊎_elim, arith, and_parts, cases_lt, false≢true, ints, option_map_or, slice_get_past, slice_index, ◌≢◌, IsInstance, most_cost, cost_at, is_active, is_open, live_at, Problem, absent, table_cost, AreRowParts, FitsCosts, FitsRow, Objective, Capped, Sum, SumMax, Cost, shifted, sum_entered, turned, is_narrow_objective, first_part_in_range}
 
 live_parts : (b : Bool) (o : Option Cost) (x : Cost) → cond b o None ≡ Some x → (b ≡ true) × (o ≡ Some x)
 live_parts true o x e = (refl, e)
@@ -29,27 +30,36 @@ first_is X r firsts seconds parts c x live =
 pub near : (X : Problem) → IsInstance X → (r c : ℕ) (x : Cost) → live_at X r c ≡ Some x → unsigned_abs x.a ≤ most_cost
 near X instance r c x live = subst (λ o. IfSome o (λ cost. unsigned_abs cost.a ≤ most_cost)) live (first_part_in_range X instance r c)
 
-module _ (X : Problem) (instance : IsInstance X) (r : ℕ) (firsts seconds : List ℤ) (parts : AreRowParts X r firsts seconds) (c : ℕ) (x : Cost) (live : live_at X r c ≡ Some x) (n k : ℕ) where
-  -- a cost that is with so much more at least a number is so as it enters
-  pub shifted_above : pos n ≤ℤ (slice_index_or firsts c absent +ℤ pos (k + most_cost)) → n ≤ shifted x.a + k
-  shifted_above le =
+module _ (X : Problem) (instance : IsInstance X) (r : ℕ) (firsts seconds : List ℤ) (parts : AreRowParts X r firsts seconds) (c : ℕ) (x : Cost) (live : live_at X r c ≡ Some x) where
+  -- a live cell isn't absent
+  there : slice_index_or firsts c absent ≢ absent
+  there e =
       let is = first_is X r firsts seconds parts c x live in
       let within = near X instance r c x live in
-      omega (arith, ints, le, is, within)
+      omega (arith, ints, e, is, within)
 
-  -- the same, as it enters turned round
-  pub turned_above : pos n ≤ℤ (pos (k + most_cost) -ℤ slice_index_or firsts c absent) → n ≤ turned x.a + k
-  turned_above le =
+  -- a cost that fits is as it enters, with so much more, at least the number
+  entered_above : (objective : Objective) (n k : ℕ) → FitsCost objective (slice_index_or firsts c absent) n k → n ≤ sum_entered objective x + k
+  entered_above Sum n k fits =
       let is = first_is X r firsts seconds parts c x live in
       let within = near X instance r c x live in
-      omega (arith, ints, le, is, within)
+      omega (arith, ints, fits, is, within)
+  entered_above SumMax n k fits =
+      let is = first_is X r firsts seconds parts c x live in
+      let within = near X instance r c x live in
+      omega (arith, ints, fits, is, within)
+  entered_above (Capped cap) n k fits =
+      let is = first_is X r firsts seconds parts c x live in
+      let within = near X instance r c x live in
+      omega (arith, ints, fits.0, fits.1, is, within)
+  entered_above _ n k fits = absurd fits
 
-  -- the same, as it enters cut at a cap
-  pub cut_above : (cap : ℕ) → pos n ≤ℤ (slice_index_or firsts c absent +ℤ pos k) → n ≤ cap → n ≤ min (unsigned_abs x.a) cap + k
-  cut_above cap le few =
-      let is = first_is X r firsts seconds parts c x live in
-      let within = near X instance r c x live in
-      omega (arith, ints, le, is, within, few)
+-- a row all whose costs fit does
+pub row_by_costs : (objective : Objective) (X : Problem) → IsInstance X → (r : ℕ) (firsts seconds : List ℤ) → AreRowParts X r firsts seconds → (columns : List ℕ) (raise : ℕ)
+    → FitsCosts objective firsts columns raise 0 (length firsts) → FitsRow objective X columns raise r
+row_by_costs objective X instance r firsts seconds parts columns raise fit c x live =
+    entered_above X instance r firsts seconds parts c x live objective (slice_index columns c) raise
+    (fit c (omega arith) (omega (arith, column_there X r c x live, parts.whole)) (there X instance r firsts seconds parts c x live))
 
 -- a cost in range enters as at most twice the cost limit
 pub entered_few : (objective : Objective) (x : Cost) → is_narrow_objective objective ≡ true → unsigned_abs x.a ≤ most_cost → sum_entered objective x ≤ 2 * most_cost

@@ -1,76 +1,92 @@
--- The square of an instance whose square is its table.
-use Rattle.asg_table_phases.proofs.Common.{◌≡◌, ℕ, zero, suc, ◌+◌, ◌<◌, ◌≤◌, max, Bool, true, false, cond, ◌&&◌, List, [], ◌∷◌, length, take, nat_lt, slice_get, Some, None, All, sum_by, Option, option_map, sym, refl, ap, ◌∙◌, subst, arith, All-head, All-tail, option_map_or, same_Some, sum_by-cons, is_active, live_at, Problem, side_by, square_side, Cost, square_cell, IsTableSquare}
-use Rattle.asg_model.specs.declared.parts.Column.{Column}
-use Rattle.asg_model.specs.declared.parts.Row.{Row}
-use Rattle.asg_model.specs.Counts.{capacity_at, is_counted, is_counted_by, total_capacity}
-use Rattle.asg_cell_tables.specs.LabelledCells.{labelled_cell}
-use Rattle.asg_square.specs.Labels.{column_label, first_copy, row_label}
-use Rattle.asg_square.specs.laws.Copies.{label_at}
+-- The cells of the square of an instance, by what its rows and columns stand for.
+use Rattle.asg_table_phases.proofs.Common.{◌≡◌, ℕ, ◌<◌, Bool, true, false, cond, ◌&&◌, List, length, nat_lt, Some, None, Option, option_map, ◌⊎◌, inl, inr, sym, refl, ap, ◌∙◌, subst, ⊎_elim, arith, same_Some, is_counted, live_at, Problem, square_side, Cost, Objective, sum_entered, square_cell, column_label, row_label, labelled_cell, extra_column_cell, corner_cell, AreTops, FitCells, FitFree, FitsRows, is_free_cell}
+use Rattle.asg_model.specs.declared.parts.Place.{Place}
+use Rattle.asg_model.specs.declared.parts.Place.TheVariants.{All as PlaceAll, Exactly}
+use Rattle.asg_square.specs.laws.Rows.{row-from_counted}
 
--- what all have, the one at a place has
-at_each : {A B : Type 0} (f : A → B) (v d : B) (xs : List A) (k : ℕ) → All (λ x. f x ≡ v) xs → k < length xs → option_map_or f (slice_get xs k) d ≡ v
-at_each f v d [] k all h = absurd (omega (arith, h))
-at_each f v d (x ∷ xs) zero all h = All-head (λ x. f x ≡ v) x xs all
-at_each f v d (x ∷ xs) (suc k) all h = at_each f v d xs k (All-tail (λ x. f x ≡ v) x xs all) (omega (arith, h))
+-- a live cell of a row and a column of the instance, that enters as this
+pub record IsEntered (X : Problem) (enter : Cost → ℕ) (r k x : ℕ) : Type 0 where
+  pub row : row_label X r ≡ Some r
+  pub column : ℕ
+  pub label : column_label X k ≡ Some column
+  pub cost : Cost
+  pub live : live_at X r column ≡ Some cost
+  pub is : enter cost ≡ x
 
--- capacities of 1 add up to how many there are
-ones : (columns : List Column) → All (λ column. column.cap ≡ 1) columns → (d : ℕ) → d ≤ length columns → sum_by (λ column. column.cap) (take d columns) ≡ d
-ones columns all zero h = refl
-ones [] all (suc d) h = absurd (omega (arith, h))
-ones (x ∷ xs) all (suc d) h =
-    let first = sum_by-cons (λ (column : Column). column.cap) x (take d xs) in
-    let one = All-head (λ (column : Column). column.cap ≡ 1) x xs all in
-    let rest = ones xs (All-tail (λ (column : Column). column.cap ≡ 1) x xs all) d (omega (arith, h)) in
-    omega (arith, first, one, rest)
+-- a free cell, which is 0
+pub record IsFree (X : Problem) (r k x : ℕ) : Type 0 where
+  pub free : is_free_cell X.place (row_label X r) (column_label X k) ≡ true
+  pub is : x ≡ 0
 
-all_ones : (columns : List Column) → All (λ column. column.cap ≡ 1) columns → sum_by (λ column. column.cap) columns ≡ length columns
-all_ones [] all = refl
-all_ones (x ∷ xs) all =
-    let first = sum_by-cons (λ (column : Column). column.cap) x xs in
-    let one = All-head (λ (column : Column). column.cap ≡ 1) x xs all in
-    let rest = all_ones xs (All-tail (λ (column : Column). column.cap ≡ 1) x xs all) in
-    omega (arith, first, one, rest)
+abbrev pub IsCell : Problem → (Cost → ℕ) → ℕ → ℕ → ℕ → Type 0
+IsCell X enter r k x = IsEntered X enter r k x ⊎ IsFree X r k x
 
 inside : (b : Bool) (o : Option ℕ) (x : ℕ) → cond b o None ≡ Some x → o ≡ Some x
 inside true o x e = e
 inside false o x e = cc
 
--- what a live cell enters as
-pub record IsEntered (enter : Cost → ℕ) (o : Option Cost) (x : ℕ) : Type 0 where
-  pub cost : Cost
-  pub live : o ≡ Some cost
-  pub is : enter cost ≡ x
+-- what a row stands for is itself
+own : (b : Bool) (r s : ℕ) → cond b (Some r) None ≡ Some s → s ≡ r
+own true r s e = same_Some s r (sym e)
+own false r s e = cc
 
-entered : (enter : Cost → ℕ) (o : Option Cost) (x : ℕ) → option_map enter o ≡ Some x → IsEntered enter o x
-entered enter None x e = absurd (cc)
-entered enter (Some cost) x e = record { cost = cost; live = refl; is = same_Some (enter cost) x e }
+none_free : (place : Place) (x : ℕ) → extra_column_cell place 0 ≡ Some x → (is_free_cell place (Some 0) None ≡ true) × (x ≡ 0)
+none_free PlaceAll x e = cc
+none_free (Exactly k) x e = (refl, same_Some x 0 (sym e))
 
-module _ (X : Problem) (table : IsTableSquare X) where
-  -- its side is the number of rows
-  pub side_is : square_side X ≡ length X.rows
-  side_is =
-      let total = all_ones X.columns table.plain.single in
-      let greater : max (length X.rows) (total_capacity X) ≡ length X.rows = omega (arith, total, table.count) in
-      ap (λ place. side_by place (length X.rows) (total_capacity X)) table.plain.place ∙ greater
+corner_free : (place : Place) (x : ℕ) → corner_cell place 0 ≡ Some x → (is_free_cell place None None ≡ true) × (x ≡ 0)
+corner_free PlaceAll x e = (refl, same_Some x 0 (sym e))
+corner_free (Exactly k) x e = cc
 
-  -- its rows are the rows of the instance
-  row_is : (r : ℕ) → r < length X.rows → row_label X r ≡ Some r
-  row_is r h =
-      let counted : is_counted X r ≡ true = ap (λ place. is_counted_by place (is_active X r) (nat_lt r (length X.rows))) table.plain.place ∙ at_each (λ (row : Row). row.active) true false X.rows r table.plain.active h in
-      ap (λ b. cond b (Some r) None) counted
+module _ (X : Problem) (enter : Cost → ℕ) (r k x : ℕ) where
+  -- a cell of what its row and its column stand for
+  by_labels : (row column : Option ℕ) → row_label X r ≡ row → column_label X k ≡ column → labelled_cell X 0 enter row column ≡ Some x → IsCell X enter r k x
+  by_labels (Some s) (Some d) row column is =
+      let same : s ≡ r = own (is_counted X r) r s row in
+      live (live_at X r d) refl (subst (λ n. option_map enter (live_at X n d) ≡ Some x) same is)
+    where
+      live : (o : Option Cost) → live_at X r d ≡ o → option_map enter o ≡ Some x → IsCell X enter r k x
+      live None at e = absurd (cc)
+      live (Some cost) at e = inl (record {
+        row = row ∙ ap Some (own (is_counted X r) r s row);
+        column = d;
+        label = column;
+        cost = cost;
+        live = at;
+        is = same_Some (enter cost) x e;
+      })
+  by_labels (Some s) None row column is =
+      let found = none_free X.place x is in
+      inr (record { free = ap (λ o. is_free_cell X.place o (column_label X k)) row ∙ ap (is_free_cell X.place (Some s)) column ∙ found.0; is = found.1 })
+  by_labels None (Some d) row column is =
+      inr (record { free = ap (λ o. is_free_cell X.place o (column_label X k)) row ∙ ap (is_free_cell X.place None) column; is = same_Some x 0 (sym is) })
+  by_labels None None row column is =
+      let found = corner_free X.place x is in
+      inr (record { free = ap (λ o. is_free_cell X.place o (column_label X k)) row ∙ ap (is_free_cell X.place None) column ∙ found.0; is = found.1 })
 
-  -- its columns are the columns
-  column_is : (k : ℕ) → k < length X.columns → column_label X k ≡ Some k
-  column_is k h =
-      let first : first_copy X k ≡ k = ones X.columns table.plain.single k (omega (arith, h)) in
-      let one : capacity_at X k ≡ 1 = at_each (λ (column : Column). column.cap) 1 0 X.columns k table.plain.single h in
-      subst (λ n. column_label X n ≡ Some k) (let e : first_copy X k + 0 ≡ k = omega (arith, first) in e) (label_at X k 0 (omega (arith, one)))
+  -- a present cell of the square is a live cell or a free one
+  pub cell_of : square_cell X 0 enter r k ≡ Some x → IsCell X enter r k x
+  cell_of is =
+      by_labels (row_label X r) (column_label X k) refl refl
+      (inside (nat_lt r (square_side X) && nat_lt k (square_side X)) (labelled_cell X 0 enter (row_label X r) (column_label X k)) x is)
 
-  -- its cells are the live cells
-  pub cell_of : (enter : Cost → ℕ) (r k x : ℕ) → r < square_side X → k < square_side X → square_cell X 0 enter r k ≡ Some x → IsEntered enter (live_at X r k) x
-  cell_of enter r k x hr hk is =
-      let row : row_label X r ≡ Some r = row_is r (omega (arith, hr, side_is)) in
-      let column : column_label X k ≡ Some k = column_is k (omega (arith, hk, side_is, table.count)) in
-      let there = inside (nat_lt r (square_side X) && nat_lt k (square_side X)) (labelled_cell X 0 enter (row_label X r) (column_label X k)) x is in
-      let same : labelled_cell X 0 enter (row_label X r) (column_label X k) ≡ option_map enter (live_at X r k) = ap (λ o. labelled_cell X 0 enter o (column_label X k)) row ∙ ap (labelled_cell X 0 enter (Some r)) column in
-      entered enter (live_at X r k) x (sym same ∙ there)
+-- a row that stands for one of the instance is one
+row_there : (X : Problem) (r : ℕ) → row_label X r ≡ Some r → r < length X.rows
+row_there X r label = row-from_counted X X.place r (counted (is_counted X r) label)
+  where
+    counted : (b : Bool) → cond b (Some r) None ≡ Some r → b ≡ true
+    counted true e = refl
+    counted false e = cc
+
+-- where the rows fit by the greatest numbers of copies, and the free cells do, all cells fit
+pub cells_fit : (objective : Objective) (X : Problem) (rows columns tops : List ℕ) → length rows ≡ square_side X → length columns ≡ square_side X → AreTops X columns tops → FitsRows objective X rows tops → FitFree X rows columns → FitCells objective X rows columns
+cells_fit objective X rows columns tops rows_count columns_count top live free r k x hr hk is =
+    ⊎_elim
+    (λ (cell : IsEntered X (sum_entered objective) r k x).
+    let fits = live r (row_there X r cell.row) cell.column cell.cost cell.live in
+    let above = top k cell.column (omega (arith, hk, columns_count)) cell.label in
+    omega (arith, fits, above, cell.is))
+    (λ (cell : IsFree X r k x).
+    let fits = free r k (omega (arith, hr, rows_count)) (omega (arith, hk, columns_count)) cell.free in
+    omega (arith, fits))
+    (cell_of X (sum_entered objective) r k x is)

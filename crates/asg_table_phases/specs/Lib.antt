@@ -1,3 +1,2 @@
-pub mod TableSquares
 pub mod TableRows
 pub mod Sizes

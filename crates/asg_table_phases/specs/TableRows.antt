@@ -1,13 +1,20 @@
--- The rows of a table, by a number for each row and each column.
-use Rattle.std.specs.Prelude.{◌≡◌, ℕ, ◌+◌, ◌*◌, ◌<◌, ◌≤◌, List, length, Some, slice_index}
+-- The cells of a table and of the square of an instance, by a number for each row and each column.
+use Rattle.std.specs.Prelude.{◌≡◌, ◌≢◌, ◌↔◌, ℕ, ℤ, pos, ◌+◌, ◌*◌, ◌<◌, ◌≤◌, ◌+ℤ◌, ◌-ℤ◌, ◌≤ℤ◌, Bool, false, true, List, length, Option, Some, None, slice_index, slice_index_or}
+use Rattle.asg_cell_tables.specs.LabelledCells.{has_corner, leaves_rows}
 use Rattle.asg_phase_totals.specs.PhaseTotals.{Totals}
 use Rattle.asg_model.specs.declared.objectives.Objective.{Objective}
+use Rattle.asg_model.specs.declared.objectives.Objective.TheVariants.{Capped, Sum, SumMax}
 use Rattle.asg_model.specs.declared.parts.Cost.{Cost}
+use Rattle.asg_model.specs.declared.parts.Place.{Place}
 use Rattle.asg_model.specs.Limits.{most_cost}
 use Rattle.asg_model.specs.Live.{live_at}
 use Rattle.asg_model.specs.Problem.{Problem}
+use Rattle.asg_model.specs.Shapes.{square_side}
+use Rattle.asg_model.specs.Table.{absent}
 use Rattle.asg_monoids.specs.BoundedSums.{narrow_top}
 use Rattle.asg_monoids.specs.Entered.{sum_entered}
+use Rattle.asg_square.specs.Cells.{square_cell}
+use Rattle.asg_square.specs.Labels.{column_label, row_label}
 
 -- no number is greater
 abbrev pub AreWithin : ℕ → List ℕ → Type 0
@@ -17,18 +24,66 @@ AreWithin most numbers = (k : ℕ) → k < length numbers → slice_index number
 abbrev pub AreLow : List ℕ → Type 0
 AreLow numbers = AreWithin narrow_top numbers
 
+-- the cost is, as it enters and with so much more, at least the number
+abbrev pub FitsCost : Objective → ℤ → ℕ → ℕ → Type 0
+FitsCost Sum cost number raise = pos number ≤ℤ (cost +ℤ pos (raise + most_cost))
+FitsCost SumMax cost number raise = pos number ≤ℤ (pos (raise + most_cost) -ℤ cost)
+FitsCost (Capped cap) cost number raise = (number ≤ cap) × (pos number ≤ℤ (cost +ℤ pos raise))
+FitsCost _ cost number raise = ⊥
+
+-- the costs of a row from one column on and before another that are there are so by the numbers of
+-- their columns
+abbrev pub FitsCosts : Objective → List ℤ → List ℕ → ℕ → ℕ → ℕ → Type 0
+FitsCosts objective costs columns raise from to = (k : ℕ) → from ≤ k → k < to
+    → slice_index_or costs k absent ≢ absent
+    → FitsCost objective (slice_index_or costs k absent) (slice_index columns k) raise
+
 -- each live cell of a row, as it enters, is with so much more at least the number of its column
 abbrev pub FitsRow : Objective → Problem → List ℕ → ℕ → ℕ → Type 0
 FitsRow objective X columns raise r = (k : ℕ) (cost : Cost)
     → live_at X r k ≡ Some cost → slice_index columns k ≤ sum_entered objective cost + raise
 
--- each row does so by its own number
+-- each row of the instance does so by its own number
 abbrev pub FitsRows : Objective → Problem → List ℕ → List ℕ → Type 0
 FitsRows objective X rows columns =
-    (r : ℕ) → r < length rows → FitsRow objective X columns (slice_index rows r) r
+    (r : ℕ) → r < length X.rows → FitsRow objective X columns (slice_index rows r) r
 
--- the greatest entered cost with the sum of all stays within where sums stop, and each live cell,
--- as it enters, is with the number of its row at least that of its column
+-- for each column of the instance a number that is at least those of its copies
+abbrev pub AreTops : Problem → List ℕ → List ℕ → Type 0
+AreTops X numbers tops = (k d : ℕ) → k < length numbers
+    → column_label X k ≡ Some d → slice_index numbers k ≤ slice_index tops d
+
+-- the columns of the square from this one on are copies of none
+abbrev pub EndCopies : Problem → ℕ → Type 0
+EndCopies X copies = (k : ℕ) → (column_label X k ≡ None) ↔ (copies ≤ k)
+
+-- the cell is free, by the row that its square row stands for and the column that its square column
+-- is a copy of
+abbrev pub is_free_cell : Place → Option ℕ → Option ℕ → Bool
+is_free_cell place (Some r) (Some d) = false
+is_free_cell place (Some r) None = leaves_rows place
+is_free_cell place None (Some d) = true
+is_free_cell place None None = has_corner place
+
+-- of two numbers the one for copies of columns, or the one for other columns
+abbrev pub top_for : ℕ → ℕ → Option ℕ → ℕ
+top_for of_copies of_extras (Some d) = of_copies
+top_for of_copies of_extras None = of_extras
+
+-- the number of a row is at least that of each column in which it has a free cell
+abbrev pub FitFree : Problem → List ℕ → List ℕ → Type 0
+FitFree X rows columns = (r k : ℕ) → r < length rows → k < length columns
+    → is_free_cell X.place (row_label X r) (column_label X k) ≡ true
+    → slice_index columns k ≤ slice_index rows r
+
+-- each present cell of the square is with the number of its row at least that of its column
+abbrev pub FitCells : Objective → Problem → List ℕ → List ℕ → Type 0
+FitCells objective X rows columns = (r k x : ℕ) → r < square_side X → k < square_side X
+    → square_cell X 0 (sum_entered objective) r k ≡ Some x
+    → slice_index columns k ≤ x + slice_index rows r
+
+-- the greatest entered cost with the sum of all stays within where sums stop, and each present cell
+-- is with the number of its row at least that of its column
 pub record FitTotals (objective : Objective) (X : Problem) (totals : Totals) : Type 0 where
   pub few : totals.sum + 2 * most_cost ≤ narrow_top
-  pub ends : FitsRows objective X totals.rows totals.columns
+  pub ends : FitCells objective X totals.rows totals.columns

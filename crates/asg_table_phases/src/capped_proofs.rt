@@ -1,8 +1,9 @@
-//! Whether phases prove a choice for `capped` of an instance whose square is its table.
+//! Whether phases prove a choice for `capped` of an instance.
 
-ghost use Rattle.std.specs.Prelude.{◌≡◌, ◌<◌, All, IfOk, IsTrue, map};
+ghost use Rattle.std.specs.Prelude.{◌≡◌, ◌<◌, ◌≤◌, All, IfOk, IsTrue, map};
 ghost use Rattle.asg_model.specs.declared.objectives.Objective.TheVariants.{Capped};
 ghost use Rattle.asg_model.specs.Refused.{PassesNegative};
+ghost use Rattle.asg_model.specs.Limits.{most_side};
 ghost use Rattle.asg_model.specs.Shapes.{square_side};
 ghost use Rattle.asg_monoids.specs.BoundedSums.{bounded_sums, narrow_top, plain_word};
 ghost use Rattle.asg_monoids.specs.Entered.{sum_entered};
@@ -11,7 +12,6 @@ ghost use Rattle.asg_order.specs.Monoid.{IsValue};
 ghost use Rattle.asg_proof.specs.FoldProofs.{ProvesPhases};
 ghost use Rattle.asg_proof.specs.Phases.{worded};
 ghost use Rattle.asg_proof.specs.PromisedProofs.{AreFewPhases};
-ghost use Rattle.asg_table_phases.specs.TableSquares.{IsTableSquare};
 
 use crate::NoMemory;
 use crate::phase_sizes::are_sized;
@@ -37,10 +37,10 @@ fn adds_up_to(cap: u64, inst: &Instance, choice: &Choice, sum: u64) -> bool
 }
 
 /// Whether phases prove for `capped`, with a cap below 2^62, exactly the fold of a choice of an
-/// instance whose square is its table: they are admitted in turn by sums that don't stop at the cap,
-/// and their steps add up to at most the cap and to what the entered costs of the choice do. They
-/// are at most as many as the side, and each has 1 to side steps. The answer `false` tells nothing.
-/// The time is that of one pass over the costs. The error is want of memory.
+/// instance: they are admitted in turn by sums that don't stop at the cap, and their steps add up to
+/// at most the cap and to what the entered costs of the choice do. They are at most as many as the
+/// side, and each has 1 to side steps. The answer `false` tells nothing. The time is that of one
+/// pass over the costs and over the phases. The error is want of memory.
 pub fn proves_capped(
     alloc: Global,
     cap: u64,
@@ -49,7 +49,7 @@ pub fn proves_capped(
     phases: &[Phase<u64>],
 ) -> Result<bool, NoMemory>
     requires cap { cap < narrow_top }
-    requires table { IsTableSquare inst.now }
+    requires side { square_side inst.now ≤ most_side }
     requires passes { PassesNegative (Capped cap) inst.now }
     ensures proved { IfOk result (λ is. IsTrue is
         → ProvesPhases (Capped cap) inst.now choice.now (map (worded plain_word) phases.now)) }
@@ -59,11 +59,11 @@ pub fn proves_capped(
         → All (λ phase. All (IsValue (bounded_sums narrow_top)) phase.steps) phases.now) }
 {
     lesser_tops_law();
-    let side = inst.rows().len();
-    if !are_sized(phases, side) {
+    let side = inst.side();
+    if !are_sized(phases, side as usize) {
         return Ok(false);
     }
-    let Some(totals) = totals_of(alloc, side as u32, phases)? else {
+    let Some(totals) = totals_of(alloc, side, phases)? else {
         return Ok(false);
     };
     if totals.sum() > cap {

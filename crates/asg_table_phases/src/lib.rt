@@ -1,24 +1,25 @@
 //! Phases of sums, tested on the costs as they stand, without a square.
 //!
-//! Where all rows are placed, each in a column of its own, and there are as many columns as rows,
-//! the square of an instance for `sum` or `sum-max` is its table, the costs shifted to numbers from
-//! 0 on, and for `capped` the costs cut at the cap. So the one pass that tells whether a list of
-//! phases is admitted (`asg_phase_totals`) goes over the costs of the table. Contracts see what the
-//! phases prove of a choice.
+//! A cell of the square of an instance is told by the row that its row stands for and the column
+//! that its column is a copy of: for `sum` or `sum-max` it is the cost there, shifted to numbers
+//! from 0 on, for `capped` the cost cut at the cap, and where one of the two stands for nothing it is
+//! 0 or absent. So the one pass that tells whether a list of phases is admitted (`asg_phase_totals`)
+//! goes over the costs of the table, with the greatest number of the copies of each column, and over
+//! the rows and columns of the square. Contracts see what the phases prove of a choice.
 #![tactic(auto)]
 
 mod capped_proofs;
+mod column_tops;
 mod phase_proofs;
 mod phase_sizes;
 mod phase_sums;
+mod row_pieces;
 mod table_fits;
 mod table_rows;
-mod table_squares;
 
 pub use capped_proofs::proves_capped;
 pub use phase_proofs::proves;
 pub use table_fits::{fits_capped_table, fits_table};
-pub use table_squares::is_table_square;
 
 /// There was not enough memory.
 pub type NoMemory = std::alloc::AllocError;

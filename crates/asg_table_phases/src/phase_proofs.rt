@@ -1,7 +1,8 @@
-//! Whether phases prove a choice of an instance whose square is its table.
+//! Whether phases prove a choice of an instance.
 
 ghost use Rattle.std.specs.Prelude.{◌≡◌, ◌≤◌, ◌^◌, All, IfOk, IfSome, IsTrue, length, map};
 ghost use Rattle.asg_phase_totals.specs.PhaseTotals.{AreTotals};
+ghost use Rattle.asg_model.specs.Limits.{most_side};
 ghost use Rattle.asg_model.specs.Shapes.{square_side};
 ghost use Rattle.asg_monoids.specs.BoundedSums.{bounded_sums, narrow_top, plain_word};
 ghost use Rattle.asg_monoids.specs.Entered.{sum_entered};
@@ -11,7 +12,6 @@ ghost use Rattle.asg_order.specs.Monoid.{IsValue};
 ghost use Rattle.asg_proof.specs.FoldProofs.{ProvesPhases};
 ghost use Rattle.asg_proof.specs.Phases.{worded};
 ghost use Rattle.asg_proof.specs.PromisedProofs.{AreFewPhases};
-ghost use Rattle.asg_table_phases.specs.TableSquares.{IsTableSquare};
 
 use crate::NoMemory;
 use crate::phase_sizes::are_sized;
@@ -36,11 +36,10 @@ fn adds_up_to(objective: Objective, inst: &Instance, choice: &Choice, sum: u64) 
     fold == u128::from(sum)
 }
 
-/// Whether phases prove for `sum` or `sum-max` exactly the fold of a choice of an instance whose
-/// square is its table: they are admitted in turn, and what their steps add up to is what the
-/// entered costs of the choice do. They are at most as many as the side, and each has 1 to side
-/// steps. The answer `false` tells nothing. The time is that of one pass over the costs. The error
-/// is want of memory.
+/// Whether phases prove for `sum` or `sum-max` exactly the fold of a choice of an instance: they are
+/// admitted in turn, and what their steps add up to is what the entered costs of the choice do. They
+/// are at most as many as the side, and each has 1 to side steps. The answer `false` tells nothing.
+/// The time is that of one pass over the costs and over the phases. The error is want of memory.
 pub fn proves(
     alloc: Global,
     objective: Objective,
@@ -49,7 +48,7 @@ pub fn proves(
     phases: &[Phase<u64>],
 ) -> Result<bool, NoMemory>
     requires objective { IsTrue (is_narrow_objective objective) }
-    requires table { IsTableSquare inst.now }
+    requires side { square_side inst.now ≤ most_side }
     ensures proved { IfOk result (λ is. IsTrue is
         → ProvesPhases objective inst.now choice.now (map (worded plain_word) phases.now)) }
     ensures few { IfOk result (λ is. IsTrue is
@@ -57,11 +56,11 @@ pub fn proves(
     ensures values { IfOk result (λ is. IsTrue is
         → All (λ phase. All (IsValue (bounded_sums narrow_top)) phase.steps) phases.now) }
 {
-    let side = inst.rows().len();
-    if !are_sized(phases, side) {
+    let side = inst.side();
+    if !are_sized(phases, side as usize) {
         return Ok(false);
     }
-    let Some(totals) = totals_of(alloc, side as u32, phases)? else {
+    let Some(totals) = totals_of(alloc, side, phases)? else {
         return Ok(false);
     };
     if !fits_table(objective, inst, &totals) {

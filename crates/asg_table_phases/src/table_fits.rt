@@ -1,4 +1,4 @@
-//! Whether no cell of a table ends below 0 after phases.
+//! Whether no cell of the square of an instance ends below 0 after phases.
 
 ghost use Rattle.std.specs.Prelude.{◌≡◌, ◌≤◌, ℕ, IsTrue, List, length};
 ghost use Rattle.asg_phase_totals.specs.PhaseTotals.{AreTotals};
@@ -9,10 +9,11 @@ ghost use Rattle.asg_monoids.specs.Entered.{sum_entered};
 ghost use Rattle.asg_monoids.specs.NarrowObjectives.{is_narrow_objective};
 ghost use Rattle.asg_proof.specs.Phases.{PhaseOf, AreAdmittedPhases, index_of};
 ghost use Rattle.asg_square.specs.Cells.{square_cell};
-ghost use Rattle.asg_table_phases.specs.TableRows.{FitTotals};
-ghost use Rattle.asg_table_phases.specs.TableSquares.{IsTableSquare};
+ghost use Rattle.asg_table_phases.specs.TableRows.{AreLow, FitCells, FitTotals};
 
+use crate::column_tops::{free_cells_fit, put_tops};
 use crate::table_rows::{are_within, rows_fit};
+use asg_model::limits::MOST_COLUMNS;
 use asg_model::{Instance, Objective};
 use asg_phase_totals::laws::one_pass_law;
 use asg_phase_totals::{NARROW_TOP, PhaseTotals};
@@ -20,32 +21,47 @@ use asg_phase_totals::{NARROW_TOP, PhaseTotals};
 // The greatest sum of steps with which no entered cost comes to more than 2^62.
 const MOST_SUM: u64 = NARROW_TOP - 2_000_000_000;
 
-// Whether no sum comes near where sums stop, and no live cell ends below 0.
+// Whether each present cell of the square is with the number of its row at least that of its column.
+fn cells_fit(objective: Objective, inst: &Instance, rows: &[u64], columns: &[u64]) -> bool
+    requires rows { length rows.now ≡ square_side inst.now }
+    requires columns { length columns.now ≡ square_side inst.now }
+    requires low { AreLow rows.now }
+    ensures { IsTrue result → FitCells objective inst.now rows.now columns.now }
+{
+    let _rows = inst.rows();
+    let _side = inst.side();
+    let mut tops = [0; MOST_COLUMNS];
+    let copies = put_tops(inst, columns, &mut tops);
+    if !free_cells_fit(inst, rows, columns, copies) {
+        return false;
+    }
+    if !are_within(&tops, NARROW_TOP) {
+        return false;
+    }
+    rows_fit(objective, inst, rows, &tops)
+}
+
+// Whether no sum comes near where sums stop, and no present cell ends below 0.
 fn fit_totals(objective: Objective, inst: &Instance, totals: &PhaseTotals<u64>) -> bool
-    requires { length totals.now.rows ≡ length inst.now.rows }
+    requires { length totals.now.rows ≡ square_side inst.now }
     ensures { IsTrue result → FitTotals objective inst.now totals.now }
 {
     if totals.sum() > MOST_SUM {
         return false;
     }
     let rows = totals.rows();
-    let columns = totals.columns();
     if !are_within(rows, NARROW_TOP) {
         return false;
     }
-    if !are_within(columns, NARROW_TOP) {
-        return false;
-    }
-    rows_fit(objective, inst, rows, columns)
+    cells_fit(objective, inst, rows, totals.columns())
 }
 
 /// Whether phases with these totals are admitted in turn from the square of an instance, where no
-/// sum comes near 2^62 and no live cell, as it enters for `sum` or `sum-max`, ends below 0. The
+/// sum comes near 2^62 and no present cell, as it enters for `sum` or `sum-max`, ends below 0. The
 /// answer `false` tells nothing. The time is that of one pass over the costs. It takes no memory.
 pub fn fits_table(objective: Objective, inst: &Instance, totals: &PhaseTotals<u64>) -> bool
     requires objective { IsTrue (is_narrow_objective objective) }
-    requires table { IsTableSquare inst.now }
-    requires side { length totals.now.rows ≡ length inst.now.rows }
+    requires side { length totals.now.rows ≡ square_side inst.now }
     ensures admitted { IsTrue result
         → (top : ℕ) (phases : List (PhaseOf ℕ)) → narrow_top ≤ top
         → AreTotals phases totals.now
@@ -62,11 +78,10 @@ pub fn fits_table(objective: Objective, inst: &Instance, totals: &PhaseTotals<u6
     fit_totals(objective, inst, totals)
 }
 
-/// The same for `capped`: whether no sum comes near 2^62, and no live cell, as it enters, ends below
+/// The same for `capped`: whether no sum comes near 2^62, and no present cell, as it enters, ends below
 /// 0. So the phases are admitted from the square by sums that don't stop at the cap.
 pub fn fits_capped_table(cap: u64, inst: &Instance, totals: &PhaseTotals<u64>) -> bool
-    requires table { IsTableSquare inst.now }
-    requires side { length totals.now.rows ≡ length inst.now.rows }
+    requires side { length totals.now.rows ≡ square_side inst.now }
     ensures admitted { IsTrue result
         → (top : ℕ) (phases : List (PhaseOf ℕ)) → narrow_top ≤ top
         → AreTotals phases totals.now

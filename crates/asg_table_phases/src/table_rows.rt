@@ -4,14 +4,15 @@ ghost use Rattle.std.specs.Prelude.{◌≡◌, ◌<◌, ◌≤◌, ◌+◌, ◌�
 ghost use Rattle.asg_model.specs.Limits.{most_cost};
 ghost use Rattle.asg_model.specs.Table.{absent};
 ghost use Rattle.asg_monoids.specs.BoundedSums.{narrow_top};
-ghost use Rattle.asg_table_phases.specs.TableRows.{AreLow, AreWithin, FitsRow, FitsRows};
+ghost use Rattle.asg_table_phases.specs.TableRows.{AreLow, AreWithin, FitsCosts, FitsRow, FitsRows};
 
+use crate::row_pieces::pieces_fit;
 use asg_model::limits::MOST_COST;
 use asg_model::{Instance, Objective, RowRoom};
 
-// Whether a cost is, as it enters for `sum` and with so much more, at least a number.
+/// Whether a cost is, as it enters for `sum` and with so much more, at least a number.
 #[inline]
-fn is_above(cost: i64, number: u64, raise: u64) -> bool
+pub(crate) fn is_above(cost: i64, number: u64, raise: u64) -> bool
     requires number { number ≤ narrow_top }
     requires raise { raise ≤ narrow_top }
     ensures { IsTrue result → pos number ≤ℤ (cost +ℤ pos (raise + most_cost)) }
@@ -21,7 +22,7 @@ fn is_above(cost: i64, number: u64, raise: u64) -> bool
 
 // Whether each cost is so by the number of its column.
 fn are_above(costs: &[i64], columns: &[u64], raise: u64) -> bool
-    requires count { length columns.now ≡ length costs.now }
+    requires count { length costs.now ≤ length columns.now }
     requires low { AreLow columns.now }
     requires raise { raise ≤ narrow_top }
     ensures { IsTrue result → (k : ℕ) → k < length costs.now
@@ -35,9 +36,9 @@ fn are_above(costs: &[i64], columns: &[u64], raise: u64) -> bool
     are_above
 }
 
-// Whether a cost is, as it enters for `sum-max` and with so much more, at least a number.
+/// Whether a cost is, as it enters for `sum-max` and with so much more, at least a number.
 #[inline]
-fn is_below(cost: i64, number: u64, raise: u64) -> bool
+pub(crate) fn is_below(cost: i64, number: u64, raise: u64) -> bool
     requires number { number ≤ narrow_top }
     requires raise { raise ≤ narrow_top }
     ensures { IsTrue result → pos number ≤ℤ (pos (raise + most_cost) -ℤ cost) }
@@ -47,7 +48,7 @@ fn is_below(cost: i64, number: u64, raise: u64) -> bool
 
 // Whether each cost is so by the number of its column.
 fn are_below(costs: &[i64], columns: &[u64], raise: u64) -> bool
-    requires count { length columns.now ≡ length costs.now }
+    requires count { length costs.now ≤ length columns.now }
     requires low { AreLow columns.now }
     requires raise { raise ≤ narrow_top }
     ensures { IsTrue result → (k : ℕ) → k < length costs.now
@@ -73,9 +74,9 @@ pub(crate) fn are_within(numbers: &[u64], most: u64) -> bool
     true
 }
 
-// Whether a cost is with so much more at least a number.
+/// Whether a cost is with so much more at least a number.
 #[inline]
-fn is_reached(cost: i64, number: u64, raise: u64) -> bool
+pub(crate) fn is_reached(cost: i64, number: u64, raise: u64) -> bool
     requires number { number ≤ narrow_top }
     requires raise { raise ≤ narrow_top }
     ensures { IsTrue result → pos number ≤ℤ (cost +ℤ pos raise) }
@@ -85,7 +86,7 @@ fn is_reached(cost: i64, number: u64, raise: u64) -> bool
 
 // Whether each cost is so by the number of its column.
 fn are_reached(costs: &[i64], columns: &[u64], raise: u64) -> bool
-    requires count { length columns.now ≡ length costs.now }
+    requires count { length costs.now ≤ length columns.now }
     requires low { AreLow columns.now }
     requires raise { raise ≤ narrow_top }
     ensures { IsTrue result → (k : ℕ) → k < length costs.now
@@ -100,7 +101,7 @@ fn are_reached(costs: &[i64], columns: &[u64], raise: u64) -> bool
 
 // Whether each cost is so, cut at a cap: no number of a column is greater than that.
 fn are_reached_below(costs: &[i64], columns: &[u64], raise: u64, cap: u64) -> bool
-    requires count { length columns.now ≡ length costs.now }
+    requires count { length costs.now ≤ length columns.now }
     requires low { AreLow columns.now }
     requires raise { raise ≤ narrow_top }
     ensures within { IsTrue result → AreWithin cap columns.now }
@@ -113,6 +114,46 @@ fn are_reached_below(costs: &[i64], columns: &[u64], raise: u64, cap: u64) -> bo
     are_reached(costs, columns, raise)
 }
 
+// Whether each cost of a row, as it enters, is with so much more at least the number of its column.
+// None of them is absent then.
+fn costs_fit(objective: Objective, costs: &[i64], columns: &[u64], raise: u64) -> bool
+    requires count { length costs.now ≤ length columns.now }
+    requires low { AreLow columns.now }
+    requires raise { raise ≤ narrow_top }
+    ensures { IsTrue result → FitsCosts objective costs.now columns.now raise 0 (length costs.now) }
+{
+    match objective {
+        Objective::Sum => are_above(costs, columns, raise),
+        Objective::SumMax => are_below(costs, columns, raise),
+        Objective::Capped(cap) => are_reached_below(costs, columns, raise, cap),
+        _ => false,
+    }
+}
+
+// Whether each cost of a row that is there is so. Where a row was found to have absent cells, this
+// one and those after it are looked at in pieces.
+fn present_costs_fit(
+    objective: Objective,
+    costs: &[i64],
+    columns: &[u64],
+    raise: u64,
+    in_pieces: &mut bool,
+) -> bool
+    requires count { length costs.now ≤ length columns.now }
+    requires low { AreLow columns.now }
+    requires raise { raise ≤ narrow_top }
+    ensures { IsTrue result → FitsCosts objective costs.now columns.now raise 0 (length costs.now) }
+{
+    if *in_pieces {
+        return pieces_fit(objective, costs, columns, raise);
+    }
+    if costs_fit(objective, costs, columns, raise) {
+        return true;
+    }
+    *in_pieces = true;
+    pieces_fit(objective, costs, columns, raise)
+}
+
 // Whether each live cell of a row, as it enters, is with so much more at least the number of its
 // column.
 fn row_fits(
@@ -122,6 +163,7 @@ fn row_fits(
     raise: u64,
     row: u32,
     room: &mut RowRoom,
+    in_pieces: &mut bool,
 ) -> bool
     requires low { AreLow columns.now }
     requires raise { raise ≤ narrow_top }
@@ -131,30 +173,34 @@ fn row_fits(
     let Some(parts) = inst.row_parts(row, room) else {
         return false;
     };
-    if columns.len() != parts.firsts.len() {
+    if columns.len() < parts.firsts.len() {
         return false;
     }
-    match objective {
-        Objective::Sum => are_above(parts.firsts, columns, raise),
-        Objective::SumMax => are_below(parts.firsts, columns, raise),
-        Objective::Capped(cap) => are_reached_below(parts.firsts, columns, raise, cap),
-        _ => false,
-    }
+    present_costs_fit(objective, parts.firsts, columns, raise, in_pieces)
 }
 
 /// Whether each live cell of each row, as it enters, is with the number of its row at least that of
-/// its column.
+/// its column of the instance.
 pub(crate) fn rows_fit(objective: Objective, inst: &Instance, rows: &[u64], columns: &[u64]) -> bool
-    requires count { length rows.now ≡ length inst.now.rows }
+    requires count { length inst.now.rows ≤ length rows.now }
     requires rows { AreLow rows.now }
     requires columns { AreLow columns.now }
     ensures { IsTrue result → FitsRows objective inst.now rows.now columns.now }
 {
-    let _rows = inst.rows();
+    let count = inst.rows().len() as u32;
     let mut room = RowRoom::new();
-    'rows: for row in 0..rows.len() as u32 {
+    let mut in_pieces = false;
+    'rows: for row in 0..count {
         let raise = rows[row as usize];
-        if !row_fits(objective, inst, columns, raise, row, &mut room) {
+        if !row_fits(
+            objective,
+            inst,
+            columns,
+            raise,
+            row,
+            &mut room,
+            &mut in_pieces,
+        ) {
             return false;
         }
     }

@@ -86,7 +86,7 @@ fn has_monoid(objective: Objective) -> bool
 
 // The outcome of an objective, if it is algebraic and refuses no live cost and the side isn't too
 // great.
-fn outcome_of(
+pub(crate) fn outcome_of(
     alloc: Global,
     objective: Objective,
     inst: &Instance,

@@ -1,4 +1,4 @@
-use Rattle.asg_phase_verdicts.proofs.Common.{ℕ, arith, IfSome_then, Capped, narrow_top, cost_reach, sum_entered, lies_within}
+use Rattle.asg_phase_verdicts.proofs.Common.{arith, IfSome_then, Capped, narrow_top, cost_reach, sum_entered, lies_within}
 use Rattle.asg_phase_verdicts.proofs.NarrowSums.{start_index}
 use Rattle.asg_phase_verdicts.proofs.narrow_indices.capped_square_index.Goals as goal
 

@@ -1,6 +1,5 @@
-use Rattle.asg_table_phases.proofs.Common.{◌≤◌, length, IfSome, Option, sym, ap, ◌∙◌, subst, arith, admitted_values, square_side, Capped, bounded_sums, bounded_difference, narrow_top, plain_word, sum_entered, AreTotals, Totals, index_of, square_cell, AreSized}
+use Rattle.asg_table_phases.proofs.Common.{◌≤◌, IfSome, Option, sym, ◌∙◌, subst, arith, admitted_values, square_side, Capped, bounded_sums, bounded_difference, narrow_top, plain_word, sum_entered, AreTotals, Totals, index_of, square_cell, AreSized}
 use Rattle.asg_table_phases.proofs.ProvedChoices.{few_phases}
-use Rattle.asg_table_phases.proofs.TableCells.{side_is}
 use Rattle.asg_table_phases.proofs.capped_proofs.proves_capped.Goals as goal
 
 pub returns-clause-proved : goal.returns-clause-proved
@@ -21,7 +20,7 @@ returns-clause-few c = λ _.
     let are = subst (λ (found : Option Totals). IfSome found (AreTotals phases)) c.in-Some.is c.in_ok-totals.ensures.totals in
     few_phases narrow_top (square_side X) phases (square_cell X 0 (sum_entered (Capped c.args.cap)))
     (c.fits_capped_table.ensures.admitted c.if-not-fits_capped_table.false narrow_top phases (omega arith) are)
-    (subst (λ n. AreSized n phases) (ap length c.rows-side.ensures.rows ∙ sym (side_is X c.requires.table)) (c.are_sized.ensures c.if-not-are_sized.false))
+    (subst (λ n. AreSized n phases) c.side-side.ensures.side (c.are_sized.ensures c.if-not-are_sized.false))
 
 pub returns-clause-values : goal.returns-clause-values
 returns-clause-values c = λ _.

@@ -1,4 +1,4 @@
-use Rattle.asg_table_phases.proofs.Common.{ℕ, List, subst, arith, FitsRows}
+use Rattle.asg_table_phases.proofs.Common.{ℕ, List, subst, arith, FitCells}
 use Rattle.asg_table_phases.proofs.table_fits.fit_totals.Goals as goal
 
 pub returns : goal.returns
@@ -9,7 +9,7 @@ returns c = λ yes.
     record {
       few = omega (arith, c.if-sum-gt-MOST_SUM.false, c.sum.ensures);
       ends =
-          subst (λ (xs : List ℕ). FitsRows o X xs totals.columns) c.rows-rows.ensures.rows
-          (subst (λ (xs : List ℕ). FitsRows o X c.rows-rows.result.now xs) c.columns-columns.ensures.columns
-          (c.rows_fit.ensures yes));
+          subst (λ (xs : List ℕ). FitCells o X xs totals.columns) c.rows-rows.ensures.rows
+          (subst (λ (xs : List ℕ). FitCells o X c.rows-rows.result.now xs) c.columns.ensures.columns
+          (c.cells_fit.ensures yes));
     }

@@ -1,0 +1,155 @@
+//! Columns for the rows of instances with few live cells, by lists of these, or rows that reach too
+//! few columns. Nothing here is tested.
+
+use crate::NoMemory;
+use asg_bit_rows::BitRows;
+use asg_class_search::{ArcLead, Arcs, lead_by_arcs};
+use asg_dual_numbers::name;
+use asg_live_cells::Marks;
+use asg_match::{Pairing, perfect_or_hall};
+use asg_model::limits::{MOST_COLUMNS, MOST_COST, MOST_ROWS};
+use asg_model::{ABSENT, Instance, Objective, Place, RowRoom};
+use std::alloc::Global;
+
+// Of so many cells at most one is live, for lists of them to serve.
+const SPARSE: usize = 8;
+
+// So many cells of a row are looked at together.
+const PIECE: usize = 16;
+
+// Whether all rows are placed and active, and each column is open and holds one row.
+fn is_plain(inst: &Instance) -> bool {
+    matches!(inst.place(), Place::All)
+        && inst.rows().iter().all(|row| row.active)
+        && inst
+            .columns()
+            .iter()
+            .all(|column| column.usable && column.cap == 1)
+}
+
+/// What a cost enters as.
+#[inline]
+pub(crate) fn entered(is_max: bool, cost: i64) -> i64 {
+    if is_max {
+        MOST_COST.wrapping_sub(cost)
+    } else {
+        MOST_COST.wrapping_add(cost)
+    }
+}
+
+// Whether no cost is there.
+#[inline]
+fn are_absent(costs: &[i64]) -> bool {
+    let mut are_absent = true;
+    for place in 0..costs.len() {
+        are_absent &= costs[place] == ABSENT;
+    }
+    are_absent
+}
+
+// The live cells of rows, as arcs with what their costs enter as, and by a bit each.
+#[derive(Drop)]
+struct SparseCells {
+    is_max: bool,
+    arcs: Arcs,
+    bits: BitRows,
+    count: usize,
+}
+
+impl SparseCells {
+    // One more cell.
+    fn push(&mut self, row: u32, column: u32, cost: i64) -> Result<(), NoMemory> {
+        if row < self.bits.rows() && column < self.bits.columns() {
+            self.bits.put(row, column, true);
+        }
+        self.count = self.count.wrapping_add(1);
+        self.arcs.push(column, entered(self.is_max, cost))
+    }
+
+    // The costs of a row that are there, from this column on.
+    fn push_costs(&mut self, row: u32, costs: &[i64], first: usize) -> Result<(), NoMemory> {
+        for place in 0..costs.len() {
+            if costs[place] != ABSENT {
+                self.push(row, name(first.wrapping_add(place)), costs[place])?;
+            }
+        }
+        Ok(())
+    }
+
+    // The costs of a row that are there.
+    fn push_row(&mut self, row: u32, costs: &[i64]) -> Result<(), NoMemory> {
+        for number in 0..costs.len() / PIECE {
+            let first = number * PIECE;
+            let piece = &costs[first..first + PIECE];
+            if !are_absent(piece) {
+                self.push_costs(row, piece, first)?;
+            }
+        }
+        let rest = costs.len() / PIECE * PIECE;
+        self.push_costs(row, &costs[rest..], rest)?;
+        self.arcs.end_row()
+    }
+}
+
+// The live cells of an instance, row by row; `None` where they are many.
+fn live_cells(
+    alloc: Global,
+    objective: Objective,
+    inst: &Instance,
+) -> Result<Option<SparseCells>, NoMemory> {
+    let rows = inst.rows().len().min(MOST_ROWS);
+    let columns = inst.columns().len().min(MOST_COLUMNS);
+    let most = rows.saturating_mul(columns) / SPARSE;
+    let mut cells = SparseCells {
+        is_max: objective == Objective::SumMax,
+        arcs: Arcs::none(alloc, rows, most)?,
+        bits: BitRows::make(alloc, rows as u32, columns as u32)?,
+        count: 0,
+    };
+    let mut room = RowRoom::new();
+    for row in 0..rows as u32 {
+        let Some(parts) = inst.row_parts(row, &mut room) else {
+            return Ok(None);
+        };
+        cells.push_row(row, parts.firsts)?;
+        if cells.count > most {
+            return Ok(None);
+        }
+    }
+    Ok(Some(cells))
+}
+
+// Rows that have fewer cells by these bits than they are, where there are as many columns as rows.
+fn short_rows(alloc: Global, bits: BitRows) -> Result<Option<Vec<u32>>, NoMemory> {
+    let side = bits.rows();
+    if bits.columns() != side {
+        return Ok(None);
+    }
+    let marks = Marks { side, bits };
+    match perfect_or_hall(alloc, side, &marks)? {
+        Pairing::Short(rows) => Ok(Some(rows.into_vec())),
+        Pairing::Perfect(_) => Ok(None),
+    }
+}
+
+/// Columns for the rows of an instance with dual variables of its columns, or rows that reach fewer
+/// columns than they are; `None` where many cells are live, a row is inactive or may stay out, a
+/// column is closed or holds more than one row. Nothing is tested. The error is want of memory.
+pub(crate) fn sparse_lead(
+    alloc: Global,
+    objective: Objective,
+    inst: &Instance,
+) -> Result<Option<ArcLead>, NoMemory> {
+    if !is_plain(inst) {
+        return Ok(None);
+    }
+    let Some(cells) = live_cells(alloc, objective, inst)? else {
+        return Ok(None);
+    };
+    let SparseCells { arcs, bits, .. } = cells;
+    if let Some(rows) = short_rows(alloc, bits)? {
+        return Ok(Some(ArcLead::Short(rows)));
+    }
+    let lead = lead_by_arcs(alloc, &arcs, inst.columns().len())?;
+    Ok(Some(lead))
+}

@@ -1,0 +1,8 @@
+use Rattle.asg_table_phases.proofs.Common.{ℕ, ◌+◌, ◌<◌, ◌≤◌, ◌≢◌, pos, ◌-ℤ◌, ◌≤ℤ◌, IsTrue, slice_index, slice_index_or, most_cost, absent}
+use Rattle.asg_table_phases.proofs.row_pieces.present_below.Given as goal
+
+-- the columns so far have cells that are at least their numbers, where they are there
+abbrev pub invariant-columns : goal.invariant-columns
+invariant-columns l =
+    IsTrue l.are_below → (k : ℕ) → l.fn.from ≤ k → k < l.column → slice_index_or l.costs k absent ≢ absent
+    → pos (slice_index l.columns k) ≤ℤ (pos (l.raise + most_cost) -ℤ slice_index_or l.costs k absent)

@@ -1,10 +1,11 @@
 //! What stands against windows for a value.
 
 ghost use Rattle.std.specs.Prelude.{◌↔◌, [], ◌∷◌, IsTrue, IfOk, length};
+ghost use Rattle.std.specs.Bool.{OnTrue};
 ghost use Rattle.asg_model.specs.declared.objectives.Objective.TheVariants.{Balanced};
 ghost use Rattle.asg_model.specs.Instances.{IsInstance};
 ghost use Rattle.asg_model.specs.ValueRange.{IsValueInRange};
-ghost use Rattle.asg_proof.specs.Windows.{IsHallWindow};
+ghost use Rattle.asg_proof.specs.Windows.{IsHallWindow, ProvesWindows};
 ghost use Rattle.asg_reasons.specs.declared.verdicts.Reason.TheVariants.{WindowGap};
 ghost use Rattle.asg_reasons.specs.Spots.{IsFirstPart};
 ghost use Rattle.asg_reasons.specs.Verdicts.{Tells, window_reasons};
@@ -12,14 +13,34 @@ ghost use Rattle.asg_check.specs.WindowReasons.{IsNoHallAt, StandsOn};
 
 use crate::NoMemory;
 use crate::window_gaps::first_gap;
+use asg_hall_windows::proves_spread;
 use asg_model::{Band, Instance, Value};
 use asg_proof::Window;
 use asg_reasons::{Reason, Verdict};
 use asg_values::is_hall;
 use std::alloc::Global;
 
-// The verdict on windows for a value of `balanced`, by the reasons against windows in order. The
+// Whether it is shown at once that windows prove the value of `balanced`; false leaves it open. The
 // error is want of memory.
+fn are_proved(
+    alloc: Global,
+    inst: &Instance,
+    value: &Value,
+    windows: &[Window],
+) -> Result<bool, NoMemory>
+    requires range { IsValueInRange Balanced value.now }
+    ensures { IfOk result (λ yes. OnTrue yes
+        (ProvesWindows Balanced inst.now value.now windows.now)) }
+{
+    match value {
+        Value::One(spread) if *spread > 0 => proves_spread(alloc, inst, *spread, windows),
+        _ => Ok(false),
+    }
+}
+
+// The verdict on windows for a value of `balanced`, by the reasons against windows in order. The
+// windows are tested all at once; where that leaves it open, each by itself. The error is want of
+// memory.
 pub(crate) fn windows_verdict(
     alloc: Global,
     inst: &Instance,
@@ -30,6 +51,10 @@ pub(crate) fn windows_verdict(
     requires range { IsValueInRange Balanced value.now }
     ensures { IfOk result (Tells (StandsOn inst.now value.now windows.now) window_reasons) }
 {
+    let are_proved = are_proved(alloc, inst, value, windows)?;
+    if are_proved {
+        return Ok(Verdict::Yes);
+    }
     if let Some(place) = first_no_hall(inst, windows) {
         return Ok(Reason::NotHall.verdict_at_part(place));
     }

@@ -174,7 +174,7 @@ fn first_behind(
     alloc: Global,
     inst: &Instance,
     asked: Objective,
-    head: &[u8],
+    head: &'static [u8],
     proofs: &'static [Judged],
 ) -> Result<Option<&'static [u8]>, NoMemory> {
     for (proof, reason, place) in proofs {

@@ -1,5 +1,15 @@
-use Rattle.asg_check.proofs.Common.{[], ◌∷◌, length, refl, IfOk-weaker, IsNoHallAt, StandsOn, Tells, window_reasons, NotHall, WindowGap, goes_on, stops_at}
+use Rattle.asg_check.proofs.Common.{inr, Balanced, ProvesWindows, [], ◌∷◌, length, refl, IfOk-weaker, IsNoHallAt, StandsOn, Tells, window_reasons, NotHall, WindowGap, goes_on, stops_at}
+use Rattle.std.proofs.lemmas.Bool.{OnTrue_at}
+use Rattle.asg_check.proofs.WindowTold.{halls_nowhere, proved_halls, proved_nowhere}
 use Rattle.asg_check.proofs.window_verdicts.windows_verdict.Goals as goal
+
+pub returns-then-are_proved : goal.returns-then-are_proved
+returns-then-are_proved c =
+    let X = c.args.inst.now in
+    let value = c.args.value.now in
+    let windows = c.args.windows.now in
+    let proved : ProvesWindows Balanced X value windows = OnTrue_at c.if-are_proved.true c.in_ok-are_proved.ensures in
+    inr (halls_nowhere X windows (proved_halls Balanced X value windows proved), inr (proved_nowhere Balanced X value windows proved, refl))
 
 pub returns-in-Some : goal.returns-in-Some
 returns-in-Some c =

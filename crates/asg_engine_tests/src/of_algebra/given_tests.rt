@@ -182,11 +182,11 @@ fn index_of_high(alloc: Global, step: &[u64]) -> Result<Option<u64>, Fault> {
     )
 }
 
-// The steps are the least cells of the rows, but with the sum of both the greatest cell passes the
+// The steps are the least cells of the rows, and with the sum of both the greatest cell passes the
 // top.
 #[test]
-fn narrow_sums_near_the_top_are_not_given(rt: HostRuntime) -> Result<(), Fail> {
-    assert!(rt; index_of_high(rt.alloc(), &[1 << 60])?.is_none());
+fn narrow_sums_are_given_near_the_top(rt: HostRuntime) -> Result<(), Fail> {
+    assert!(rt; index_of_high(rt.alloc(), &[1 << 60])? == Some(1 << 61));
     Ok(())
 }
 

@@ -106,7 +106,7 @@ fn told(alloc: Global, steps: &[u64], enters: &[u32], leaves: &[u32]) -> Result<
     let mut square = NarrowSums.keep(alloc, reduced)?;
     let mut room = [0u64; 3];
     let mut told = None;
-    if square.side() == 3 && replays(&NarrowSums, &mut square, steps, enters, leaves, &mut room) {
+    if replays(&NarrowSums, &mut square, steps, enters, leaves, &mut room) && square.side() == 3 {
         told = Some((square.index(), cell_of(&square, 0, 1)));
     }
     drop(square);

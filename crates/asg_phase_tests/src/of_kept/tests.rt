@@ -210,18 +210,18 @@ fn refuses_phases_that_are_not_admitted(rt: HostRuntime) -> Result<(), Fail> {
     Ok(())
 }
 
-// What a phase of one step makes of a square of one cell of the same value: its index and its cell,
-// where it is applied.
+// What a phase makes of a square of one cell: its index and its cell, where it is applied.
 fn taken_whole<M: Keeps>(
     alloc: Global,
     m: &M,
-    value: M::Value,
-    room: &mut [M::Value; 2],
+    cells: &[Option<M::Value>],
+    steps: &[M::Value],
+    room: &mut [M::Value],
 ) -> Result<Option<(M::Value, Option<M::Value>)>, Fault> {
-    let reduced = reduced_of(alloc, m, 1, &[Some(value)])?;
+    let reduced = reduced_of(alloc, m, 1, cells)?;
     let mut square = m.keep(alloc, reduced)?;
     let mut told = None;
-    if square.side() == 1 && replays(m, &mut square, &[value], &[0], &[1], room) {
+    if replays(m, &mut square, steps, &[0], &[1], room) && square.side() == 1 {
         told = Some((square.index(), cell_of(&square, 0, 0)));
     }
     drop(square);
@@ -231,9 +231,16 @@ fn taken_whole<M: Keeps>(
 #[test]
 fn writes_out_where_sums_come_near_the_top(rt: HostRuntime) -> Result<(), Fail> {
     let wide = SUMS.top - 1;
-    assert!(rt; taken_whole(rt.alloc(), &SUMS, wide, &mut [0; 2])? == Some((wide, Some(0))));
+    let told = taken_whole(rt.alloc(), &SUMS, &[Some(wide)], &[wide], &mut [0; 2])?;
+    assert!(rt; told == Some((wide, Some(0))));
     let narrow = NARROW_TOP - 1;
-    let told = taken_whole(rt.alloc(), &NarrowSums, narrow, &mut [0; 2])?;
+    let told = taken_whole(
+        rt.alloc(),
+        &NarrowSums,
+        &[Some(narrow)],
+        &[narrow],
+        &mut [0; 2],
+    )?;
     assert!(rt; told == Some((narrow, Some(0))));
     Ok(())
 }

@@ -9,15 +9,16 @@ use crate::instances::Instance;
 use crate::parts::{Column, Row};
 
 impl Instance {
-    /// The place of the row that has this id; `None` exactly where no row has it. The place before
-    /// the id is looked at first, so that ids which count from 1 cost no search.
+    /// The place of the row that has this id; `None` exactly where no row has it. The place as far
+    /// behind the first row as the id is behind its id is looked at first, so that ids which count
+    /// up cost no search.
     pub fn row_place(&self, id: u32) -> Option<u32>
         ensures place { result ≡ row_place_of self.now id }
         ensures there { IfSome result (λ row. row < length self.now.rows) }
         ensures instance { IsInstance self.now }
     {
         let rows = self.rows();
-        let guess = id.saturating_sub(1);
+        let guess = id.saturating_sub(first_row_id(rows));
         if is_row_at(rows, guess, id) {
             return Some(guess);
         }
@@ -27,15 +28,16 @@ impl Instance {
         }
     }
 
-    /// The place of the column that has this id; `None` exactly where no column has it. The place
-    /// before the id is looked at first, so that ids which count from 1 cost no search.
+    /// The place of the column that has this id; `None` exactly where no column has it. The place as
+    /// far behind the first column as the id is behind its id is looked at first, so that ids which
+    /// count up cost no search.
     pub fn column_place(&self, id: u32) -> Option<u32>
         ensures place { result ≡ column_place_of self.now id }
         ensures there { IfSome result (λ col. col < length self.now.columns) }
         ensures instance { IsInstance self.now }
     {
         let columns = self.columns();
-        let guess = id.saturating_sub(1);
+        let guess = id.saturating_sub(first_column_id(columns));
         if is_column_at(columns, guess, id) {
             return Some(guess);
         }
@@ -43,6 +45,26 @@ impl Instance {
             Some(column) => Some(column as u32),
             None => None,
         }
+    }
+}
+
+// The id of the first row, or 0.
+fn first_row_id(rows: &[Row]) -> u32
+    ensures { result ≡ option_map_or (λ row. row.id) (slice_get rows.now 0) 0 }
+{
+    match rows.get(0) {
+        Some(row) => row.id,
+        None => 0,
+    }
+}
+
+// The id of the first column, or 0.
+fn first_column_id(columns: &[Column]) -> u32
+    ensures { result ≡ option_map_or (λ column. column.id) (slice_get columns.now 0) 0 }
+{
+    match columns.get(0) {
+        Some(column) => column.id,
+        None => 0,
     }
 }
 

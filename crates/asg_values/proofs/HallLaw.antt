@@ -2,7 +2,9 @@
 -- band. Each row of the set that chooses takes a column that the set reaches, and no more rows of
 -- it stay out than the slack allows; so the set would be no more than it is short of.
 use Rattle.asg_values.proofs.Common.{◌≡◌, ℕ, ◌+◌, ◌<◌, ◌≤◌, Bool, true, false, cond, not, ◌&&◌, List, length, get_or, is_some, IsSome, Some, None, count_by, Option, sym, refl, ap, ◌∙◌, ⊎_elim, zero-add, arith, Decides-eqb, cases_Bool, enumerate_from, false≢true, get_or-enumerate_from, length-enumerate_from, option_map_or, slice_get-get_or, in_band, capacity_at, slack, is_counted, is_live_within, is_reached, reached_part, reached_capacity, IsHall, LiesIn, live_at, Problem, sum_below, count_below, takes, IsValid, Band, sum_below-same, sum_below-le, sum_below-add, sum_below-zero, sum_below-exchange, term-le-sum_below, sum_by-below, is_active-from_live, no_column, counted_total, counted-from_active, split_one}
-use Rattle.asg_values.proofs.HallRows.{one, chosen, Chooses-from_chosen, column-from_live, some_cost, is_in, set-le, counted-from_in, reached-from_in}
+use Rattle.asg_values.proofs.HallRows.{one, chosen, Chooses-from_chosen, is_in, set-le, counted-from_in, reached-from_in}
+use Rattle.asg_values.specs.laws.LiveCells.{column-from_live}
+use Rattle.asg_values.specs.laws.Options.{some_there}
 
 -- ---- the counted rows
 
@@ -74,7 +76,7 @@ module _ (X : Problem) (band : Band) (ids : List ℕ) (f : List (Option ℕ)) (h
       ⊎_elim
       (λ (set : is_in X ids r ≡ true).
       let live = alive_at X f valid r c e in
-      let cost = some_cost (live_at X r c) live in
+      let cost = some_there (live_at X r c) live in
       let banded : is_live_within X band r c ≡ true =
       ap (λ o. option_map_or (λ x. in_band band x.a) o false) cost.1 ∙ inside r c cost.0 (Chooses-from_chosen f r c e) cost.1 in
       let reached = reached-from_in X band ids hall r c set banded in

@@ -1,28 +1,12 @@
 -- What a row chooses, and the rows that a set of ids names.
-use Rattle.asg_values.proofs.Common.{◌≡◌, ℕ, suc, ◌<◌, ◌≤◌, Bool, true, false, cond, ◌&&◌, ◌||◌, eqb, ◌≢◌, List, [], ◌∷◌, map, length, get_or, take, IsSome, ◌==◌, Some, None, Option, AllPairs, option_and_then, unwrap_or, sym, refl, ap, ◌∙◌, ⊎_elim, arith, length-take, get_or-take, Decides-eqb, cases_lt, false≢true, get_or-map, get_or_past, length-map, list_any, list_any_at, none-some, option_map_or, position-Some, same_Some, slice_get-get_or, slice_get_past, is_counted, row_place_of, is_live_within, reaches, is_reached, is_counted_id, IsHall, is_active, is_open, cost_at, live_at, Problem, count_below, Chooses, Band, Cost, length-le-count_below, no_row}
+use Rattle.asg_values.proofs.Common.{◌≡◌, ℕ, ◌<◌, ◌≤◌, Bool, true, false, cond, eqb, ◌≢◌, List, map, length, get_or, take, ◌==◌, Some, None, Option, AllPairs, unwrap_or, sym, refl, ap, ◌∙◌, ⊎_elim, arith, length-take, get_or-take, Decides-eqb, cases_lt, get_or-map, get_or_past, length-map, list_any, list_any_at, none-some, option_map_or, slice_get-get_or, is_counted, row_place_of, is_live_within, reaches, is_reached, is_counted_id, IsHall, Problem, count_below, Chooses, Band, length-le-count_below, no_row}
+use Rattle.asg_values.specs.laws.Elements.{list_any-found}
+use Rattle.asg_values.specs.laws.Options.{option_passes}
+use Rattle.asg_values.specs.laws.RowIds.{id_at_place}
 
 -- the number of a fact, 1 where it holds
 abbrev pub one : Bool → ℕ
 one b = cond b 1 0
-
--- a test of what an option has passes at something
-option_passes : (p : ℕ → Bool) (o : Option ℕ) → option_map_or p o false ≡ true → (r : ℕ) × (o ≡ Some r) × (p r ≡ true)
-option_passes p None e = absurd (false≢true e)
-option_passes p (Some r) e = (r, refl, e)
-
--- some element of a list passes
-abbrev pub Found : (ℕ → Bool) → List ℕ → Type 0
-Found p xs = (k : ℕ) × (k < length xs) × ((d : ℕ) → p (get_or xs k d) ≡ true)
-
-found_more : (p : ℕ → Bool) (x : ℕ) (xs : List ℕ) (b : Bool) → p x ≡ b → (b || list_any p xs) ≡ true → (list_any p xs ≡ true → Found p xs) → Found p (x ∷ xs)
-found_more p x xs true here e later = (0, omega arith, λ d. here)
-found_more p x xs false here e later =
-    let found = later e in
-    (suc found.0, omega (arith, found.1), λ d. found.2 d)
-
-pub list_any-found : (p : ℕ → Bool) (xs : List ℕ) → list_any p xs ≡ true → Found p xs
-list_any-found p [] e = absurd (false≢true e)
-list_any-found p (x ∷ xs) e = found_more p x xs (p x) refl e (list_any-found p xs)
 
 -- ---- what a row chooses
 
@@ -36,25 +20,6 @@ Chooses-from_chosen f r c e =
     (λ (within : r < length f). slice_get-get_or f r None within ∙ ap Some e)
     (λ (past : length f ≤ r). absurd (none-some c (sym (get_or_past f r None past) ∙ e)))
     (cases_lt r (length f))
-
--- a live cell has a cost, and stands in an active row and in a column that is there
-live_parts : (b d : Bool) (o : Option Cost) → IsSome (cond (b && d) o None) → (b ≡ true) × (d ≡ true)
-live_parts true true o live = (refl, refl)
-live_parts true false o live = absurd (false≢true live)
-live_parts false d o live = absurd (false≢true live)
-
-pub column-from_live : (X : Problem) (r c : ℕ) → IsSome (live_at X r c) → c < length X.columns
-column-from_live X r c live =
-    let usable = (live_parts (is_active X r) (is_open X c) (cost_at X.cells r c) live).1 in
-    ⊎_elim
-    (λ (within : c < length X.columns). within)
-    (λ (past : length X.columns ≤ c).
-    absurd (false≢true (sym (ap (λ o. option_map_or (λ column. column.usable) o false) (slice_get_past X.columns c past)) ∙ usable)))
-    (cases_lt c (length X.columns))
-
-pub some_cost : (o : Option Cost) → IsSome o → (cost : Cost) × (o ≡ Some cost)
-some_cost None live = absurd (false≢true live)
-some_cost (Some cost) live = (cost, refl)
 
 -- ---- the rows of the set
 
@@ -81,21 +46,6 @@ counted_place X id e =
     let found = option_passes (is_counted X) (row_place_of X id) e in
     let at : place_of X id ≡ found.0 = ap (λ o. unwrap_or o 0) found.1 in
     (found.1 ∙ ap Some (sym at), ap (is_counted X) at ∙ found.2)
-
--- the row at the place of an id has that id
-pub id_at_place : (X : Problem) (id r : ℕ) → row_place_of X id ≡ Some r → (r < length X.rows) × ((get_or X.rows r no_row).id ≡ id)
-id_at_place X id r e =
-    let found = position-Some (λ row. row.id == id) X.rows r no_row e in
-    (found.0, (Decides-eqb _ id).0 found.1)
-
--- the place of a counted row that an id names
-pub counted_row : (X : Problem) (o : Option ℕ) (row : ℕ) → option_and_then (λ r. cond (is_counted X r) (Some r) None) o ≡ Some row → (o ≡ Some row) × (is_counted X row ≡ true)
-counted_row X None row e = absurd (none-some row e)
-counted_row X (Some r) row e = by_count (is_counted X r) refl e
-  where
-    by_count : (b : Bool) → is_counted X r ≡ b → cond b (Some r) None ≡ Some row → (Some r ≡ Some row) × (is_counted X row ≡ true)
-    by_count true is e = (e, ap (is_counted X) (sym (same_Some r row e)) ∙ is)
-    by_count false is e = absurd (none-some row e)
 
 -- different ids name rows at different places
 places_differ : (X : Problem) (x y : ℕ) → is_counted_id X x ≡ true → is_counted_id X y ≡ true → x ≢ y → place_of X x ≢ place_of X y

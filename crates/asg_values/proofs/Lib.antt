@@ -1,5 +1,4 @@
 pub mod Common
-mod Enumerated
 mod Steps
 mod DescendingLists
 mod LessLists

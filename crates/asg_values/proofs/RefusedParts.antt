@@ -1,34 +1,7 @@
 -- Rows without a negative part: the objectives refuse no live cell of theirs.
-use Rattle.asg_values.proofs.Common.{◌≡◌, ℕ, ◌<◌, ◌≤◌, Bool, true, false, cond, ◌&&◌, ◌≢◌, List, length, get_or, ℤ, pos, ◌≤ℤ◌, is_some, IsSome, int_lt, Some, None, Option, int_eq, sym, refl, ap, ◌∙◌, subst, ⊎_elim, arith, Decides-int_eq, cases_lt, false≢true, get_or_default, get_or_past, ints, option_map_or, cost_at, is_active, is_open, live_at, Problem, is_refused, is_refused_at, IsPassed, absent, table_cost, AreRowParts, Objective, Capped, TimeCost, Cost}
-use Rattle.asg_values.proofs.HallRows.{column-from_live}
-
-live_cost : (b : Bool) (o : Option Cost) (x : Cost) → cond b o None ≡ Some x → o ≡ Some x
-live_cost true o x e = e
-live_cost false o x e = cc
-
-slot_cost : (b : Bool) (y x : Cost) → cond b None (Some y) ≡ Some x → (b ≡ false) × (y ≡ x)
-slot_cost true y x e = cc
-slot_cost false y x e = (refl, cc)
-
--- what stands in the place of a live cell: no absent part, and the two parts of its cost
-module _ (X : Problem) (r : ℕ) (firsts seconds : List ℤ) (parts : AreRowParts X r firsts seconds) (c : ℕ) (x : Cost) (live : live_at X r c ≡ Some x) where
-  there : c < length X.columns
-  there = column-from_live X r c (ap (is_some {T = Cost}) live)
-
-  abbrev stored : Cost
-  stored = record { a = get_or firsts c absent; b = get_or seconds c (pos 0) }
-
-  slot : (int_eq (get_or firsts c absent) absent ≡ false) × (stored ≡ x)
-  slot = slot_cost (int_eq (get_or firsts c absent) absent) stored x (sym (parts.costs c there) ∙ live_cost (is_active X r && is_open X c) (cost_at X.cells r c) x live)
-
-  first : get_or firsts c absent ≡ x.a
-  first = ap (λ y. y.a) slot.1
-
-  second : get_or seconds c (pos 0) ≡ x.b
-  second = ap (λ y. y.b) slot.1
-
-  present : get_or firsts c absent ≢ absent
-  present e = false≢true (sym slot.0 ∙ (Decides-int_eq (get_or firsts c absent) absent).1 e)
+use Rattle.asg_values.proofs.Common.{◌≡◌, ℕ, ◌<◌, ◌≤◌, false, cond, List, length, get_or, ℤ, pos, ◌≤ℤ◌, int_lt, Some, None, Option, sym, refl, ap, ◌∙◌, subst, ⊎_elim, arith, cases_lt, get_or_default, get_or_past, ints, option_map_or, live_at, Problem, is_refused, is_refused_at, IsPassed, absent, AreRowParts, Objective, Capped, TimeCost, Cost}
+use Rattle.asg_values.specs.laws.LiveCells.{column_of_live}
+use Rattle.asg_values.specs.laws.RowSlots.{first-at_live, present-at_live, second-at_live}
 
 not_below : (a : ℤ) → pos 0 ≤ℤ a → int_lt a (pos 0) ≡ false
 not_below a low = grind (arith, ints, low)
@@ -48,10 +21,10 @@ pub passes_capped : (cap : ℕ) (X : Problem) (r : ℕ) (firsts seconds : List �
 passes_capped cap X r firsts seconds parts passed c =
     refused_by_cost (Capped cap) X r c
     (λ x live.
-    let within : c < length firsts = omega (arith, there X r firsts seconds parts c x live, parts.whole) in
+    let within : c < length firsts = omega (arith, column_of_live X r c x live, parts.whole) in
     ⊎_elim
-    (λ none. absurd (present X r firsts seconds parts c x live none))
-    (λ low. not_below x.a (subst (λ a. pos 0 ≤ℤ a) (first X r firsts seconds parts c x live) low))
+    (λ none. absurd (present-at_live X r firsts seconds parts c x live none))
+    (λ low. not_below x.a (subst (λ a. pos 0 ≤ℤ a) (first-at_live X r firsts seconds parts c x live) low))
     (passed c within))
 
 -- The same of an objective that is capped sums.
@@ -63,7 +36,7 @@ pub passes_time_cost : (X : Problem) (r : ℕ) (firsts seconds : List ℤ) → A
 passes_time_cost X r firsts seconds parts passed c =
     refused_by_cost TimeCost X r c
     (λ x live.
-    let at = second X r firsts seconds parts c x live in
+    let at = second-at_live X r firsts seconds parts c x live in
     ⊎_elim
     (λ (within : c < length seconds). subst (λ b. int_lt b (pos 0) ≡ false) (get_or_default seconds c absent (pos 0) within ∙ at) (passed_zero (get_or seconds c absent) (passed c within)))
     (λ (past : length seconds ≤ c). subst (λ b. int_lt b (pos 0) ≡ false) (sym (get_or_past seconds c (pos 0) past) ∙ at) refl)

@@ -1,10 +1,6 @@
 -- What stands in a row of costs, and the live cells of a band.
-use Rattle.asg_values.proofs.Common.{◌≡◌, ℕ, zero, suc, ◌+◌, ◌<◌, ◌≤◌, Bool, true, false, cond, ◌&&◌, List, length, get_or, replicate, ℤ, pos, IfSome, unsigned_abs, int_le, Some, None, All, Option, int_eq, sym, refl, ap, ◌∙◌, subst, inl, inr, arith, Decides-int_eq, get_or_default, ints, option_map_or, in_band, is_live_within, IsCostInRange, most_cost, is_active, is_open, cost_at, Problem, absent, IsEntry, AreRowParts, IsPartInRange, Band, Cost, cost_at-All}
-
--- what stands in a row for a cell that has this cost, or none
-abbrev IsSlotOf : Option Cost → ℤ → Type 0
-IsSlotOf None a = a ≡ absent
-IsSlotOf (Some cost) a = (a ≡ cost.a) × IsPartInRange a
+use Rattle.asg_values.proofs.Common.{◌≡◌, ℕ, zero, suc, ◌+◌, ◌<◌, ◌≤◌, Bool, true, false, cond, ◌&&◌, List, length, get_or, replicate, ℤ, unsigned_abs, int_le, Some, None, All, Option, sym, refl, ap, ◌∙◌, arith, ints, option_map_or, in_band, is_live_within, IsCostInRange, most_cost, is_active, is_open, cost_at, Problem, absent, AreRowParts, IsPartInRange, Band, Cost}
+use Rattle.asg_values.specs.laws.RowSlots.{IsSlotOf, slots}
 
 open_case : (b : Bool) (o : Option Cost) (f : Cost → Bool) → option_map_or f (cond b o None) false ≡ (b && option_map_or f o false)
 open_case true o f = refl
@@ -28,34 +24,13 @@ slot_within : (band : Band) (low high : ℤ) → ((a : ℤ) → IsPartInRange a 
 slot_within band low high within below None a is = ap (λ b. int_le low b && int_le b high) is ∙ absent_below low high below
 slot_within band low high within below (Some cost) a is = sym (within a is.1) ∙ ap (in_band band) is.0
 
-slot_is : (a second : ℤ) (b : Bool) → int_eq a absent ≡ b → IfSome (cond b None (Some (record { a = a; b = second }))) IsCostInRange → IsSlotOf (cond b None (Some (record { a = a; b = second }))) a
-slot_is a second true e near = (Decides-int_eq a absent).0 e
-slot_is a second false e near = (refl, near.a_in_range)
-
-entry : (o : Option Cost) (a : ℤ) → IsSlotOf o a → IsEntry a
-entry None a is = inl is
-entry (Some cost) a is = inr is.1
-
 -- both parts of the costs of a row, whose costs are in range
 module _ (X : Problem) (r : ℕ) (firsts seconds : List ℤ) (are : AreRowParts X r firsts seconds) (costs : All (λ cell. IsCostInRange cell.1) X.cells) where
-  slots : (c : ℕ) → c < length X.columns → IsSlotOf (cost_at X.cells r c) (get_or firsts c absent)
-  slots c within =
-      let a = get_or firsts c absent in
-      subst (λ (o : Option Cost). IsSlotOf o a) (sym (are.costs c within))
-      (slot_is a (get_or seconds c (pos 0)) (int_eq a absent) refl
-      (subst (λ (o : Option Cost). IfSome o IsCostInRange) (are.costs c within) (cost_at-All IsCostInRange X.cells r c costs)))
-
-  -- the first parts are absent or in range
-  pub entries : All IsEntry firsts
-  entries k d within =
-      subst IsEntry (get_or_default firsts k absent d within)
-      (entry (cost_at X.cells r k) (get_or firsts k absent) (slots k (omega (arith, within, are.whole))))
-
   -- a first part lies between the ends of a band, in an open column, where the cell is live with a
   -- cost of the band
   pub live_between : (band : Band) (low high : ℤ) → ((a : ℤ) → IsPartInRange a → in_band band a ≡ (int_le low a && int_le a high)) → unsigned_abs low ≤ most_cost + 1 → is_active X r ≡ true → (c : ℕ) → c < length X.columns → (is_open X c && (int_le low (get_or firsts c absent) && int_le (get_or firsts c absent) high)) ≡ is_live_within X band r c
   live_between band low high ends below active c within =
-      ap (λ b. is_open X c && b) (slot_within band low high ends below (cost_at X.cells r c) (get_or firsts c absent) (slots c within))
+      ap (λ b. is_open X c && b) (slot_within band low high ends below (cost_at X.cells r c) (get_or firsts c absent) (slots X r firsts seconds are costs c within))
       ∙ sym (is_live_within-active X band r c active)
 
 -- no mark is set in a list of marks that are not set

@@ -9,6 +9,7 @@ ghost use Rattle.asg_model.specs.Live.{is_active};
 ghost use Rattle.asg_model.specs.HallSet.{is_live_within, reaches};
 ghost use Rattle.asg_model.specs.Table.{absent, IsEntry};
 ghost use Rattle.asg_model.specs.ValueRange.{IsPartInRange};
+ghost use Rattle.asg_values.specs.Marks.{lies_between, meets, AreMarked};
 
 use asg_model::limits::{MOST_COLUMNS, MOST_COST};
 use asg_model::{Band, Column, Instance, RowRoom};
@@ -68,6 +69,9 @@ fn reach_active(
     }
 }
 
+// How many costs are looked at at once.
+const PIECE: usize = 16;
+
 // Marks the open columns whose costs lie between two ends, both included.
 fn reach_costs(
     columns: &[Column],
@@ -79,14 +83,73 @@ fn reach_costs(
     requires few { length columns.now ≤ most_columns }
     requires whole { length costs.now ≡ length columns.now }
     requires entries { All IsEntry costs.now }
-    ensures { (c : ℕ) → c < length columns.now →
-        slice_index_or reached.new c false ≡ (slice_index_or reached.old c false
-        || (option_map_or (λ column. column.usable) (slice_get columns.now c) false
-        && (int_le low (slice_index_or costs.now c absent)
-        && int_le (slice_index_or costs.now c absent) high))) }
+    ensures { AreMarked (meets columns.now costs.now low high) 0 (length columns.now)
+        reached.old reached.new }
 {
-    for (place, column) in columns.iter().enumerate() {
-        reached[place] = reached[place] | (column.usable & is_between(costs[place], low, high));
+    for number in 0..columns.len().div_ceil(PIECE) {
+        let first = number * PIECE;
+        let end = (first + PIECE).min(columns.len());
+        reach_piece(columns, costs, low, high, first, end, reached);
+    }
+}
+
+// The same of the columns from one to another. In most pieces of a row with few live cells no cost
+// lies there, which one look tells.
+fn reach_piece(
+    columns: &[Column],
+    costs: &[i64],
+    low: i64,
+    high: i64,
+    first: usize,
+    end: usize,
+    reached: &mut [bool; MOST_COLUMNS],
+)
+    requires few { length columns.now ≤ most_columns }
+    requires whole { length costs.now ≡ length columns.now }
+    requires entries { All IsEntry costs.now }
+    requires order { first ≤ end }
+    requires within { end ≤ length columns.now }
+    ensures { AreMarked (meets columns.now costs.now low high) first end reached.old reached.new }
+{
+    if has_between(costs, low, high, first, end) {
+        mark_piece(columns, costs, low, high, first, end, reached);
+    }
+}
+
+// Whether the cost in some column from one to another lies between two ends, both included.
+fn has_between(costs: &[i64], low: i64, high: i64, first: usize, end: usize) -> bool
+    requires within { end ≤ length costs.now }
+    requires entries { All IsEntry costs.now }
+    ensures { result ≡ false
+        → (c : ℕ) → first ≤ c → c < end → lies_between costs.now low high c ≡ false }
+{
+    let mut has = false;
+    for column in first..end {
+        has = has | is_between(costs[column], low, high);
+    }
+    has
+}
+
+// Marks those columns from one to another that are open and whose costs lie between two ends.
+fn mark_piece(
+    columns: &[Column],
+    costs: &[i64],
+    low: i64,
+    high: i64,
+    first: usize,
+    end: usize,
+    reached: &mut [bool; MOST_COLUMNS],
+)
+    requires few { length columns.now ≤ most_columns }
+    requires whole { length costs.now ≡ length columns.now }
+    requires entries { All IsEntry costs.now }
+    requires order { first ≤ end }
+    requires within { end ≤ length columns.now }
+    ensures { AreMarked (meets columns.now costs.now low high) first end reached.old reached.new }
+{
+    for column in first..end {
+        reached[column] = reached[column]
+            | (columns[column].usable & is_between(costs[column], low, high));
     }
 }
 

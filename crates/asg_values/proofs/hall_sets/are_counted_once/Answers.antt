@@ -1,6 +1,7 @@
 -- One more id: it names a counted row, and none of the earlier ids names it.
 use Rattle.asg_values.proofs.Common.{◌≡◌, ℕ, ◌<◌, ◌≤◌, Bool, true, false, ◌||◌, ◌≢◌, List, length, get_or, take, set, ◌==◌, sym, ap, ◌∙◌, subst, ⊎_elim, arith, length-set, get_or-set_other, get_or-set_same, below_more, ne_eqb, Decides-eqb, cases_eq, cases_lt, false≢true, get_or-replicate, get_or_default, length-replicate, list_any, list_any_more, option_map_or, or-false, or-true, is_counted, row_place_of, is_counted_id, most_rows}
-use Rattle.asg_values.proofs.HallRows.{names, counted_row, named_twice, named_before}
+use Rattle.asg_values.proofs.HallRows.{names, named_twice, named_before}
+use Rattle.asg_values.specs.laws.RowIds.{counted_row}
 use Rattle.asg_values.proofs.hall_sets.are_counted_once.Goals as goal
 
 pub loop-id-init : goal.loop-id-init

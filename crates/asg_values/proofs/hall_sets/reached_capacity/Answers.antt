@@ -1,6 +1,6 @@
 -- Each turn adds one column's part.
 use Rattle.asg_values.proofs.Common.{◌≡◌, ℕ, ◌+◌, ◌<◌, ◌≤◌, false, cond, length, get_or, take, sym, ap, ◌∙◌, arith, enumerate_from, reached_part, no_column, sum_by}
-use Rattle.asg_values.proofs.Enumerated.{sum_by-enumerate_more, take-enumerate_all, cond-le}
+use Rattle.asg_values.specs.laws.Elements.{sum_by-enumerate_more, take-enumerate_all, part-le}
 use Rattle.asg_values.proofs.hall_sets.reached_capacity.Goals as goal
 
 pub loop-place-preserved : goal.loop-place-preserved
@@ -16,7 +16,7 @@ loop-place-preserved c =
     let small = c.columns-column-items.ensures.instance.well_formed.capacities i no_column within in
     let turn = ap (λ (t : ℕ). t + c.part_of-total.result) c.loop-place.invariant.0 in
     let last = ap (λ (p : ℕ). sum_by (reached_part X c.args.band c.args.rows.now) (take i (enumerate_from 0 X.columns)) + p) part in
-    let at_most : c.part_of-total.result ≤ 1000 = rw here (cond-le _ _ 1000 small.1) in
+    let at_most : c.part_of-total.result ≤ 1000 = rw here (part-le _ _ 1000 (λ _. small.1)) in
     (turn ∙ last ∙ sym step, omega arith)
 
 pub returns-clause-exact : goal.returns-clause-exact

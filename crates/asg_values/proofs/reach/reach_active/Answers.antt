@@ -1,7 +1,8 @@
 -- A row's marks are those of its costs in open columns that stand between the ends of the band.
 use Rattle.asg_values.proofs.Common.{false, ◌&&◌, ◌||◌, List, length, get_or, slice_get, int_le, sym, ap, ◌∙◌, arith, to_z-of_z, w64, fits_signed_from_abs, option_map_or, absent, row-from_active}
 use Rattle.asg_model.specs.declared.parts.Column.{Column}
-use Rattle.asg_values.proofs.Slots.{entries, live_between}
+use Rattle.asg_values.proofs.Slots.{live_between}
+use Rattle.asg_values.specs.laws.RowSlots.{entries}
 use Rattle.asg_values.proofs.reach.reach_active.Goals as goal
 
 pub reach_costs-requires : goal.reach_costs-requires
@@ -26,7 +27,7 @@ returns-in-Some c col within =
     let a = get_or firsts col absent in
     let same_low = to_z-of_z w64 low (fits_signed_from_abs w64 low (omega (arith, c.ends-low.ensures.low))) in
     let same_high = to_z-of_z w64 high (fits_signed_from_abs w64 high (omega (arith, c.ends-low.ensures.high))) in
-    c.reach_costs.ensures col (omega (arith, within, same))
+    c.reach_costs.ensures.inside col (omega arith) (omega (arith, within, same))
     ∙ (λ i. old || (option_map_or (λ column. column.usable) (slice_get (columns i) col) false && (int_le (same_low i) a && int_le a (same_high i))))
     ∙ ap (λ b. old || b)
     (live_between X c.args.row firsts _ c.in-Some.ensures.parts c.columns.ensures.instance.well_formed.costs c.args.band low high c.ends-low.ensures.within c.ends-low.ensures.low c.requires col within)

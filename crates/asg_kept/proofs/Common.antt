@@ -11,7 +11,7 @@ pub use Rattle.asg_kept.specs.KeptSums.{AreZeros, KeepsSums}
 pub use Rattle.asg_kept.specs.NarrowRows.{AreLesserBits}
 pub use Rattle.asg_monoids.specs.BoundedSums.{bounded_difference, bounded_sums, narrow_top}
 pub use Rattle.asg_order.specs.Monoid.{IsValue, fold_of}
-pub use Rattle.asg_phase_totals.specs.Duals.{AreDuals, FitsDuals, FitsRows, HasRoom, IsGreatest, RaisesDuals, dual_bits, dual_cell, dual_grid, dual_reduced, dual_value, dual_values, sum_before}
+pub use Rattle.asg_phase_totals.specs.Duals.{AreDuals, AreSums, FitsDuals, FitsRows, HasRoom, IsGreatest, RaisesDuals, dual_bits, dual_cell, dual_grid, dual_reduced, dual_value, dual_values, sum_before}
 pub use Rattle.asg_phase_totals.specs.SumNumbers.{numbered_grid}
 pub use Rattle.asg_phase_totals.specs.laws.NumberLemmas.{count_is, read_is, sum_at, zeros_are}
 pub use Rattle.asg_phase_totals.specs.laws.PresentLemmas.{cell_is, cells_are, column_within, grid_is, present_is, values_are, words_are}

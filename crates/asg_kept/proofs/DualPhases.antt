@@ -1,10 +1,11 @@
 -- Phases by dual variables.
-use Rattle.asg_kept.proofs.Common.{◌≡◌, ℕ, suc, ◌+◌, ◌-◌, ◌<◌, ◌≤◌, min, List, length, get_or, is_some, IsSome, slice_get, slice_index, Some, None, All, Option, option_map, sym, refl, ap, ◌∙◌, subst, inl, inr, ⊎_elim, arith, le-leb, cases_lt, false≢true, get_or_default, get_or_from_slice_get, same_number_lists, slice_get-get_or, AllowsRows, IsReduced, IsPhaseTo, KeepsPresence, phase_of, present_within, AreWordsOf, AreValuesOf, bounded_sums, bounded_difference, IsValue, fold_of, sum_before, dual_value, dual_bits, dual_values, dual_grid, dual_reduced, AreDuals, FitsDuals, FitsRows, HasRoom, RaisesDuals, fold_is, settled_is, allowed_fits, fits_allowed, before_more, before_rises, Grid, IsGrid, cell_at}
+use Rattle.asg_kept.proofs.Common.{◌≡◌, ℕ, suc, ◌+◌, ◌-◌, ◌<◌, ◌≤◌, min, List, length, get_or, is_some, IsSome, slice_get, slice_index, Some, None, All, Option, option_map, sym, refl, ap, ◌∙◌, subst, inl, inr, ⊎_elim, arith, le-leb, cases_lt, false≢true, get_or_default, get_or_from_slice_get, same_number_lists, slice_get-get_or, AllowsRows, IsReduced, IsPhaseTo, KeepsPresence, phase_of, present_within, AreWordsOf, AreValuesOf, bounded_sums, bounded_difference, IsValue, fold_of, sum_before, dual_value, dual_bits, dual_values, dual_grid, dual_reduced, AreDuals, FitsDuals, FitsRows, HasRoom, RaisesDuals, fold_is, settled_is, allowed_fits, fits_allowed, before_more, before_rises, Grid, IsGrid, cell_at, false, map, Reduced, AreCounted, admitted_to, allows_from, KeepsSums, IsAdmittedPhase, AreSums, count_is, read_is, sum_at, ◌↔◌}
 use Rattle.asg_admit.specs.Settled.{settled, AllowsSteps}
 use Rattle.asg_admit.specs.laws.SettledCells.{after_phase-cell}
+use Rattle.asg_kept.proofs.ZeroDuals.{unwritten}
 use Rattle.asg_kept.proofs.DualLemmas.{dual_is_grid, dual_cell_at, mapped_from, mapped_twice, bits_kept, dual_values_at, length_of_values}
 
-module _ {bound : ℕ} (Q : Grid ℕ) (rows columns : List ℕ) (index greatest : ℕ) (duals : AreDuals bound Q rows columns index greatest) where
+module _ {bound : ℕ} {Q : Grid ℕ} {rows columns : List ℕ} {index greatest : ℕ} (duals : AreDuals bound Q rows columns index greatest) where
   abbrev now : Grid ℕ
   now = dual_grid Q rows columns
 
@@ -16,7 +17,10 @@ module _ {bound : ℕ} (Q : Grid ℕ) (rows columns : List ℕ) (index greatest 
   pub dual_to : (r k x : ℕ) → cell_at Q r k ≡ Some x → cell_at now r k ≡ Some (dual_value (slice_index rows r) (slice_index columns k) x)
   dual_to r k x h = dual_cell_at Q duals.grid rows columns r k ∙ ap (option_map (dual_value (slice_index rows r) (slice_index columns k))) h
 
-  module _ (top : ℕ) (steps enters leaves : List ℕ) (room : HasRoom top (dual_reduced Q rows columns index) (fold_of (bounded_sums top) steps)) where
+  module _ {reduced : Reduced ℕ} (view : dual_reduced Q rows columns index ≡ reduced) {top : ℕ} (steps enters leaves : List ℕ) (given : HasRoom top reduced (fold_of (bounded_sums top) steps)) where
+    room : HasRoom top (dual_reduced Q rows columns index) (fold_of (bounded_sums top) steps)
+    room = subst (λ (R : Reduced ℕ). HasRoom top R (fold_of (bounded_sums top) steps)) (sym view) given
+
     abbrev sum : ℕ
     sum = sum_before steps (length steps)
 
@@ -49,8 +53,22 @@ module _ {bound : ℕ} (Q : Grid ℕ) (rows columns : List ℕ) (index greatest 
       entered_few : entered ≤ sum
       entered_few = before_rises steps (min (slice_index enters r) (length steps)) (length steps) (omega arith) (omega arith)
 
+    steps_few : (t : ℕ) → t < length steps → slice_index steps t ≤ top
+    steps_few t h =
+        let more = before_more steps t h in
+        let part = before_rises steps (suc t) (length steps) h (omega arith) in
+        omega (arith, more, part, sum_is, room.index)
+
+    steps_are_values : All (IsValue (bounded_sums top)) steps
+    steps_are_values t d h = subst (λ x. IsValue (bounded_sums top) x) (get_or_default steps t 0 d h) (le-leb (slice_index steps t) top (steps_few t h))
+
+    pub admitted_allows : IsAdmittedPhase (bounded_sums top) bounded_difference reduced.now.side (phase_of steps enters leaves) (cell_at reduced.now) → AllowsRows (bounded_sums top) bounded_difference (phase_of steps enters leaves) now
+    admitted_allows admitted =
+        allows_from (bounded_sums top) bounded_difference (phase_of steps enters leaves) now
+        (subst (λ (R : Reduced ℕ). IsAdmittedPhase (bounded_sums top) bounded_difference R.now.side (phase_of steps enters leaves) (cell_at R.now)) (sym view) admitted)
+
     -- the cells of the rows that enter allow the steps exactly where no difference is cut off at 0
-    module _ (columns′ : List ℕ) (raised : RaisesDuals steps leaves columns columns′) where
+    module _ {columns′ : List ℕ} (raised : RaisesDuals steps leaves columns columns′) where
       raised_is : (k : ℕ) → k < Q.side → slice_index columns′ k ≡ slice_index columns k + sum_before steps (min (slice_index leaves k) (length steps))
       raised_is k h = raised.each k (omega (arith, h, duals.column_count))
 
@@ -77,38 +95,37 @@ module _ {bound : ℕ} (Q : Grid ℕ) (rows columns : List ℕ) (index greatest 
           let least = cell_fits r k x is allows in
           omega (arith, least, raised_is k hk, uncut r enters_row, was)
 
-    pub steps_few : (t : ℕ) → t < length steps → slice_index steps t ≤ top
-    steps_few t h =
-        let more = before_more steps t h in
-        let part = before_rises steps (suc t) (length steps) h (omega arith) in
-        omega (arith, more, part, sum_is, room.index)
+      -- so a test of these tells whether the phase is admitted
+      pub phase_told : {T : Type 0} → length enters ≡ Q.side → length leaves ≡ Q.side → AreCounted enters leaves (length steps) → T ↔ FitsRows Q.side (cell_at Q) rows columns′ steps enters → T ↔ IsAdmittedPhase (bounded_sums top) bounded_difference reduced.now.side (phase_of steps enters leaves) (cell_at reduced.now)
+      phase_told row_count column_count counted told = (
+        λ is. subst (λ (R : Reduced ℕ). IsAdmittedPhase (bounded_sums top) bounded_difference R.now.side (phase_of steps enters leaves) (cell_at R.now)) view
+            (admitted_to (bounded_sums top) bounded_difference (phase_of steps enters leaves) now row_count column_count steps_are_values counted (fits_allow (told.0 is))),
+        λ admitted. told.1 (allow_fits (admitted_allows admitted)),
+      )
 
-    pub steps_are_values : All (IsValue (bounded_sums top)) steps
-    steps_are_values t d h = subst (λ x. IsValue (bounded_sums top) x) (get_or_default steps t 0 d h) (le-leb (slice_index steps t) top (steps_few t h))
-
-    module _ (allows : AllowsRows (bounded_sums top) bounded_difference (phase_of steps enters leaves) now) (few : top ≤ bound) (rows′ columns′ : List ℕ) (raised_rows : RaisesDuals steps enters rows rows′) (raised_columns : RaisesDuals steps leaves columns columns′) where
+    module _ (allows : AllowsRows (bounded_sums top) bounded_difference (phase_of steps enters leaves) now) (few : top ≤ bound) {rows′ columns′ : List ℕ} (raised_rows : RaisesDuals steps enters rows rows′) (raised_columns : RaisesDuals steps leaves columns columns′) {later : ℕ} (grown : later ≡ index + sum) where
       row_is : (r : ℕ) → r < Q.side → slice_index rows′ r ≡ slice_index rows r + sum_before steps (min (slice_index enters r) (length steps))
       row_is r h = raised_rows.each r (omega (arith, h, duals.row_count))
 
       column_is : (k : ℕ) → k < Q.side → slice_index columns′ k ≡ slice_index columns k + sum_before steps (min (slice_index leaves k) (length steps))
       column_is k h = raised_columns.each k (omega (arith, h, duals.column_count))
 
-      pub duals_after : AreDuals bound Q rows′ columns′ (index + sum) greatest
-      duals_after = record {
+      pub duals_after : KeepsSums bound Q rows′ columns′ later greatest false
+      duals_after = unwritten (record {
         grid = duals.grid;
         row_count = raised_rows.count ∙ duals.row_count;
         column_count = raised_columns.count ∙ duals.column_count;
-        rows_within = λ r h. let part = before_rises steps (min (slice_index enters r) (length steps)) (length steps) (omega arith) (omega arith) in omega (arith, row_is r h, duals.rows_within r h, part);
-        columns_within = λ k h. let part = before_rises steps (min (slice_index leaves k) (length steps)) (length steps) (omega arith) (omega arith) in omega (arith, column_is k h, duals.columns_within k h, part);
+        rows_within = λ r h. let part = before_rises steps (min (slice_index enters r) (length steps)) (length steps) (omega arith) (omega arith) in omega (arith, row_is r h, duals.rows_within r h, part, grown);
+        columns_within = λ k h. let part = before_rises steps (min (slice_index leaves k) (length steps)) (length steps) (omega arith) (omega arith) in omega (arith, column_is k h, duals.columns_within k h, part, grown);
         cells = λ r k x is.
             let within = present_within Q duals.grid r k x is in
             let fits = cell_fits r k x is allows in
             let was = duals.cells r k x is in
             omega (arith, row_is r within.0, column_is k within.1, fits, was);
         above = duals.above;
-        few_index = omega (arith, room.index, sum_is, few);
+        few_index = omega (arith, room.index, sum_is, few, grown);
         few_greatest = duals.few_greatest;
-      }
+      })
 
       cell_after : (r k x : ℕ) → cell_at Q r k ≡ Some x → dual_value (slice_index rows′ r) (slice_index columns′ k) x ≡ settled (bounded_sums top) bounded_difference steps (slice_index enters r) (slice_index leaves k) (dual_value (slice_index rows r) (slice_index columns k) x)
       cell_after r k x is =
@@ -118,14 +135,14 @@ module _ {bound : ℕ} (Q : Grid ℕ) (rows columns : List ℕ) (index greatest 
           let settles = cell_settled r k x is in
           omega (arith, row_is r within.0, column_is k within.1, fits, was, settles)
 
-      pub phase_after : IsPhaseTo (bounded_sums top) bounded_difference (phase_of steps enters leaves) (dual_reduced Q rows columns index) (dual_reduced Q rows′ columns′ (index + sum))
-      phase_after = record {
+      pub phase_after : IsPhaseTo (bounded_sums top) bounded_difference (phase_of steps enters leaves) reduced (dual_reduced Q rows′ columns′ later)
+      phase_after = subst (λ (R : Reduced ℕ). IsPhaseTo (bounded_sums top) bounded_difference (phase_of steps enters leaves) R (dual_reduced Q rows′ columns′ later)) view (record {
         cells = λ r k.
             dual_cell_at Q duals.grid rows′ columns′ r k
             ∙ mapped_twice (dual_value (slice_index rows r) (slice_index columns k)) (settled (bounded_sums top) bounded_difference steps (slice_index enters r) (slice_index leaves k)) (dual_value (slice_index rows′ r) (slice_index columns′ k)) (cell_at Q r k) (cell_after r k)
             ∙ ap (option_map (settled (bounded_sums top) bounded_difference steps (slice_index enters r) (slice_index leaves k))) (sym (dual_cell_at Q duals.grid rows columns r k))
             ∙ sym (after_phase-cell (bounded_sums top) bounded_difference (phase_of steps enters leaves) (cell_at now) r k);
-        index = let e : index + sum ≡ min (index + fold_of (bounded_sums top) steps) top = omega (arith, sum_is, room.index) in e;
+        index = let e : later ≡ min (index + fold_of (bounded_sums top) steps) top = omega (arith, sum_is, room.index, grown) in e;
         labels = record { side = refl; rows = refl; row_labels = refl; column_labels = refl };
         reduced = record {
           cells = λ r k y hr hk is.
@@ -136,14 +153,14 @@ module _ {bound : ℕ} (Q : Grid ℕ) (rows columns : List ℕ) (index greatest 
               let part = entered_few r k x from.1 in
               let after = cell_after r k x from.1 in
               le-leb y top (omega (arith, from.2, settles, room_for, part, after));
-          index = le-leb (index + sum) top (omega (arith, sum_is, room.index));
+          index = le-leb later top (omega (arith, sum_is, room.index, grown));
         };
-      }
+      })
 
   -- ---- room
 
-  pub has_room_is : (top sum : ℕ) → index + greatest + sum < top → HasRoom top (dual_reduced Q rows columns index) sum
-  has_room_is top sum below = record {
+  pub has_room_is : {top sum : ℕ} → index + greatest + sum < top → HasRoom top (dual_reduced Q rows columns index) sum
+  has_room_is below = record {
     index = omega (arith, below);
     cells = λ r k y is.
         let from = dual_from r k y is in
@@ -214,7 +231,25 @@ module _ {bound : ℕ} (Q : Grid ℕ) (rows columns : List ℕ) (index greatest 
       count = ap length is ∙ length_of_values width values cs row ∙ are.count
 
 -- what was raised and lessened again is what it was
-pub lowered_back : (steps marks before raised after : List ℕ) → RaisesDuals steps marks before raised → RaisesDuals steps marks after raised → after ≡ before
-lowered_back steps marks before raised after up down =
+pub lowered_back : {steps marks before raised after : List ℕ} → RaisesDuals steps marks before raised → RaisesDuals steps marks after raised → after ≡ before
+lowered_back {steps} {marks} {before} {raised} {after} up down =
     same_number_lists after before (sym down.count ∙ up.count)
     (λ k h. omega (arith, up.each k (omega (arith, h, down.count, up.count)), down.each k h))
+
+-- the sum of steps that a square has room for, as the list of their sums ends with it
+module _ {T : Type 0} {number : T → ℕ} {numbers : List T → List ℕ} (law : (xs : List T) → numbers xs ≡ map number xs) (steps : List T) where
+  pub sum_fits : {top : ℕ} {reduced : Reduced ℕ} → HasRoom top reduced (fold_of (bounded_sums top) (numbers steps)) → reduced.index + sum_before (numbers steps) (length steps) < top
+  sum_fits {top} room = let fold = fold_is (numbers steps) top in omega (arith, fold, sum_at law steps, room.index)
+
+  pub total_is : (sums : List T) (total : T) → length steps < length sums → AreSums (numbers steps) (numbers sums) → total ≡ get_or sums (length steps) total → number total ≡ sum_before (numbers steps) (length (numbers steps))
+  total_is sums total room are is =
+      read_is law sums (length steps) total room is
+      ∙ are (length steps) (omega (arith, count_is law steps))
+      ∙ sum_at law steps
+
+-- what tells whether rows fit tells it of the same rows, read elsewhere
+pub fits_told : {T : Type 0} {side : ℕ} {square square′ : ℕ → ℕ → Option ℕ} {rows rows′ columns columns′ : List ℕ} (steps enters : List ℕ) → square ≡ square′ → rows ≡ rows′ → columns ≡ columns′ → T ↔ FitsRows side square rows columns steps enters → T ↔ FitsRows side square′ rows′ columns′ steps enters
+fits_told {T} {side} {square} {square′} {rows} {rows′} {columns} {columns′} steps enters cells are_rows are_columns told =
+    subst (λ (q : ℕ → ℕ → Option ℕ). T ↔ FitsRows side q rows′ columns′ steps enters) cells
+    (subst (λ (xs : List ℕ). T ↔ FitsRows side square xs columns′ steps enters) are_rows
+    (subst (λ (xs : List ℕ). T ↔ FitsRows side square rows xs steps enters) are_columns told))

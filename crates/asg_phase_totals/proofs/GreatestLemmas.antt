@@ -59,9 +59,9 @@ none_greater number numbers law row side from to most values are within none = r
   above = λ k x low high h.
       let read : get_or (numbers values) k 0 ≡ x = get_or_from_slice_get (numbers values) k x 0 (are.each k (ap is_some h) ∙ h) in
       let j = k - from in
-      let count = count_is number numbers law values in
+      let count = count_is law values in
       let least = none j (omega (arith, low, high, within, length-take (to - from) (drop from values), length-drop from values, count, are.count)) in
-      let at = part_at number numbers law values from (to - from) j (omega (arith, low, high)) in
+      let at = part_at law values from (to - from) j (omega (arith, low, high)) in
       let place : from + j ≡ k = omega (arith, low) in
       let same : get_or (numbers values) (from + j) 0 ≡ get_or (numbers values) k 0 = ap (λ i. get_or (numbers values) i 0) place in
       omega (arith, least, at, same, read);

@@ -10,7 +10,7 @@ use Rattle.asg_proof.specs.Phases.{PhaseOf}
 use Rattle.asg_phase_totals.specs.Duals.{sum_before}
 use Rattle.asg_phase_totals.specs.SumNumbers.{numbered}
 
-module _ {T : Type 0} (number : T → ℕ) (numbers : List T → List ℕ) (law : (xs : List T) → numbers xs ≡ map number xs) where
+module _ {T : Type 0} {number : T → ℕ} {numbers : List T → List ℕ} (law : (xs : List T) → numbers xs ≡ map number xs) where
   -- as many
   pub count_is : (xs : List T) → length (numbers xs) ≡ length xs
   count_is xs = ap length (law xs) ∙ length-map xs number
@@ -81,7 +81,7 @@ module _ {T : Type 0} (number : T → ℕ) (numbers : List T → List ℕ) (law 
       (cases_lt t s)
 
   -- phases whose steps are numbers of the list
-  module _ (phases : List (PhaseOf T) → List (PhaseOf ℕ)) (phases_law : (ps : List (PhaseOf T)) → phases ps ≡ map (numbered numbers) ps) where
+  module _ {phases : List (PhaseOf T) → List (PhaseOf ℕ)} (phases_law : (ps : List (PhaseOf T)) → phases ps ≡ map (numbered numbers) ps) where
     -- as many
     pub phase_count_is : (ps : List (PhaseOf T)) → length (phases ps) ≡ length ps
     phase_count_is ps = ap length (phases_law ps) ∙ length-map ps (numbered numbers)

@@ -25,7 +25,7 @@ mapped : {T P : Type 0} (f : T → ℕ) (o : Option T) (y : ℕ) → option_map 
 mapped f (Some x) y e k = k x refl e
 mapped f None y e k = absurd (none-some y e)
 
-module _ {T : Type 0} (number : T → ℕ) (present : Option T → Option ℕ) (law : (o : Option T) → present o ≡ option_map number o) where
+module _ {T : Type 0} {number : T → ℕ} {present : Option T → Option ℕ} (law : (o : Option T) → present o ≡ option_map number o) where
   -- that of a value
   pub present_is : (o : Option T) (x : T) → o ≡ Some x → present o ≡ Some (number x)
   present_is o x e = law o ∙ ap (option_map number) e
@@ -50,9 +50,9 @@ module _ {T : Type 0} (number : T → ℕ) (present : Option T → Option ℕ) (
   }
 
   -- and the numbers of its values are those of its cells
-  pub values_are : (numbers : List T → List ℕ) → ((xs : List T) → numbers xs ≡ map number xs) → (row : ℕ → Option T) (side : ℕ) (values : List T) → AreValuesOf row side values → AreValuesOf (λ k. present (row k)) side (numbers values)
-  values_are numbers numbers_law row side values are = record {
-    count = count_is number numbers numbers_law values ∙ are.count;
+  pub values_are : {numbers : List T → List ℕ} → ((xs : List T) → numbers xs ≡ map number xs) → (row : ℕ → Option T) (side : ℕ) (values : List T) → AreValuesOf row side values → AreValuesOf (λ k. present (row k)) side (numbers values)
+  values_are numbers_law row side values are = record {
+    count = count_is numbers_law values ∙ are.count;
     each = λ k some.
         ap (λ xs. slice_get xs k) (numbers_law values)
         ∙ slice_get-map number values k
@@ -61,7 +61,7 @@ module _ {T : Type 0} (number : T → ℕ) (present : Option T → Option ℕ) (
   }
 
   -- the square of the numbers of cells
-  module _ (cells : List (Option T) → List (Option ℕ)) (cells_law : (xs : List (Option T)) → cells xs ≡ map present xs) where
+  module _ {cells : List (Option T) → List (Option ℕ)} (cells_law : (xs : List (Option T)) → cells xs ≡ map present xs) where
     kept : (b : Bool) (o : Option T) → cond b (present o) None ≡ present (cond b o None)
     kept true o = refl
     kept false o = sym (law None)

@@ -21,11 +21,11 @@ returns-clause-zero_rows g c =
     let N = g.N.SumNumber in
     let items = c.clear.new.numbers.items in
     zeros_at (N.numbers items) (length items)
-    (zeros_are N.number N.numbers g.met.N.SumNumber.numbers_law items (length items) (omega arith) (λ i h. c.clear.ensures.each i (omega (arith, h, c.clear.ensures.count))))
+    (zeros_are g.met.N.SumNumber.numbers_law items (length items) (omega arith) (λ i h. c.clear.ensures.each i (omega (arith, h, c.clear.ensures.count))))
 
 pub returns-clause-zero_columns : goal.returns-clause-zero_columns
 returns-clause-zero_columns g c =
     let N = g.N.SumNumber in
     let items = c.clear-2.new.numbers.items in
     zeros_at (N.numbers items) (length items)
-    (zeros_are N.number N.numbers g.met.N.SumNumber.numbers_law items (length items) (omega arith) (λ i h. c.clear-2.ensures.each i (omega (arith, h, c.clear-2.ensures.count))))
+    (zeros_are g.met.N.SumNumber.numbers_law items (length items) (omega arith) (λ i h. c.clear-2.ensures.each i (omega (arith, h, c.clear-2.ensures.count))))

@@ -12,5 +12,5 @@ returns g c =
     let column = c.index-columns-column.result in
     c.wrapping_minus.ensures
     ∙ ap (λ x. (x + (N.width - N.number column)) % N.width) c.wrapping_plus.ensures
-    ∙ ap (λ x. ((x + row) % N.width + (N.width - N.number column)) % N.width) (read_is N.number N.numbers law values k value c.requires.column c.index-values-column.is)
-    ∙ ap (λ x. ((slice_index (N.numbers values) k + row) % N.width + (N.width - x)) % N.width) (read_is N.number N.numbers law c.args.columns.now k column (omega (arith, c.requires.column, c.requires.columns)) c.index-columns-column.is)
+    ∙ ap (λ x. ((x + row) % N.width + (N.width - N.number column)) % N.width) (read_is law values k value c.requires.column c.index-values-column.is)
+    ∙ ap (λ x. ((slice_index (N.numbers values) k + row) % N.width + (N.width - x)) % N.width) (read_is law c.args.columns.now k column (omega (arith, c.requires.column, c.requires.columns)) c.index-columns-column.is)

@@ -19,7 +19,7 @@ pub fits_at-fits-requires : goal.fits_at-fits-requires
 fits_at-fits-requires g c =
     let N = g.N.SumNumber in
     let k = c.loop-k.k in
-    let at = read_is N.number N.numbers g.met.N.SumNumber.numbers_law c.args.values.now k c.index-values-k.result (omega (arith, c.loop-k-test.true, c.requires.values)) c.index-values-k.is in
+    let at = read_is g.met.N.SumNumber.numbers_law c.args.values.now k c.index-values-k.result (omega (arith, c.loop-k-test.true, c.requires.values)) c.index-values-k.is in
     omega (arith, at, c.requires.few k (omega (arith, c.loop-k-test.true)))
 
 pub loop-k-preserved : goal.loop-k-preserved
@@ -29,8 +29,8 @@ loop-k-preserved g c =
     let k = c.loop-k.k in
     let fits = c.loop-k.fits in
     let here = c.fits_at-fits.result in
-    let value = read_is N.number N.numbers law c.args.values.now k c.index-values-k.result (omega (arith, c.loop-k-test.true, c.requires.values)) c.index-values-k.is in
-    let dual = read_is N.number N.numbers law c.args.columns.now k c.index-columns-k.result (omega (arith, c.loop-k-test.true, c.requires.columns)) c.index-columns-k.is in (
+    let value = read_is law c.args.values.now k c.index-values-k.result (omega (arith, c.loop-k-test.true, c.requires.values)) c.index-values-k.is in
+    let dual = read_is law c.args.columns.now k c.index-columns-k.result (omega (arith, c.loop-k-test.true, c.requires.columns)) c.index-columns-k.is in (
       λ yes i h.
           let parts = both fits here yes in
           ⊎_elim

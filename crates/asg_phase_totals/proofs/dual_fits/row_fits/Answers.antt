@@ -3,7 +3,7 @@ use Rattle.asg_phase_totals.proofs.dual_fits.row_fits.Goals as goal
 
 pub returns-then-enter-steps : goal.returns-then-enter-steps
 returns-then-enter-steps g c = (
-  λ _ below. absurd (omega (arith, below, count_is g.N.SumNumber.number g.N.SumNumber.numbers g.met.N.SumNumber.numbers_law c.args.steps.now, c.if-enter-steps.true)),
+  λ _ below. absurd (omega (arith, below, count_is g.met.N.SumNumber.numbers_law c.args.steps.now, c.if-enter-steps.true)),
   λ _. refl,
 )
 
@@ -13,9 +13,9 @@ plus-requires g c =
     let law = g.met.N.SumNumber.numbers_law in
     let steps = c.args.steps.now in
     let enter = c.args.enter in
-    let at = read_is N.number N.numbers law c.args.sums.now enter c.index-sums-enter.result (omega (arith, c.if-enter-steps.false, c.requires.room)) c.index-sums-enter.is in
-    let is_sum = c.requires.sums enter (omega (arith, c.if-enter-steps.false, count_is N.number N.numbers law steps)) in
-    let rises = sum_rises N.number N.numbers law steps enter (length steps) (omega (arith, c.if-enter-steps.false)) (omega arith) in
+    let at = read_is law c.args.sums.now enter c.index-sums-enter.result (omega (arith, c.if-enter-steps.false, c.requires.room)) c.index-sums-enter.is in
+    let is_sum = c.requires.sums enter (omega (arith, c.if-enter-steps.false, count_is law steps)) in
+    let rises = sum_rises law steps enter (length steps) (omega (arith, c.if-enter-steps.false)) (omega arith) in
     omega (arith, at, is_sum, rises, c.requires.few_rows, g.met.N.SumNumber.wide_law)
 
 pub fit_cells-requires-clause-few : goal.fit_cells-requires-clause-few
@@ -24,9 +24,9 @@ fit_cells-requires-clause-few g c =
     let law = g.met.N.SumNumber.numbers_law in
     let steps = c.args.steps.now in
     let enter = c.args.enter in
-    let at = read_is N.number N.numbers law c.args.sums.now enter c.index-sums-enter.result (omega (arith, c.if-enter-steps.false, c.requires.room)) c.index-sums-enter.is in
-    let is_sum = c.requires.sums enter (omega (arith, c.if-enter-steps.false, count_is N.number N.numbers law steps)) in
-    let rises = sum_rises N.number N.numbers law steps enter (length steps) (omega (arith, c.if-enter-steps.false)) (omega arith) in
+    let at = read_is law c.args.sums.now enter c.index-sums-enter.result (omega (arith, c.if-enter-steps.false, c.requires.room)) c.index-sums-enter.is in
+    let is_sum = c.requires.sums enter (omega (arith, c.if-enter-steps.false, count_is law steps)) in
+    let rises = sum_rises law steps enter (length steps) (omega (arith, c.if-enter-steps.false)) (omega arith) in
     omega (arith, c.plus.ensures, at, is_sum, rises, c.requires.few_rows)
 
 pub returns : goal.returns
@@ -36,8 +36,8 @@ returns g c =
     let Q = c.args.square.now in
     let steps = c.args.steps.now in
     let enter = c.args.enter in
-    let at = read_is N.number N.numbers law c.args.sums.now enter c.index-sums-enter.result (omega (arith, c.if-enter-steps.false, c.requires.room)) c.index-sums-enter.is in
-    let below : enter < length (N.numbers steps) = omega (arith, c.if-enter-steps.false, count_is N.number N.numbers law steps) in
+    let at = read_is law c.args.sums.now enter c.index-sums-enter.result (omega (arith, c.if-enter-steps.false, c.requires.room)) c.index-sums-enter.is in
+    let below : enter < length (N.numbers steps) = omega (arith, c.if-enter-steps.false, count_is law steps) in
     let is_sum = c.requires.sums enter (omega (arith, below)) in
     let same : N.number c.plus.result ≡ N.number c.args.dual + sum_before (N.numbers steps) enter = omega (arith, c.plus.ensures, at, is_sum) in
     let Fit = λ (raise : ℕ). FitCells Q.side (λ (k : ℕ). N.present (cell_at Q c.args.row k)) raise (N.numbers c.args.columns.now) in (

@@ -49,7 +49,7 @@ fits_at-requires g c =
     let law = g.met.N.SumNumber.numbers_law in
     let column = c.args.first + bit in
     let below = c.requires.values bit (c.bits.invariant.left bit (next_has c.bits.rest some fits)) in
-    let value = read_is N.number N.numbers law c.args.values.now column c.index-values-column.result below c.index-values-column.is in
+    let value = read_is law c.args.values.now column c.index-values-column.result below c.index-values-column.is in
     omega (arith, value, c.requires.few bit (c.bits.invariant.left bit (next_has c.bits.rest some fits)))
 
 pub returns-then-not-fits_at : goal.returns-then-not-fits_at
@@ -61,8 +61,8 @@ returns-then-not-fits_at g c =
     let law = g.met.N.SumNumber.numbers_law in
     let column = c.args.first + bit in
     let below = c.requires.values bit (c.bits.invariant.left bit (next_has c.bits.rest some fits)) in
-    let value = read_is N.number N.numbers law c.args.values.now column c.index-values-column.result below c.index-values-column.is in
-    let dual = read_is N.number N.numbers law c.args.columns.now column c.index-columns-column.result (omega (arith, below, c.requires.columns)) c.index-columns-column.is in
+    let value = read_is law c.args.values.now column c.index-values-column.result below c.index-values-column.is in
+    let dual = read_is law c.args.columns.now column c.index-columns-column.result (omega (arith, below, c.requires.columns)) c.index-columns-column.is in
     never (λ all.
     let ok = all bit (next_below c.bits.rest some fits) (c.bits.invariant.left bit (next_has c.bits.rest some fits)) in
     absurd (omega (arith, ok, value, dual, c.fits_at.ensures.beyond c.if-not-fits_at.true)))
@@ -79,8 +79,8 @@ bits-preserved g c =
     let law = g.met.N.SumNumber.numbers_law in
     let column = c.args.first + bit in
     let below = c.requires.values bit (c.bits.invariant.left bit (next_has c.bits.rest some fits)) in
-    let value = read_is N.number N.numbers law c.args.values.now column c.index-values-column.result below c.index-values-column.is in
-    let dual = read_is N.number N.numbers law c.args.columns.now column c.index-columns-column.result (omega (arith, below, c.requires.columns)) c.index-columns-column.is in
+    let value = read_is law c.args.values.now column c.index-values-column.result below c.index-values-column.is in
+    let dual = read_is law c.args.columns.now column c.index-columns-column.result (omega (arith, below, c.requires.columns)) c.index-columns-column.is in
     record {
       left = λ i has. c.bits.invariant.left i (next_kept c.bits.rest some fits i has);
       passed = λ i has none.

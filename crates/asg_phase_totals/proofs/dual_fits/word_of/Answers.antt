@@ -2,4 +2,4 @@ use Rattle.asg_phase_totals.proofs.Common.{◌+◌, ◌-◌, ◌*◌, arith, par
 use Rattle.asg_phase_totals.proofs.dual_fits.word_of.Goals as goal
 
 pub returns-clause-each : goal.returns-clause-each
-returns-clause-each g c = λ k h. part_at g.N.SumNumber.number g.N.SumNumber.numbers g.met.N.SumNumber.numbers_law c.args.numbers.now (64 * c.args.number) (64 * c.args.number + 64 - 64 * c.args.number) k (omega (arith, h))
+returns-clause-each g c = λ k h. part_at g.met.N.SumNumber.numbers_law c.args.numbers.now (64 * c.args.number) (64 * c.args.number + 64 - 64 * c.args.number) k (omega (arith, h))

@@ -9,7 +9,7 @@ returns-then-is_none_above g c =
     let Q = c.args.square.now in
     let values = c.args.values.now in
     none_greater N.number N.numbers law (λ k. N.present (cell_at Q c.args.row k)) Q.side c.args.from c.args.to (N.number c.args.so_far) values
-    (values_are N.number N.present g.met.N.SumNumber.present_law N.numbers law (cell_at Q c.args.row) Q.side values c.requires.values)
+    (values_are g.met.N.SumNumber.present_law law (cell_at Q c.args.row) Q.side values c.requires.values)
     c.requires.within
     (c.is_none_above.ensures c.if-is_none_above.true)
 

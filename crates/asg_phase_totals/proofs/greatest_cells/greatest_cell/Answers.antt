@@ -8,4 +8,4 @@ loop-row-preserved g c =
     let Q = c.args.square.now in
     let l = c.loop-row in
     greatest_rows_more (λ r k. N.present (cell_at Q r k)) Q.side l.row (N.number l.greatest) (N.number c.greater_in_row-greatest.result) l.invariant c.greater_in_row-greatest.ensures
-    (λ k x is. value_is N.number N.present g.met.N.SumNumber.present_law (k < Q.side) (cell_at Q l.row k) x is (λ y here. column_within Q l.row k y here))
+    (λ k x is. value_is g.met.N.SumNumber.present_law (k < Q.side) (cell_at Q l.row k) x is (λ y here. column_within Q l.row k y here))

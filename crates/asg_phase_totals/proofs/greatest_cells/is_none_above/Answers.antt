@@ -9,7 +9,7 @@ loop-k-preserved g c =
     let N = g.N.SumNumber in
     let law = g.met.N.SumNumber.numbers_law in
     let k = c.loop-k.k in
-    let value = read_is N.number N.numbers law c.args.values.now k c.index-values-k.result (omega (arith, c.loop-k-test.true)) c.index-values-k.is in
+    let value = read_is law c.args.values.now k c.index-values-k.result (omega (arith, c.loop-k-test.true)) c.index-values-k.is in
     λ i h.
     ⊎_elim
     (λ (early : i < k). c.loop-k.invariant i early)

@@ -18,7 +18,7 @@ loop-k-preserved g c =
     let k = c.loop-k.k in
     let is_none = c.loop-k.is_none in
     let below = c.is_below.result in
-    let value = read_is N.number N.numbers law c.args.values.now k c.index-values-k.result (omega (arith, c.loop-k-test.true, c.requires)) c.index-values-k.is in
+    let value = read_is law c.args.values.now k c.index-values-k.result (omega (arith, c.loop-k-test.true, c.requires)) c.index-values-k.is in
     λ yes i h.
     let parts = both is_none (not below) yes in
     ⊎_elim

@@ -10,7 +10,7 @@ returns g c =
     let leaves = c.leaves-2.result.now in
     let from_enters = c.enters-2.ensures.enters in
     let from_leaves = c.leaves-2.ensures.leaves in
-    let steps : length c.steps.result.now ≡ length (N.numbers p.steps) = ap length c.steps.ensures ∙ sym (count_is N.number N.numbers law p.steps) in (
+    let steps : length c.steps.result.now ≡ length (N.numbers p.steps) = ap length c.steps.ensures ∙ sym (count_is law p.steps) in (
       λ yes. record {
         rows = ap length (sym c.enters.ensures.enters) ∙ c.if-enters-side.false;
         columns = ap length (sym c.leaves.ensures.leaves) ∙ c.if-leaves-side.false;

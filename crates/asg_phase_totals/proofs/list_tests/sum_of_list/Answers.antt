@@ -14,10 +14,10 @@ loop-i-preserved g c =
     let ps = c.args.phases.now in
     let i = c.loop-i.i in
     let phase = numbered N.numbers c.index-phases-i.result in
-    let is = phase_is N.number N.numbers law N.phases phases_law ps i c.index-phases-i.result c.loop-i-test.true c.index-phases-i.is in
-    let below : i < length (N.phases ps) = omega (arith, c.loop-i-test.true, phase_count_is N.number N.numbers law N.phases phases_law ps) in
+    let is = phase_is law phases_law ps i c.index-phases-i.result c.loop-i-test.true c.index-phases-i.is in
+    let below : i < length (N.phases ps) = omega (arith, c.loop-i-test.true, phase_count_is law phases_law ps) in
     let more = sum_of_steps-more (N.phases ps) i phase below is in
-    let all = all_is N.number N.numbers law c.steps.result.now in
+    let all = all_is law c.steps.result.now in
     let same = ap (λ xs. sum (N.numbers xs)) c.steps.ensures in
     record {
       sum = omega (arith, more, all, same, c.in-Some.ensures.within, c.loop-i.invariant.sum, c.plus-sum.ensures);
@@ -32,10 +32,10 @@ returns-in_default-clause-beyond g c = λ _.
     let ps = c.args.phases.now in
     let i = c.loop-i.i in
     let phase = numbered N.numbers c.index-phases-i.result in
-    let is = phase_is N.number N.numbers law N.phases phases_law ps i c.index-phases-i.result c.loop-i-test.true c.index-phases-i.is in
-    let below : i < length (N.phases ps) = omega (arith, c.loop-i-test.true, phase_count_is N.number N.numbers law N.phases phases_law ps) in
+    let is = phase_is law phases_law ps i c.index-phases-i.result c.loop-i-test.true c.index-phases-i.is in
+    let below : i < length (N.phases ps) = omega (arith, c.loop-i-test.true, phase_count_is law phases_law ps) in
     let more = sum_with_one (N.phases ps) i phase below is in
-    let all = all_is N.number N.numbers law c.steps.result.now in
+    let all = all_is law c.steps.result.now in
     let same = ap (λ xs. sum (N.numbers xs)) c.steps.ensures in
     let beyond = c.sum_within.ensures.beyond c.in_default.is in
     omega (arith, more, all, same, beyond, c.minus.ensures, c.greatest_sum.ensures, c.loop-i.invariant.sum, c.loop-i.invariant.small)
@@ -47,4 +47,4 @@ returns-clause-within g c =
     let phases_law = g.met.N.SumNumber.phases_law in
     let ps = c.args.phases.now in
     c.loop-i.invariant.sum
-    ∙ ap sum_of_steps (take_all c.loop-i.i (N.phases ps) (omega (arith, c.loop-i-test.false, phase_count_is N.number N.numbers law N.phases phases_law ps)))
+    ∙ ap sum_of_steps (take_all c.loop-i.i (N.phases ps) (omega (arith, c.loop-i-test.false, phase_count_is law phases_law ps)))

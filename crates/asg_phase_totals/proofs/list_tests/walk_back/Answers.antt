@@ -11,7 +11,7 @@ phases-init g c =
     let square = λ (r k : ℕ). N.present (cell_at c.args.square.now r k) in
     let rows = N.numbers c.args.rows.now.items in
     let columns = N.numbers c.args.columns.now.items in
-    let count = phase_count_is N.number N.numbers law N.phases g.met.N.SumNumber.phases_law c.args.phases.now in
+    let count = phase_count_is law g.met.N.SumNumber.phases_law c.args.phases.now in
     record {
       walked =
           subst (λ n. Walked N.top side phases square n rows columns c.clear.new.self)
@@ -39,7 +39,7 @@ pub close_segment-requires-clause-few_cells : goal.close_segment-requires-clause
 close_segment-requires-clause-few_cells g c = λ r k x hr is.
     let N = g.N.SumNumber in
     let Q = c.args.square.now in
-    let within = value_is N.number N.present g.met.N.SumNumber.present_law (k < Q.side) (cell_at Q r k) x is (λ y here. column_within Q r k y here) in
+    let within = value_is g.met.N.SumNumber.present_law (k < Q.side) (cell_at Q r k) x is (λ y here. column_within Q r k y here) in
     let below = c.requires.cells r k x hr within is in
     omega (arith, below)
 
@@ -87,7 +87,7 @@ phases-preserved g c =
     let side = c.args.square.now.side in
     let phases = N.phases c.args.phases.now in
     let square = λ (r k : ℕ). N.present (cell_at c.args.square.now r k) in
-    let phase_count = phase_count_is N.number N.numbers law N.phases g.met.N.SumNumber.phases_law c.args.phases.now in
+    let phase_count = phase_count_is law g.met.N.SumNumber.phases_law c.args.phases.now in
     let j_before = length c.args.phases.now - c.phases.back in
     let rows_before = N.numbers c.phases.rows.items in
     let columns_before = N.numbers c.phases.columns.items in
@@ -103,14 +103,14 @@ phases-preserved g c =
     let below : j < length phases = omega (arith, inside, phase_count) in
     let step : length c.args.phases.now - c.phases.back ≡ j + 1 = omega (arith, c.phases-test.true) in
     let count : length totals.rows ≡ side = c.close_segment.ensures.side ∙ so.walked.count in
-    let row_count : length rows_before ≡ side = count_is N.number N.numbers law c.phases.rows.items ∙ so.row_count ∙ c.requires.row_count in
-    let column_count : length columns_before ≡ side = count_is N.number N.numbers law c.phases.columns.items ∙ so.column_count ∙ c.requires.column_count in
+    let row_count : length rows_before ≡ side = count_is law c.phases.rows.items ∙ so.row_count ∙ c.requires.row_count in
+    let column_count : length columns_before ≡ side = count_is law c.phases.columns.items ∙ so.column_count ∙ c.requires.column_count in
     let on = walked_on N.top side phases square c.requires.few c.requires.cells j_before rows_before columns_before c.phases.segment so.walked rows columns totals
     row_count column_count count
     (c.close_segment.ensures.closed c.if-not-close_segment.false) in
     let walked : Walked N.top side phases square (j + 1) rows columns totals = subst (λ n. Walked N.top side phases square n rows columns totals) step on.0 in
     let read : given_phase ≡ get_or c.args.phases.now j given_phase = c.index-phases-count.is ∙ ap (λ n. get_or c.args.phases.now n given_phase) (let e : length c.args.phases.now - 1 - c.phases.back ≡ j = omega arith in e) in
-    let is : phase ≡ get_or phases j phase = phase_is N.number N.numbers law N.phases g.met.N.SumNumber.phases_law c.args.phases.now j given_phase inside read in
+    let is : phase ≡ get_or phases j phase = phase_is law g.met.N.SumNumber.phases_law c.args.phases.now j given_phase inside read in
     let given : phase_of (N.numbers c.steps.result.now) c.enters.result.now c.leaves.result.now ≡ phase =
     ap (λ xs. phase_of (N.numbers xs) c.enters.result.now c.leaves.result.now) c.steps.ensures
     ∙ ap (λ xs. phase_of phase.steps xs c.leaves.result.now) c.enters.ensures.enters
@@ -136,7 +136,7 @@ pub segment_ends_well-requires-clause-few_cells : goal.segment_ends_well-require
 segment_ends_well-requires-clause-few_cells g c = λ r k x hr is.
     let N = g.N.SumNumber in
     let Q = c.args.square.now in
-    let within = value_is N.number N.present g.met.N.SumNumber.present_law (k < Q.side) (cell_at Q r k) x is (λ y here. column_within Q r k y here) in
+    let within = value_is g.met.N.SumNumber.present_law (k < Q.side) (cell_at Q r k) x is (λ y here. column_within Q r k y here) in
     let below = c.requires.cells r k x hr within is in
     omega (arith, below)
 

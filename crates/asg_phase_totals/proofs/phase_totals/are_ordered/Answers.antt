@@ -7,7 +7,7 @@ loop-k-preserved g c = λ j h.
     let law = g.met.N.SumNumber.numbers_law in
     let k = c.loop-k.k in
     let columns = c.args.columns.now in
-    let at = read_is N.number N.numbers law columns k c.index-columns-k.result c.loop-k-test.true c.index-columns-k.is in
+    let at = read_is law columns k c.index-columns-k.result c.loop-k-test.true c.index-columns-k.is in
     ⊎_elim
     (λ (early : j < k). c.loop-k.invariant j early)
     (λ (last : k ≤ j).
@@ -21,7 +21,7 @@ returns-then-is_below g c =
     let N = g.N.SumNumber in
     let law = g.met.N.SumNumber.numbers_law in
     let k = c.loop-k.k in
-    let at = read_is N.number N.numbers law c.args.columns.now k c.index-columns-k.result c.loop-k-test.true c.index-columns-k.is in
+    let at = read_is law c.args.columns.now k c.index-columns-k.result c.loop-k-test.true c.index-columns-k.is in
     let less = c.is_below.ensures.below c.if-is_below.true in
     never (λ ordered.
     ⊎_elim

@@ -13,8 +13,8 @@ loop-i-preserved g c =
           ⊎_elim
           (λ (early : j < l.i).
           let other : j ≢ l.i = omega (arith, early) in
-          kept_is N.number N.numbers law xs l.i j c.zero.result other ∙ l.invariant.each j early)
+          kept_is law xs l.i j c.zero.result other ∙ l.invariant.each j early)
           (λ (last : l.i ≤ j).
-          written_is N.number N.numbers law xs l.i j c.zero.result (omega (arith, c.loop-i-test.true, l.invariant.count)) (omega (arith, last, h)) ∙ c.zero.ensures)
+          written_is law xs l.i j c.zero.result (omega (arith, c.loop-i-test.true, l.invariant.count)) (omega (arith, last, h)) ∙ c.zero.ensures)
           (cases_lt j l.i);
     }

@@ -10,7 +10,7 @@ loop-i-preserved g c =
     let so = c.loop-i.invariant in
     let e = c.greater_of-greatest.ensures in
     let now = N.number c.greater_of-greatest.result in
-    let at = read_is N.number N.numbers law xs i c.index-numbers-i.result c.loop-i-test.true c.index-numbers-i.is in
+    let at = read_is law xs i c.index-numbers-i.result c.loop-i-test.true c.index-numbers-i.is in
     record {
       above = λ j h.
           ⊎_elim

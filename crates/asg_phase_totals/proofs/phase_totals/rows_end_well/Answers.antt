@@ -8,7 +8,7 @@ fit_cells-requires-clause-few g c =
     let Q = c.args.square.now in
     let r = c.loop-row.row in
     let below : r < Q.side = omega (arith, c.loop-row-test.true, c.side-row-end.ensures) in
-    let at = read_is N.number N.numbers law c.args.rows.now r c.index-rows-row.result (omega (arith, below, c.requires.rows)) c.index-rows-row.is in
+    let at = read_is law c.args.rows.now r c.index-rows-row.result (omega (arith, below, c.requires.rows)) c.index-rows-row.is in
     omega (arith, at, c.requires.few_rows r below)
 
 pub returns-then-not-fit_cells : goal.returns-then-not-fit_cells
@@ -18,7 +18,7 @@ returns-then-not-fit_cells g c =
     let Q = c.args.square.now in
     let r = c.loop-row.row in
     let below : r < Q.side = omega (arith, c.loop-row-test.true, c.side-row-end.ensures) in
-    let at = read_is N.number N.numbers law c.args.rows.now r c.index-rows-row.result (omega (arith, below, c.requires.rows)) c.index-rows-row.is in
+    let at = read_is law c.args.rows.now r c.index-rows-row.result (omega (arith, below, c.requires.rows)) c.index-rows-row.is in
     never (λ well. not_both c.fit_cells.result
     (c.fit_cells.ensures.1 (subst (λ raise. FitCells Q.side (λ k. N.present (cell_at Q r k)) raise (N.numbers c.args.columns.now)) (sym at) (well r below)))
     c.if-not-fit_cells.true)
@@ -30,7 +30,7 @@ loop-row-preserved g c = λ i h.
     let Q = c.args.square.now in
     let r = c.loop-row.row in
     let below : r < Q.side = omega (arith, c.loop-row-test.true, c.side-row-end.ensures) in
-    let at = read_is N.number N.numbers law c.args.rows.now r c.index-rows-row.result (omega (arith, below, c.requires.rows)) c.index-rows-row.is in
+    let at = read_is law c.args.rows.now r c.index-rows-row.result (omega (arith, below, c.requires.rows)) c.index-rows-row.is in
     let Fit = λ (i raise : ℕ). FitCells Q.side (λ k. N.present (cell_at Q i k)) raise (N.numbers c.args.columns.now) in
     ⊎_elim
     (λ (early : i < r). c.loop-row.invariant i early)

@@ -8,7 +8,7 @@ lowered_row_ends_well-requires-clause-few g c =
     let Q = c.args.square.now in
     let r = c.loop-row.row in
     let below : r < Q.side = omega (arith, c.loop-row-test.true, c.side-row-end.ensures) in
-    let at = read_is N.number N.numbers law c.args.rows.now r c.index-rows-r.result (omega (arith, below, c.requires.row_count)) c.index-rows-r.is in
+    let at = read_is law c.args.rows.now r c.index-rows-r.result (omega (arith, below, c.requires.row_count)) c.index-rows-r.is in
     omega (arith, at, c.requires.few_rows r below)
 
 pub returns-then-not-lowered_row_ends_well : goal.returns-then-not-lowered_row_ends_well
@@ -18,8 +18,8 @@ returns-then-not-lowered_row_ends_well g c =
     let Q = c.args.square.now in
     let r = c.loop-row.row in
     let below : r < Q.side = omega (arith, c.loop-row-test.true, c.side-row-end.ensures) in
-    let at = read_is N.number N.numbers law c.args.rows.now r c.index-rows-r.result (omega (arith, below, c.requires.row_count)) c.index-rows-r.is in
-    let raise = read_is N.number N.numbers law c.rows-raises.result.now r c.index-raises-r.result (omega (arith, below, c.rows-raises.ensures.count, c.requires.side)) c.index-raises-r.is in
+    let at = read_is law c.args.rows.now r c.index-rows-r.result (omega (arith, below, c.requires.row_count)) c.index-rows-r.is in
+    let raise = read_is law c.rows-raises.result.now r c.index-raises-r.result (omega (arith, below, c.rows-raises.ensures.count, c.requires.side)) c.index-raises-r.is in
     let same = ap (λ (xs : List ℕ). slice_index xs r) c.rows-raises.ensures.rows in
     let Fit = λ (i dual : ℕ). FitCells Q.side (λ k. N.present (cell_at Q i k)) dual (N.numbers c.args.columns.now) in
     never (λ well. not_both c.lowered_row_ends_well.result
@@ -34,8 +34,8 @@ loop-row-preserved g c = λ i h falls.
     let Q = c.args.square.now in
     let r = c.loop-row.row in
     let below : r < Q.side = omega (arith, c.loop-row-test.true, c.side-row-end.ensures) in
-    let at = read_is N.number N.numbers law c.args.rows.now r c.index-rows-r.result (omega (arith, below, c.requires.row_count)) c.index-rows-r.is in
-    let raise = read_is N.number N.numbers law c.rows-raises.result.now r c.index-raises-r.result (omega (arith, below, c.rows-raises.ensures.count, c.requires.side)) c.index-raises-r.is in
+    let at = read_is law c.args.rows.now r c.index-rows-r.result (omega (arith, below, c.requires.row_count)) c.index-rows-r.is in
+    let raise = read_is law c.rows-raises.result.now r c.index-raises-r.result (omega (arith, below, c.rows-raises.ensures.count, c.requires.side)) c.index-raises-r.is in
     let same = ap (λ (xs : List ℕ). slice_index xs r) c.rows-raises.ensures.rows in
     let Fit = λ (i dual : ℕ). FitCells Q.side (λ k. N.present (cell_at Q i k)) dual (N.numbers c.args.columns.now) in
     ⊎_elim

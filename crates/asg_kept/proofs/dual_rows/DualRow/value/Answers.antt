@@ -8,7 +8,7 @@ value_at-requires-clause-column g c =
     let s = c.self.inside in
     let within = subst (λ (xs : List ℕ). c.args.column < length xs) (sym c.self.view_is) c.requires in
     let count = length_of_values N.width (N.numbers s.values.now) (N.numbers s.columns.now) (N.number s.row) in
-    omega (arith, within, count, count_is N.number N.numbers g.met.N.SumNumber.numbers_law s.values.now)
+    omega (arith, within, count, count_is g.met.N.SumNumber.numbers_law s.values.now)
 
 pub returns : goal.returns
 returns g c =

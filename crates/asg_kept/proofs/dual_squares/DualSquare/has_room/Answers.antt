@@ -15,15 +15,5 @@ plus-requires-2 g c =
 
 pub returns : goal.returns
 returns g c = λ yes.
-    let N = g.N.SumNumber in
-    let top = N.number c.args.top in
-    let sum = N.number c.args.sum in
-    let s = c.self.inside in
-    let G = numbered_grid N.cells s.kept.now in
-    let rows = N.numbers s.rows.items in
-    let columns = N.numbers s.columns.items in
-    let index = N.number s.kept.index in
-    let greatest = N.number s.greatest in
-    let below = c.is_below-2.ensures.below yes in
-    subst (λ (R : Reduced ℕ). HasRoom top R sum) c.self.view_is
-    (has_room_is G rows columns index greatest c.self.invariant.duals top sum (omega (arith, below, c.plus.ensures, c.plus-2.ensures)))
+    subst (λ (R : Reduced ℕ). HasRoom (g.N.SumNumber.number c.args.top) R (g.N.SumNumber.number c.args.sum)) c.self.view_is
+    (has_room_is c.self.invariant.duals (omega (arith, c.is_below-2.ensures.below yes, c.plus.ensures, c.plus-2.ensures)))

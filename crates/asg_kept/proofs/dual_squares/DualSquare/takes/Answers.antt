@@ -4,12 +4,10 @@ use Rattle.asg_kept.proofs.dual_squares.DualSquare.takes.Goals as goal
 pub returns-in-Some : goal.returns-in-Some
 returns-in-Some g c = λ yes.
     let N = g.N.SumNumber in
-    let law = g.met.N.SumNumber.numbers_law in
     let steps = N.numbers c.args.steps.now in
     let top = N.number c.args.top in
-    let fold = fold_is steps top in
-    let all = sum_at N.number N.numbers law c.args.steps.now in
-    let is : N.number c.in-Some.sum ≡ fold_of (bounded_sums top) steps = omega (arith, fold, all, c.in-Some.ensures.within, c.in-Some.ensures.small) in
+    let all = sum_at g.met.N.SumNumber.numbers_law c.args.steps.now in
+    let is : N.number c.in-Some.sum ≡ fold_of (bounded_sums top) steps = omega (arith, fold_is steps top, all, c.in-Some.ensures.within, c.in-Some.ensures.small) in
     subst (HasRoom top c.args.self.now) is (c.has_room.ensures yes)
 
 pub returns-in-None : goal.returns-in-None

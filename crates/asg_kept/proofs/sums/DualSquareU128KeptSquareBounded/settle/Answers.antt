@@ -5,26 +5,20 @@ use Rattle.asg_kept.proofs.sums.DualSquareU128KeptSquareBounded.settle.Goals as 
 
 pub write_out-requires-clause-fits : goal.write_out-requires-clause-fits
 write_out-requires-clause-fits c = λ r k.
-    let s = c.self.inside in
-    duals_fit s.kept.now s.rows.items s.columns.items s.kept.index s.greatest c.self.invariant.duals (2 ^ 128) (omega arith) r k
+    duals_fit c.self.invariant.duals (2 ^ 128) (omega arith) r k
 
 pub settle-requires-clause-reduced : goal.settle-requires-clause-reduced
 settle-requires-clause-reduced c =
-    let s = c.self.inside in
-    out_reduced s.kept.now s.rows.items s.columns.items s.kept.index s.greatest s.is_written c.self.invariant c.write_out.new.square c.side.ensures.grid c.write_out.ensures.labels c.write_out.ensures.cells c.args.self.now c.self.view_is (c.args.m.now.top) c.requires.reduced
+    out_reduced c.self.invariant c.side.ensures.grid c.write_out.ensures.labels c.write_out.ensures.cells c.self.view_is c.args.m.now.top c.requires.reduced
 
 pub settle-requires-clause-admitted : goal.settle-requires-clause-admitted
 settle-requires-clause-admitted c =
-    let s = c.self.inside in
-    out_admitted s.kept.now s.rows.items s.columns.items s.kept.index s.greatest s.is_written c.self.invariant c.write_out.new.square c.side.ensures.grid c.write_out.ensures.labels c.write_out.ensures.cells c.args.self.now c.self.view_is (c.args.m.now.top) (phase_of c.args.steps.now c.args.enters.now c.args.leaves.now) c.requires.admitted
+    out_admitted c.self.invariant c.side.ensures.grid c.write_out.ensures.labels c.write_out.ensures.cells c.self.view_is c.args.m.now.top c.requires.admitted
 
 pub invariant_of-self : goal.invariant_of-self
 invariant_of-self c =
-    let s = c.self.inside in
-    subst (λ (greatest : ℕ). KeepsSums (2 ^ 120) c.settle.new.reduced.now c.write_out.new.rows.items c.write_out.new.columns.items c.settle.new.reduced.index greatest true) (sym c.greatest_sum-self-inside.ensures)
-    (after_keeps s.kept.now s.rows.items s.columns.items s.kept.index s.greatest s.is_written c.self.invariant c.write_out.new.square c.side.ensures.grid c.write_out.ensures.labels c.write_out.ensures.cells c.args.self.now c.self.view_is c.write_out.new.rows.items c.write_out.new.columns.items c.write_out.ensures.row_count c.write_out.ensures.column_count c.write_out.ensures.zero_rows c.write_out.ensures.zero_columns (c.args.m.now.top) (c.args.m.now.small) c.settle.new.reduced.now c.settle.new.reduced.index c.side-2.ensures.grid c.settle.ensures.phase.labels c.settle.ensures.phase.reduced)
+    after_keeps c.self.invariant c.side.ensures.grid c.write_out.ensures.labels c.write_out.ensures.cells c.self.view_is c.write_out.new.rows.items c.write_out.new.columns.items c.write_out.ensures.row_count c.write_out.ensures.column_count c.write_out.ensures.zero_rows c.write_out.ensures.zero_columns c.args.m.now.small c.side-2.ensures.grid c.settle.ensures.phase.labels c.settle.ensures.phase.reduced c.greatest_sum-self-inside.ensures
 
 pub returns-clause-phase : goal.returns-clause-phase
 returns-clause-phase c =
-    let s = c.self.inside in
-    after_phase_to s.kept.now s.rows.items s.columns.items s.kept.index s.greatest s.is_written c.self.invariant c.write_out.new.square c.side.ensures.grid c.write_out.ensures.labels c.write_out.ensures.cells c.args.self.now c.self.view_is c.write_out.new.rows.items c.write_out.new.columns.items c.write_out.ensures.row_count c.write_out.ensures.column_count c.write_out.ensures.zero_rows c.write_out.ensures.zero_columns (c.args.m.now.top) (c.args.m.now.small) c.settle.new.reduced.now c.settle.new.reduced.index c.side-2.ensures.grid c.settle.ensures.phase.labels c.settle.ensures.phase.reduced (phase_of c.args.steps.now c.args.enters.now c.args.leaves.now) c.settle.ensures.phase
+    after_phase_to c.self.invariant c.side.ensures.grid c.write_out.ensures.labels c.write_out.ensures.cells c.self.view_is c.write_out.new.rows.items c.write_out.new.columns.items c.write_out.ensures.row_count c.write_out.ensures.column_count c.write_out.ensures.zero_rows c.write_out.ensures.zero_columns c.args.m.now.small c.side-2.ensures.grid c.settle.ensures.phase.labels c.settle.ensures.phase.reduced c.settle.ensures.phase

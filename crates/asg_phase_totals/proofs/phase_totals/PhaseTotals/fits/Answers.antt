@@ -15,7 +15,7 @@ returns-then-is_below-clause-told g c =
     ⊎_elim
     (λ (none : greatest ≡ 0). omega (arith, none, less))
     (λ some.
-    let within = value_is N.number N.present g.met.N.SumNumber.present_law ((some.0 < Q.side) × (some.1 < Q.side)) (cell_at Q some.0 some.1) greatest some.2 (λ x is. present_within Q c.side.ensures.grid some.0 some.1 x is) in
+    let within = value_is g.met.N.SumNumber.present_law ((some.0 < Q.side) × (some.1 < Q.side)) (cell_at Q some.0 some.1) greatest some.2 (λ x is. present_within Q c.side.ensures.grid some.0 some.1 x is) in
     let few = well.room some.0 some.1 greatest within.0 within.1 some.2 in
     omega (arith, few, same, less, c.minus.ensures, c.greatest_sum.ensures, c.self.invariant.sum_within))
     c.greatest_cell.ensures.reached)
@@ -34,7 +34,7 @@ rows_end_well-requires-clause-rows g c =
     let law = g.met.N.SumNumber.numbers_law in
     let s = c.self.inside in
     ap length c.as_slice.ensures.value
-    ∙ sym (count_is N.number N.numbers law s.rows.items)
+    ∙ sym (count_is law s.rows.items)
     ∙ ap (λ (t : Totals). length t.rows) c.self.view_is
     ∙ c.requires
 
@@ -44,7 +44,7 @@ rows_end_well-requires-clause-columns g c =
     let law = g.met.N.SumNumber.numbers_law in
     let s = c.self.inside in
     ap length c.as_slice-2.ensures.value
-    ∙ sym (count_is N.number N.numbers law s.columns.items)
+    ∙ sym (count_is law s.columns.items)
     ∙ c.self.invariant.count
     ∙ ap (λ (t : Totals). length t.rows) c.self.view_is
     ∙ c.requires

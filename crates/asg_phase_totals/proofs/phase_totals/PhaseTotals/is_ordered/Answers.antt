@@ -8,8 +8,8 @@ returns g c =
     let s = c.self.inside in
     let rows = s.rows.items in
     let columns = s.columns.items in
-    let row_count = count_is N.number N.numbers law rows in
-    let column_count = count_is N.number N.numbers law columns in
+    let row_count = count_is law rows in
+    let column_count = count_is law columns in
     let Ordered = λ (rs cs : List g.row.N.Denot). (r k : ℕ) → r < length rs → k < length cs → slice_index (N.numbers rs) r ≤ slice_index (N.numbers cs) k in (
       λ yes. subst AreOrdered c.self.view_is (λ r k hr hk.
           let o = subst (λ cs. Ordered rows cs) c.as_slice-2.ensures.value (subst (λ rs. Ordered rs c.as_slice-2.result.now) c.as_slice.ensures.value (c.are_ordered.ensures.0 yes)) in

@@ -7,10 +7,10 @@ invariant_of-result g c =
     let law = g.met.N.SumNumber.numbers_law in
     let rows = c.clear.new.numbers.items in
     let columns = c.clear-2.new.numbers.items in
-    let row_count : length (N.numbers rows) ≡ c.args.side = count_is N.number N.numbers law rows ∙ omega (arith, c.clear.ensures.count, c.in_ok-rows.ensures.len) in
-    let column_count : length (N.numbers columns) ≡ c.args.side = count_is N.number N.numbers law columns ∙ omega (arith, c.clear-2.ensures.count, c.in_ok-columns.ensures.len) in
-    let row_length = count_is N.number N.numbers law rows in
-    let column_length = count_is N.number N.numbers law columns in
+    let row_count : length (N.numbers rows) ≡ c.args.side = count_is law rows ∙ omega (arith, c.clear.ensures.count, c.in_ok-rows.ensures.len) in
+    let column_count : length (N.numbers columns) ≡ c.args.side = count_is law columns ∙ omega (arith, c.clear-2.ensures.count, c.in_ok-columns.ensures.len) in
+    let row_length = count_is law rows in
+    let column_length = count_is law columns in
     record {
       few = omega (arith, row_count, c.requires);
       count = omega (arith, row_count, column_count);
@@ -25,10 +25,10 @@ returns-clause-totals g c =
     let law = g.met.N.SumNumber.numbers_law in
     let rows = c.clear.new.numbers.items in
     let columns = c.clear-2.new.numbers.items in
-    let row_count : length (N.numbers rows) ≡ c.args.side = count_is N.number N.numbers law rows ∙ omega (arith, c.clear.ensures.count, c.in_ok-rows.ensures.len) in
-    let column_count : length (N.numbers columns) ≡ c.args.side = count_is N.number N.numbers law columns ∙ omega (arith, c.clear-2.ensures.count, c.in_ok-columns.ensures.len) in
-    let row_length = count_is N.number N.numbers law rows in
-    let column_length = count_is N.number N.numbers law columns in
+    let row_count : length (N.numbers rows) ≡ c.args.side = count_is law rows ∙ omega (arith, c.clear.ensures.count, c.in_ok-rows.ensures.len) in
+    let column_count : length (N.numbers columns) ≡ c.args.side = count_is law columns ∙ omega (arith, c.clear-2.ensures.count, c.in_ok-columns.ensures.len) in
+    let row_length = count_is law rows in
+    let column_length = count_is law columns in
     record {
       rows = λ r h. c.clear.ensures.each r (omega (arith, h, row_length, c.clear.ensures.count));
       columns = λ k h. c.clear-2.ensures.each k (omega (arith, h, row_count, column_count, column_length, c.clear-2.ensures.count));
@@ -40,4 +40,4 @@ pub returns-clause-side : goal.returns-clause-side
 returns-clause-side g c =
     let N = g.N.SumNumber in
     let rows = c.clear.new.numbers.items in
-    count_is N.number N.numbers g.met.N.SumNumber.numbers_law rows ∙ omega (arith, c.clear.ensures.count, c.in_ok-rows.ensures.len)
+    count_is g.met.N.SumNumber.numbers_law rows ∙ omega (arith, c.clear.ensures.count, c.in_ok-rows.ensures.len)

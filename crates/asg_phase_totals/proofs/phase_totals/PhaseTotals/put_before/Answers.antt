@@ -7,21 +7,21 @@ returns-then-enters-side-clause-taken g c =
     let N = g.N.SumNumber in
     let law = g.met.N.SumNumber.numbers_law in
     let same = ap (λ (t : Totals). length t.rows) c.self.view_is in
-    never (λ can. omega (arith, can.right.rows, same, count_is N.number N.numbers law c.self.inside.rows.items, c.len-side.ensures, c.if-enters-side.true))
+    never (λ can. omega (arith, can.right.rows, same, count_is law c.self.inside.rows.items, c.len-side.ensures, c.if-enters-side.true))
 
 pub returns-then-leaves-side-clause-taken : goal.returns-then-leaves-side-clause-taken
 returns-then-leaves-side-clause-taken g c =
     let N = g.N.SumNumber in
     let law = g.met.N.SumNumber.numbers_law in
     let same = ap (λ (t : Totals). length t.rows) c.self.view_is in
-    never (λ can. omega (arith, can.right.columns, same, count_is N.number N.numbers law c.self.inside.rows.items, c.len-side.ensures, c.if-leaves-side.true))
+    never (λ can. omega (arith, can.right.columns, same, count_is law c.self.inside.rows.items, c.len-side.ensures, c.if-leaves-side.true))
 
 pub returns-then-not-are_counted-clause-taken : goal.returns-then-not-are_counted-clause-taken
 returns-then-not-are_counted-clause-taken g c =
     let N = g.N.SumNumber in
     let law = g.met.N.SumNumber.numbers_law in
     never (λ can. not_both c.are_counted.result
-    (c.are_counted.ensures.1 (subst (λ n. AreCounted c.args.enters.now c.args.leaves.now n) (count_is N.number N.numbers law c.args.steps.now) can.right.counted))
+    (c.are_counted.ensures.1 (subst (λ n. AreCounted c.args.enters.now c.args.leaves.now n) (count_is law c.args.steps.now) can.right.counted))
     c.if-not-are_counted.true)
 
 pub returns-then-not-is_ordered-clause-taken : goal.returns-then-not-is_ordered-clause-taken
@@ -33,7 +33,7 @@ returns-in_default-clause-taken g c =
     let N = g.N.SumNumber in
     let law = g.met.N.SumNumber.numbers_law in
     let same = ap (λ (t : Totals). t.sum) c.self.view_is in
-    let all = all_is N.number N.numbers law c.args.steps.now in
+    let all = all_is law c.args.steps.now in
     let beyond = c.sum_within.ensures.beyond c.in_default.is in
     never (λ can. omega (arith, can.few, same, all, beyond, c.minus.ensures, c.greatest_sum.ensures))
 
@@ -46,7 +46,7 @@ raise-requires-clause-fits g c = λ i h.
     let N = g.N.SumNumber in
     let law = g.met.N.SumNumber.numbers_law in
     let v = c.self.invariant in
-    let within = v.rows_within i (omega (arith, h, count_is N.number N.numbers law c.self.inside.rows.items)) in
+    let within = v.rows_within i (omega (arith, h, count_is law c.self.inside.rows.items)) in
     omega (arith, within, c.in-Some.ensures.within, c.in-Some.ensures.small, c.minus.ensures, c.greatest_sum.ensures, v.sum_within, g.met.N.SumNumber.wide_law)
 
 pub raise-requires-2-clause-marks : goal.raise-requires-2-clause-marks
@@ -54,7 +54,7 @@ raise-requires-2-clause-marks g c =
     let N = g.N.SumNumber in
     let law = g.met.N.SumNumber.numbers_law in
     let s = c.self.inside in
-    omega (arith, c.if-leaves-side.false, c.len-side.ensures, c.self.invariant.count, count_is N.number N.numbers law s.rows.items, count_is N.number N.numbers law s.columns.items)
+    omega (arith, c.if-leaves-side.false, c.len-side.ensures, c.self.invariant.count, count_is law s.rows.items, count_is law s.columns.items)
 
 pub raise-requires-2-clause-fits : goal.raise-requires-2-clause-fits
 raise-requires-2-clause-fits g c = λ i h.
@@ -62,7 +62,7 @@ raise-requires-2-clause-fits g c = λ i h.
     let law = g.met.N.SumNumber.numbers_law in
     let s = c.self.inside in
     let v = c.self.invariant in
-    let within = v.columns_within i (omega (arith, h, v.count, count_is N.number N.numbers law s.rows.items, count_is N.number N.numbers law s.columns.items)) in
+    let within = v.columns_within i (omega (arith, h, v.count, count_is law s.rows.items, count_is law s.columns.items)) in
     omega (arith, within, c.in-Some.ensures.within, c.in-Some.ensures.small, c.minus.ensures, c.greatest_sum.ensures, v.sum_within, g.met.N.SumNumber.wide_law)
 
 pub plus-self-inside-requires : goal.plus-self-inside-requires
@@ -76,15 +76,15 @@ returns-clause-taken g c =
     let s = c.self.inside in
     let steps = N.numbers c.args.steps.now in
     let phase = phase_of steps c.args.enters.now c.args.leaves.now in
-    let row_count = count_is N.number N.numbers law s.rows.items in
+    let row_count = count_is law s.rows.items in
     let few : N.number s.sum + sum steps ≤ N.top =
-    let all = all_is N.number N.numbers law c.args.steps.now in
+    let all = all_is law c.args.steps.now in
     omega (arith, all, c.in-Some.ensures.within, c.in-Some.ensures.small, c.minus.ensures, c.greatest_sum.ensures, c.self.invariant.sum_within) in (
       λ _. subst (CanPrecede N.top phase) c.self.view_is (record {
         right = record {
           rows = omega (arith, c.if-enters-side.false, c.len-side.ensures, row_count);
           columns = omega (arith, c.if-leaves-side.false, c.len-side.ensures, row_count);
-          counted = subst (λ n. AreCounted c.args.enters.now c.args.leaves.now n) (sym (count_is N.number N.numbers law c.args.steps.now)) (c.are_counted.ensures.0 c.if-not-are_counted.false);
+          counted = subst (λ n. AreCounted c.args.enters.now c.args.leaves.now n) (sym (count_is law c.args.steps.now)) (c.are_counted.ensures.0 c.if-not-are_counted.false);
         };
         ordered = subst AreOrdered (sym c.self.view_is) (c.is_ordered.ensures.0 c.if-not-is_ordered.false);
         few = few;
@@ -102,11 +102,11 @@ returns-clause-totals g c = λ _ rest are.
     let leaves = c.args.leaves.now in
     let before = totals_of (N.numbers s.rows.items) (N.numbers s.columns.items) (N.number s.sum) in
     let after = totals_of (N.numbers c.raise.new.duals.items) (N.numbers c.raise-2.new.duals.items) (N.number c.plus-self-inside.result) in
-    let row_count = count_is N.number N.numbers law s.rows.items in
+    let row_count = count_is law s.rows.items in
     let counts : CountsRight (length before.rows) (phase_of steps enters leaves) = record {
       rows = omega (arith, c.if-enters-side.false, c.len-side.ensures, row_count);
       columns = omega (arith, c.if-leaves-side.false, c.len-side.ensures, row_count);
-      counted = subst (λ n. AreCounted enters leaves n) (sym (count_is N.number N.numbers law c.args.steps.now)) (c.are_counted.ensures.0 c.if-not-are_counted.false);
+      counted = subst (λ n. AreCounted enters leaves n) (sym (count_is law c.args.steps.now)) (c.are_counted.ensures.0 c.if-not-are_counted.false);
     } in
     totals_more (phase_of steps enters leaves) rest before after
     (subst (AreTotals rest) (sym c.self.view_is) are) counts
@@ -114,7 +114,7 @@ returns-clause-totals g c = λ _ rest are.
     c.raise.ensures.count
     (λ r h. c.raise.ensures.each r h)
     (λ k h. c.raise-2.ensures.each k (omega (arith, h, c.self.invariant.count)))
-    (omega (arith, c.plus-self-inside.ensures, c.in-Some.ensures.within, all_is N.number N.numbers law c.args.steps.now, sum_all steps))
+    (omega (arith, c.plus-self-inside.ensures, c.in-Some.ensures.within, all_is law c.args.steps.now, sum_all steps))
 
 pub invariant_of-self : goal.invariant_of-self
 invariant_of-self g c =
@@ -124,7 +124,7 @@ invariant_of-self g c =
     let steps = N.numbers c.args.steps.now in
     let before = totals_of (N.numbers s.rows.items) (N.numbers s.columns.items) (N.number s.sum) in
     let after = totals_of (N.numbers c.raise.new.duals.items) (N.numbers c.raise-2.new.duals.items) (N.number c.plus-self-inside.result) in
-    let all = all_is N.number N.numbers law c.args.steps.now in
+    let all = all_is law c.args.steps.now in
     keeps_more (phase_of steps c.args.enters.now c.args.leaves.now) before after c.self.invariant c.raise.ensures.count c.raise-2.ensures.count
     (λ r h. c.raise.ensures.each r h)
     (λ k h. c.raise-2.ensures.each k (omega (arith, h, c.self.invariant.count)))

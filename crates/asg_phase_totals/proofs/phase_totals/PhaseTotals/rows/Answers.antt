@@ -8,6 +8,6 @@ pub returns-clause-count : goal.returns-clause-count
 returns-clause-count g c =
     let N = g.N.SumNumber in
     let law = g.met.N.SumNumber.numbers_law in
-    sym (count_is N.number N.numbers law c.as_slice.result.now)
+    sym (count_is law c.as_slice.result.now)
     ∙ ap (λ xs. length (N.numbers xs)) c.as_slice.ensures.value
     ∙ ap (λ (t : Totals). length t.rows) c.self.view_is

@@ -1,16 +1,14 @@
 //! A bench on which children are grown.
 
-ghost use Rattle.std.specs.Prelude.{◌≡◌, length};
-
 use crate::NoMemory;
 use crate::children::{Child, EMPTY};
 use crate::gaps::measure_in;
+use crate::numbers::{RankNumber, amount_of};
 use crate::paths::{End, Errand, Reach, search};
-use crate::places::{NONE, at, name, put};
 use crate::rooms::Room;
-use crate::search_tables::{Cells, SearchTable};
 use crate::shifts::shift_path;
-use asg_rank_numbers::{Lanes, Table};
+use crate::tables::Table;
+use asg_dual_numbers::{NONE, at, name, put};
 use std::alloc::Global;
 
 /// A part of all answers, with an answer in it and dual variables at which it is tight.
@@ -41,28 +39,23 @@ pub enum Growth {
     Lost,
 }
 
-// Room for a search in numbers of one of two widths.
+/// A table of cells, room for children, one at a time, and for the searches that grow them, in
+/// numbers less the first dual variables.
 #[derive(Drop)]
-enum Rooms {
-    Narrow(Room<i32>),
-    Wide(Room<i64>),
-}
-
-/// Room for children, one at a time, and for the searches that grow them.
-#[derive(Drop)]
-pub struct Bench {
+pub struct Bench<N: RankNumber> {
+    table: Table<N>,
+    room: Room<N>,
     child: Child,
-    rooms: Rooms,
     gaps: Vec<u64>,
 }
 
 // Writes the dual variables of a child after a search, which was to come to a distance.
-fn raise<N: Lanes>(child: &mut Child, room: &Room<N>, root: usize, reach: &Reach<N>, to: u64) {
+fn raise<N: RankNumber>(child: &mut Child, room: &Room<N>, root: usize, reach: &Reach<N>, to: u64) {
     child.fall(name(root), to);
     let count = reach.count.min(room.done.len());
     for place in 0..count {
         let column = room.done_at(place);
-        let more = to.saturating_sub(room.reached_at(place).to_amount());
+        let more = to.saturating_sub(amount_of(room.reached_at(place)));
         child.rise(column, more);
         let row = room.row_at(column);
         if row != NONE {
@@ -70,28 +63,27 @@ fn raise<N: Lanes>(child: &mut Child, room: &Room<N>, root: usize, reach: &Reach
         }
     }
     if reach.spare != NONE {
-        let more = to.saturating_sub(reach.spare_distance.to_amount());
+        let more = to.saturating_sub(amount_of(reach.spare_distance));
         child.floor = child.floor.wrapping_add(more);
     }
     child.by = to;
 }
 
 // Whether what follows from a search may be too great for numbers of a width.
-fn is_lost<N: Lanes>(reach: &Reach<N>) -> bool {
-    let fall = reach.fall.to_amount();
-    fall.saturating_add(reach.distance.to_amount()) > N::most()
+fn is_lost<N: RankNumber>(reach: &Reach<N>) -> bool {
+    let fall = amount_of(reach.fall);
+    fall.saturating_add(amount_of(reach.distance)) > N::most()
 }
 
 // Grows a child in numbers of a width.
-fn grow_in<N: Lanes>(
+fn grow_in<N: RankNumber>(
     child: &mut Child,
     room: &mut Room<N>,
     table: &Table<N>,
-    bases: &[u64],
     errand: &Errand<'_>,
     limit: u64,
 ) -> Growth {
-    let reach = search(room, table, bases, errand, limit);
+    let reach = search(room, table, errand, limit);
     let root = errand.root;
     let parent = errand.parent;
     child.begin(&parent);
@@ -107,7 +99,7 @@ fn grow_in<N: Lanes>(
             Growth::Beyond
         }
         End::Reached => {
-            raise(child, room, root, &reach, reach.distance.to_amount());
+            raise(child, room, root, &reach, amount_of(reach.distance));
             let columns = child.columns.as_mut_slice();
             put(columns, table.rows, reach.spare);
             let is_root = shift_path(columns, room, table, errand, &reach);
@@ -120,19 +112,31 @@ fn grow_in<N: Lanes>(
     }
 }
 
-impl Bench {
-    /// A bench for children over a table. The error is want of memory.
-    pub fn make(alloc: Global, table: &SearchTable) -> Result<Bench, NoMemory> {
-        let rooms = match &table.cells {
-            Cells::Narrow(table) => Rooms::Narrow(Room::make(alloc, table)?),
-            Cells::Wide(table) => Rooms::Wide(Room::make(alloc, table)?),
-        };
-        let child = match &table.cells {
-            Cells::Narrow(table) => Child::make(alloc, table.rows, table.columns)?,
-            Cells::Wide(table) => Child::make(alloc, table.rows, table.columns)?,
-        };
-        let gaps = vec![in alloc; 0; child.falls.len()]?;
-        Ok(Bench { child, rooms, gaps })
+impl<N: RankNumber> Bench<N> {
+    /// A bench for a table of so many rows, and of a column for each of these rises, without a
+    /// number yet. A column that has no row rose by the floor, or more. The error is want of memory.
+    pub fn make(
+        alloc: Global,
+        rows: usize,
+        rises: &[u64],
+        floor: u64,
+    ) -> Result<Bench<N>, NoMemory> {
+        let table = Table::make(alloc, rows, rises, floor)?;
+        let room = Room::make(alloc, &table)?;
+        let child = Child::make(alloc, rows, rises.len())?;
+        let gaps = vec![in alloc; 0; rows]?;
+        Ok(Bench {
+            table,
+            room,
+            child,
+            gaps,
+        })
+    }
+
+    /// Enters the numbers of a row, and by how much it fell. A number from 2^61 on stands for a
+    /// cell that is absent.
+    pub fn enter(&mut self, row: usize, numbers: &[u64], fall: u64) {
+        self.table.enter(row, numbers, fall);
     }
 
     /// Measures how far the children of a part are above it at least, where its row takes none of
@@ -140,22 +144,9 @@ impl Bench {
     ///
     /// By so much the row of a child may fall further, and its column may rise less, in one pass
     /// over the cells of the rows that aren't fixed.
-    pub fn measure(&mut self, table: &SearchTable, parent: Parent<'_>, banned: &[u32]) {
-        let bases = table.bases.as_slice();
-        let spare = parent.floor.saturating_sub(table.floor);
+    pub fn measure(&mut self, parent: Parent<'_>, banned: &[u32]) {
         let gaps = self.gaps.as_mut_slice();
-        match &mut self.rooms {
-            Rooms::Narrow(room) => match &table.cells {
-                Cells::Narrow(cells) => {
-                    measure_in(gaps, room, cells, bases, &parent, banned, spare)
-                }
-                Cells::Wide(_) => {}
-            },
-            Rooms::Wide(room) => match &table.cells {
-                Cells::Wide(cells) => measure_in(gaps, room, cells, bases, &parent, banned, spare),
-                Cells::Narrow(_) => {}
-            },
-        }
+        measure_in(gaps, &mut self.room, &self.table, &parent, banned);
     }
 
     /// How far the child by each row is above the part that was measured, from the part's row on.
@@ -169,33 +160,15 @@ impl Bench {
     ///
     /// One shortest path is grown, from the row to the column that it loses [Murty 1968; Jonker and
     /// Volgenant 1987].
-    pub fn grow(
-        &mut self,
-        table: &SearchTable,
-        parent: Parent<'_>,
-        row: usize,
-        banned: &[u32],
-        limit: u64,
-    ) -> Growth {
-        let bases = table.bases.as_slice();
+    pub fn grow(&mut self, parent: Parent<'_>, row: usize, banned: &[u32], limit: u64) -> Growth {
         let errand = Errand {
             parent,
             root: row,
             target: at(parent.columns, row) as usize,
             banned,
-            spare_fall: parent.floor.saturating_sub(table.floor),
+            spare_fall: parent.floor.saturating_sub(self.table.floor),
         };
-        let child = &mut self.child;
-        match &mut self.rooms {
-            Rooms::Narrow(room) => match &table.cells {
-                Cells::Narrow(cells) => grow_in(child, room, cells, bases, &errand, limit),
-                Cells::Wide(_) => Growth::Lost,
-            },
-            Rooms::Wide(room) => match &table.cells {
-                Cells::Wide(cells) => grow_in(child, room, cells, bases, &errand, limit),
-                Cells::Narrow(_) => Growth::Lost,
-            },
-        }
+        grow_in(&mut self.child, &mut self.room, &self.table, &errand, limit)
     }
 
     /// The column of each row in the child's answer.

@@ -4,7 +4,7 @@ ghost use Rattle.std.specs.Prelude.{◌≡◌, length};
 
 use crate::NoMemory;
 use crate::benches::Parent;
-use crate::places::{NONE, add, copy_amounts, copy_names, put};
+use asg_dual_numbers::{NONE, put};
 use std::alloc::Global;
 
 /// By how much a row that a child fixes falls further, and its column rises: by more than any other
@@ -29,6 +29,26 @@ pub(crate) struct Child {
     pub count: usize,
 }
 
+// Adds to the amount at a place.
+#[inline]
+fn add(amounts: &mut [u64], place: usize, more: u64)
+    ensures { length amounts.new ≡ length amounts.old }
+{
+    if place < amounts.len() {
+        amounts[place] = amounts[place].wrapping_add(more);
+    }
+}
+
+// Writes the first entries of a list into another.
+fn copy<T: Copy>(from: &[T], to: &mut [T])
+    ensures { length to.new ≡ length to.old }
+{
+    let count = from.len().min(to.len());
+    for place in 0..count {
+        to[place] = from[place];
+    }
+}
+
 impl Child {
     // Room for a child over so many rows and columns. The error is want of memory.
     pub(crate) fn make(alloc: Global, rows: usize, columns: usize) -> Result<Child, NoMemory> {
@@ -45,9 +65,9 @@ impl Child {
 
     // Begins with what the parent has.
     pub(crate) fn begin(&mut self, parent: &Parent<'_>) {
-        copy_names(parent.columns, self.columns.as_mut_slice());
-        copy_amounts(parent.falls, self.falls.as_mut_slice());
-        copy_amounts(parent.rises, self.rises.as_mut_slice());
+        copy(parent.columns, self.columns.as_mut_slice());
+        copy(parent.falls, self.falls.as_mut_slice());
+        copy(parent.rises, self.rises.as_mut_slice());
         self.floor = parent.floor;
         self.by = 0;
         self.count = 0;

@@ -3,22 +3,20 @@
 ghost use Rattle.std.specs.Prelude.{◌≡◌, length};
 
 use crate::benches::Parent;
+use crate::numbers::{RankNumber, amount_of, capped, load, open};
 use crate::rooms::Room;
-use asg_rank_numbers::{Lanes, Table, set, value};
+use crate::tables::Table;
+use asg_dual_numbers::{set, value};
 
 // Opens a pass from the last row of a part up: no row was gone through, and none takes the column
 // of another.
-fn open<N: Lanes>(
-    room: &mut Room<N>,
-    table: &Table<N>,
-    bases: &[u64],
-    parent: &Parent<'_>,
-    spare_fall: u64,
-) {
-    N::load(parent.rises, bases, room.raised.as_mut_slice());
+fn begin<N: RankNumber>(room: &mut Room<N>, table: &Table<N>, parent: &Parent<'_>) {
+    let spare_fall = parent.floor.saturating_sub(table.floor);
+    let bases = table.bases.as_slice();
+    load(parent.rises, bases, room.raised.as_mut_slice());
     let numbers = table.row(table.rows);
     let keys = room.keys.as_mut_slice();
-    N::open(numbers, room.raised.as_slice(), keys, N::of(spare_fall));
+    open(numbers, room.raised.as_slice(), keys, capped(spare_fall));
     let floors = room.floors.as_mut_slice();
     for column in 0..floors.len() {
         let floor = if column < table.columns {
@@ -35,10 +33,10 @@ fn open<N: Lanes>(
 
 // Goes through a row with this column, which it loses: how far another column of the rows behind it
 // is for it at least, and how far it is for the column to go to one of them.
-fn pass<N: Lanes>(room: &mut Room<N>, numbers: &[N], own: usize) -> u64 {
+fn pass<N: RankNumber>(room: &mut Room<N>, numbers: &[N], own: usize) -> u64 {
     let fall = room.number(numbers, own);
     let of_column = value(room.keys.as_slice(), own);
-    let of_row = N::lessen(
+    let of_row = N::lessen_row(
         numbers,
         room.raised.as_slice(),
         room.floors.as_slice(),
@@ -46,23 +44,21 @@ fn pass<N: Lanes>(room: &mut Room<N>, numbers: &[N], own: usize) -> u64 {
         fall,
     );
     set(room.floors.as_mut_slice(), own, N::zero());
-    of_row.to_amount().saturating_add(of_column.to_amount())
+    amount_of(of_row).saturating_add(amount_of(of_column))
 }
 
 // Writes for each row of a part from its first on how far the child is above it in which that row
 // loses its column.
-pub(crate) fn measure_in<N: Lanes>(
+pub(crate) fn measure_in<N: RankNumber>(
     gaps: &mut [u64],
     room: &mut Room<N>,
     table: &Table<N>,
-    bases: &[u64],
     parent: &Parent<'_>,
     banned: &[u32],
-    spare_fall: u64,
 )
     ensures { length gaps.new ≡ length gaps.old }
 {
-    open(room, table, bases, parent, spare_fall);
+    begin(room, table, parent);
     let rows = parent.columns.len().min(gaps.len());
     for back in parent.row..rows {
         let row = rows - 1 - (back - parent.row);

@@ -9,18 +9,18 @@ mod benches;
 mod children;
 mod gaps;
 mod limits;
+mod numbers;
 mod paths;
-mod places;
 mod queues;
 mod rooms;
-mod search_tables;
 mod shifts;
+mod tables;
 
 pub use benches::{Bench, Growth, Parent};
 pub use children::FIXED;
 pub use limits::Limit;
+pub use numbers::RankNumber;
 pub use queues::{Queue, Waiting};
-pub use search_tables::{SearchTable, Width};
 
 /// There was not enough memory.
 pub type NoMemory = std::alloc::AllocError;

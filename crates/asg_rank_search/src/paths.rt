@@ -1,13 +1,14 @@
 //! Shortest paths from a row that loses its column.
 
 use crate::benches::Parent;
-use crate::places::{NONE, fill, name};
+use crate::numbers::{RankNumber, capped, load, open};
 use crate::rooms::Room;
-use asg_rank_numbers::{Lanes, Table, value};
+use crate::tables::Table;
+use asg_dual_numbers::{NONE, name, value};
 
 // How a search ended, and at which distance.
 #[derive(Clone, Copy)]
-pub(crate) struct Reach<N: Lanes> {
+pub(crate) struct Reach<N: RankNumber> {
     pub end: End,
     pub distance: N,
     // How many columns are done.
@@ -48,15 +49,16 @@ pub(crate) struct Errand<'a> {
 }
 
 // Opens a search; how much its row fell since first.
-fn open<N: Lanes>(room: &mut Room<N>, table: &Table<N>, bases: &[u64], errand: &Errand<'_>) -> N {
+fn begin<N: RankNumber>(room: &mut Room<N>, table: &Table<N>, errand: &Errand<'_>) -> N {
     let columns = errand.parent.columns;
     if table.rows < table.columns {
-        fill(room.row_of.as_mut_slice(), NONE);
+        room.row_of.as_mut_slice().fill(NONE);
     }
-    N::load(errand.parent.rises, bases, room.raised.as_mut_slice());
+    let bases = table.bases.as_slice();
+    load(errand.parent.rises, bases, room.raised.as_mut_slice());
     let numbers = table.row(errand.root);
     let fall = room.number(numbers, errand.target);
-    N::open(
+    open(
         numbers,
         room.raised.as_slice(),
         room.keys.as_mut_slice(),
@@ -74,7 +76,7 @@ fn open<N: Lanes>(room: &mut Room<N>, table: &Table<N>, bases: &[u64], errand: &
 
 // Takes all columns that no row has as done, at a distance, and goes on to those that may take
 // their place. Gives the least key, less one.
-fn enter_spare<N: Lanes>(
+fn enter_spare<N: RankNumber>(
     room: &mut Room<N>,
     table: &Table<N>,
     fall: N,
@@ -92,8 +94,8 @@ fn enter_spare<N: Lanes>(
 }
 
 // Why a search ends at which all that is left is as far as the limit, or further.
-fn end_at<N: Lanes>(table: &Table<N>, least: N, limit: u64) -> End {
-    let further = N::far().minus(N::of(N::most()));
+fn end_at<N: RankNumber>(table: &Table<N>, least: N, limit: u64) -> End {
+    let further = N::far().minus(capped(N::most()));
     if !least.is_less(N::greatest().minus(N::of(1))) {
         End::Nothing
     } else if limit <= N::most() {
@@ -107,20 +109,20 @@ fn end_at<N: Lanes>(table: &Table<N>, least: N, limit: u64) -> End {
 
 // Takes the nearest column as done, and goes on to what its row reaches. Gives the least key, less
 // one.
-fn step<N: Lanes>(
+fn step<N: RankNumber>(
     room: &mut Room<N>,
     table: &Table<N>,
     errand: &Errand<'_>,
     reach: &mut Reach<N>,
     distance: N,
 ) -> N {
-    let column = N::find(room.keys.as_slice(), distance);
+    let column = N::find_key(room.keys.as_slice(), distance);
     let row = room.row_at(column);
     if row == NONE {
         reach.spare = name(column);
         reach.spare_distance = distance;
         reach.spare_place = reach.count;
-        let fall = N::of(errand.spare_fall);
+        let fall = capped(errand.spare_fall);
         return enter_spare(room, table, fall, distance, reach);
     }
     room.note(reach.count, column, distance);
@@ -136,8 +138,8 @@ fn step<N: Lanes>(
 }
 
 // A search before its first step, within a limit.
-fn opened<N: Lanes>(fall: N, limit: u64) -> Reach<N> {
-    let stop = N::of(limit.min(N::most()));
+fn opened<N: RankNumber>(fall: N, limit: u64) -> Reach<N> {
+    let stop = capped(limit.min(N::most()));
     Reach {
         end: End::Lost,
         distance: stop,
@@ -151,28 +153,27 @@ fn opened<N: Lanes>(fall: N, limit: u64) -> Reach<N> {
 }
 
 // Grows a tree of shortest paths from a row to the column that it loses, within a limit.
-pub(crate) fn search<N: Lanes>(
+pub(crate) fn search<N: RankNumber>(
     room: &mut Room<N>,
     table: &Table<N>,
-    bases: &[u64],
     errand: &Errand<'_>,
     limit: u64,
 ) -> Reach<N> {
-    let mut reach = opened(open(room, table, bases, errand), limit);
+    let mut reach = opened(begin(room, table, errand), limit);
     let before = reach.distance.minus(N::of(1));
-    let mut least = N::least(room.keys.as_slice());
+    let mut nearest = N::least_key(room.keys.as_slice());
     for _ in 0..table.wide.saturating_add(1) {
-        if !least.is_less(before) {
-            reach.end = end_at(table, least, limit);
+        if !nearest.is_less(before) {
+            reach.end = end_at(table, nearest, limit);
             return reach;
         }
-        let distance = least.plus(N::of(1));
+        let distance = nearest.plus(N::of(1));
         if !distance.is_less(value(room.keys.as_slice(), errand.target)) {
             reach.end = End::Reached;
             reach.distance = distance;
             return reach;
         }
-        least = step(room, table, errand, &mut reach, distance);
+        nearest = step(room, table, errand, &mut reach, distance);
     }
     reach
 }

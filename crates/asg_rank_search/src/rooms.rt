@@ -1,15 +1,14 @@
 //! Room for a search.
 
-ghost use Rattle.std.specs.Prelude.{◌≡◌, length};
-
 use crate::NoMemory;
-use crate::places::{NONE, at, name, put};
-use asg_rank_numbers::{Lanes, Table, set, value};
+use crate::numbers::RankNumber;
+use crate::tables::Table;
+use asg_dual_numbers::{NONE, at, name, put, set, value};
 use std::alloc::Global;
 
 // The lists that a search goes by.
 #[derive(Drop)]
-pub(crate) struct Room<N: Lanes> {
+pub(crate) struct Room<N: RankNumber> {
     // By how much each column rose since first, and the row that has it.
     pub raised: Vec<N>,
     pub row_of: Vec<u32>,
@@ -25,7 +24,7 @@ pub(crate) struct Room<N: Lanes> {
     pub floors: Vec<N>,
 }
 
-impl<N: Lanes> Room<N> {
+impl<N: RankNumber> Room<N> {
     // Room for searches over a table. The error is want of memory.
     pub(crate) fn make(alloc: Global, table: &Table<N>) -> Result<Room<N>, NoMemory> {
         let wide = table.wide;
@@ -91,7 +90,7 @@ impl<N: Lanes> Room<N> {
 
     // Goes on to what a row reaches, with so much less. Gives the least key, less one.
     pub(crate) fn relax(&mut self, numbers: &[N], base: N) -> N {
-        N::relax(
+        N::relax_row(
             numbers,
             self.raised.as_slice(),
             self.keys.as_mut_slice(),

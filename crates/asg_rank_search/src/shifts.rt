@@ -2,14 +2,15 @@
 
 ghost use Rattle.std.specs.Prelude.{◌≡◌, length};
 
+use crate::numbers::{RankNumber, capped};
 use crate::paths::{Errand, Reach};
-use crate::places::{NONE, name, put};
 use crate::rooms::Room;
-use asg_rank_numbers::{Lanes, Table, value};
+use crate::tables::Table;
+use asg_dual_numbers::{NONE, name, put, value};
 
 // A column of a path: its distance, and how many columns were done before it.
 #[derive(Clone, Copy)]
-struct Stop<N: Lanes> {
+struct Stop<N: RankNumber> {
     column: usize,
     distance: N,
     before: usize,
@@ -26,7 +27,7 @@ fn is_among(columns: &[u32], column: usize) -> bool {
 }
 
 // Whether a column is reached from the root itself.
-fn is_from_root<N: Lanes>(
+fn is_from_root<N: RankNumber>(
     room: &Room<N>,
     table: &Table<N>,
     errand: &Errand<'_>,
@@ -43,13 +44,13 @@ fn is_from_root<N: Lanes>(
 // Whether a column with the rest of its distance, less what it rose, is reached by a number that is
 // so much less.
 #[inline]
-fn is_within<N: Lanes>(number: N, less: N, rest: N) -> bool {
+fn is_within<N: RankNumber>(number: N, less: N, rest: N) -> bool {
     !rest.is_less(number.minus(less))
 }
 
 // The row from which a column is reached, with its own column; the row behind the last one stands
 // for the columns that no row has.
-fn row_before<N: Lanes>(
+fn row_before<N: RankNumber>(
     room: &Room<N>,
     table: &Table<N>,
     errand: &Errand<'_>,
@@ -68,7 +69,8 @@ fn row_before<N: Lanes>(
             }
         } else if room.done_at(place) == reach.spare as usize {
             let number = table.number(table.rows, stop.column);
-            let less = N::of(errand.spare_fall).minus(room.reached_at(place));
+            let fall: N = capped(errand.spare_fall);
+            let less = fall.minus(room.reached_at(place));
             if is_within(number, less, rest) {
                 return (name(table.rows), stop_at(room, place, reach.spare_place));
             }
@@ -78,7 +80,7 @@ fn row_before<N: Lanes>(
 }
 
 // The column that was done at a place, so many before it.
-fn stop_at<N: Lanes>(room: &Room<N>, place: usize, before: usize) -> Stop<N> {
+fn stop_at<N: RankNumber>(room: &Room<N>, place: usize, before: usize) -> Stop<N> {
     Stop {
         column: room.done_at(place),
         distance: room.reached_at(place),
@@ -88,7 +90,7 @@ fn stop_at<N: Lanes>(room: &Room<N>, place: usize, before: usize) -> Stop<N> {
 
 // Gives each row of the path that ends in the column that the root lost the column that was reached
 // from it; whether the path begins in the root.
-pub(crate) fn shift_path<N: Lanes>(
+pub(crate) fn shift_path<N: RankNumber>(
     columns: &mut [u32],
     room: &Room<N>,
     table: &Table<N>,

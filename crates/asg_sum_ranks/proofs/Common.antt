@@ -6,7 +6,4 @@ pub use Rattle.asg_dual_bounds.specs.Parts.{IsIn, Part, child_part}
 pub use Rattle.asg_dual_bounds.specs.Views.{IsChildGap, duals_of, part_of}
 pub use Rattle.asg_model.specs.Problem.{Problem}
 pub use Rattle.asg_model.specs.declared.objectives.Objective.{Objective}
-pub use Rattle.asg_model.specs.declared.objectives.Objective.TheVariants.{Sum, SumMax}
-pub use Rattle.asg_monoids.specs.Entered.{cost_reach}
-pub use Rattle.asg_proof.specs.laws.LiveCosts.{costs_may_enter}
 pub use Rattle.asg_sum_ranks.specs.Branches.{AreBranches, AreShut, Branch, HaveGaps, IsChild, IsGiven, IsShut, IsSound, SumsTo, answer_at, answers_of, branch_at, child_at, columns_of, part_at}

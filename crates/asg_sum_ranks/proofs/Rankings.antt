@@ -1,7 +1,7 @@
 -- Branches whose sums ascend and whose children are shut are a ranking.
 use Rattle.asg_sum_ranks.proofs.Common.{◌≡◌, ℕ, zero, suc, ◌+◌, ◌-◌, ◌<◌, ◌≤◌, List, [], ◌∷◌, length, get_or, Contains, sym, refl, ap, ◌∙◌, subst, inl, inr, arith, get_or_default, length-map, IsAnswer, sum_at, Problem, Objective, Branch, columns_of, answers_of, answer_at, AreBranches, AreShut, SumsTo}
 use Rattle.asg_dual_bounds.specs.SumRankings.{IsSumRanking}
-use Rattle.asg_sum_ranks.proofs.Splits.{SplitLaw, IsSplit, split_upto}
+use Rattle.asg_sum_ranks.proofs.Splits.{IsSplit, split_upto}
 
 -- the answers in turn
 pub answer_of : (branches : List Branch) (a : ℕ) → get_or (answers_of branches) a [] ≡ answer_at branches a
@@ -9,7 +9,7 @@ answer_of [] a = refl
 answer_of (b ∷ bs) zero = refl
 answer_of (b ∷ bs) (suc a) = answer_of bs a
 
-module _ (objective : Objective) (X : Problem) (branches : List Branch) (law : SplitLaw) (are : AreBranches objective X branches (length branches)) where
+module _ (objective : Objective) (X : Problem) (branches : List Branch) (are : AreBranches objective X branches (length branches)) where
   -- the answer at a place, whatever stands past the end
   read : (a : ℕ) (d : List ℕ) → a < length (answers_of branches) → get_or (answers_of branches) a d ≡ answer_at branches a
   read a d below = get_or_default (answers_of branches) a d [] below ∙ answer_of branches a
@@ -19,7 +19,7 @@ module _ (objective : Objective) (X : Problem) (branches : List Branch) (law : S
 
   split_at : (n : ℕ) → 1 ≤ n → n ≤ length branches → IsSplit objective X branches n
   split_at zero one below = absurd (omega arith)
-  split_at (suc k) one below = split_upto objective X branches (length branches) law are k (omega arith)
+  split_at (suc k) one below = split_upto objective X branches (length branches) are k (omega arith)
 
   split : 1 ≤ length branches → IsSplit objective X branches (length branches)
   split some = split_at (length branches) some (omega arith)

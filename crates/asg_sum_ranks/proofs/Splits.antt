@@ -1,12 +1,6 @@
 -- Branches split the answers: each is a branch's own or in one child that no branch is of.
-use Rattle.asg_sum_ranks.proofs.Common.{◌≡◌, ℕ, zero, suc, ◌<◌, ◌≤◌, ◌≢◌, ◌⊎◌, List, [], ◌∷◌, length, slice_index, Contains, sym, refl, ap, ◌∙◌, subst, inl, inr, arith, cases_eq, IsAnswer, Part, IsIn, child_part, Problem, Objective, Branch, branch_at, answer_at, part_at, child_at, AreBranches, IsGiven}
-
--- the law of splitting
-pub record SplitLaw : Type 0 where
-  pub within : (part : Part) (g f : List ℕ) (r : ℕ) → length f ≡ length g → IsIn part g → part.row ≤ r → r < length g → IsIn (child_part part g r) f → IsIn part f
-  pub other : (part : Part) (g : List ℕ) (r : ℕ) → r < length g → ¬ IsIn (child_part part g r) g
-  pub covered : (part : Part) (g f : List ℕ) → length f ≡ length g → IsIn part g → IsIn part f → f ≢ g → (r : ℕ) × (part.row ≤ r) × (r < length g) × IsIn (child_part part g r) f
-  pub once : (part : Part) (g f : List ℕ) (r s : ℕ) → length f ≡ length g → r < length g → s < length g → IsIn (child_part part g r) f → IsIn (child_part part g s) f → r ≡ s
+use Rattle.asg_sum_ranks.proofs.Common.{◌≡◌, ℕ, zero, suc, ◌<◌, ◌≤◌, ◌≢◌, ◌⊎◌, List, [], ◌∷◌, length, slice_index, Contains, sym, refl, ap, ◌∙◌, subst, inl, inr, arith, cases_eq, IsAnswer, Part, IsIn, Problem, Objective, Branch, branch_at, answer_at, part_at, child_at, AreBranches, IsGiven}
+use Rattle.asg_dual_bounds.proofs.Splits.{covered, in-from_child, not_in_child, once}
 
 -- two lists of numbers are the same or not
 pub cases_list : (f g : List ℕ) → (f ≡ g) ⊎ (f ≢ g)
@@ -38,7 +32,7 @@ pub record IsSplit (objective : Objective) (X : Problem) (branches : List Branch
   pub apart : (a e r : ℕ) → a < end → ¬ Holds X branches end e r (answer_at branches a)
   pub one : (f : List ℕ) (e r d s : ℕ) → IsAnswer objective X f → Holds X branches end e r f → Holds X branches end d s f → (e ≡ d) × (r ≡ s)
 
-module _ (objective : Objective) (X : Problem) (branches : List Branch) (all : ℕ) (law : SplitLaw) (are : AreBranches objective X branches all) where
+module _ (objective : Objective) (X : Problem) (branches : List Branch) (all : ℕ) (are : AreBranches objective X branches all) where
   -- a branch's answer has the side of any other
   over : (e : ℕ) (f : List ℕ) → e < all → IsAnswer objective X f → length f ≡ length (answer_at branches e)
   over e f below answer = same_length objective X f (answer_at branches e) answer (are.sound e below).answer
@@ -72,7 +66,7 @@ module _ (objective : Objective) (X : Problem) (branches : List Branch) (all : �
   -- what is in a child of a branch is in its part
   inner : (e r : ℕ) (f : List ℕ) → e < all → IsAnswer objective X f → (branch_at branches e).row ≤ r → r < length X.rows → IsIn (child_at branches e r) f → IsIn (part_at branches e) f
   inner e r f below answer from upto within =
-      law.within (part_at branches e) (answer_at branches e) f r (over e f below answer) (are.sound e below).within from (rows e r below upto) within
+      in-from_child (part_at branches e) (answer_at branches e) f r (are.sound e below).within from (rows e r below upto) within
 
   -- a child that isn't the next branch's part stays
   kept : (end e r : ℕ) (f : List ℕ) → Holds X branches end e r f → ¬ (((branch_at branches end).parent ≡ e) × ((branch_at branches end).row ≡ r)) → Holds X branches (suc end) e r f
@@ -116,7 +110,7 @@ module _ (objective : Objective) (X : Problem) (branches : List Branch) (all : �
         | inl same ↦ inl same
         | inr differs ↦
             let sound = are.sound end below in
-            let (r, from, upto, inside) = law.covered (part_at branches end) (answer_at branches end) f (over end f below answer) sound.within within differs in
+            let (r, from, upto, inside) = covered (part_at branches end) (answer_at branches end) f (over end f below answer) sound.within within differs in
             let same : length (answer_at branches end) ≡ length X.rows = sound.answer.over in
             inr (r, new end r f below from (omega arith) inside)
       ]
@@ -168,7 +162,7 @@ module _ (objective : Objective) (X : Problem) (branches : List Branch) (all : �
               let inside = subst (λ d. IsIn (child_at branches d r) (answer_at branches a)) new_one holds.within in
               elim (cases_eq a end) [
                 | inl last ↦
-                    law.other (part_at branches end) (answer_at branches end) r (rows end r below upto) (subst (λ d. IsIn (child_at branches end r) (answer_at branches d)) last inside)
+                    not_in_child (part_at branches end) (answer_at branches end) r (rows end r below upto) (subst (λ d. IsIn (child_at branches end r) (answer_at branches d)) last inside)
                 | inr other ↦
                     let row = subst (λ d. (branch_at branches d).row ≤ r) new_one holds.from in
                     let within = inner end r (answer_at branches a) below (are.sound a (omega arith)).answer row upto inside in
@@ -192,7 +186,7 @@ module _ (objective : Objective) (X : Problem) (branches : List Branch) (all : �
         elim (cases_eq e end) [
           | inl new_one ↦ elim (cases_eq d end) [
             | inl also ↦
-                let same_row = law.once (part_at branches end) (answer_at branches end) f r s (over end f below answer) (rows end r below first.upto) (rows end s below second.upto) (subst (λ k. IsIn (child_at branches k r) f) new_one first.within) (subst (λ k. IsIn (child_at branches k s) f) also second.within) in
+                let same_row = once (part_at branches end) (answer_at branches end) f r s (over end f below answer) (rows end r below first.upto) (rows end s below second.upto) (subst (λ k. IsIn (child_at branches k r) f) new_one first.within) (subst (λ k. IsIn (child_at branches k s) f) also second.within) in
                 (new_one ∙ sym also, same_row)
             | inr old ↦ absurd (not_both f e r d s answer first second new_one (omega arith))
           ]
@@ -236,13 +230,13 @@ module _ (objective : Objective) (X : Problem) (branches : List Branch) (all : �
         let first : e ≡ 0 = omega arith in
         let same : a ≡ 0 = omega arith in
         let inside = subst (λ d. IsIn (child_at branches d r) (answer_at branches a)) first holds.within in
-        law.other (part_at branches 0) (answer_at branches 0) r (rows 0 r some upto) (subst (λ d. IsIn (child_at branches 0 r) (answer_at branches d)) same inside);
+        not_in_child (part_at branches 0) (answer_at branches 0) r (rows 0 r some upto) (subst (λ d. IsIn (child_at branches 0 r) (answer_at branches d)) same inside);
     one = λ f e r d s answer left right.
         let before : e < 1 = left.before in
         let under : d < 1 = right.before in
         let first : e ≡ 0 = omega arith in
         let second : d ≡ 0 = omega arith in
-        (first ∙ sym second, law.once (part_at branches 0) (answer_at branches 0) f r s (over 0 f some answer) (rows 0 r some left.upto) (rows 0 s some right.upto) (subst (λ k. IsIn (child_at branches k r) f) first left.within) (subst (λ k. IsIn (child_at branches k s) f) second right.within));
+        (first ∙ sym second, once (part_at branches 0) (answer_at branches 0) f r s (over 0 f some answer) (rows 0 r some left.upto) (rows 0 s some right.upto) (subst (λ k. IsIn (child_at branches k r) f) first left.within) (subst (λ k. IsIn (child_at branches k s) f) second right.within));
   }
 
   pub split_upto : (k : ℕ) → k < all → IsSplit objective X branches (suc k)

@@ -1,5 +1,6 @@
 -- Branches one after the other, and what is in their parts.
-use Rattle.asg_sum_ranks.proofs.Common.{◌≡◌, ℕ, suc, ◌+◌, ◌<◌, ◌≤◌, List, [], ◌∷◌, length, get_or, slice_index, Contains, sym, refl, ap, ◌∙◌, subst, inl, inr, arith, cases_eq, get_or_default, same_lists, Duals, AreAbove, IsDualBound, IsRowGap, IsColumnGap, IsAnswer, sum_at, Part, IsIn, child_part, IsChildGap, Problem, Objective, Branch, branch_at, answer_at, part_at, child_at, IsSound, IsChild, AreBranches, HaveGaps, IsShut, SumsTo}
+use Rattle.asg_sum_ranks.proofs.Common.{◌≡◌, ℕ, suc, ◌+◌, ◌<◌, ◌≤◌, List, [], ◌∷◌, length, get_or, slice_index, Contains, sym, refl, ap, ◌∙◌, subst, inl, inr, arith, cases_eq, get_or_default, same_lists, Duals, AreAbove, IsAnswer, sum_at, Part, IsIn, child_part, IsChildGap, Problem, Objective, Branch, branch_at, answer_at, part_at, child_at, IsSound, IsChild, AreBranches, HaveGaps, IsShut, SumsTo}
+use Rattle.asg_dual_bounds.proofs.DualBounds.{child_bound}
 
 pub first_branches : (objective : Objective) (X : Problem) (branches : List Branch)
     → (branch_at branches 0).row ≡ 0 → (branch_at branches 0).banned ≡ []
@@ -53,17 +54,13 @@ behind (x ∷ xs) others column long first rest =
     get_or_default xs k d 0 below ∙ (read ∙ get_or_default others k 0 d within)) in
     ap (λ y. y ∷ xs) first ∙ ap (λ ys. column ∷ ys) same
 
--- the law of a child's bound
-abbrev pub ChildLaw : Type 0
-ChildLaw = (objective : Objective) (X : Problem) (part : Part) (duals : Duals) (b : ℕ) (answer columns : List ℕ) (k row_gap column_gap : ℕ) → AreAbove objective X part duals → IsDualBound (length X.columns) (length X.rows) duals b → IsAnswer objective X answer → IsIn part answer → part.row ≤ k → k < length X.rows → IsRowGap objective X part answer k duals row_gap → IsColumnGap objective X answer k duals column_gap → IsAnswer objective X columns → IsIn (child_part part answer k) columns → b + row_gap + column_gap ≤ sum_at objective X columns
-
 -- gaps of the children of a sound branch
-pub have_gaps : (objective : Objective) (X : Problem) (branches : List Branch) (a : ℕ) (gaps : List ℕ) → ChildLaw → IsSound objective X branches a
+pub have_gaps : (objective : Objective) (X : Problem) (branches : List Branch) (a : ℕ) (gaps : List ℕ) → IsSound objective X branches a
     → ((k : ℕ) → (part_at branches a).row ≤ k → k < length X.rows → IsChildGap objective X (part_at branches a) (answer_at branches a) k (branch_at branches a).duals (slice_index gaps k))
     → HaveGaps objective X branches a gaps
-have_gaps objective X branches a gaps law sound each r b from upto bound f answer within =
+have_gaps objective X branches a gaps sound each r b from upto bound f answer within =
     let gap = each r from upto in
-    let least : b + gap.row_gap + gap.column_gap ≤ sum_at objective X f = law objective X (part_at branches a) (branch_at branches a).duals b (answer_at branches a) f r gap.row_gap gap.column_gap sound.above bound sound.answer sound.within from upto gap.row gap.column answer within in
+    let least : b + gap.row_gap + gap.column_gap ≤ sum_at objective X f = child_bound objective X (part_at branches a) (branch_at branches a).duals b sound.above bound (answer_at branches a) r gap.row_gap gap.column_gap sound.answer sound.within from upto gap.row gap.column f answer within in
     let whole : slice_index gaps r ≡ gap.row_gap + gap.column_gap = gap.both in
     omega arith
 
@@ -105,13 +102,13 @@ above_child objective X branches place row part answer before after now same_par
 pub gaps_by : (objective : Objective) (X : Problem) (branches : List Branch) (place : ℕ) (gaps : List ℕ) (part : Part) (answer : List ℕ) (duals : Duals) (rows : ℕ)
     → part ≡ part_at branches place → answer ≡ answer_at branches place → duals ≡ (branch_at branches place).duals → rows ≡ length X.rows
     → (AreAbove objective X part duals → (k : ℕ) → part.row ≤ k → k < rows → IsChildGap objective X part answer k duals (slice_index gaps k))
-    → ChildLaw → IsSound objective X branches place → HaveGaps objective X branches place gaps
-gaps_by objective X branches place gaps part answer duals rows same_part same_answer same_duals same_rows test law sound =
+    → IsSound objective X branches place → HaveGaps objective X branches place gaps
+gaps_by objective X branches place gaps part answer duals rows same_part same_answer same_duals same_rows test sound =
     let at_rows = subst (λ n. AreAbove objective X part duals → (k : ℕ) → part.row ≤ k → k < n → IsChildGap objective X part answer k duals (slice_index gaps k)) same_rows test in
     let at_duals = subst (λ d. AreAbove objective X part d → (k : ℕ) → part.row ≤ k → k < length X.rows → IsChildGap objective X part answer k d (slice_index gaps k)) same_duals at_rows in
     let at_answer = subst (λ g. AreAbove objective X part (branch_at branches place).duals → (k : ℕ) → part.row ≤ k → k < length X.rows → IsChildGap objective X part g k (branch_at branches place).duals (slice_index gaps k)) same_answer at_duals in
     let at_part = subst (λ p. AreAbove objective X p (branch_at branches place).duals → (k : ℕ) → p.row ≤ k → k < length X.rows → IsChildGap objective X p (answer_at branches place) k (branch_at branches place).duals (slice_index gaps k)) same_part at_answer in
-    have_gaps objective X branches place gaps law sound (at_part sound.above)
+    have_gaps objective X branches place gaps sound (at_part sound.above)
 
 -- a list without an entry
 pub empty : (xs : List ℕ) → length xs ≡ 0 → xs ≡ []

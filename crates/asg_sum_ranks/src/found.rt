@@ -2,7 +2,7 @@
 
 use crate::NoMemory;
 use crate::settled::{Amounts, Settled};
-use asg_rank_search::Bench;
+use asg_rank_search::{Bench, RankNumber};
 use std::alloc::Global;
 
 /// A child that was grown: its best answer and that one's sum; no columns where it has only a
@@ -50,10 +50,10 @@ pub(crate) fn begin_anew(found: &mut Found) {
 
 /// Keeps a child that a bench has grown from an answer by a row, with these columns. Gives its
 /// place. The error is want of memory.
-pub(crate) fn keep(
+pub(crate) fn keep<N: RankNumber>(
     alloc: Global,
     found: &mut Found,
-    bench: &Bench,
+    bench: &Bench<N>,
     columns: &[u32],
     sum: u64,
     parent: usize,

@@ -9,7 +9,6 @@ ghost use Rattle.asg_sum_ranks.specs.Branches.{branch_at, part_at, child_at, Hav
 
 use crate::grounds::Ground;
 use crate::settled::{Amounts, Settled, at};
-use asg_dual_bounds::laws::child_bound_law;
 use asg_dual_bounds::{Part, child_gaps, dual_bound, is_above, is_above_child, is_answer};
 
 /// Whether a list of columns is an answer.
@@ -96,7 +95,6 @@ pub(crate) fn measure(
         → IsSound ground.now.objective ground.now.inst.now branches.now place
         → HaveGaps ground.now.objective ground.now.inst.now branches.now place gaps.new }
 {
-    child_bound_law();
     if branches.len() <= place {
         return false;
     }

@@ -9,7 +9,6 @@ use crate::grounds::Ground;
 use crate::settled::{Amounts, Settled, at};
 use crate::shut_tests::are_all_shut;
 use crate::tree_tests::are_branches;
-use asg_dual_bounds::laws::split_law;
 use asg_dual_bounds::sum_of;
 
 // The sum of an answer.
@@ -52,7 +51,6 @@ pub(crate) fn is_ranking(
     ensures { IsTrue result → IsSumRanking ground.now.objective ground.now.inst.now count
         (answers_of branches.now) }
 {
-    split_law();
     if branches.len() != count {
         return false;
     }

@@ -1,50 +1,17 @@
 //! The first answer, guessed with amounts.
 
-ghost use Rattle.std.specs.Prelude.{◌≡◌, ◌≤◌, IsTrue};
-ghost use Rattle.asg_model.specs.declared.objectives.Objective.TheVariants.{Sum, SumMax};
+ghost use Rattle.std.specs.Prelude.{◌≤◌};
 ghost use Rattle.asg_model.specs.Limits.{most_side};
-ghost use Rattle.asg_model.specs.Refused.{PassesNegative};
 ghost use Rattle.asg_model.specs.Shapes.{square_side};
-ghost use Rattle.asg_monoids.specs.Entered.{cost_reach, sum_entered};
-ghost use Rattle.asg_order.specs.Entering.{MayEnter};
-ghost use Rattle.asg_monoids.specs.NarrowObjectives.{is_narrow_objective};
 
 use crate::NoMemory;
 use crate::settled::{Amounts, Settled};
-use asg_duals::{Duals, tight_duals};
-use asg_model::{Cost, Instance, Objective};
-use asg_monoids::narrow_entry;
-use asg_square::Square;
+use asg_duals::{Duals, sum_square, tight_duals};
+use asg_model::{Instance, Objective};
 use std::alloc::Global;
 
 // Rises up to here are looked at quickly.
 const QUICK_RISE: u64 = (1 << 31) - 1;
-
-// The square of an instance whose live costs enter for `sum`.
-fn sum_square(alloc: Global, inst: &Instance) -> Result<Square<u64>, NoMemory>
-    requires side { square_side inst.now ≤ most_side }
-    requires passes { PassesNegative Sum inst.now }
-{
-    let _rows = inst.rows();
-    let enter = |cost: Cost| -> u64
-        requires { MayEnter Sum cost_reach cost }
-        ensures { result ≡ sum_entered Sum cost }
-    { narrow_entry(Objective::Sum, cost) };
-    Square::of(alloc, inst, 0, &enter)
-}
-
-// The same for `sum-max`.
-fn sum_max_square(alloc: Global, inst: &Instance) -> Result<Square<u64>, NoMemory>
-    requires side { square_side inst.now ≤ most_side }
-    requires passes { PassesNegative SumMax inst.now }
-{
-    let _rows = inst.rows();
-    let enter = |cost: Cost| -> u64
-        requires { MayEnter SumMax cost_reach cost }
-        ensures { result ≡ sum_entered SumMax cost }
-    { narrow_entry(Objective::SumMax, cost) };
-    Square::of(alloc, inst, 0, &enter)
-}
 
 // Dual variables of the square of an instance, and its assignment.
 fn square_duals(
@@ -52,15 +19,9 @@ fn square_duals(
     objective: Objective,
     inst: &Instance,
 ) -> Result<Option<Duals>, NoMemory>
-    requires objective { IsTrue (is_narrow_objective objective) }
-    requires side { square_side inst.now ≤ most_side }
-    requires passes { PassesNegative objective inst.now }
+    requires { square_side inst.now ≤ most_side }
 {
-    let square = match objective {
-        Objective::Sum => sum_square(alloc, inst)?,
-        Objective::SumMax => sum_max_square(alloc, inst)?,
-        _ => unreachable!(),
-    };
+    let square = sum_square(alloc, objective, inst)?;
     tight_duals(alloc, &square)
 }
 
@@ -112,9 +73,7 @@ pub(crate) fn root(
     rows: usize,
     columns: usize,
 ) -> Result<Option<Settled>, NoMemory>
-    requires objective { IsTrue (is_narrow_objective objective) }
-    requires side { square_side inst.now ≤ most_side }
-    requires passes { PassesNegative objective inst.now }
+    requires { square_side inst.now ≤ most_side }
 {
     let Some(duals) = square_duals(alloc, objective, inst)? else {
         return Ok(None);

@@ -5,7 +5,7 @@ use crate::found::{Found, begin_anew, give, keep};
 use crate::grounds::Ground;
 use crate::settled::Settled;
 use asg_dual_bounds::ABSENT;
-use asg_rank_search::{Bench, Growth, Limit, Parent, Queue, SearchTable, Waiting, Width};
+use asg_rank_search::{Bench, Growth, Limit, Parent, Queue, RankNumber, Waiting};
 use std::alloc::Global;
 
 // Names of children that were grown, in the queue, are their places and this.
@@ -17,9 +17,8 @@ const MOST_GAP: u64 = 1 << 28;
 
 // What a search works with.
 #[derive(Drop)]
-struct Tools {
-    table: SearchTable,
-    bench: Bench,
+struct Tools<N: RankNumber> {
+    bench: Bench<N>,
     queue: Queue,
     limit: Limit,
 }
@@ -47,26 +46,23 @@ fn widen(numbers: &mut [u64], row: &[u32]) {
 }
 
 // The tools for answers of a ground from the first one on. The error is want of memory.
-fn tools_of(
+fn tools_of<N: RankNumber>(
     alloc: Global,
     ground: &Ground<'_>,
     root: &Settled,
     count: usize,
-    width: Width,
-) -> Result<Tools, NoMemory> {
+) -> Result<Tools<N>, NoMemory> {
     let amounts = root.amounts();
     let rows = ground.table.rows();
-    let mut table = SearchTable::make(alloc, width, rows, amounts.rises(), amounts.floor())?;
+    let mut bench = Bench::make(alloc, rows, amounts.rises(), amounts.floor())?;
     let mut numbers = vec![in alloc; 0; ground.table.columns()]?;
     for row in 0..rows {
         let fall = amounts.falls().get(row).copied().unwrap_or(0);
         widen(numbers.as_mut_slice(), ground.table.row(row));
-        table.enter(row, numbers.as_slice(), fall);
+        bench.enter(row, numbers.as_slice(), fall);
     }
-    let bench = Bench::make(alloc, &table)?;
     let limit = Limit::make(alloc, count)?;
     Ok(Tools {
-        table,
         bench,
         queue: Queue::make(alloc),
         limit,
@@ -86,11 +82,11 @@ fn parent_of(branch: &Settled) -> Parent<'_> {
 
 // Has the children of an answer that was given wait, each with its bound, where that is below the
 // limit. The error is want of memory.
-fn wait_children(
+fn wait_children<N: RankNumber>(
     branches: &[Settled],
     place: usize,
     sum: u64,
-    tools: &mut Tools,
+    tools: &mut Tools<N>,
 ) -> Result<(), NoMemory> {
     let Some(branch) = branches.get(place) else {
         return Ok(());
@@ -98,9 +94,7 @@ fn wait_children(
     if tools.limit.limit() <= sum {
         return Ok(());
     }
-    tools
-        .bench
-        .measure(&tools.table, parent_of(branch), branch.banned());
+    tools.bench.measure(parent_of(branch), branch.banned());
     let rows = branch.columns().len();
     let limit = tools.limit.limit();
     for row in branch.row()..rows {
@@ -118,7 +112,7 @@ fn wait_children(
 }
 
 // Grows the child by a row of an answer's part.
-fn grow(branch: &Settled, sum: u64, row: usize, tools: &mut Tools) -> Growth {
+fn grow<N: RankNumber>(branch: &Settled, sum: u64, row: usize, tools: &mut Tools<N>) -> Growth {
     let parent = parent_of(branch);
     let banned = if row == branch.row() {
         branch.banned()
@@ -131,14 +125,14 @@ fn grow(branch: &Settled, sum: u64, row: usize, tools: &mut Tools) -> Growth {
     } else {
         limit.saturating_sub(sum)
     };
-    tools.bench.grow(&tools.table, parent, row, banned, room)
+    tools.bench.grow(parent, row, banned, room)
 }
 
 // Keeps a child that was grown to its best answer, and has it wait. The error is want of memory.
-fn keep_reached(
+fn keep_reached<N: RankNumber>(
     alloc: Global,
     found: &mut Found,
-    tools: &mut Tools,
+    tools: &mut Tools<N>,
     sum: u64,
     place: usize,
     row: usize,
@@ -158,10 +152,10 @@ fn keep_reached(
 
 // Grows the child by a row of the part of the answer at a place, and keeps it. Gives whether its
 // numbers did. The error is want of memory.
-fn visit(
+fn visit<N: RankNumber>(
     alloc: Global,
     found: &mut Found,
-    tools: &mut Tools,
+    tools: &mut Tools<N>,
     place: usize,
     row: usize,
 ) -> Result<bool, NoMemory> {
@@ -181,10 +175,10 @@ fn visit(
 
 // Gives the answer of a child that was grown, whose own children then wait. The error is want of
 // memory.
-fn give_next(
+fn give_next<N: RankNumber>(
     alloc: Global,
     found: &mut Found,
-    tools: &mut Tools,
+    tools: &mut Tools<N>,
     seed: usize,
 ) -> Result<bool, NoMemory> {
     let Some(place) = give(alloc, found, seed)? else {
@@ -197,7 +191,12 @@ fn give_next(
 
 // Takes what waits with the least bound, until as many answers were given as were asked for. The
 // error is want of memory.
-fn run(alloc: Global, found: &mut Found, tools: &mut Tools, count: usize) -> Result<End, NoMemory> {
+fn run<N: RankNumber>(
+    alloc: Global,
+    found: &mut Found,
+    tools: &mut Tools<N>,
+    count: usize,
+) -> Result<End, NoMemory> {
     let rows = found.branches.get(0).map_or(1, |root| root.columns().len());
     let rows = rows.max(1);
     'turns: for _ in 0..u64::MAX {
@@ -221,39 +220,22 @@ fn run(alloc: Global, found: &mut Found, tools: &mut Tools, count: usize) -> Res
 }
 
 // The answers from the first one on, in numbers of a width. The error is want of memory.
-fn found_in(
+fn found_in<N: RankNumber>(
     alloc: Global,
     ground: &Ground<'_>,
     found: &mut Found,
     sum: u64,
     count: usize,
-    width: Width,
 ) -> Result<End, NoMemory> {
     let Some(root) = found.branches.get(0) else {
         return Ok(End::Spent);
     };
-    let mut tools = tools_of(alloc, ground, root, count, width)?;
+    let mut tools: Tools<N> = tools_of(alloc, ground, root, count)?;
     tools.limit.put(sum);
     wait_children(found.branches.as_slice(), 0, sum, &mut tools)?;
     let end = run(alloc, found, &mut tools, count);
     drop(tools);
     end
-}
-
-// Whether a search was lost.
-fn is_lost(end: End) -> bool {
-    match end {
-        End::Lost => true,
-        End::Full | End::Spent => false,
-    }
-}
-
-// Whether a search gave as many answers as were asked for.
-fn is_full(end: End) -> bool {
-    match end {
-        End::Full => true,
-        End::Lost | End::Spent => false,
-    }
 }
 
 /// So many answers from the first one on, with its sum, each of the least sum that is left; `None`
@@ -268,12 +250,12 @@ pub(crate) fn search(
     let mut found = Found::make(alloc);
     found.branches.push(root)?;
     found.sums.push(sum)?;
-    let mut end = found_in(alloc, ground, &mut found, sum, count, Width::Narrow)?;
-    if is_lost(end) {
+    let mut end = found_in::<i32>(alloc, ground, &mut found, sum, count)?;
+    if matches!(end, End::Lost) {
         begin_anew(&mut found);
-        end = found_in(alloc, ground, &mut found, sum, count, Width::Wide)?;
+        end = found_in::<i64>(alloc, ground, &mut found, sum, count)?;
     }
-    if is_full(end) {
+    if matches!(end, End::Full) {
         Ok(Some(found))
     } else {
         Ok(None)

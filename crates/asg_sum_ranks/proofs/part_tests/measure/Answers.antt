@@ -10,4 +10,4 @@ returns c = λ true_one below sound.
     let d = c.duals-duals.result in
     gaps_by objective X c.args.branches.now c.args.place c.child_gaps.new.gaps (part_of p.columns.now p.row p.banned.now) c.columns-answer.result.now (duals_of d.falls.now d.rises.now d.floor) c.args.ground.now.table.rows
     c.part_at-part.ensures (c.columns-answer.ensures ∙ ap columns_of c.at-branch.ensures) (c.duals-duals.ensures ∙ ap (λ (branch : Branch). branch.duals) c.at-branch.ensures) c.args.ground.now.same.rows
-    (c.child_gaps.ensures.gaps true_one objective X c.args.ground.now.same) c.child_bound_law.ensures sound
+    (c.child_gaps.ensures.gaps true_one objective X c.args.ground.now.same) sound

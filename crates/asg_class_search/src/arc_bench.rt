@@ -3,7 +3,7 @@
 use crate::NoMemory;
 use crate::arcs::Arcs;
 use crate::heaps::Heap;
-use asg_dual_numbers::{NONE, put};
+use asg_dual_numbers::{NONE, put, set};
 use std::alloc::Global;
 
 // The columns of rows so far, and room for searches.
@@ -12,13 +12,16 @@ pub(crate) struct ArcBench {
     // The dual variable of each column.
     pub duals: Vec<i64>,
     pub column_of: Vec<u32>,
-    // Of each row the arc by which it has its column.
-    pub arc_of: Vec<u32>,
+    // Of each row its cell in the column that it has.
+    pub cell_of: Vec<i64>,
     pub row_of: Vec<u32>,
-    // Of each column the shortest distance so far, and the row and the arc that it is reached by.
+    // Of each column the shortest distance so far, and the row and the cell that it is reached by.
     pub keys: Vec<i64>,
     pub came: Vec<u32>,
-    pub came_by: Vec<u32>,
+    pub came_by: Vec<i64>,
+    // The nearest free column that a search reached, and its distance.
+    pub end: u32,
+    pub bound: i64,
     // The columns that a search reached, and those that are done in order, with their distances.
     pub touched: Vec<u32>,
     pub touches: usize,
@@ -35,7 +38,7 @@ pub(crate) struct ArcBench {
 #[derive(Drop)]
 struct OfRows {
     column_of: Vec<u32>,
-    arc_of: Vec<u32>,
+    cell_of: Vec<i64>,
     waiting: Vec<u32>,
     later: Vec<u32>,
 }
@@ -45,7 +48,7 @@ impl OfRows {
     fn make(alloc: Global, rows: usize) -> Result<OfRows, NoMemory> {
         Ok(OfRows {
             column_of: vec![in alloc; NONE; rows]?,
-            arc_of: vec![in alloc; NONE; rows]?,
+            cell_of: vec![in alloc; 0; rows]?,
             waiting: vec![in alloc; 0; rows]?,
             later: vec![in alloc; 0; rows]?,
         })
@@ -58,7 +61,7 @@ struct Ways {
     duals: Vec<i64>,
     keys: Vec<i64>,
     came: Vec<u32>,
-    came_by: Vec<u32>,
+    came_by: Vec<i64>,
 }
 
 impl Ways {
@@ -68,7 +71,7 @@ impl Ways {
             duals: vec![in alloc; 0; side]?,
             keys: vec![in alloc; i64::MAX; side]?,
             came: vec![in alloc; NONE; side]?,
-            came_by: vec![in alloc; NONE; side]?,
+            came_by: vec![in alloc; 0; side]?,
         })
     }
 }
@@ -97,10 +100,10 @@ impl Reached {
 impl ArcBench {
     // A bench over so many columns; no row has one. The error is want of memory.
     pub(crate) fn make(alloc: Global, arcs: &Arcs, side: usize) -> Result<ArcBench, NoMemory> {
-        let of_rows = OfRows::make(alloc, arcs.starts.len().saturating_sub(1))?;
+        let of_rows = OfRows::make(alloc, arcs.rows())?;
         let ways = Ways::make(alloc, side)?;
         let reached = Reached::make(alloc, side)?;
-        let heap = Heap::make(alloc, arcs.columns.len())?;
+        let heap = Heap::make(alloc, arcs.count())?;
         Ok(ArcBench::of(of_rows, ways, reached, heap))
     }
 
@@ -108,7 +111,7 @@ impl ArcBench {
     fn of(of_rows: OfRows, ways: Ways, columns: Reached, heap: Heap) -> ArcBench {
         let OfRows {
             column_of,
-            arc_of,
+            cell_of,
             waiting,
             later,
         } = of_rows;
@@ -127,11 +130,13 @@ impl ArcBench {
         ArcBench {
             duals,
             column_of,
-            arc_of,
+            cell_of,
             row_of,
             keys,
             came,
             came_by,
+            end: NONE,
+            bound: i64::MAX,
             touched,
             touches: 0,
             done,
@@ -143,10 +148,10 @@ impl ArcBench {
         }
     }
 
-    // Gives a row a column by an arc.
-    pub(crate) fn pair(&mut self, row: u32, column: u32, arc: u32) {
+    // Gives a row a column, in which it has this cell.
+    pub(crate) fn pair(&mut self, row: u32, column: u32, cell: i64) {
         put(self.column_of.as_mut_slice(), row as usize, column);
-        put(self.arc_of.as_mut_slice(), row as usize, arc);
+        set(self.cell_of.as_mut_slice(), row as usize, cell);
         put(self.row_of.as_mut_slice(), column as usize, row);
     }
 }

@@ -6,16 +6,14 @@ use crate::arc_paths::solve_arcs;
 use crate::arcs::Arcs;
 use crate::classes::Classes;
 use crate::placings::{Placing, found_by};
-use asg_dual_numbers::{Found, NONE, at, name, put_amount};
+use asg_dual_numbers::{Found, NONE, at, name};
 use std::alloc::Global;
 
-// The cells of rows by the arcs by which they have their columns.
-fn cells_of(alloc: Global, arcs: &Arcs, arc_of: &[u32]) -> Result<Vec<u64>, NoMemory> {
-    let mut cells = vec![in alloc; 0; arc_of.len()]?;
-    for row in 0..arc_of.len() {
-        let arc = at(arc_of, row) as usize;
-        let cell = arcs.cell(arc).max(0) as u64;
-        put_amount(cells.as_mut_slice(), row, cell);
+// The cells of rows in their columns.
+fn cells_of(alloc: Global, bench: &ArcBench) -> Result<Vec<u64>, NoMemory> {
+    let mut cells = Vec::with_capacity(alloc, bench.cell_of.len())?;
+    for row in 0..bench.cell_of.len() {
+        cells.push(bench.cell_of[row].max(0) as u64)?;
     }
     Ok(cells)
 }
@@ -32,7 +30,7 @@ fn found_on_bench(
     if !solve_arcs(bench, arcs) {
         return Ok(None);
     }
-    let cells = cells_of(alloc, arcs, bench.arc_of.as_slice())?;
+    let cells = cells_of(alloc, bench)?;
     let placing = Placing {
         class_of: bench.column_of.as_slice(),
         cells: cells.as_slice(),

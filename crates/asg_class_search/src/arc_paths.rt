@@ -1,77 +1,81 @@
 //! Least sums over lists of arcs, by shortest augmenting paths with a heap.
 
 use crate::arc_bench::ArcBench;
-use crate::arc_starts::reduce_rows;
-use crate::arcs::Arcs;
+use crate::arc_starts::{reduce_columns, reduce_rows};
+use crate::arcs::{Arc, Arcs};
 use crate::heaps::Entry;
 use asg_dual_numbers::{NONE, at, name, put, set, value};
 
-// Lessens the keys of the columns of a row to what it reaches, with so much less.
-fn relax(bench: &mut ArcBench, arcs: &Arcs, row: u32, base: i64) {
-    let (first, end) = arcs.of_row(row);
-    for arc in first..end {
-        let name_of = at(arcs.columns.as_slice(), arc);
-        let column = name_of as usize;
+// Notes that a column is reached from a row by an arc at a distance: a free column is the nearest
+// one of these, another one waits in the heap.
+fn reach(bench: &mut ArcBench, row: u32, arc: Arc, distance: i64) {
+    let column = arc.column as usize;
+    if value(bench.keys.as_slice(), column) == i64::MAX {
+        put(bench.touched.as_mut_slice(), bench.touches, arc.column);
+        bench.touches = bench.touches.saturating_add(1);
+    }
+    set(bench.keys.as_mut_slice(), column, distance);
+    put(bench.came.as_mut_slice(), column, row);
+    set(bench.came_by.as_mut_slice(), column, arc.cell);
+    if at(bench.row_of.as_slice(), column) == NONE {
+        bench.end = arc.column;
+        bench.bound = distance;
+    } else {
+        bench.heap.push(Entry { distance, column });
+    }
+}
+
+// Lessens the keys of the columns of a row to what it reaches, with so much less. Columns as far as
+// the nearest free one are left out.
+fn relax(bench: &mut ArcBench, arcs: &[Arc], row: u32, base: i64) {
+    for number in 0..arcs.len() {
+        let arc = arcs[number];
+        let column = arc.column as usize;
         let dual = value(bench.duals.as_slice(), column);
-        let distance = arcs.cell(arc).wrapping_sub(dual).wrapping_sub(base);
-        let key = value(bench.keys.as_slice(), column);
-        if distance < key {
-            if key == i64::MAX {
-                put(bench.touched.as_mut_slice(), bench.touches, name_of);
-                bench.touches = bench.touches.saturating_add(1);
-            }
-            set(bench.keys.as_mut_slice(), column, distance);
-            put(bench.came.as_mut_slice(), column, row);
-            put(bench.came_by.as_mut_slice(), column, name(arc));
-            bench.heap.push(Entry {
-                distance,
-                column: name_of,
-            });
+        let distance = arc.cell.wrapping_sub(dual).wrapping_sub(base);
+        if distance < bench.bound && distance < value(bench.keys.as_slice(), column) {
+            reach(bench, row, arc, distance);
         }
     }
 }
 
-// The nearest open column, at its key; none where none is reached.
-fn nearest(bench: &mut ArcBench, room: usize) -> Entry {
-    let mut entry = bench.heap.pop();
+// The nearest open column that a row has, at its key; none where none is nearer than the free one.
+fn nearest(bench: &mut ArcBench, room: usize) -> Option<Entry> {
     for _ in 0..room {
-        let key = value(bench.keys.as_slice(), entry.column as usize);
-        if entry.column == NONE || key == entry.distance {
+        let entry = bench.heap.pop()?;
+        if entry.distance >= bench.bound {
             break;
         }
-        entry = bench.heap.pop();
+        if value(bench.keys.as_slice(), entry.column) == entry.distance {
+            return Some(entry);
+        }
     }
-    entry
+    None
 }
 
 // Grows a tree of shortest paths from a row to a free column, and changes the dual variables of the
 // columns that were done. The column, none where there is no path.
 fn search(bench: &mut ArcBench, arcs: &Arcs, root: u32) -> u32 {
     bench.heap.clear();
+    bench.end = NONE;
+    bench.bound = i64::MAX;
     let mut row = root;
     let mut base = 0;
     for count in 0..bench.duals.len().saturating_add(1) {
         bench.dones = count;
-        relax(bench, arcs, row, base);
-        let entry = nearest(bench, arcs.columns.len());
-        if entry.column == NONE {
-            return NONE;
-        }
-        let column = entry.column as usize;
-        row = at(bench.row_of.as_slice(), column);
-        if row == NONE {
-            lower(bench, count, entry.distance);
-            return entry.column;
-        }
-        set(bench.reached.as_mut_slice(), column, entry.distance);
+        relax(bench, arcs.of_row(row), row, base);
+        let Some(entry) = nearest(bench, arcs.count()) else {
+            lower(bench, count, bench.bound);
+            return bench.end;
+        };
+        let Entry { distance, column } = entry;
+        set(bench.reached.as_mut_slice(), column, distance);
         set(bench.keys.as_mut_slice(), column, i64::MIN);
-        put(bench.done.as_mut_slice(), count, entry.column);
-        let arc = at(bench.arc_of.as_slice(), row as usize) as usize;
+        put(bench.done.as_mut_slice(), count, name(column));
+        row = at(bench.row_of.as_slice(), column);
+        let cell = value(bench.cell_of.as_slice(), row as usize);
         let dual = value(bench.duals.as_slice(), column);
-        base = arcs
-            .cell(arc)
-            .wrapping_sub(dual)
-            .wrapping_sub(entry.distance);
+        base = cell.wrapping_sub(dual).wrapping_sub(distance);
     }
     NONE
 }
@@ -100,9 +104,9 @@ fn flip(bench: &mut ArcBench, end: u32, root: u32) -> bool {
     let mut column = end;
     for _ in 0..bench.duals.len() {
         let row = at(bench.came.as_slice(), column as usize);
-        let arc = at(bench.came_by.as_slice(), column as usize);
+        let cell = value(bench.came_by.as_slice(), column as usize);
         let former = at(bench.column_of.as_slice(), row as usize);
-        bench.pair(row, column, arc);
+        bench.pair(row, column, cell);
         if row == root {
             return true;
         }
@@ -115,10 +119,16 @@ fn flip(bench: &mut ArcBench, end: u32, root: u32) -> bool {
 // are 0 at those that no row has. Whether each row has a column.
 pub(crate) fn solve_arcs(bench: &mut ArcBench, arcs: &Arcs) -> bool {
     let rows = bench.column_of.len();
-    for row in 0..rows {
-        put(bench.waiting.as_mut_slice(), row, name(row));
+    if rows == bench.row_of.len() {
+        reduce_columns(bench, arcs);
     }
-    let mut count = rows;
+    let mut count = 0usize;
+    for row in 0..rows {
+        if at(bench.column_of.as_slice(), row) == NONE {
+            put(bench.waiting.as_mut_slice(), count, name(row));
+            count = count.saturating_add(1);
+        }
+    }
     for _ in 0..2 {
         count = reduce_rows(bench, arcs, count);
     }

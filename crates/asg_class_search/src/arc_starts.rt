@@ -1,54 +1,114 @@
-//! Augmenting row reduction over lists of arcs [Jonker and Volgenant 1987].
+//! Column reduction and augmenting row reduction over lists of arcs [Jonker and Volgenant 1987].
 
 use crate::arc_bench::ArcBench;
-use crate::arcs::Arcs;
+use crate::arcs::{Arc, Arcs, no_arc};
 use asg_dual_numbers::{NONE, Served, at, name, put, set, value};
 
 // The most row scans of a pass for each row.
-const MOST_SCANS: usize = 8;
+const MOST_SCANS: usize = 3;
+
+// Notes the least cell of each column as its key, with its row.
+fn least_cells(bench: &mut ArcBench, arcs: &Arcs) {
+    for row in 0..arcs.rows() {
+        let row = name(row);
+        for arc in arcs.of_row(row) {
+            let column = arc.column as usize;
+            if arc.cell < value(bench.keys.as_slice(), column) {
+                set(bench.keys.as_mut_slice(), column, arc.cell);
+                put(bench.came.as_mut_slice(), column, row);
+            }
+        }
+    }
+}
+
+// The greatest key of a column that was reached, 0 where none was.
+fn greatest_key(keys: &[i64]) -> i64 {
+    let mut greatest = 0;
+    for column in 0..keys.len() {
+        if keys[column] < i64::MAX && keys[column] > greatest {
+            greatest = keys[column];
+        }
+    }
+    greatest
+}
+
+// Column reduction where there are as many rows as columns: the dual variable of each is its least
+// cell, less the greatest of these, and a row that has the least cell of columns gets one of them.
+pub(crate) fn reduce_columns(bench: &mut ArcBench, arcs: &Arcs) {
+    least_cells(bench, arcs);
+    let greatest = greatest_key(bench.keys.as_slice());
+    for column in 0..bench.keys.len() {
+        let key = value(bench.keys.as_slice(), column);
+        if key < i64::MAX {
+            set(
+                bench.duals.as_mut_slice(),
+                column,
+                key.wrapping_sub(greatest),
+            );
+            let row = at(bench.came.as_slice(), column);
+            if at(bench.column_of.as_slice(), row as usize) == NONE {
+                bench.pair(row, name(column), key);
+            }
+            set(bench.keys.as_mut_slice(), column, i64::MAX);
+        }
+    }
+}
 
 // The least of a row's cells less the dual variables of columns, and the next, with their arcs.
 #[derive(Clone, Copy)]
 struct TwoArcs {
     least: i64,
     next: i64,
-    arc: usize,
-    next_arc: usize,
+    arc: Arc,
+    next_arc: Arc,
 }
 
 // The two least arcs of a row.
-fn two_least(arcs: &Arcs, duals: &[i64], row: u32) -> TwoArcs {
-    let mut two = TwoArcs {
-        least: i64::MAX,
-        next: i64::MAX,
-        arc: arcs.columns.len(),
-        next_arc: arcs.columns.len(),
-    };
-    let (first, end) = arcs.of_row(row);
-    for arc in first..end {
-        let column = at(arcs.columns.as_slice(), arc) as usize;
-        let number = arcs.cell(arc).wrapping_sub(value(duals, column));
-        if number < two.least {
-            two.next = two.least;
-            two.next_arc = two.arc;
-            two.least = number;
-            two.arc = arc;
-        } else if number < two.next {
-            two.next = number;
-            two.next_arc = arc;
+fn two_least(arcs: &[Arc], duals: &[i64]) -> TwoArcs {
+    let mut least = i64::MAX;
+    let mut next = i64::MAX;
+    let mut place = arcs.len();
+    let mut next_place = arcs.len();
+    for number in 0..arcs.len() {
+        let arc = arcs[number];
+        let reduced = arc.cell.wrapping_sub(value(duals, arc.column as usize));
+        if reduced < next {
+            if reduced < least {
+                next = least;
+                next_place = place;
+                least = reduced;
+                place = number;
+            } else {
+                next = reduced;
+                next_place = number;
+            }
         }
     }
-    two
+    TwoArcs {
+        least,
+        next,
+        arc: arc_at(arcs, place),
+        next_arc: arc_at(arcs, next_place),
+    }
+}
+
+// The arc at a place, one of no column outside.
+#[inline]
+fn arc_at(arcs: &[Arc], place: usize) -> Arc {
+    if place < arcs.len() {
+        arcs[place]
+    } else {
+        no_arc()
+    }
 }
 
 // Gives a row a column by an arc, and says which row lost it.
-fn take(bench: &mut ArcBench, arcs: &Arcs, row: u32, arc: usize, at_once: bool) -> Served {
-    let column = at(arcs.columns.as_slice(), arc);
-    if column == NONE {
+fn take(bench: &mut ArcBench, row: u32, arc: Arc, at_once: bool) -> Served {
+    if arc.column == NONE {
         return Served::Tied(row);
     }
-    let displaced = at(bench.row_of.as_slice(), column as usize);
-    bench.pair(row, column, name(arc));
+    let displaced = at(bench.row_of.as_slice(), arc.column as usize);
+    bench.pair(row, arc.column, arc.cell);
     if displaced == NONE {
         return Served::Alone;
     }
@@ -63,21 +123,21 @@ fn take(bench: &mut ArcBench, arcs: &Arcs, row: u32, arc: usize, at_once: bool) 
 // Gives a waiting row its least column, which falls until the next one is as near, or the next
 // column where these are equally near and a row has the first.
 fn serve(bench: &mut ArcBench, arcs: &Arcs, row: u32) -> Served {
-    let two = two_least(arcs, bench.duals.as_slice(), row);
-    let column = at(arcs.columns.as_slice(), two.arc) as usize;
+    let two = two_least(arcs.of_row(row), bench.duals.as_slice());
+    let column = two.arc.column as usize;
     if two.least < two.next && two.next < i64::MAX {
         let dual = value(bench.duals.as_slice(), column);
         let by = two.next.wrapping_sub(two.least);
         set(bench.duals.as_mut_slice(), column, dual.wrapping_sub(by));
-        return take(bench, arcs, row, two.arc, true);
+        return take(bench, row, two.arc, true);
     }
     if at(bench.row_of.as_slice(), column) == NONE {
-        return take(bench, arcs, row, two.arc, false);
+        return take(bench, row, two.arc, false);
     }
     if two.least < two.next {
         return Served::Tied(row);
     }
-    take(bench, arcs, row, two.next_arc, false)
+    take(bench, row, two.next_arc, false)
 }
 
 // Augmenting row reduction: one pass over the waiting rows; how many wait afterwards.

@@ -2,19 +2,34 @@
 
 use crate::NoMemory;
 use crate::classes::Classes;
-use asg_dual_numbers::{Sums, amount, at, name};
+use asg_dual_numbers::{NONE, Sums, amount, at, name};
 use std::alloc::Global;
 
 // Of so many cells of the counted rows at most one is present, for lists of arcs to serve.
 const SPARSE: usize = 8;
 
+// A present cell of a row: its column and its value.
+#[derive(Clone, Copy)]
+pub(crate) struct Arc {
+    pub column: u32,
+    pub cell: i64,
+}
+
+// A cell of no column.
+#[inline]
+pub(crate) fn no_arc() -> Arc {
+    Arc {
+        column: NONE,
+        cell: 0,
+    }
+}
+
 /// The present cells of counted rows: the place of the first one of each row, and behind the last
 /// row the number of all; of each its column and its value.
 #[derive(Drop)]
 pub struct Arcs {
-    pub(crate) starts: Vec<u32>,
-    pub(crate) columns: Vec<u32>,
-    pub(crate) cells: Vec<i64>,
+    starts: Vec<u32>,
+    list: Vec<Arc>,
 }
 
 impl Arcs {
@@ -24,41 +39,42 @@ impl Arcs {
         starts.push(0)?;
         Ok(Arcs {
             starts,
-            columns: Vec::with_capacity(alloc, count)?,
-            cells: Vec::with_capacity(alloc, count)?,
+            list: Vec::with_capacity(alloc, count)?,
         })
     }
 
     /// One more arc of the row that is not ended: its column, and its value, below 2^62. The error
     /// is want of memory.
+    #[inline]
     pub fn push(&mut self, column: u32, cell: i64) -> Result<(), NoMemory> {
-        self.columns.push(column)?;
-        self.cells.push(cell)?;
+        self.list.push(Arc { column, cell })?;
         Ok(())
     }
 
     /// Ends a row; what is pushed from here on is of the next one. The error is want of memory.
     pub fn end_row(&mut self) -> Result<(), NoMemory> {
-        self.starts.push(name(self.columns.len()))?;
+        self.starts.push(name(self.list.len()))?;
         Ok(())
     }
 
-    // The places of a row's arcs: the first, and that behind the last.
-    #[inline]
-    pub(crate) fn of_row(&self, row: u32) -> (usize, usize) {
-        let first = at(self.starts.as_slice(), row as usize) as usize;
-        let end = at(self.starts.as_slice(), (row as usize).wrapping_add(1)) as usize;
-        (first, end.min(self.columns.len()))
+    // How many rows are ended.
+    pub(crate) fn rows(&self) -> usize {
+        self.starts.len().saturating_sub(1)
     }
 
-    // The value of an arc.
+    // How many arcs there are.
+    pub(crate) fn count(&self) -> usize {
+        self.list.len()
+    }
+
+    // The arcs of a row.
     #[inline]
-    pub(crate) fn cell(&self, arc: usize) -> i64 {
-        if arc < self.cells.len() {
-            self.cells[arc]
-        } else {
-            0
-        }
+    pub(crate) fn of_row(&self, row: u32) -> &[Arc] {
+        let all = self.list.as_slice();
+        let end = at(self.starts.as_slice(), (row as usize).wrapping_add(1)) as usize;
+        let end = end.min(all.len());
+        let first = (at(self.starts.as_slice(), row as usize) as usize).min(end);
+        &all[first..end]
     }
 }
 

@@ -3,14 +3,13 @@
 ghost use Rattle.std.specs.Prelude.{◌≡◌, length};
 
 use crate::NoMemory;
-use asg_dual_numbers::NONE;
 use std::alloc::Global;
 
 // A column at a distance.
 #[derive(Clone, Copy)]
 pub(crate) struct Entry {
     pub distance: i64,
-    pub column: u32,
+    pub column: usize,
 }
 
 // A binary heap: the entry at a place is no further than those at twice the place and one or two
@@ -26,7 +25,7 @@ pub(crate) struct Heap {
 fn nowhere() -> Entry {
     Entry {
         distance: 0,
-        column: NONE,
+        column: usize::MAX,
     }
 }
 
@@ -116,16 +115,16 @@ impl Heap {
         }
     }
 
-    // Takes the nearest entry out, one of no column where there is none.
-    pub(crate) fn pop(&mut self) -> Entry {
+    // Takes the nearest entry out, if there is one.
+    pub(crate) fn pop(&mut self) -> Option<Entry> {
         let last = self.count.wrapping_sub(1);
         if last >= self.entries.len() {
-            return nowhere();
+            return None;
         }
         let nearest = entry_at(self.entries.as_slice(), 0);
         let entry = entry_at(self.entries.as_slice(), last);
         self.count = last;
         sink(self.entries.as_mut_slice(), last, entry);
-        nearest
+        Some(nearest)
     }
 }

@@ -5,22 +5,28 @@ use asg_dual_numbers::{name, put};
 use asg_proof::Phase;
 use std::alloc::Global;
 
-// The different amounts above 0 of an ordered list, the least first.
-fn levels_of(alloc: Global, ordered: &[u64]) -> Result<Vec<u64>, NoMemory> {
-    let mut levels = Vec::with_capacity(alloc, ordered.len())?;
+// A list without 0 at its start, and without what follows an equal amount.
+fn changes_of(alloc: Global, amounts: &[u64]) -> Result<Vec<u64>, NoMemory> {
+    let mut changes = Vec::with_capacity(alloc, amounts.len())?;
     let mut last = 0;
-    for amount in ordered {
+    for amount in amounts {
         if *amount != last {
             last = *amount;
-            levels.push(last)?;
+            changes.push(last)?;
         }
     }
-    Ok(levels)
+    Ok(changes)
+}
+
+// The different amounts above 0 of a list, the least first.
+fn levels_of(alloc: Global, amounts: &[u64]) -> Result<Vec<u64>, NoMemory> {
+    let mut ordered = changes_of(alloc, amounts)?;
+    ordered.as_mut_slice().sort_unstable();
+    changes_of(alloc, ordered.as_slice())
 }
 
 // The step at which a row enters that falls by an amount, or a column leaves that rises by it: the
 // place of the amount among the levels, counted from the greatest, and the number of steps for 0.
-#[inline]
 fn mark_of(levels: &[u64], amount: u64) -> u32 {
     if amount == 0 {
         return name(levels.len());
@@ -30,6 +36,15 @@ fn mark_of(levels: &[u64], amount: u64) -> u32 {
         Err(place) => place,
     };
     name(levels.len().saturating_sub(place).saturating_sub(1))
+}
+
+// The mark of an amount, which is looked for only where the amount is another than the last one.
+#[inline]
+fn next_mark(levels: &[u64], amount: u64, last: &mut (u64, u32)) -> u32 {
+    if amount != last.0 {
+        *last = (amount, mark_of(levels, amount));
+    }
+    last.1
 }
 
 // The steps from each level down to the next, the greatest first.
@@ -53,15 +68,15 @@ pub(crate) fn phase_of(
     falls: &[u64],
     rises: &[u64],
 ) -> Result<Phase<u64>, NoMemory> {
-    let mut ordered = Vec::from_slice(alloc, falls)?;
-    ordered.as_mut_slice().sort_unstable();
-    let levels = levels_of(alloc, ordered.as_slice())?;
+    let levels = levels_of(alloc, falls)?;
     let steps = steps_of(alloc, levels.as_slice())?;
     let mut enters = vec![in alloc; 0; columns.len()]?;
     let mut leaves = vec![in alloc; 0; columns.len()]?;
+    let mut fall = (0, name(levels.len()));
+    let mut rise = fall;
     for row in 0..columns.len().min(falls.len()).min(rises.len()) {
-        let enter = mark_of(levels.as_slice(), falls[row]);
-        let leave = mark_of(levels.as_slice(), rises[row]);
+        let enter = next_mark(levels.as_slice(), falls[row], &mut fall);
+        let leave = next_mark(levels.as_slice(), rises[row], &mut rise);
         put(enters.as_mut_slice(), row, enter);
         put(leaves.as_mut_slice(), columns[row] as usize, leave);
     }

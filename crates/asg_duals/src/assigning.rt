@@ -27,17 +27,6 @@ fn tested_found(square: &Square<u64>, found: Found) -> Option<Duals>
     tested(square, Duals::of(columns, falls, rises), rows.as_slice())
 }
 
-// What was found, without a test.
-fn untested(found: Found) -> Duals {
-    let Found {
-        columns,
-        rows: _rows,
-        falls,
-        rises,
-    } = found;
-    Duals::of(columns, falls, rises)
-}
-
 // What a search finds first that is tight; `None` where it finds nothing so.
 fn first_tight(
     alloc: Global,
@@ -82,17 +71,4 @@ pub fn tight_duals(alloc: Global, square: &Square<u64>) -> Result<Option<Duals>,
 {
     let mut search = Search::of_square(alloc, square)?;
     first_tight(alloc, square, &mut search)
-}
-
-/// What [`tight_duals`] tests first, without the test: an assignment of a square of sums with dual
-/// variables, mostly tight on it; `None` where none was found. For whoever tests what is made of
-/// them in any case. The error is want of memory.
-pub fn first_duals(alloc: Global, square: &Square<u64>) -> Result<Option<Duals>, NoMemory> {
-    let mut search = Search::of_square(alloc, square)?;
-    let found = search.next(alloc);
-    drop(search);
-    match found? {
-        Some(found) => Ok(Some(untested(found))),
-        None => Ok(None),
-    }
 }

@@ -18,15 +18,18 @@ mod pair_guesses;
 mod plain_guesses;
 mod readings;
 mod retold_phases;
+mod sum_squares;
 mod tightness;
 
-pub use assigning::{first_duals, tight_duals};
+pub use assigning::tight_duals;
 pub use capped_guesses::capped_guess;
 pub use conversion::short_phases;
 pub use duals::Duals;
 pub use grade_guesses::{grade_guess, peak_guess};
 pub use guesses::Guess;
 pub use pair_guesses::pair_guess;
+pub use plain_guesses::sum_guess;
+pub use sum_squares::{entered, sum_square};
 
 /// There was not enough memory.
 pub type NoMemory = std::alloc::AllocError;

@@ -1,7 +1,7 @@
 //! Guesses for plain sums of the numbers as which cells are read.
 
 use crate::NoMemory;
-use crate::assigning::MOST_FOUND;
+use crate::assigning::{MOST_FOUND, tight_duals};
 use crate::cell_numbers::numbers_of;
 use crate::conversion::short_phases;
 use crate::duals::Duals;
@@ -41,12 +41,21 @@ fn are_tight_on(numbers: &Numbers, found: &Found) -> bool {
     true
 }
 
-// The phases and the assignment of what was found.
-fn guess_of(alloc: Global, found: Found) -> Result<Guess<u64>, NoMemory> {
-    let duals = Duals::of(found.columns, found.falls, found.rises);
-    let phases = short_phases(alloc, &duals)?;
+// The phases of dual variables, and their assignment.
+fn guess_of(alloc: Global, duals: &Duals) -> Result<Guess<u64>, NoMemory> {
+    let phases = short_phases(alloc, duals)?;
     let columns = Vec::from_slice(alloc, duals.columns())?;
     Ok(Guess::of(phases, columns))
+}
+
+/// Phases and an assignment of least sum for a square of sums in 64 bits, by what
+/// [`tight_duals`](crate::tight_duals) finds; `None` where none is guessed. The error is want of
+/// memory.
+pub fn sum_guess(alloc: Global, square: &Square<u64>) -> Result<Option<Guess<u64>>, NoMemory> {
+    match tight_duals(alloc, square)? {
+        Some(duals) => Ok(Some(guess_of(alloc, &duals)?)),
+        None => Ok(None),
+    }
 }
 
 // What a search finds first that is tight on the numbers; `None` where it finds nothing so.
@@ -74,7 +83,10 @@ fn searched_guess(
     mut search: Search<'_>,
 ) -> Result<Option<Guess<u64>>, NoMemory> {
     match tight_found(alloc, numbers, &mut search)? {
-        Some(found) => Ok(Some(guess_of(alloc, found)?)),
+        Some(found) => {
+            let duals = Duals::of(found.columns, found.falls, found.rises);
+            Ok(Some(guess_of(alloc, &duals)?))
+        }
         None => Ok(None),
     }
 }

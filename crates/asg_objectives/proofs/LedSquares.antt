@@ -1,11 +1,12 @@
 -- What phases that lead on from the square of an instance show of it.
-use Rattle.asg_objectives.proofs.Common.{◌≡◌, ℕ, ◌<◌, ◌≤◌, List, [], map, length, get_or, is_some, is_none, IfSome, Option, sym, refl, ap, ◌∙◌, subst, arith, count_by-le-length, length-map, HasLabelsOf-kept, admitted_over, words_over, unmatched, Matches, IsPerfect, IsInstance, live_at, Problem, square_side, costs_of, Cost, IsFoldOutcome, IsChoiceBy, IsBestBy, IsNothingBy, IsSquareOutcome, costs_fold, choice_fold, Monoid, IsValue, IsOrderedMonoid, fold_of, Word, Forest, ProvesFold, EntersValues, PhaseOf, worded, after_phases, AreAdmittedPhases, index_of, AreFewPhases, GivesFewPhases, HasSide, HasValues, assignment_fold, Outcome, Best, Nothing, Phases, square_cell, IsAssignment, IsPresent, choice_of, assignment_values, Grid, cell_at, HasLabelsOf, IsSquareOf, IsWithinSquareOf, IsPerm, grid_choice}
+use Rattle.asg_objectives.proofs.Common.{◌≡◌, ℕ, ◌<◌, ◌≤◌, List, [], map, length, get_or, is_some, is_none, IfSome, Option, sym, refl, ap, ◌∙◌, subst, arith, count_by-le-length, length-map, HasLabelsOf-kept, admitted_over, words_over, unmatched, Matches, IsPerfect, IsInstance, live_at, Problem, square_side, costs_of, Cost, Objective, IsFoldOutcome, IsOutcome, IsChoiceBy, IsBestBy, IsNothingBy, IsSquareOutcome, costs_fold, choice_fold, Monoid, IsValue, IsOrderedMonoid, fold_of, Word, Forest, ProvesFold, EntersValues, PhaseOf, worded, after_phases, AreAdmittedPhases, index_of, AreFewPhases, GivesFewPhases, HasSide, HasValues, assignment_fold, Outcome, Best, Nothing, Phases, square_cell, IsAssignment, IsPresent, choice_of, assignment_values, Grid, cell_at, HasLabelsOf, IsSquareOf, IsWithinSquareOf, IsPerm, grid_choice}
 use Rattle.asg_admit.specs.declared.reduced.Reduced.{Reduced}
 use Rattle.asg_growth.specs.Growing.{IsAbsorbed}
 use Rattle.asg_algebra.specs.Solved.{LeadTo}
 use Rattle.asg_model.specs.declared.bands.Band.TheVariants.{Whole}
 use Rattle.asg_proof.specs.laws.PhaseLists.{is_some-phases, index_is_value}
 use Rattle.asg_proof.specs.laws.Squares.{HasSide-square_cell, HasValues-square_cell}
+use Rattle.asg_square.specs.Grid.{HasPresenceOf}
 use Rattle.asg_square.specs.Presence.{has_cell}
 
 -- the square of an instance, whose live costs enter as values, is of values
@@ -145,4 +146,10 @@ pub IsSquareOutcome-nothing : {V : Type 0} (M : Monoid V) (difference : V → V 
 IsSquareOutcome-nothing M difference word_of X Q presence (Best choice proof) by enter square live = absurd by
 IsSquareOutcome-nothing M difference word_of X Q presence (Nothing rows) gives enter square live =
     let present : (r k : ℕ) → is_some (cell_at Q r k) ≡ has_cell X Whole r k = λ r k. ap is_some (square.cells r k) ∙ presence X M.unit enter r k in
+    gives X Whole refl refl refl (λ r k. (λ h. sym (present r k) ∙ h, λ h. present r k ∙ h))
+
+-- whatever the objective is
+pub IsOutcome-nothing : {V : Type 0} (objective : Objective) (X : Problem) (Q : Grid V) → HasPresenceOf X Q → (outcome : Outcome) → IsNothingBy X Q outcome → IsOutcome objective X outcome
+IsOutcome-nothing objective X Q present (Best choice proof) by = absurd by
+IsOutcome-nothing objective X Q present (Nothing rows) gives =
     gives X Whole refl refl refl (λ r k. (λ h. sym (present r k) ∙ h, λ h. present r k ∙ h))

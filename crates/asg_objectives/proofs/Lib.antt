@@ -3,9 +3,8 @@ mod WordedPhases
 mod LedSquares
 mod EnteredOutcomes
 mod KindOutcomes
+mod NarrowOutcomes
 mod MatchedColumns
 mod KeptPresence
-mod NarrowOutcomes
 mod PresentWords
-mod CappedSums
 mod ListedGrades

@@ -2,4 +2,3 @@ pub mod FoldOutcomes
 pub mod SolvedSquares
 pub mod Workspaces
 pub mod SolvedFrom
-pub mod CappedOutcomes

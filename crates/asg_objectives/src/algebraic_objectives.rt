@@ -1,24 +1,26 @@
 //! The outcome of an algebraic objective: a best choice with its phases, or a Hall set.
 
 ghost use Rattle.std.specs.Prelude.{◌≤◌, IsTrue, IfOk};
-ghost use Rattle.asg_model.specs.declared.objectives.Objective.TheVariants.{Capped, TimeCost};
+ghost use Rattle.asg_model.specs.declared.objectives.Objective.TheVariants.{TimeCost};
 ghost use Rattle.asg_model.specs.Limits.{most_side};
 ghost use Rattle.asg_model.specs.Objectives.{is_algebraic, is_bottleneck};
 ghost use Rattle.asg_model.specs.Refused.{PassesNegative};
 ghost use Rattle.asg_model.specs.Shapes.{square_side};
 ghost use Rattle.asg_monoids.specs.Entered.{is_sum_objective};
+ghost use Rattle.asg_monoids.specs.NarrowObjectives.{is_narrow_objective};
 ghost use Rattle.asg_proof.specs.Outcomes.{IsOutcome};
 ghost use Rattle.asg_proof.specs.PromisedProofs.{GivesFewPhases};
 
 use crate::NoMemory;
-use crate::capped_squares::by_uncut_sums;
-use crate::entered_squares::guessed_algebraic;
+use crate::entered_squares::{algebraic, guessed_algebraic};
 use crate::listed_grades::listed_outcome;
 use crate::narrow_squares::by_narrow_sums;
 use asg_algebra::entered_square;
 use asg_duals::{Guess, capped_guess, grade_guess, pair_guess, peak_guess};
 use asg_model::{Instance, Objective};
+use asg_monoids::laws::narrow_sums;
 use asg_monoids::{PeakKind, SumKind, TimeKind};
+use asg_narrow_kinds::NarrowKind;
 use asg_proof::Outcome;
 use asg_square::Square;
 use std::alloc::Global;
@@ -50,17 +52,35 @@ fn by_sums(alloc: Global, objective: Objective, inst: &Instance) -> Result<Outco
     guessed_algebraic(alloc, &kind, inst, square, guess)
 }
 
-// The outcome of `capped`: by sums in 64 bits where those of its choice stay below the cap, and
-// otherwise in 128.
-fn by_capped_sums(alloc: Global, cap: u64, inst: &Instance) -> Result<Outcome, NoMemory>
+// The outcome of `sum` or `sum-max` by the engine, by sums in 64 bits, which stay far below their
+// top.
+fn by_engine(alloc: Global, objective: Objective, inst: &Instance) -> Result<Outcome, NoMemory>
+    requires objective { IsTrue (is_narrow_objective objective) }
     requires side { square_side inst.now ≤ most_side }
-    requires passes { PassesNegative (Capped cap) inst.now }
-    ensures outcome { IfOk result (IsOutcome (Capped cap) inst.now) }
+    requires passes { PassesNegative objective inst.now }
+    ensures outcome { IfOk result (IsOutcome objective inst.now) }
     ensures phases { IfOk result (GivesFewPhases (square_side inst.now)) }
 {
-    match by_uncut_sums(alloc, cap, inst)? {
-        Some(found) => Ok(found),
-        None => by_sums(alloc, Objective::Capped(cap), inst),
+    narrow_sums();
+    let _rows = inst.rows();
+    algebraic(alloc, &NarrowKind::of(objective), inst)
+}
+
+// The outcome of `sum`, `sum-max` or `capped`: by sums in 64 bits, but for `capped` only where a
+// guess serves, and else in 128.
+fn by_small_sums(alloc: Global, objective: Objective, inst: &Instance) -> Result<Outcome, NoMemory>
+    requires objective { IsTrue (is_sum_objective objective) }
+    requires side { square_side inst.now ≤ most_side }
+    requires passes { PassesNegative objective inst.now }
+    ensures outcome { IfOk result (IsOutcome objective inst.now) }
+    ensures phases { IfOk result (GivesFewPhases (square_side inst.now)) }
+{
+    if let Some(found) = by_narrow_sums(alloc, objective, inst)? {
+        return Ok(found);
+    }
+    match objective {
+        Objective::Sum | Objective::SumMax => by_engine(alloc, objective, inst),
+        _ => by_sums(alloc, objective, inst),
     }
 }
 
@@ -100,8 +120,8 @@ fn by_grades(alloc: Global, inst: &Instance) -> Result<Outcome, NoMemory>
 /// whole instance. The objective is any but `Balanced` and `Lex`, it refuses no live cost of the
 /// instance (`asg_values::negative`), and the side is at most 2,000. The error is want of memory.
 /// Few phases are guessed first and tested (`asg_duals`); where no guess passes the tests, the
-/// method and its time are those of [`algebraic`]. The sums of `sum` and `sum-max` are taken in 64
-/// bits, and those of `capped` where they stay below the cap.
+/// method and its time are those of [`algebraic`]. The sums that are guessed for `sum`, `sum-max` and
+/// `capped` are taken in 64 bits.
 ///
 /// [`algebraic`]: crate::algebraic
 pub fn algebraic_assignment(
@@ -116,9 +136,10 @@ pub fn algebraic_assignment(
     ensures phases { IfOk result (GivesFewPhases (square_side inst.now)) }
 {
     match objective {
-        Objective::Sum | Objective::SumMax => by_narrow_sums(alloc, objective, inst),
+        Objective::Sum | Objective::SumMax | Objective::Capped(_) => {
+            by_small_sums(alloc, objective, inst)
+        }
         Objective::SumPair => by_sums(alloc, objective, inst),
-        Objective::Capped(cap) => by_capped_sums(alloc, cap, inst),
         Objective::Bottleneck | Objective::BottleneckMax => by_maxima(alloc, objective, inst),
         Objective::TimeCost => by_grades(alloc, inst),
         Objective::Balanced | Objective::Lex => unreachable!(),

@@ -10,15 +10,12 @@
 #![tactic(auto)]
 
 mod algebraic_objectives;
-mod capped_squares;
-mod capped_tables;
 mod entered_squares;
 mod guessed_squares;
 mod listed_grades;
 mod narrow_squares;
 mod present_cells;
 mod solved_squares;
-mod sparse_duals;
 mod sparse_leads;
 mod sparse_outcomes;
 mod table_duals;

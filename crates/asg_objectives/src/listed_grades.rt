@@ -28,7 +28,7 @@ use std::alloc::Global;
 
 // Lets the row of the instance that a row of its square stands for choose the column of which a
 // column of the square is a copy.
-fn put_column(square: &Square<(u64, u128)>, choice: &mut Choice, row: u32, column: u32)
+fn put_column<V: Copy>(square: &Square<V>, choice: &mut Choice, row: u32, column: u32)
     requires { row < square.now.side }
 {
     if column >= square.side() {
@@ -41,11 +41,11 @@ fn put_column(square: &Square<(u64, u128)>, choice: &mut Choice, row: u32, colum
     }
 }
 
-// The choice of these columns for the rows of a square. No clause says that it is valid. The error
-// is want of memory.
-fn choice_by_columns(
+/// The choice of these columns for the rows of a square. No clause says that it is valid. The error
+/// is want of memory.
+pub(crate) fn choice_by_columns<V: Copy>(
     alloc: Global,
-    square: &Square<(u64, u128)>,
+    square: &Square<V>,
     columns: &[u32],
 ) -> Result<Choice, NoMemory> {
     let mut choice = Choice::make(alloc, square.rows())?;

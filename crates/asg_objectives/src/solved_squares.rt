@@ -138,8 +138,8 @@ fn nothing<V: Copy>(
     })
 }
 
-// The Hall set of rows that have fewer present cells than they are, where there are such rows.
-fn shortage<V: Copy>(
+/// The Hall set of rows that have fewer present cells than they are, where there are such rows.
+pub(crate) fn shortage<V: Copy>(
     alloc: Global,
     inst: &Instance,
     square: &Square<V>,
@@ -153,15 +153,6 @@ fn shortage<V: Copy>(
         Pairing::Perfect(_) => Ok(None),
         Pairing::Short(rows) => Ok(Some(nothing(alloc, inst, square, rows.as_slice())?)),
     }
-}
-
-/// Whether some rows of a square have fewer present cells than they are, as [`outcome`] tells of it
-/// too, and shows. The error is want of memory.
-pub(crate) fn is_short<V: Copy>(alloc: Global, square: &Square<V>) -> Result<bool, NoMemory> {
-    let side = square.side();
-    let cells = PresentCells { square };
-    let found = perfect_or_hall(alloc, side, &cells)?;
-    Ok(matches!(found, Pairing::Short(_)))
 }
 
 // Solves a square in a workspace. It has the square from then on.

@@ -5,9 +5,10 @@ use crate::NoMemory;
 use asg_bit_rows::BitRows;
 use asg_class_search::{ArcLead, Arcs, lead_by_arcs};
 use asg_dual_numbers::name;
+use asg_duals::entered;
 use asg_live_cells::Marks;
 use asg_match::{Pairing, perfect_or_hall};
-use asg_model::limits::{MOST_COLUMNS, MOST_COST, MOST_ROWS};
+use asg_model::limits::{MOST_COLUMNS, MOST_ROWS};
 use asg_model::{ABSENT, Instance, Objective, Place, RowRoom};
 use std::alloc::Global;
 
@@ -17,6 +18,9 @@ const SPARSE: usize = 8;
 // So many cells of a row are looked at together.
 const PIECE: usize = 16;
 
+// And so many of these where one is there.
+const PART: usize = 4;
+
 // Whether all rows are placed and active, and each column is open and holds one row.
 fn is_plain(inst: &Instance) -> bool {
     matches!(inst.place(), Place::All)
@@ -25,16 +29,6 @@ fn is_plain(inst: &Instance) -> bool {
             .columns()
             .iter()
             .all(|column| column.usable && column.cap == 1)
-}
-
-/// What a cost enters as.
-#[inline]
-pub(crate) fn entered(is_max: bool, cost: i64) -> i64 {
-    if is_max {
-        MOST_COST.wrapping_sub(cost)
-    } else {
-        MOST_COST.wrapping_add(cost)
-    }
 }
 
 // Whether no cost is there.
@@ -50,7 +44,7 @@ fn are_absent(costs: &[i64]) -> bool {
 // The live cells of rows, as arcs with what their costs enter as, and by a bit each.
 #[derive(Drop)]
 struct SparseCells {
-    is_max: bool,
+    objective: Objective,
     arcs: Arcs,
     bits: BitRows,
     count: usize,
@@ -63,7 +57,8 @@ impl SparseCells {
             self.bits.put(row, column, true);
         }
         self.count = self.count.wrapping_add(1);
-        self.arcs.push(column, entered(self.is_max, cost))
+        let number = entered(self.objective, cost);
+        self.arcs.push(column, number.cast_signed())
     }
 
     // The costs of a row that are there, from this column on.
@@ -76,13 +71,25 @@ impl SparseCells {
         Ok(())
     }
 
+    // The same of a piece.
+    fn push_piece(&mut self, row: u32, piece: &[i64], first: usize) -> Result<(), NoMemory> {
+        for number in 0..piece.len() / PART {
+            let start = number * PART;
+            let part = &piece[start..start + PART];
+            if !are_absent(part) {
+                self.push_costs(row, part, first.wrapping_add(start))?;
+            }
+        }
+        Ok(())
+    }
+
     // The costs of a row that are there.
     fn push_row(&mut self, row: u32, costs: &[i64]) -> Result<(), NoMemory> {
         for number in 0..costs.len() / PIECE {
             let first = number * PIECE;
             let piece = &costs[first..first + PIECE];
             if !are_absent(piece) {
-                self.push_costs(row, piece, first)?;
+                self.push_piece(row, piece, first)?;
             }
         }
         let rest = costs.len() / PIECE * PIECE;
@@ -101,7 +108,7 @@ fn live_cells(
     let columns = inst.columns().len().min(MOST_COLUMNS);
     let most = rows.saturating_mul(columns) / SPARSE;
     let mut cells = SparseCells {
-        is_max: objective == Objective::SumMax,
+        objective,
         arcs: Arcs::none(alloc, rows, most)?,
         bits: BitRows::make(alloc, rows as u32, columns as u32)?,
         count: 0,

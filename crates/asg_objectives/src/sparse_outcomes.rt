@@ -1,21 +1,19 @@
-//! Outcomes of `sum` and `sum-max` where few cells are live, by lists of these, without a square.
+//! Outcomes of `sum`, `sum-max` and `capped` where few cells are live, by lists of these, without a square.
 
 ghost use Rattle.std.specs.Prelude.{◌≤◌, IsTrue, IfOk, IfSome};
 ghost use Rattle.asg_model.specs.Limits.{most_side};
+ghost use Rattle.asg_model.specs.Refused.{PassesNegative};
 ghost use Rattle.asg_model.specs.Shapes.{square_side};
-ghost use Rattle.asg_monoids.specs.NarrowObjectives.{is_narrow_objective};
+ghost use Rattle.asg_monoids.specs.Entered.{is_sum_objective};
 ghost use Rattle.asg_proof.specs.Outcomes.{IsOutcome};
 ghost use Rattle.asg_proof.specs.PromisedProofs.{GivesFewPhases};
 
 use crate::NoMemory;
-use crate::sparse_duals::duals_by;
 use crate::sparse_leads::sparse_lead;
-use crate::table_outcomes::proved_outcome;
+use crate::table_outcomes::led_outcome;
 use asg_class_search::ArcLead;
-use asg_duals::short_phases;
 use asg_model::{Band, Instance, Objective};
 use asg_proof::{Ids, Outcome};
-use asg_table_sums::choice_of;
 use asg_values::is_hall;
 use std::alloc::Global;
 
@@ -49,29 +47,17 @@ fn hall_outcome(
     Ok(Some(Outcome::Nothing { rows }))
 }
 
-// The outcome by columns of the rows and dual variables of the columns, where these lead to phases
-// that prove it; else `None`.
-fn led_outcome(
-    alloc: Global,
-    objective: Objective,
-    inst: &Instance,
-    columns: &[u32],
-    duals: &[i64],
-) -> Result<Option<Outcome>, NoMemory>
-    requires objective { IsTrue (is_narrow_objective objective) }
-    requires side { square_side inst.now ≤ most_side }
-    ensures outcome { IfOk result (λ found. IfSome found (IsOutcome objective inst.now)) }
-    ensures phases { IfOk result (λ found. IfSome found (GivesFewPhases (square_side inst.now))) }
-{
-    let rows = inst.rows().len() as u32;
-    let choice = choice_of(alloc, rows, columns, inst.columns().len())?;
-    let duals = duals_by(alloc, objective, inst, columns, duals)?;
-    let phases = short_phases(alloc, &duals)?;
-    proved_outcome(alloc, objective, inst, choice, phases)
+// By how much columns may rise: by what their dual variables are below 0.
+fn rises_of(alloc: Global, duals: &[i64]) -> Result<Vec<u64>, NoMemory> {
+    let mut rises = Vec::with_capacity(alloc, duals.len())?;
+    for column in 0..duals.len() {
+        rises.push(duals[column].min(0).unsigned_abs())?;
+    }
+    Ok(rises)
 }
 
-/// The outcome of `sum` or `sum-max` where few cells are live, each column holds one row, and all
-/// rows are placed: by phases or by rows that are guessed and tested; `None` where none pass, or
+/// The outcome of `sum`, `sum-max` or `capped` where few cells are live, each column holds one row,
+/// and all rows are placed: by phases or by rows that are guessed and tested; `None` where none pass, or
 /// the instance is another. The error is want of memory. The time of the search grows with rows
 /// times live cells at most, with a heap; the test is one pass over the costs.
 pub(crate) fn outcome_by_arcs(
@@ -79,8 +65,9 @@ pub(crate) fn outcome_by_arcs(
     objective: Objective,
     inst: &Instance,
 ) -> Result<Option<Outcome>, NoMemory>
-    requires objective { IsTrue (is_narrow_objective objective) }
+    requires objective { IsTrue (is_sum_objective objective) }
     requires side { square_side inst.now ≤ most_side }
+    requires passes { PassesNegative objective inst.now }
     ensures outcome { IfOk result (λ found. IfSome found (IsOutcome objective inst.now)) }
     ensures phases { IfOk result (λ found. IfSome found (GivesFewPhases (square_side inst.now))) }
 {
@@ -89,7 +76,8 @@ pub(crate) fn outcome_by_arcs(
     };
     match lead {
         ArcLead::Found { columns, duals } => {
-            led_outcome(alloc, objective, inst, columns.as_slice(), duals.as_slice())
+            let rises = rises_of(alloc, duals.as_slice())?;
+            led_outcome(alloc, objective, inst, columns.as_slice(), rises.as_slice())
         }
         ArcLead::Short(rows) => hall_outcome(alloc, objective, inst, rows.as_slice()),
     }

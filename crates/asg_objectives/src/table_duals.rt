@@ -1,10 +1,8 @@
-//! Dual variables of the square of an instance, from what a search of its table found. Nothing here
+//! Dual variables of the square of an instance, from what a search of its costs found. Nothing here
 //! is tested.
 
 use crate::NoMemory;
-use asg_dual_search::Lead;
-use asg_duals::Duals;
-use asg_model::limits::MOST_COST;
+use asg_duals::{Duals, entered};
 use asg_model::{Instance, Objective};
 use std::alloc::Global;
 
@@ -28,17 +26,12 @@ fn amount_at(amounts: &[u64], place: usize) -> u64 {
 
 // By how much a row may fall that has its cell in a column: by what the cost enters as, with what
 // the column rises by.
-fn fall_of(objective: Objective, inst: &Instance, rises: &[u32], row: u32, column: u32) -> u64 {
+fn fall_of(objective: Objective, inst: &Instance, rises: &[u64], row: u32, column: u32) -> u64 {
     let Some(cost) = inst.live(row, column) else {
         return 0;
     };
-    let entered = match objective {
-        Objective::SumMax => MOST_COST.wrapping_sub(cost.a).cast_unsigned(),
-        Objective::Capped(cap) => cost.a.unsigned_abs().min(cap),
-        _ => MOST_COST.wrapping_add(cost.a).cast_unsigned(),
-    };
-    let rise = number_at(rises, column as usize);
-    entered.wrapping_add(u64::from(rise))
+    let rise = amount_at(rises, column as usize);
+    entered(objective, cost.a).wrapping_add(rise)
 }
 
 // By how much each row of the instance may fall, 0 where it has no column.
@@ -47,7 +40,7 @@ fn row_falls(
     objective: Objective,
     inst: &Instance,
     columns: &[u32],
-    rises: &[u32],
+    rises: &[u64],
 ) -> Result<Vec<u64>, NoMemory> {
     let count = inst.rows().len() as u32;
     let mut falls = Vec::with_capacity(alloc, count as usize)?;
@@ -71,14 +64,14 @@ fn greatest_of(amounts: &[u64]) -> u64 {
 fn square_rises(
     alloc: Global,
     inst: &Instance,
-    rises: &[u32],
+    rises: &[u64],
     other: u64,
     side: usize,
 ) -> Result<Vec<u64>, NoMemory> {
     let columns = inst.columns();
     let mut wide = Vec::with_capacity(alloc, side)?;
     for column in 0..columns.len() {
-        let rise = u64::from(number_at(rises, column));
+        let rise = amount_at(rises, column);
         for _ in 0..columns[column].cap {
             wide.push(rise)?;
         }
@@ -184,19 +177,14 @@ pub(crate) fn duals_of(
     alloc: Global,
     objective: Objective,
     inst: &Instance,
-    lead: &Lead,
+    columns: &[u32],
+    rises: &[u64],
 ) -> Result<Duals, NoMemory> {
     let side = inst.side() as usize;
-    let falls = row_falls(
-        alloc,
-        objective,
-        inst,
-        lead.columns.as_slice(),
-        lead.rises.as_slice(),
-    )?;
+    let falls = row_falls(alloc, objective, inst, columns, rises)?;
     let most = greatest_of(falls.as_slice());
-    let rises = square_rises(alloc, inst, lead.rises.as_slice(), most, side)?;
-    let columns = square_columns(alloc, inst, lead.columns.as_slice(), side)?;
+    let rises = square_rises(alloc, inst, rises, most, side)?;
+    let columns = square_columns(alloc, inst, columns, side)?;
     let falls = square_falls(
         alloc,
         falls.as_slice(),

@@ -1,9 +1,10 @@
-//! Outcomes of `sum` and `sum-max` by the costs as they stand, without a square.
+//! Outcomes of `sum`, `sum-max` and `capped` by the costs as they stand, without a square.
 
 ghost use Rattle.std.specs.Prelude.{◌≤◌, IsTrue, IfOk, IfSome};
 ghost use Rattle.asg_model.specs.Limits.{most_side};
+ghost use Rattle.asg_model.specs.Refused.{PassesNegative};
 ghost use Rattle.asg_model.specs.Shapes.{square_side};
-ghost use Rattle.asg_monoids.specs.NarrowObjectives.{is_narrow_objective};
+ghost use Rattle.asg_monoids.specs.Entered.{is_sum_objective};
 ghost use Rattle.asg_proof.specs.Outcomes.{IsOutcome};
 ghost use Rattle.asg_proof.specs.PromisedProofs.{GivesFewPhases};
 
@@ -28,8 +29,9 @@ pub(crate) fn proved_outcome(
     choice: Choice,
     phases: Vec<Phase<u64>>,
 ) -> Result<Option<Outcome>, NoMemory>
-    requires objective { IsTrue (is_narrow_objective objective) }
+    requires objective { IsTrue (is_sum_objective objective) }
     requires side { square_side inst.now ≤ most_side }
+    requires passes { PassesNegative objective inst.now }
     ensures outcome { IfOk result (λ found. IfSome found (IsOutcome objective inst.now)) }
     ensures phases { IfOk result (λ found. IfSome found (GivesFewPhases (square_side inst.now))) }
 {
@@ -44,26 +46,62 @@ pub(crate) fn proved_outcome(
     Ok(Some(Outcome::Best { choice, proof }))
 }
 
-/// The outcome of `sum` or `sum-max`, by phases that are guessed and tested over the costs as they
-/// stand; `None` where none pass. That is so where a row is inactive, a column is closed, a cell is
-/// absent, or costs of a row differ by 2^30 or more, and, where rows stay out, any by 2^27 or more;
-/// no clause says when. The error is want of memory.
+/// The outcome by columns of the rows and rises of the columns, where these lead to phases that prove
+/// it; else `None`. The error is want of memory.
+pub(crate) fn led_outcome(
+    alloc: Global,
+    objective: Objective,
+    inst: &Instance,
+    columns: &[u32],
+    rises: &[u64],
+) -> Result<Option<Outcome>, NoMemory>
+    requires objective { IsTrue (is_sum_objective objective) }
+    requires side { square_side inst.now ≤ most_side }
+    requires passes { PassesNegative objective inst.now }
+    ensures outcome { IfOk result (λ found. IfSome found (IsOutcome objective inst.now)) }
+    ensures phases { IfOk result (λ found. IfSome found (GivesFewPhases (square_side inst.now))) }
+{
+    let rows = inst.rows().len() as u32;
+    let choice = choice_of(alloc, rows, columns, inst.columns().len())?;
+    let duals = duals_of(alloc, objective, inst, columns, rises)?;
+    let phases = short_phases(alloc, &duals)?;
+    proved_outcome(alloc, objective, inst, choice, phases)
+}
+
+// Numbers in 64 bits.
+fn widened(alloc: Global, numbers: &[u32]) -> Result<Vec<u64>, NoMemory> {
+    let mut wide = Vec::with_capacity(alloc, numbers.len())?;
+    for number in numbers {
+        wide.push(u64::from(*number))?;
+    }
+    Ok(wide)
+}
+
+/// The outcome of `sum`, `sum-max` or `capped`, by phases of plain sums that are guessed and tested
+/// over the costs as they stand; `None` where none pass. That is so where a row is inactive, a column
+/// is closed, a cell is absent, or costs of a row differ by 2^30 or more, where rows stay out, any by
+/// 2^27 or more, and for `capped` where the costs of a least choice add up to more than the cap; no
+/// clause says when. The error is want of memory.
 pub(crate) fn outcome_by_table(
     alloc: Global,
     objective: Objective,
     inst: &Instance,
 ) -> Result<Option<Outcome>, NoMemory>
-    requires objective { IsTrue (is_narrow_objective objective) }
+    requires objective { IsTrue (is_sum_objective objective) }
     requires side { square_side inst.now ≤ most_side }
+    requires passes { PassesNegative objective inst.now }
     ensures outcome { IfOk result (λ found. IfSome found (IsOutcome objective inst.now)) }
     ensures phases { IfOk result (λ found. IfSome found (GivesFewPhases (square_side inst.now))) }
 {
     let Some(lead) = lead(alloc, objective, inst)? else {
         return Ok(None);
     };
-    let rows = inst.rows().len() as u32;
-    let choice = choice_of(alloc, rows, lead.columns.as_slice(), inst.columns().len())?;
-    let duals = duals_of(alloc, objective, inst, &lead)?;
-    let phases = short_phases(alloc, &duals)?;
-    proved_outcome(alloc, objective, inst, choice, phases)
+    let rises = widened(alloc, lead.rises.as_slice())?;
+    led_outcome(
+        alloc,
+        objective,
+        inst,
+        lead.columns.as_slice(),
+        rises.as_slice(),
+    )
 }

@@ -1,5 +1,5 @@
 -- The names that proofs of this crate cite most, passed on from one place. Declares nothing.
-pub use Rattle.asg_model.proofs.Kit.{IfOk, IfOk-weaker, IfSome, IfSome_then, List, Option, [], ap, arith, false≢true, fun_ext, inl, inr, min, nat_tests, pos, refl, subst, suc, sym, take, true, unsigned_abs, ℕ, ◌+◌, ◌<◌, ◌^◌, ◌∙◌, ◌∷◌, ◌≡◌, ◌≢◌, ◌≤◌, ◌⊎◌}
+pub use Rattle.asg_model.proofs.Kit.{IfOk-weaker, List, Option, [], ap, arith, cases_lt, false≢true, fun_ext, inl, inr, pos, refl, subst, suc, sym, take, true, ℕ, ⊎_elim, ◌+◌, ◌<◌, ◌^◌, ◌∙◌, ◌∷◌, ◌≡◌, ◌≢◌, ◌≤◌, ◌⊎◌}
 pub use Rattle.asg_admit.specs.declared.reduced.Reduced.{Reduced}
 pub use Rattle.asg_model.specs.Problem.{Problem}
 pub use Rattle.asg_model.specs.Shapes.{square_side}
@@ -19,7 +19,5 @@ pub use Rattle.asg_reasons.specs.Verdicts.{Tells, phase_reasons}
 pub use Rattle.asg_reasons.specs.declared.verdicts.Verdict.TheVariants.{No, Yes}
 pub use Rattle.asg_replays.specs.Replays.{AreAdmittedFrom, AreReplayed, IsFirstBad, IsStart}
 pub use Rattle.asg_replays.specs.WholeLists.{HaveIndex}
-pub use Rattle.asg_replays.specs.laws.LiveCosts.{live_values}
-pub use Rattle.asg_replays.specs.laws.Starts.{start_of}
 pub use Rattle.asg_square.specs.Cells.{square_cell}
 pub use Rattle.asg_square.specs.Grid.{cell_at}

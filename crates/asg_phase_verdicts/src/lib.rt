@@ -9,7 +9,6 @@
 
 mod known_indices;
 mod narrow_indices;
-mod narrow_starts;
 mod phase_verdicts;
 mod square_verdicts;
 

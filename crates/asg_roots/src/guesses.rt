@@ -1,51 +1,12 @@
 //! Few phases that may solve the square of an instance, guessed.
 
 use crate::NoMemory;
-use asg_duals::{
-    Duals, Guess, capped_guess, grade_guess, pair_guess, peak_guess, short_phases, tight_duals,
-};
+use asg_duals::{Guess, capped_guess, grade_guess, pair_guess, peak_guess, sum_guess};
 use asg_kept::Keeps;
 use asg_model::Objective;
 use asg_monoids::{Bounded, Graded, Greatest, NarrowSums};
-use asg_proof::Phase;
 use asg_square::Square;
 use std::alloc::Global;
-
-/// Phases and a column for each row that may solve a square. No clause says that they do: whoever
-/// takes them tests them.
-#[derive(Drop)]
-pub enum Hint<V: Copy> {
-    /// Phases from dual variables, and these with their assignment.
-    FromDuals(Vec<Phase<V>>, Duals),
-    /// Phases and an assignment that were guessed together.
-    Guessed(Guess<V>),
-}
-
-impl<V: Copy> Hint<V> {
-    // The phases in order.
-    pub(crate) fn phases(&self) -> &[Phase<V>] {
-        match self {
-            Hint::FromDuals(phases, _duals) => phases.as_slice(),
-            Hint::Guessed(guess) => guess.phases(),
-        }
-    }
-
-    // The column of each row.
-    pub(crate) fn columns(&self) -> &[u32] {
-        match self {
-            Hint::FromDuals(_phases, duals) => duals.columns(),
-            Hint::Guessed(guess) => guess.columns(),
-        }
-    }
-}
-
-// What was guessed, if anything was.
-fn guessed<V: Copy>(guess: Option<Guess<V>>) -> Option<Hint<V>> {
-    match guess {
-        Some(guess) => Some(Hint::Guessed(guess)),
-        None => None,
-    }
-}
 
 /// The monoids of the objectives, each with the way to guess few phases that solve its squares.
 pub trait RootGuess: Keeps {
@@ -57,7 +18,7 @@ pub trait RootGuess: Keeps {
         alloc: Global,
         objective: Objective,
         square: &Square<Self::Value>,
-    ) -> Result<Option<Hint<Self::Value>>, NoMemory>;
+    ) -> Result<Option<Guess<Self::Value>>, NoMemory>;
 }
 
 impl RootGuess for NarrowSums {
@@ -66,12 +27,8 @@ impl RootGuess for NarrowSums {
         alloc: Global,
         _objective: Objective,
         square: &Square<u64>,
-    ) -> Result<Option<Hint<u64>>, NoMemory> {
-        let Some(duals) = tight_duals(alloc, square)? else {
-            return Ok(None);
-        };
-        let phases = short_phases(alloc, &duals)?;
-        Ok(Some(Hint::FromDuals(phases, duals)))
+    ) -> Result<Option<Guess<u64>>, NoMemory> {
+        sum_guess(alloc, square)
     }
 }
 
@@ -81,13 +38,12 @@ impl RootGuess for Bounded {
         alloc: Global,
         objective: Objective,
         square: &Square<u128>,
-    ) -> Result<Option<Hint<u128>>, NoMemory> {
+    ) -> Result<Option<Guess<u128>>, NoMemory> {
         // Where no sum comes to the top, it cuts none.
-        let guess = match objective {
+        match objective {
             Objective::SumPair => pair_guess(alloc, square),
             _ => capped_guess(alloc, square, self.top),
-        };
-        Ok(guessed(guess?))
+        }
     }
 }
 
@@ -97,8 +53,8 @@ impl RootGuess for Greatest {
         alloc: Global,
         _objective: Objective,
         square: &Square<u64>,
-    ) -> Result<Option<Hint<u64>>, NoMemory> {
-        Ok(guessed(peak_guess(alloc, square)?))
+    ) -> Result<Option<Guess<u64>>, NoMemory> {
+        peak_guess(alloc, square)
     }
 }
 
@@ -108,7 +64,7 @@ impl RootGuess for Graded<Bounded> {
         alloc: Global,
         _objective: Objective,
         square: &Square<(u64, u128)>,
-    ) -> Result<Option<Hint<(u64, u128)>>, NoMemory> {
-        Ok(guessed(grade_guess(alloc, square)?))
+    ) -> Result<Option<Guess<(u64, u128)>>, NoMemory> {
+        grade_guess(alloc, square)
     }
 }

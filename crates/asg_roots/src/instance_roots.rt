@@ -8,9 +8,10 @@ ghost use Rattle.asg_square.specs.Grid.{IsSquareOf};
 ghost use Rattle.asg_roots.specs.Roots.{IsInstanceRoot};
 
 use crate::NoMemory;
-use crate::guesses::{Hint, RootGuess};
+use crate::guesses::RootGuess;
 use crate::roots::{Root, hinted_root, solve_root};
 use asg_algebra::entered_square;
+use asg_duals::Guess;
 use asg_kept::Keeps;
 use asg_model::Instance;
 use asg_order::{Kind, Ordered};
@@ -48,7 +49,7 @@ fn hinted_entered_root<K: Kind>(
     inst: &Instance,
     square: Square<<K::M as Ordered>::Value>,
     records: u32,
-    hint: &Hint<<K::M as Ordered>::Value>,
+    hint: &Guess<<K::M as Ordered>::Value>,
 ) -> Result<Option<Root<<K::M as Ordered>::Value>>, NoMemory>
 where
     K::M: Keeps,
@@ -93,7 +94,7 @@ fn tried_root<K: Kind>(
     inst: &Instance,
     square: Square<<K::M as Ordered>::Value>,
     records: u32,
-    hint: &Hint<<K::M as Ordered>::Value>,
+    hint: &Guess<<K::M as Ordered>::Value>,
 ) -> Result<Root<<K::M as Ordered>::Value>, NoMemory>
 where
     K::M: Keeps,

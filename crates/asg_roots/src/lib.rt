@@ -13,7 +13,7 @@ mod instance_roots;
 mod roots;
 mod workplaces;
 
-pub use guesses::{Hint, RootGuess};
+pub use guesses::RootGuess;
 pub use instance_roots::instance_root;
 pub use roots::Root;
 

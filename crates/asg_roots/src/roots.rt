@@ -7,10 +7,10 @@ ghost use Rattle.asg_roots.specs.Roots.{IsSolvedRoot, root_of};
 ghost use Rattle.asg_roots.specs.Workplaces.{IsFresh};
 
 use crate::NoMemory;
-use crate::guesses::Hint;
 use crate::workplaces::{Workplace, fresh_workplace};
 use asg_admit::Reduced;
 use asg_algebra::{Bench, Solved, SolvedSquare, solve_given, solve_square};
+use asg_duals::Guess;
 use asg_kept::Keeps;
 use asg_match::Matching;
 use asg_pool::Region;
@@ -169,7 +169,7 @@ pub(crate) fn hinted_root<M: Keeps>(
     m: &M,
     square: Square<M::Value>,
     records: u32,
-    hint: &Hint<M::Value>,
+    hint: &Guess<M::Value>,
 ) -> Result<Option<Root<M::Value>>, NoMemory>
     requires values { HasValues (M.monoid_of m.now) square.side (cell_at square) }
     requires records { square.side ≤ records }

@@ -1,6 +1,6 @@
 -- Phases whose totals fit an instance are admitted from its square.
 use Rattle.asg_table_phases.proofs.Common.{◌≡◌, ℕ, ◌*◌, ◌<◌, ◌≤◌, List, length, unsigned_abs, Option, Some, ⊎_elim, subst, arith, IsInstance, most_cost, Problem, square_side, Objective, Cost, bounded_sums, bounded_difference, narrow_top, sum_entered, AreTotals, CountAndRaise, EndAtLeast0, StayBelow, Totals, sum_of_steps, PhaseOf, AreAdmittedPhases, square_cell, FitTotals}
-use Rattle.asg_table_phases.proofs.RowCosts.{near}
+use Rattle.asg_values.specs.laws.LiveCells.{first_of_live}
 use Rattle.asg_table_phases.proofs.TableCells.{IsEntered, IsFree, cell_of}
 
 -- what the one-pass law says
@@ -19,7 +19,7 @@ module _ (objective : Objective) (few : (x : Cost) → unsigned_abs x.a ≤ most
   cell_few r k x is =
       ⊎_elim
       (λ (cell : IsEntered X (sum_entered objective) r k x).
-      let small = few cell.cost (near X instance r cell.column cell.cost cell.live) in
+      let small = few cell.cost (first_of_live X instance r cell.column cell.cost cell.live) in
       omega (arith, small, cell.is))
       (λ (cell : IsFree X r k x). omega (arith, cell.is))
       (cell_of X (sum_entered objective) r k x is)

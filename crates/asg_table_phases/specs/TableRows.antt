@@ -24,6 +24,13 @@ AreWithin most numbers = (k : ℕ) → k < length numbers → slice_index number
 abbrev pub AreLow : List ℕ → Type 0
 AreLow numbers = AreWithin narrow_top numbers
 
+-- costs enter for the objective as at most twice the cost limit
+abbrev pub enters_low : Objective → Bool
+enters_low Sum = true
+enters_low SumMax = true
+enters_low (Capped cap) = true
+enters_low _ = false
+
 -- the cost is, as it enters and with so much more, at least the number
 abbrev pub FitsCost : Objective → ℤ → ℕ → ℕ → Type 0
 FitsCost Sum cost number raise = pos number ≤ℤ (cost +ℤ pos (raise + most_cost))

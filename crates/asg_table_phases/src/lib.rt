@@ -8,7 +8,6 @@
 //! the rows and columns of the square. Contracts see what the phases prove of a choice.
 #![tactic(auto)]
 
-mod capped_proofs;
 mod column_tops;
 mod phase_proofs;
 mod phase_sizes;
@@ -17,9 +16,8 @@ mod row_pieces;
 mod table_fits;
 mod table_rows;
 
-pub use capped_proofs::proves_capped;
 pub use phase_proofs::proves;
-pub use table_fits::{fits_capped_table, fits_table};
+pub use table_fits::fits_table;
 
 /// There was not enough memory.
 pub type NoMemory = std::alloc::AllocError;

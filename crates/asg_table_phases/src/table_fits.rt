@@ -2,14 +2,12 @@
 
 ghost use Rattle.std.specs.Prelude.{◌≡◌, ◌≤◌, ℕ, IsTrue, List, length};
 ghost use Rattle.asg_phase_totals.specs.PhaseTotals.{AreTotals};
-ghost use Rattle.asg_model.specs.declared.objectives.Objective.TheVariants.{Capped};
 ghost use Rattle.asg_model.specs.Shapes.{square_side};
 ghost use Rattle.asg_monoids.specs.BoundedSums.{bounded_sums, bounded_difference, narrow_top};
 ghost use Rattle.asg_monoids.specs.Entered.{sum_entered};
-ghost use Rattle.asg_monoids.specs.NarrowObjectives.{is_narrow_objective};
 ghost use Rattle.asg_proof.specs.Phases.{PhaseOf, AreAdmittedPhases, index_of};
 ghost use Rattle.asg_square.specs.Cells.{square_cell};
-ghost use Rattle.asg_table_phases.specs.TableRows.{AreLow, FitCells, FitTotals};
+ghost use Rattle.asg_table_phases.specs.TableRows.{AreLow, FitCells, FitTotals, enters_low};
 
 use crate::column_tops::{free_cells_fit, put_tops};
 use crate::table_rows::{are_within, rows_fit};
@@ -56,11 +54,21 @@ fn fit_totals(objective: Objective, inst: &Instance, totals: &PhaseTotals<u64>) 
     cells_fit(objective, inst, rows, totals.columns())
 }
 
-/// Whether phases with these totals are admitted in turn from the square of an instance, where no
-/// sum comes near 2^62 and no present cell, as it enters for `sum` or `sum-max`, ends below 0. The
-/// answer `false` tells nothing. The time is that of one pass over the costs. It takes no memory.
+// Whether the costs of an objective enter as at most twice the cost limit.
+fn enters_low(objective: Objective) -> bool
+    ensures { result ≡ enters_low objective }
+{
+    match objective {
+        Objective::Sum | Objective::SumMax | Objective::Capped(_) => true,
+        _ => false,
+    }
+}
+
+/// Whether phases with these totals are admitted in turn from the square of an instance, by sums that
+/// stop at 2^62 or at any greater top: for `sum`, `sum-max` and `capped`, where no sum comes near
+/// 2^62, and no present cell, as it enters, ends below 0. The answer `false` tells nothing. The time
+/// is that of one pass over the costs. It takes no memory.
 pub fn fits_table(objective: Objective, inst: &Instance, totals: &PhaseTotals<u64>) -> bool
-    requires objective { IsTrue (is_narrow_objective objective) }
     requires side { length totals.now.rows ≡ square_side inst.now }
     ensures admitted { IsTrue result
         → (top : ℕ) (phases : List (PhaseOf ℕ)) → narrow_top ≤ top
@@ -75,25 +83,8 @@ pub fn fits_table(objective: Objective, inst: &Instance, totals: &PhaseTotals<u6
 {
     one_pass_law();
     let _rows = inst.rows();
+    if !enters_low(objective) {
+        return false;
+    }
     fit_totals(objective, inst, totals)
-}
-
-/// The same for `capped`: whether no sum comes near 2^62, and no present cell, as it enters, ends below
-/// 0. So the phases are admitted from the square by sums that don't stop at the cap.
-pub fn fits_capped_table(cap: u64, inst: &Instance, totals: &PhaseTotals<u64>) -> bool
-    requires side { length totals.now.rows ≡ square_side inst.now }
-    ensures admitted { IsTrue result
-        → (top : ℕ) (phases : List (PhaseOf ℕ)) → narrow_top ≤ top
-        → AreTotals phases totals.now
-        → AreAdmittedPhases (bounded_sums top) bounded_difference (square_side inst.now) phases
-        (square_cell inst.now 0 (sum_entered (Capped cap))) }
-    ensures index { IsTrue result
-        → (top : ℕ) (phases : List (PhaseOf ℕ))
-        → narrow_top ≤ top
-        → AreTotals phases totals.now
-        → index_of (bounded_sums top) phases ≡ totals.now.sum }
-{
-    one_pass_law();
-    let _rows = inst.rows();
-    fit_totals(Objective::Capped(cap), inst, totals)
 }

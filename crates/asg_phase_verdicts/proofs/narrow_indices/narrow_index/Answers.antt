@@ -1,10 +1,17 @@
-use Rattle.asg_phase_verdicts.proofs.Common.{IfSome, IfOk, sym, subst, square_side, bounded_sums, bounded_difference, plain_word, sum_entered, top_of, HaveIndex, square_cell}
-use Rattle.asg_model.specs.Refused.{PassesNegative}
+use Rattle.asg_phase_verdicts.proofs.Common.{◌≤◌, ℕ, sym, subst, arith, square_side, bounded_sums, bounded_difference, plain_word, sum_entered, top_of, HaveIndex, square_cell}
+use Rattle.asg_phase_verdicts.proofs.NarrowSums.{index_within}
 use Rattle.asg_phase_verdicts.proofs.narrow_indices.narrow_index.Goals as goal
 
-pub capped_index-requires-clause-passes : goal.capped_index-requires-clause-passes
-capped_index-requires-clause-passes c = subst (λ o. PassesNegative o c.args.inst.now) c.in-Capped.is c.requires.passes
-
-pub returns-in-Capped : goal.returns-in-Capped
-returns-in-Capped c =
-    subst (λ o. IfOk c.capped_index.result (λ found. IfSome found (λ index. HaveIndex (bounded_sums (top_of o)) bounded_difference plain_word (square_side c.args.inst.now) (square_cell c.args.inst.now 0 (sum_entered o)) index c.args.phases.now))) (sym c.in-Capped.is) c.capped_index.ensures
+pub returns : goal.returns
+returns c =
+    let X = c.args.inst.now in
+    let top = top_of c.args.objective in
+    let square = square_cell X 0 (sum_entered c.args.objective) in
+    let totals = c.take_all.new.totals in
+    let few : totals.sum ≤ top = omega (arith, c.sum-sum.ensures, c.is_within.ensures c.if-not-is_within.false) in
+    subst (λ (index : ℕ). HaveIndex (bounded_sums top) bounded_difference plain_word (square_side X) square index c.args.phases.now) (sym c.sum-sum.ensures)
+    (index_within top (square_side X) square c.args.phases.now totals
+    c.lesser_tops_law.ensures.admitted c.lesser_tops_law.ensures.index
+    (c.in_ok-take_all.ensures.taken c.if-not-branch.false)
+    (c.fits_table.ensures.admitted c.if-not-fits_table.false)
+    (c.fits_table.ensures.index c.if-not-fits_table.false) few)

@@ -1,4 +1,4 @@
-use Rattle.asg_table_phases.proofs.Common.{◌^◌, IfSome, Option, sym, ◌∙◌, subst, arith, admitted_values, square_side, bounded_sums, bounded_difference, narrow_top, sum_entered, AreTotals, Totals, square_cell, AreSized}
+use Rattle.asg_table_phases.proofs.Common.{IfSome, Option, sym, ◌∙◌, subst, arith, admitted_values, square_side, bounded_sums, bounded_difference, narrow_top, sum_entered, AreTotals, Totals, square_cell, AreSized}
 use Rattle.asg_table_phases.proofs.ProvedChoices.{few_phases, proves_choice}
 use Rattle.asg_table_phases.proofs.phase_proofs.proves.Goals as goal
 
@@ -6,9 +6,10 @@ pub returns-clause-proved : goal.returns-clause-proved
 returns-clause-proved c = λ yes.
     let phases = c.args.phases.now in
     let are = subst (λ (found : Option Totals). IfSome found (AreTotals phases)) c.in-Some.is c.in_ok-totals.ensures.totals in
-    proves_choice c.args.objective c.requires.objective c.args.inst.now c.args.choice.now phases
-    (c.fits_table.ensures.admitted c.if-not-fits_table.false (2 ^ 120) phases (omega arith) are)
-    (c.fits_table.ensures.index c.if-not-fits_table.false (2 ^ 120) phases (omega arith) are ∙ sym c.sum.ensures ∙ c.adds_up_to.ensures yes)
+    proves_choice c.lesser_tops_law.ensures.folds c.args.objective c.requires.objective c.args.inst.now c.args.choice.now phases c.sum.result
+    (λ top above. c.fits_table.ensures.admitted c.if-not-fits_table.false top phases above are)
+    (λ top above. c.fits_table.ensures.index c.if-not-fits_table.false top phases above are ∙ sym c.sum.ensures)
+    (c.adds_up_to.ensures.few yes) (c.adds_up_to.ensures.sum yes)
 
 pub returns-clause-few : goal.returns-clause-few
 returns-clause-few c = λ _.

@@ -1,5 +1,5 @@
 -- What is written for a script, line by line.
-use Rattle.asg_answers.proofs.Common.{◌≡◌, ℕ, ◌+◌, ◌<◌, ◌≤◌, Bool, true, false, List, [], ◌∷◌, ◌++◌, length, get_or, take, drop, Some, None, Option, sym, refl, ap, ◌∙◌, subst, inl, inr, append_assoc, append-nil, arith, take-append-drop, take_all, take_more, AreSure, ClaimsBy, GoesOnTo, IsEditDocument, IsFollowed, IsTold, KeepsStanding, Stands, TellsEdits, TellsScript, IsWritten, HaltsIn, WritesAll, WritesFront, WritesLine, WriteFault, NoMemory, AreBriefLines, IsBriefLine, text_of, Claim, Best, Nothing, Ranked, Document, EditorOf, Edits, GoesTo, Puts-append, PutsPrefix-append, Rose, Puts, PutsPrefix, edited, Problem, Objective, Word, PhaseOf, Below, Levels, Phases, Windows, after_line, solved_instances}
+use Rattle.asg_answers.proofs.Common.{◌≡◌, ℕ, ◌+◌, ◌<◌, ◌≤◌, Bool, true, false, List, [], ◌∷◌, ◌++◌, length, get_or, take, drop, Some, None, Option, sym, refl, ap, ◌∙◌, subst, append_assoc, append-nil, arith, take-append-drop, take_all, take_more, AreSure, ClaimsBy, GoesOnTo, IsEditDocument, IsFollowed, IsTold, KeepsStanding, Stands, TellsEdits, TellsScript, IsWritten, HaltsIn, WritesAll, WritesFront, WritesLine, WriteFault, NoMemory, AreBriefLines, IsBriefLine, text_of, Claim, Best, Nothing, Ranked, Document, EditorOf, Edits, GoesTo, Puts-append, PutsPrefix-append, Puts, PutsPrefix, edited, Problem, Objective, Word, PhaseOf, Below, Levels, Phases, Windows, after_line, solved_instances}
 use Rattle.asg_model.specs.declared.edits.Edit.{Edit}
 use Rattle.asg_proof.specs.KeptWords.{AddsFew, GoesOnFrom, IsRaisedFor, KeepsOn, KeepsPhases, Standing}
 use Rattle.asg_text.specs.declared.script_lines.Line.{Line}
@@ -208,8 +208,3 @@ WritesFront-halted brief objective X lines place d old before now after WriteFau
       subst (λ ls. TellsScript brief objective X ls (so_far.text ++ text)) firsts all,
       PutsPrefix-append so_far.puts puts,
     )
-
--- a count of faults that rose in a line rose over all lines
-pub Rose-over : (before now after : ℕ) → before ≤ now → Rose now after → Rose before after
-Rose-over before now after kept (inl more) = inl (omega (arith, kept, more))
-Rose-over before now after kept (inr top) = inr top

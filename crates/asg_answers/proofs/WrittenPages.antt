@@ -1,11 +1,8 @@
 -- Bytes that were written over a blank page, which was then emptied.
-use Rattle.asg_answers.proofs.Common.{◌≡◌, ℕ, ◌<◌, ◌≤◌, true, false, List, [], ◌++◌, Option, sym, ap, ◌∙◌, subst, inl, inr, arith, both_ways, cases_Bool, Puts-append, PutsPrefix-append, Rose, Puts, PutsPrefix}
+use Rattle.asg_answers.proofs.Common.{◌≡◌, ℕ, true, false, List, ◌++◌, Option, sym, ap, ◌∙◌, subst, inl, inr, both_ways, cases_Bool, Puts-append, PutsPrefix-append, Rose, Puts, PutsPrefix}
 use Rattle.asg_page.specs.Flow.{Wrote, Emptied}
 use Rattle.asg_page.specs.PageState.{PageState, blank}
-
-Rose-later : (first before last : ℕ) → first ≤ before → Rose before last → Rose first last
-Rose-later first before last below (inl rose) = inl (omega arith)
-Rose-later first before last below (inr top) = inr top
+use Rattle.asg_page.specs.laws.Flows.{Rose-later}
 
 module _ {S : Type 0} {written : S → Option (List ℕ)} {faults : S → ℕ} {before between after : S} {old middle new : PageState} {bytes : List ℕ} (start : old ≡ blank) (wrote : Wrote written faults before between old middle bytes) (emptied : Emptied written faults between after middle new) where
   whole : old.broken ≡ false

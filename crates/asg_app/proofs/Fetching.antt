@@ -2,10 +2,7 @@
 use Rattle.asg_app.proofs.Common.{◌≡◌, ℕ, zero, suc, ◌+◌, ◌<◌, ◌≤◌, ◌≢◌, ◌⊎◌, List, [], ◌∷◌, ◌++◌, length, get_or, take, replicate, IfSome, IfErr, slice_get, Some, None, Err, Option, Result, sym, refl, ap, ◌∙◌, subst, inl, inr, append_assoc, append-nil, arith, take_all, All-cons, All-nil, none-some, slice_get-get_or, slice_get_past, AreGiven, AsksOf, Fails, Gives, StopsAt, Rose, asked_after, FetchFault, longest_file, AreShort, MayHoldAll, content_at}
 use Rattle.std.proofs.Math.ListN.{length-replicate}
 use Rattle.asg_io.specs.declared.shelf.FetchFault.TheVariants.{Failed, TooLong, NoMemory}
-
--- a count that rose in a part of a run rose over the run
-rose_later : (first before last : ℕ) → first ≤ before → Rose before last → Rose first last
-rose_later first before last start rose = grind arith
+use Rattle.asg_page.specs.laws.Flows.{Rose-later}
 
 -- one more name is taken
 taken : (names : List (List ℕ)) (count : ℕ) (name : List ℕ) → slice_get names count ≡ Some name → take (count + 1) names ≡ take count names ++ name ∷ []
@@ -115,7 +112,7 @@ module _ {F : Type 0} (told : F → List ℕ → Option (List ℕ)) (asked : F �
   -- where the fetch failed, a fault was counted
   pub stopped_rose : (names : List (List ℕ)) (before after : F) → StopsAt told asked faults names Failed before after → Rose (faults before) (faults after)
   stopped_rose names before after stop =
-      rose_later (faults before) (faults stop.last) (faults after) (given_faults (take stop.count names) stop.contents before stop.last stop.given) (stop.fails.failed refl)
+      Rose-later (faults before) (faults stop.last) (faults after) (given_faults (take stop.count names) stop.contents before stop.last stop.given) (stop.fails.failed refl)
 
 -- a fault leaves the names asked, whatever was to be given
 pub asked_same : (T U : Type 0) (names : List (List ℕ)) (name : List ℕ) (fault : FetchFault) → asked_after {T = T} names name (Err fault) ≡ asked_after {T = U} names name (Err fault)

@@ -1,5 +1,5 @@
 -- An instance has one brief line.
-use Rattle.asg_brief.proofs.Common.{◌≡◌, ℕ, ◌+◌, ◌<◌, List, [], ◌∷◌, ◌++◌, length, get_or, take, ℤ, FitsSigned, Option, sym, ap, ◌∙◌, inl, inr, arith, fits_signed_from_abs, flat_map_more, signed_decimal, take_more, IsBestValue, AreBriefLines, HasFittingCosts, IsBriefLine, IsRankedLine, best_text, ranked_text, AreRankedEnds, spaced_costs, Problem, choice_value, Objective, Lex, One, Two, Many, answer_at, last_answer}
+use Rattle.asg_brief.proofs.Common.{◌≡◌, ℕ, ◌+◌, List, [], ◌∷◌, ◌++◌, length, get_or, ℤ, FitsSigned, Option, sym, ap, ◌∙◌, inl, inr, arith, fits_signed_from_abs, IsBestValue, AreBriefLines, HasFittingCosts, IsBriefLine, IsRankedLine, best_text, ranked_text, AreRankedEnds, Problem, choice_value, Objective, Lex, One, Two, Many, answer_at, last_answer}
 use Rattle.std.specs.Int.{w64}
 use Rattle.asg_model.specs.declared.objectives.Value.{Value}
 use Rattle.asg_model.specs.Counts.{placed}
@@ -57,9 +57,3 @@ fitting_costs Lex (Many costs) within = λ k d low. fits_part (get_or costs k d)
     fits_part : (x : ℤ) → IsPartInRange x → FitsSigned w64 x
     fits_part x small = fits_signed_from_abs w64 x (omega (arith, small))
 fitting_costs _ (Many costs) within = absurd within
-
--- one more cost
-pub costs_more : (costs : List ℤ) (i : ℕ) (cost : ℤ) → i < length costs
-    → spaced_costs (take i costs) ++ 32 ∷ signed_decimal (get_or costs i cost) ≡ spaced_costs (take (i + 1) costs)
-costs_more costs i cost within =
-    flat_map_more (λ one. 32 ∷ signed_decimal one) [] (take i costs) (get_or costs i cost) ∙ ap spaced_costs (sym (take_more costs i cost within))

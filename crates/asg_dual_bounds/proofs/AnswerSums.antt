@@ -1,41 +1,22 @@
 -- Of two answers the better one has the lesser sum.
-use Rattle.asg_dual_bounds.proofs.Common.{◌≡◌, ℕ, zero, suc, ◌+◌, ◌^◌, ◌<◌, ◌≤◌, true, false, ◌↔◌, List, map, length, pos, IfSome, slice_get, Some, None, All, sum_by, Option, option_to_list, filter_map, option_and_then, unwrap_or, sym, refl, ap, ◌∙◌, arith, All-weaker, ints, length-map, length-map-range_with_len, nat_tests, option_map_or, range_with_len, sum-map, sum_by-append, sum_by-le, choice_of, chosen_number, sum_at, IsAnswer, IsInstance, live_at, Problem, sum_below, Objective, Sum, SumMax, Cost, sum_below-same, cost_reach, sum_entered, is_narrow_objective, costs_may_enter, IsBetterChoice}
+use Rattle.asg_dual_bounds.proofs.Common.{◌≡◌, ℕ, zero, suc, ◌+◌, ◌^◌, ◌<◌, ◌≤◌, true, ◌↔◌, List, map, length, pos, IfSome, slice_get, Some, None, All, sum_by, Option, option_to_list, filter_map, option_and_then, unwrap_or, sym, refl, ap, ◌∙◌, arith, All-weaker, ints, length-map, length-map-range_with_len, nat_tests, option_map_or, range_with_len, sum-map, sum_by-append, sum_by-le, choice_of, chosen_number, sum_at, IsAnswer, IsInstance, live_at, Problem, sum_below, Objective, Sum, SumMax, Cost, sum_below-same, cost_reach, sum_entered, is_narrow_objective, costs_may_enter, IsBetterChoice}
 use Rattle.asg_model.specs.Limits.{most_rows}
-use Rattle.asg_model.specs.Refused.{is_refused, PassesNegative}
 use Rattle.asg_model.specs.Values.{chosen_cost, costs_of}
 use Rattle.asg_model.specs.laws.Listing.{all_there, filter_map-range_more, All-filter_map}
-use Rattle.asg_order.specs.Bridge.{KeepsOrder, costs_fold}
+use Rattle.asg_order.specs.Bridge.{costs_fold}
 use Rattle.asg_order.specs.Entering.{MayEnter}
 use Rattle.asg_order.specs.Monoid.{IsLess}
 use Rattle.asg_monoids.specs.BoundedSums.{bounded_sums}
 use Rattle.asg_monoids.specs.laws.SumFolds.{bounded_fold}
-use Rattle.asg_monoids.specs.laws.SumOrders.{sums_keep_order}
 use Rattle.asg_dual_bounds.proofs.Answers.{answer_cost}
 use Rattle.asg_dual_bounds.proofs.PlainChoices.{chooses-from_columns}
+use Rattle.asg_narrow_kinds.specs.laws.NarrowObjectives.{PassesNegative-narrow}
+use Rattle.asg_narrow_kinds.specs.laws.NarrowOrders.{wide_order}
 
 abbrev top : ℕ
 top = 2 ^ 120
 
 -- ---- the objectives
-
-keeps_order : (objective : Objective) → is_narrow_objective objective ≡ true → KeepsOrder (bounded_sums top) (sum_entered objective) objective cost_reach
-keeps_order Sum is = sums_keep_order Sum refl
-keeps_order SumMax is = sums_keep_order SumMax refl
-keeps_order _ is = absurd (cc)
-
--- neither objective refuses a cost
-passes : (objective : Objective) (X : Problem) → is_narrow_objective objective ≡ true → PassesNegative objective X
-passes Sum X is r c = each (live_at X r c)
-  where
-    each : (o : Option Cost) → IfSome o (λ cost. is_refused Sum cost ≡ false)
-    each None = tt
-    each (Some cost) = refl
-passes SumMax X is r c = each (live_at X r c)
-  where
-    each : (o : Option Cost) → IfSome o (λ cost. is_refused SumMax cost ≡ false)
-    each None = tt
-    each (Some cost) = refl
-passes _ X is r c = absurd (cc)
 
 number-le : (objective : Objective) (cost : Cost) → is_narrow_objective objective ≡ true → MayEnter objective cost_reach cost → sum_entered objective cost ≤ 2000000000
 number-le Sum cost is may = let a = may.within.a_within in omega (arith, ints, a)
@@ -119,7 +100,7 @@ module _ (objective : Objective) (X : Problem) (is_sum : is_narrow_objective obj
       where
         live : (r : ℕ) (o : Option ℕ) → IfSome (option_and_then (live_at X r) o) (MayEnter objective cost_reach)
         live r None = tt
-        live r (Some c) = costs_may_enter objective cost_reach X (omega arith) instance (passes objective X is_sum) r c
+        live r (Some c) = costs_may_enter objective cost_reach X (omega arith) instance (PassesNegative-narrow objective X is_sum) r c
 
         chosen : (r : ℕ) (o : Option (Option ℕ)) → IfSome (option_and_then (λ chosen. option_and_then (live_at X r) chosen) o) (MayEnter objective cost_reach)
         chosen r None = tt
@@ -142,6 +123,6 @@ module _ (objective : Objective) (X : Problem) (is_sum : is_narrow_objective obj
 
   pub better_is : (f g : List ℕ) → IsAnswer objective X f → IsAnswer objective X g → IsBetterChoice objective X (choice_of f) (choice_of g) ↔ (sum_at objective X f < sum_at objective X g)
   better_is f g is_f is_g =
-      let keeps = keeps_order objective is_sum (costs_of X (choice_of f)) (costs_of X (choice_of g)) (costs_are f is_f ∙ sym (costs_are g is_g)) (few_costs f is_f) (may_enter f is_f) (may_enter g is_g) in
+      let keeps = wide_order objective is_sum (costs_of X (choice_of f)) (costs_of X (choice_of g)) (costs_are f is_f ∙ sym (costs_are g is_g)) (few_costs f is_f) (may_enter f is_f) (may_enter g is_g) in
       let less = less_is (costs_fold (bounded_sums top) enter (costs_of X (choice_of f))) (costs_fold (bounded_sums top) enter (costs_of X (choice_of g))) (sum_at objective X f) (sum_at objective X g) (product_is f is_f) (product_is g is_g) in
       (λ b. less.0 (keeps.0 b), λ l. keeps.1 (less.1 l))

@@ -1,8 +1,8 @@
 pub mod Common
 mod PlaceSums
 mod Answers
-mod Splits
-mod DualBounds
+pub mod Splits
+pub mod DualBounds
 mod PlainChoices
 mod AnswerSums
 mod AnswerRankings

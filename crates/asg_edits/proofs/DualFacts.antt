@@ -1,19 +1,15 @@
 -- What a session of sums by dual variables does, as an editor sees it.
-use Rattle.asg_edits.proofs.Common.{◌≡◌, true, [], ◌++◌, IsTrue, refl, ap, ◌∙◌, arith, EditorOf, Edits, GoesTo, SettlesTo, seen_by_duals, edited, Problem, Edit, Objective, Sum, SumMax, is_sum_objective, top_of, KeepsFact, KeepsPhases}
+use Rattle.asg_edits.proofs.Common.{◌≡◌, [], ◌++◌, IsTrue, refl, ap, ◌∙◌, arith, EditorOf, Edits, GoesTo, SettlesTo, seen_by_duals, edited, Problem, Edit, Objective, top_of, KeepsFact, KeepsPhases}
 use Rattle.std.proofs.lemmas.List.{append_assoc, length-append}
 use Rattle.asg_monoids.specs.NarrowObjectives.{is_narrow_objective}
 use Rattle.asg_sum_edits.specs.Sessions.{SumsOf}
 use Rattle.asg_edits.proofs.MonoidFacts.{sum_fact}
-
-narrow_is_sum : (objective : Objective) → IsTrue (is_narrow_objective objective) → is_sum_objective objective ≡ true
-narrow_is_sum Sum is = refl
-narrow_is_sum SumMax is = refl
-narrow_is_sum _ is = absurd (let no_such = is in cc)
+use Rattle.asg_narrow_kinds.specs.laws.NarrowObjectives.{is_sum-narrow}
 
 -- where there are no phases, none are kept
 keeps_none : (objective : Objective) (Y : Problem) → IsTrue (is_narrow_objective objective) → KeepsPhases objective Y [] []
 keeps_none objective Y narrow =
-    sum_fact objective (narrow_is_sum objective narrow) (top_of objective) refl (KeepsFact Y [] [])
+    sum_fact objective (is_sum-narrow objective narrow) (top_of objective) refl (KeepsFact Y [] [])
     (record {
       phases = [];
       written = refl;

@@ -1,25 +1,10 @@
 -- Lists of phases of one grade are admitted.
-use Rattle.asg_grade_lists.proofs.Common.{◌≡◌, ℕ, ◌+◌, ◌^◌, ◌<◌, ◌≤◌, List, [], ◌∷◌, map, length, drop, Some, None, All, Option, sym, refl, ap, ◌∙◌, subst, arith, All-cons, none-some, AreOfGrade, BeginWithRise, LeadTo, RowsEndWell, bounded_sums, bounded_difference, narrow_top, graded, graded_difference, graded_word, Word, Totals, AreTotals, CountAndRaise, EndAtLeast0, StayBelow, sum_of_steps, AreAmounts, HasPositiveSteps, IsRisePhase, cell_amount, graded_phase, of_grade, rise_phase, PhaseOf, AreAdmittedPhases, entered_at, index_of, phase_of, staying_at, worded, IsPhaseOver}
+use Rattle.asg_grade_lists.proofs.Common.{◌≡◌, ℕ, ◌^◌, ◌<◌, ◌≤◌, List, ◌∷◌, map, length, drop, Some, None, All, Option, sym, refl, ap, ◌∙◌, subst, arith, All-cons, none-some, AreOfGrade, BeginWithRise, LeadTo, RowsEndWell, bounded_sums, bounded_difference, narrow_top, graded_word, Word, Totals, CountAndRaise, EndAtLeast0, StayBelow, sum_of_steps, cell_amount, graded_phase, of_grade, rise_phase, PhaseOf, AreAdmittedPhases, entered_at, phase_of, staying_at, worded, IsPhaseOver}
 use Rattle.asg_grade_lists.proofs.RiseLemmas.{side_some}
+use Rattle.asg_phase_totals.proofs.TotalsLemmas.{admitted_phases, index_of_all}
+use Rattle.asg_proof.proofs.GradeAmountLemmas.{joined_admitted, joined_index}
 
--- what the one-pass law says of sums
-pub record OnePassLaw : Type 0 where
-  pub admitted : (top side : ℕ) (phases : List (PhaseOf ℕ)) (square : ℕ → ℕ → Option ℕ) → sum_of_steps phases ≤ top → StayBelow top side phases square → EndAtLeast0 side phases square → CountAndRaise side phases → AreAdmittedPhases (bounded_sums top) bounded_difference side phases square
-  pub index : (top : ℕ) (phases : List (PhaseOf ℕ)) → sum_of_steps phases ≤ top → index_of (bounded_sums top) phases ≡ sum_of_steps phases
-
--- what the grade law says of graded sums
-pub record GradeLaw : Type 0 where
-  pub joined : (top g side : ℕ) (enters leaves : List ℕ) (square : ℕ → ℕ → Option (ℕ × ℕ)) (plain : ℕ → ℕ → Option ℕ) (phases : List (PhaseOf ℕ))
-      → AreAmounts g square plain
-      → ((r k y : ℕ) → plain r k ≡ Some y → y ≤ top)
-      → g < 2 ^ 64
-      → IsRisePhase g side enters leaves square
-      → All HasPositiveSteps phases
-      → AreAdmittedPhases (bounded_sums top) bounded_difference side phases plain
-      → AreAdmittedPhases (graded (bounded_sums top)) (graded_difference (bounded_sums top) bounded_difference) side (rise_phase g enters leaves ∷ map (graded_phase g) phases) square
-  pub index : (top g : ℕ) (enters leaves : List ℕ) (phases : List (PhaseOf ℕ)) → index_of (graded (bounded_sums top)) (rise_phase g enters leaves ∷ map (graded_phase g) phases) ≡ of_grade g (index_of (bounded_sums top) phases)
-
-module _ (one_pass : OnePassLaw) (grades : GradeLaw) (top g side : ℕ) (square : ℕ → ℕ → Option (ℕ × ℕ)) (words : List (PhaseOf Word)) (totals : Totals)
+module _ (top g side : ℕ) (square : ℕ → ℕ → Option (ℕ × ℕ)) (words : List (PhaseOf Word)) (totals : Totals)
     (within : (r k : ℕ) (x : ℕ × ℕ) → square r k ≡ Some x → (r < side) × (k < side)) (count : length totals.rows ≡ side) (few : totals.sum ≤ narrow_top) (high : 2 ^ 63 ≤ top)
     (all : AreOfGrade g side (drop 1 words) totals) (ends : RowsEndWell g side side totals.rows totals.columns square)
   where
@@ -41,7 +26,7 @@ module _ (one_pass : OnePassLaw) (grades : GradeLaw) (top g side : ℕ) (square 
 
     amounts_admitted : AreAdmittedPhases (bounded_sums top) bounded_difference side all.amounts plain
     amounts_admitted =
-        one_pass.admitted top side all.amounts plain (omega (arith, few_steps, high)) stay_below end_at_least_0
+        admitted_phases top side all.amounts plain (omega (arith, few_steps, high)) stay_below end_at_least_0
         (subst (λ n. CountAndRaise n all.amounts) count all.come.right)
 
     amounts_few : (r k y : ℕ) → plain r k ≡ Some y → y ≤ top
@@ -83,10 +68,10 @@ module _ (one_pass : OnePassLaw) (grades : GradeLaw) (top g side : ℕ) (square 
           admitted = record {
             phases = list;
             written = written;
-            admitted = grades.joined top g side enters leaves square plain all.amounts (λ r k. refl) amounts_few small risen.rises.rises all.positive amounts_admitted;
+            admitted = joined_admitted top g side enters leaves square plain (λ r k. refl) all.amounts amounts_few small risen.rises.rises all.positive amounts_admitted;
           };
-          same = grades.index top g enters leaves all.amounts
-              ∙ ap (of_grade g) (one_pass.index top all.amounts (omega (arith, few_steps, high)) ∙ sym all.come.sum);
+          same = joined_index top g enters leaves all.amounts
+              ∙ ap (of_grade g) (index_of_all top all.amounts (omega (arith, few_steps, high)) ∙ sym all.come.sum);
         };
         sizes = subst (All (IsPhaseOver side)) (sym risen.split) (All-cons (IsPhaseOver side) risen.first (drop 1 words) first_over all.sizes);
       }

@@ -10,10 +10,8 @@ use crate::NoMemory;
 use crate::amounts::put_others;
 use crate::end_cells::rows_end_well;
 use crate::rises::first_grade;
-use asg_phase_totals::laws::one_pass_law;
 use asg_phase_totals::{NARROW_TOP, PhaseTotals};
 use asg_proof::WrittenPhase;
-use asg_proof::laws::grade_law;
 use asg_square::Square;
 use std::alloc::Global;
 
@@ -38,8 +36,6 @@ fn index_in_room(
     ensures { IfOk result (λ found. IfSome found (λ index. (top : ℕ) → 2 ^ 63 ≤ top
         → LeadTo top square.now.side (cell_at square.now) phases.now index)) }
 {
-    grade_law();
-    one_pass_law();
     let _side = square.side();
     let first = first_grade(alloc, square, phases, room)?;
     let Some(grade) = first else {

@@ -2,5 +2,4 @@ pub mod Common
 pub mod MarkLemmas
 pub mod StretchLemmas
 pub mod CellLemmas
-pub mod RowLemmas
 pub mod SpreadLemmas

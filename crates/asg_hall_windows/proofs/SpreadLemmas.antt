@@ -1,31 +1,13 @@
 -- Windows that prove a spread, from what one pass over the cells shows.
-use Rattle.asg_hall_windows.proofs.Common.{list_any, ◌≡◌, ℕ, ◌+◌, ◌-◌, ◌<◌, ◌≤◌, Bool, true, false, false≢true, List, [], ◌∷◌, length, get_or, ℤ, pos, ◌≤ℤ◌, ◌<ℤ◌, ◌+ℤ◌, ◌-ℤ◌, int_le, IsTrue, All, Option, Some, None, refl, subst, arith, ints, list_any_at, option_map_or, AreAllNamed, FitsIn, IsHeldBy, IsMarked, IsPassed, IsRowPassed, IsStretch, LiesInStretch, LiesInWindow, Marks, ReachesMarked, Stretch, is_reached, reached_capacity, reaches, row_place_of, slack, live_at, Problem, Band, Cost, IsHallWindow, ProvesSpread, holds_from, is_held, Window, word_count}
-use Rattle.asg_model.proofs.Kit.{◌&&◌, ◌||◌, and_from, and_parts, suc}
+use Rattle.asg_hall_windows.proofs.Common.{◌≡◌, ℕ, ◌+◌, ◌-◌, ◌<◌, ◌≤◌, true, List, [], length, get_or, ℤ, pos, ◌≤ℤ◌, ◌+ℤ◌, ◌-ℤ◌, int_le, IsTrue, All, Some, arith, ints, list_any_at, AreAllNamed, FitsIn, IsHeldBy, IsPassed, IsRowPassed, IsStretch, LiesInStretch, Marks, ReachesMarked, Stretch, reached_capacity, reaches, row_place_of, slack, live_at, Problem, Band, Cost, ProvesSpread, holds_from, is_held, Window, word_count}
+use Rattle.asg_model.proofs.Kit.{and_from, and_parts}
 use Rattle.asg_model.specs.Bands.{in_band}
 use Rattle.asg_model.specs.HallSet.{is_live_within}
 use Rattle.asg_model.specs.declared.bands.Band.TheVariants.{Between}
 use Rattle.asg_model.specs.laws.Rows.{row-from_active}
-use Rattle.asg_hall_windows.proofs.CellLemmas.{live_cell}
-
--- ---- options and lists that pass a test
-
-passes : {A : Type 0} (p : A → Bool) (o : Option A) → option_map_or p o false ≡ true → (x : A) × (o ≡ Some x) × (p x ≡ true)
-passes p None e = absurd (false≢true e)
-passes p (Some x) e = (x, refl, e)
-
--- some element of the list passes
-abbrev Found : (ℕ → Bool) → List ℕ → Type 0
-Found p xs = (k : ℕ) × (k < length xs) × ((d : ℕ) → p (get_or xs k d) ≡ true)
-
-found_more : (p : ℕ → Bool) (x : ℕ) (xs : List ℕ) (b : Bool) → p x ≡ b → (b || list_any p xs) ≡ true → (list_any p xs ≡ true → Found p xs) → Found p (x ∷ xs)
-found_more p x xs true here e later = (0, omega arith, λ d. here)
-found_more p x xs false here e later =
-    let found = later e in
-    (suc found.0, omega (arith, found.1), λ d. found.2 d)
-
-list_any-found : (p : ℕ → Bool) (xs : List ℕ) → list_any p xs ≡ true → Found p xs
-list_any-found p [] e = absurd (false≢true e)
-list_any-found p (x ∷ xs) e = found_more p x xs (p x) refl e (list_any-found p xs)
+use Rattle.asg_values.specs.laws.Elements.{list_any-found}
+use Rattle.asg_values.specs.laws.LiveCells.{live_cell}
+use Rattle.asg_values.specs.laws.Options.{option_passes}
 
 -- ---- tests of costs
 
@@ -78,9 +60,9 @@ module _ (X : Problem) (spread : ℤ) (windows : List Window) (stretches : List 
       let window = get_or windows w d in
       let band = Between window.lo window.hi in
       let found = list_any-found (reaches X band c) window.rows reach in
-      let row = passes (λ r. is_live_within X band r c) (row_place_of X (get_or window.rows found.0 0)) (found.2 0) in
+      let row = option_passes (λ r. is_live_within X band r c) (row_place_of X (get_or window.rows found.0 0)) (found.2 0) in
       let r = row.0 in
-      let cell = passes (λ (cost : Cost). in_band band cost.a) (live_at X r c) row.2 in
+      let cell = option_passes (λ (cost : Cost). in_band band cost.a) (live_at X r c) row.2 in
       let cost = cell.0 in
       let lies = and_parts (int_le window.lo cost.a) (int_le cost.a window.hi) cell.2 in
       let marks = cell_passed r c cost cell.1 in

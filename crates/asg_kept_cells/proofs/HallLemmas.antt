@@ -1,15 +1,7 @@
 -- Rows by id as places, one after another, and the columns in which they have cells.
-use Rattle.asg_kept_cells.proofs.Common.{◌≡◌, ℕ, ◌+◌, ◌<◌, Bool, true, false, cond, ◌||◌, ◌≢◌, List, [], ◌∷◌, ◌++◌, map, length, get_or, take, IsTrue, Some, None, All, Option, AllPairs, option_and_then, sym, refl, ap, ◌∙◌, subst, arith, length-take-le, get_or-take, All-nil, All-push, all_pairs_push, fun_ext, get_or_default, length-map, list_any, map-append, option_map_or, same_Some, take_more, AreRowsOf, counted_place, is_counted, is_counted_id, row_place_of, Problem, square_side, count_below}
+use Rattle.asg_kept_cells.proofs.Common.{◌≡◌, ℕ, ◌+◌, ◌<◌, Bool, true, false, cond, ◌||◌, ◌≢◌, List, [], ◌∷◌, ◌++◌, map, length, get_or, take, IsTrue, Some, None, All, Option, AllPairs, option_and_then, sym, refl, ap, ◌∙◌, subst, arith, length-take-le, get_or-take, All-nil, All-push, all_pairs_push, fun_ext, get_or_default, length-map, list_any, map-append, option_map_or, take_more, AreRowsOf, counted_place, is_counted, is_counted_id, row_place_of, Problem, square_side, count_below}
 use Rattle.asg_square.specs.HallColumns.{OutnumberColumns, is_met, met_count}
-
--- the place of a counted row is that of its id
-pub counted_row : (X : Problem) (o : Option ℕ) (row : ℕ) → option_and_then (λ r. cond (is_counted X r) (Some r) None) o ≡ Some row → (o ≡ Some row) × (is_counted X row ≡ true)
-counted_row X None row e = absurd (cc e)
-counted_row X (Some r) row e = by_count (is_counted X r) refl e
-  where
-    by_count : (b : Bool) → is_counted X r ≡ b → cond b (Some r) None ≡ Some row → (Some r ≡ Some row) × (is_counted X row ≡ true)
-    by_count true is e = (e, ap (is_counted X) (sym (same_Some r row e)) ∙ is)
-    by_count false is e = absurd (cc e)
+use Rattle.asg_values.specs.laws.RowIds.{counted_row}
 
 -- where no counted row has the id, it isn't that of one
 pub uncounted_id : (X : Problem) (o : Option ℕ) → option_and_then (λ r. cond (is_counted X r) (Some r) None) o ≡ None → option_map_or (is_counted X) o false ≡ false

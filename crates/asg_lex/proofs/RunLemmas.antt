@@ -3,12 +3,7 @@ use Rattle.asg_lex.proofs.Common.{◌≡◌, ℕ, zero, suc, ◌+◌, ◌<◌, �
 use Rattle.asg_lex.proofs.LevelLinks.{proved_level, marked_is}
 use Rattle.asg_lex.proofs.RunSteps.{passes_at, passes_some, has_cost_by, below_bound, grade_some, cell_from, named_from, left_is, stays_is}
 use Rattle.asg_lex.proofs.WorkSteps.{ArePhasesSoFar}
-
-same_bool : (a b : Bool) → (a ≡ true → b ≡ true) → (b ≡ true → a ≡ true) → a ≡ b
-same_bool true true f g = refl
-same_bool true false f g = sym (f refl)
-same_bool false true f g = g refl
-same_bool false false f g = refl
+use Rattle.asg_bit_rows.specs.laws.Words.{same_bool}
 
 upto_cost : (m n : ℕ) (v : ℤ) → m < n → cost_of n ≤ℤ v → cost_of m ≤ℤ v
 upto_cost m n v h k = omega (arith, ints, h, k)

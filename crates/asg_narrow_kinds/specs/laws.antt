@@ -1,2 +1,3 @@
 -- What follows from the definitions, for the ghost members of the kind.
 pub mod NarrowOrders
+pub mod NarrowObjectives

@@ -1,35 +1,9 @@
 -- The square of the part of a node below the root, from that of the part of the node above it.
-use Rattle.asg_nodes.proofs.Common.{◌≡◌, ℕ, ◌+◌, ◌*◌, ◌<◌, ◌≤◌, Bool, List, [], ◌∷◌, length, slice_index_or, Some, Option, sym, ap, ◌∙◌, subst, arith, Reduced, placed, Problem, square_side, LosesCells, entry_at, Rules, Leads, IsReducedTo, IsOwn, SettlesOwn, given_at, IsChildOf, IsWinner, IsTree, Entry, Tree, Monoid, IsOrderedMonoid, Forest, phases_of, phases_to, last_phase, IsForest, PhaseOf, entered_at, staying_at, square_after, after_phase, IsAdmittedPhase, AreAdmittedPhases, child, masked, keeps_cell, square_after-masked, square_cell-child, square_cell, HasLabelsOf, cell_at}
-use Rattle.asg_proof.specs.Steps.{IsAdmittedStep}
+use Rattle.asg_nodes.proofs.Common.{◌≡◌, ℕ, ◌+◌, ◌*◌, ◌<◌, ◌≤◌, List, length, Some, Option, sym, ap, ◌∙◌, subst, arith, Reduced, placed, Problem, square_side, LosesCells, entry_at, Rules, Leads, IsReducedTo, IsOwn, SettlesOwn, given_at, IsChildOf, IsWinner, IsTree, Entry, Tree, IsOrderedMonoid, Forest, phases_of, phases_to, last_phase, IsForest, IsAdmittedPhase, AreAdmittedPhases, child, masked, keeps_cell, square_cell-child, square_cell, HasLabelsOf, cell_at}
 use Rattle.asg_nodes.specs.laws.Parts.{IsPlaced, placed_at, AreBefore, part_rows, part_columns, part_place}
-use Rattle.asg_nodes.proofs.RebuildSteps.{kept_value, cut_child, own_admitted, settled_own}
+use Rattle.asg_nodes.proofs.RebuildSteps.{cut_child, own_admitted, settled_own}
 use Rattle.asg_nodes.specs.laws.Shapes.{same_keeps, labels_from_part}
-
--- phases that are admitted from a square are admitted from it without some cells
-module _ {V : Type 0} (M : Monoid V) (difference : V → V → V) (side : ℕ) (keep : ℕ → ℕ → Bool) where
-  step_masked : (entered staying : ℕ → Bool) (c : V) (square : ℕ → ℕ → Option V) → IsAdmittedStep M side entered staying c square → IsAdmittedStep M side entered staying c (masked keep square)
-  step_masked entered staying c square step = record {
-    value = step.value;
-    count = step.count;
-    least = λ r k x hr hk er sk e. step.least r k x hr hk er sk (kept_value (keep r k) (square r k) x e);
-  }
-
-  phase_masked : (phase : PhaseOf V) (square : ℕ → ℕ → Option V) → IsAdmittedPhase M difference side phase square → IsAdmittedPhase M difference side phase (masked keep square)
-  phase_masked phase square is = record {
-    rows = is.rows;
-    columns = is.columns;
-    admitted = λ t below.
-        subst (IsAdmittedStep M side (entered_at phase.enters t) (staying_at phase.leaves t) (slice_index_or phase.steps t M.unit)) (sym (square_after-masked M difference keep phase square t))
-        (step_masked (entered_at phase.enters t) (staying_at phase.leaves t) (slice_index_or phase.steps t M.unit) (square_after M difference phase square t) (is.admitted t below));
-  }
-
-  phases_masked : (phases : List (PhaseOf V)) (square : ℕ → ℕ → Option V) → AreAdmittedPhases M difference side phases square → AreAdmittedPhases M difference side phases (masked keep square)
-  phases_masked [] square all = tt
-  phases_masked (phase ∷ rest) square all = (
-    phase_masked phase square all.0,
-    subst (AreAdmittedPhases M difference side rest) (sym (square_after-masked M difference keep phase square (length phase.steps)))
-        (phases_masked rest (after_phase M difference phase square) all.1),
-  )
+use Rattle.asg_rankings.specs.laws.MaskedSquares.{AreAdmittedPhases-masked}
 
 -- what leads to a part leads to its child
 leads_cut : {V : Type 0} (R : Rules V) (F : Forest V) (Y : Problem) (f : List (Option ℕ)) (branch : ℕ) (trail : Option ℕ) (index : V) → Leads R F Y trail index → Leads R F (child Y f branch) trail index
@@ -37,7 +11,7 @@ leads_cut R F Y f branch trail index leads = record {
   live = leads.live;
   admitted =
       subst (AreAdmittedPhases R.monoid R.difference (square_side Y) (phases_to F trail)) (sym (square_cell-child Y R.monoid.unit R.enter f branch))
-      (phases_masked R.monoid R.difference (square_side Y) (keeps_cell Y f branch) (phases_to F trail) (square_cell Y R.monoid.unit R.enter) leads.admitted);
+      (AreAdmittedPhases-masked R.monoid R.difference (square_side Y) (keeps_cell Y f branch) (phases_to F trail) (square_cell Y R.monoid.unit R.enter) leads.admitted);
   index_is = leads.index_is;
 }
 

@@ -1,11 +1,12 @@
 -- There are at most as many different valid choices as ways to give each active row any column:
 -- each choice is a number with a digit for each row that chooses.
-use Rattle.asg_rank.proofs.Common.{◌≡◌, ℕ, suc, ◌+◌, ◌*◌, ◌^◌, ◌<◌, ◌≤◌, Bool, true, false, cond, ◌&&◌, ◌≢◌, List, [], ◌∷◌, map, length, get_or, is_some, IsSome, Some, None, All, Contains, count_by, Option, AllPairs, sym, refl, ap, ◌∙◌, subst, ⊎_elim, mul-le-mul_left, pow-suc, arith, cases_Bool, cases_lt, false≢true, get_or-map, length-map, length-range_with_len, option_map_or, pow-zero, range_with_len, slice_get_past, sum_by-cons, placed, Problem, one, IsValid}
-use Rattle.asg_model.specs.Live.{is_active, is_open}
+use Rattle.asg_rank.proofs.Common.{◌≡◌, ℕ, suc, ◌+◌, ◌*◌, ◌^◌, ◌<◌, ◌≤◌, true, false, ◌≢◌, List, [], ◌∷◌, map, length, get_or, is_some, Some, None, All, Contains, count_by, Option, AllPairs, sym, refl, ap, ◌∙◌, subst, ⊎_elim, mul-le-mul_left, pow-suc, arith, cases_Bool, cases_lt, false≢true, get_or-map, length-map, length-range_with_len, pow-zero, range_with_len, sum_by-cons, placed, Problem, one, IsValid}
+use Rattle.asg_model.specs.Live.{is_active}
 use Rattle.asg_model.specs.laws.Counting.{length-le_contains}
 use Rattle.asg_model.specs.laws.Listing.{Contains-range}
 use Rattle.asg_rankings.specs.laws.ChosenRows.{chosen_at, chosen-in_active, none-from_inactive, chooses-from_chosen}
 use Rattle.asg_model.specs.declared.parts.Place.TheVariants.{All as PlaceAll}
+use Rattle.asg_values.specs.laws.LiveCells.{column-from_live}
 
 -- the number of a choice of columns below m, the first row's digit last
 abbrev code : ℕ → List (Option ℕ) → ℕ
@@ -71,23 +72,10 @@ same_code m (Some c ∷ f) (Some d ∷ g) over rows below_f below_g e =
     let rest = same_code m f g (omega (arith, over)) (λ r. rows (suc r)) (λ r k h. below_f (suc r) k h) (λ r k h. below_g (suc r) k h) both.1 in
     ap (λ x. Some x ∷ f) both.0 ∙ ap (λ xs. Some d ∷ xs) rest
 
--- a column that is open is there
-column_there : (X : Problem) (c : ℕ) → is_open X c ≡ true → c < length X.columns
-column_there X c is =
-    ⊎_elim
-    (λ (there : c < length X.columns). there)
-    (λ (past : length X.columns ≤ c). absurd (false≢true (sym (ap (λ o. option_map_or (λ column. column.usable) o false) (slice_get_past X.columns c past)) ∙ is)))
-    (cases_lt c (length X.columns))
-
-live_open : (a b : Bool) {C : Type 0} (o : Option C) → IsSome (cond (a && b) o None) → b ≡ true
-live_open true true o h = refl
-live_open true false o h = absurd (false≢true h)
-live_open false b o h = absurd (false≢true h)
-
 module _ (X : Problem) (all : X.place ≡ PlaceAll) where
   below_columns : (f : List (Option ℕ)) → IsValid X f → AreBelow (length X.columns) f
   below_columns f valid r c e =
-      column_there X c (live_open (is_active X r) (is_open X c) _ (valid.alive r c (chooses-from_chosen X f valid r c e)))
+      column-from_live X r c (valid.alive r c (chooses-from_chosen X f valid r c e))
 
   rows_of : (f : List (Option ℕ)) → IsValid X f → (r : ℕ) → is_some (chosen_at f r) ≡ is_active X r
   rows_of f valid r =

@@ -1,11 +1,12 @@
 -- What a ranking in the monoid of a kind gives is what a ranking by its objective gives.
-use Rattle.asg_rank.proofs.Common.{◌≡◌, ℕ, ◌-◌, ◌^◌, ◌≤◌, true, List, [], length, IsTrue, All, Option, subst, arith, IsInstance, Problem, PassesNegative, IsValid, Objective, Sum, SumMax, SumPair, Capped, Bottleneck, BottleneckMax, TimeCost, Cost, bounded_sums, bounded_difference, narrow_top, plain_word, cost_reach, is_sum_objective, peak_entered, sum_entered, time_entered, top_of, graded, graded_difference, graded_word, maxima, maxima_difference, choice_fold, Monoid, Word, lies_within, IsOutcomeIn, IsRankOutcome, IsSearchTree, last_answer, Node}
+use Rattle.asg_rank.proofs.Common.{◌≡◌, ℕ, ◌-◌, ◌^◌, ◌≤◌, true, List, [], length, IsTrue, All, Option, subst, arith, IsInstance, Problem, PassesNegative, IsValid, Objective, Sum, SumMax, SumPair, Capped, Bottleneck, BottleneckMax, TimeCost, Cost, bounded_sums, bounded_difference, narrow_top, plain_word, cost_reach, is_sum_objective, peak_entered, sum_entered, time_entered, top_of, graded, graded_difference, graded_word, maxima, maxima_difference, Monoid, Word, lies_within, IsOutcomeIn, IsRankOutcome, IsSearchTree, last_answer, Node}
 use Rattle.asg_model.specs.Objectives.{is_bottleneck}
 use Rattle.asg_monoids.specs.NarrowObjectives.{is_narrow_objective}
 use Rattle.asg_narrow_kinds.specs.laws.NarrowOrders.{narrow_product}
 use Rattle.asg_rankings.specs.TreeProofs.{IsPeakTree, IsSumTree, ProvesRanking}
 use Rattle.asg_rank.specs.declared.rankings.RankOutcome.{RankOutcome}
 use Rattle.asg_rank.specs.declared.rankings.RankOutcome.TheVariants.{Listed, Nothing}
+use Rattle.asg_rankings.proofs.TreeTops.{IsSearchTree-by_top}
 
 -- search trees of valid answers prove rankings by the objective
 abbrev TreesProve : {V : Type 0} → Monoid V → (V → V → V) → (V → Word) → (Cost → V) → Objective → Problem → ℕ → Type 0
@@ -44,25 +45,15 @@ wide_sums_prove Sum X count answers nodes is tree = tree
 wide_sums_prove SumMax X count answers nodes is tree = tree
 wide_sums_prove _ X count answers nodes is tree = absurd (cc)
 
--- a search tree where sums stop at a top is one where they stop at a greater top, if the last
--- answer has the same product
-abbrev pub TreesByTops : Type 0
-TreesByTops =
-    (low high : ℕ) (word_of : ℕ → Word) (enter : Cost → ℕ) (X : Problem) (count : ℕ) (answers : List (List (Option ℕ))) (nodes : List Node)
-    → low ≤ high
-    → choice_fold (bounded_sums high) enter X (last_answer answers) ≡ choice_fold (bounded_sums low) enter X (last_answer answers)
-    → IsSearchTree (bounded_sums low) bounded_difference word_of enter X count answers nodes
-    → IsSearchTree (bounded_sums high) bounded_difference word_of enter X count answers nodes
-
 -- the kind of sums in 64 bits
-pub narrow_outcome : TreesByTops → (objective : Objective) → IsTrue (is_narrow_objective objective) → (X : Problem) → IsInstance X → PassesNegative objective X → (count : ℕ) (outcome : RankOutcome) → IsOutcomeIn (bounded_sums narrow_top) bounded_difference plain_word (sum_entered objective) objective X count outcome
+pub narrow_outcome : (objective : Objective) → IsTrue (is_narrow_objective objective) → (X : Problem) → IsInstance X → PassesNegative objective X → (count : ℕ) (outcome : RankOutcome) → IsOutcomeIn (bounded_sums narrow_top) bounded_difference plain_word (sum_entered objective) objective X count outcome
     → IsRankOutcome objective X count outcome
-narrow_outcome tops objective is X instance passes count =
+narrow_outcome objective is X instance passes count =
     outcome_by (bounded_sums narrow_top) bounded_difference plain_word (sum_entered objective) objective X count
     (λ answers nodes some valid tree.
     let last = valid (length answers - 1) [] (omega (arith, some)) in
     wide_sums_prove objective X count answers nodes is
-    (tops narrow_top (2 ^ 120) plain_word (sum_entered objective) X count answers nodes (omega arith)
+    (IsSearchTree-by_top narrow_top (2 ^ 120) (omega arith) plain_word (sum_entered objective) X count answers nodes
     (narrow_product objective X (last_answer answers) is instance.well_formed.few_rows (lies_within cost_reach X (omega arith) instance) passes last)
     tree))
 

@@ -1,5 +1,5 @@
 -- What the solved square of an instance shows of the root of a search.
-use Rattle.asg_rank.proofs.Common.{◌≡◌, ℕ, ◌+◌, ◌-◌, ◌*◌, ◌<◌, ◌≤◌, Bool, true, false, cond, List, is_some, IsSome, Some, None, Option, sym, refl, ap, ◌∙◌, subst, ⊎_elim, arith, cases_lt, Solved, IsRankable, HasMemory, Search, placed, IsInstance, most_cost, most_side, Problem, PassesNegative, square_side, Whole, Objective, Cost, AreBitsFor, Rules, Leads, IsSolved, IsReducedTo, reduced_cell, IsValue, IsOrderedMonoid, phases_to, AreAdmittedPhases, after_phases, index_of, IsRootOf, IsBlank, IsPlantable, root_in, IsSolvedRoot, IsInstanceRoot, enters_values, square_cell, IsPresent}
+use Rattle.asg_rank.proofs.Common.{◌≡◌, ℕ, ◌+◌, ◌-◌, ◌*◌, ◌<◌, ◌≤◌, Bool, true, false, cond, List, is_some, IsSome, None, Option, sym, refl, ap, ◌∙◌, subst, ⊎_elim, arith, cases_lt, Solved, IsRankable, HasMemory, Search, placed, IsInstance, most_cost, most_side, Problem, PassesNegative, square_side, Whole, Objective, Cost, AreBitsFor, Rules, Leads, IsSolved, IsReducedTo, reduced_cell, IsValue, IsOrderedMonoid, phases_to, AreAdmittedPhases, after_phases, index_of, IsRootOf, IsBlank, IsPlantable, root_in, IsSolvedRoot, IsInstanceRoot, enters_values, square_cell, IsPresent}
 use Rattle.asg_match.specs.Deficient.{IsDeficient}
 use Rattle.asg_match.specs.HallSets.{AllowsCells}
 use Rattle.asg_match.specs.Matching.{IsPerfect}
@@ -18,14 +18,11 @@ use Rattle.asg_roots.specs.declared.roots.Root.{Root}
 use Rattle.asg_nodes.specs.laws.BitSteps.{keeps_by}
 use Rattle.asg_admit.specs.laws.KeptLabels.{HasLabelsOf-kept}
 use Rattle.asg_model.specs.declared.parts.Place.TheVariants.{All as PlaceAll}
-
-none_outside : {V : Type 0} (o : Option V) → (IsSome o → ⊥) → None ≡ o
-none_outside None not = refl
-none_outside (Some x) not = absurd (not refl)
+use Rattle.asg_values.specs.laws.Options.{none_there}
 
 kept_outside : {V : Type 0} (b : Bool) (o : Option V) → (IsSome o → ⊥) → cond b o None ≡ o
 kept_outside true o not = refl
-kept_outside false o not = none_outside o not
+kept_outside false o not = sym (none_there o not)
 
 module _ {V : Type 0} (R : Rules V) (laws : IsOrderedMonoid R.monoid) (X : Problem) (Q : Grid V) (square : IsSquareOf X R.monoid.unit R.enter Q) (records : ℕ) (root : Root V) (is : IsSolvedRoot R.monoid R.difference Q records root)
   where

@@ -20,7 +20,6 @@ use asg_narrow_kinds::NarrowKind;
 use asg_order::Kind;
 use asg_proof::Ids;
 use asg_rankings::Nodes;
-use asg_rankings::laws::tree_tops_law;
 use asg_roots::RootGuess;
 use std::alloc::Global;
 
@@ -151,7 +150,6 @@ pub fn ranking(
     ensures within { IfOk result (λ _. ranking_work inst.now count ≤ most_work) }
     ensures refusal { IfErr result (IsRefusal inst.now count) }
 {
-    tree_tops_law();
     let _rows = inst.rows();
     match objective {
         Objective::Sum | Objective::SumMax => {

@@ -1,7 +1,7 @@
 pub mod Common
 mod ChildRows
-mod RankingLaw
+pub mod RankingLaw
 mod Rankings
 mod TreesAreRankings
 pub mod WorkedTree
-mod TreeTops
+pub mod TreeTops

@@ -1,29 +1,16 @@
 -- A search tree of listed answers proves that they are a ranking.
-use Rattle.asg_rankings.proofs.Common.{◌≡◌, ℕ, zero, suc, ◌+◌, ◌-◌, ◌<◌, ◌≤◌, Bool, true, false, cond, ◌&&◌, eqb, ◌≢◌, ◌⊎◌, List, [], ◌∷◌, map, length, get_or, IfSome, slice_get, Some, None, All, Contains, count_by, Option, filter_map, option_and_then, sym, refl, ap, ◌∙◌, subst, inl, inr, ⊎_elim, arith, eqb-true, All-cons, All-nil, and_parts, cons_option, get_or_default, get_or_from_slice_get, range_with_len, slice_get_within, sum_by-cons, IsHall, IsInstance, live_at, Problem, square_side, IsValid, Whole, Cost, choice_fold, Monoid, IsValue, IsLe, IsOrderedMonoid, Word, EntersValues, ProvesIndex, PhaseOf, index_of, child, node_at, IsNumber, answer_number, answer_at, node_answer, node_instance, child_count, IsMarked, HasAnswer, last_answer, IsSearchTree, Mark, Answered, Open, Empty, Node, node_instance-child, IsValid-from_node, choice_fold-node, IsInstance-node, live-in_node, place-of_node, placed-of_node, first_difference, covered, square_cell}
+use Rattle.asg_rankings.proofs.Common.{◌≡◌, ℕ, zero, suc, ◌+◌, ◌-◌, ◌<◌, ◌≤◌, Bool, ◌&&◌, eqb, ◌≢◌, ◌⊎◌, List, [], ◌∷◌, map, length, get_or, IfSome, slice_get, Some, None, All, Contains, count_by, Option, filter_map, option_and_then, sym, refl, ap, ◌∙◌, subst, inl, inr, ⊎_elim, arith, eqb-true, All-cons, All-nil, and_parts, cons_option, get_or_default, get_or_from_slice_get, range_with_len, slice_get_within, IsHall, IsInstance, live_at, Problem, square_side, IsValid, Whole, Cost, choice_fold, Monoid, IsValue, IsLe, IsOrderedMonoid, Word, EntersValues, ProvesIndex, PhaseOf, index_of, child, node_at, IsNumber, answer_number, answer_at, node_answer, node_instance, child_count, IsMarked, HasAnswer, last_answer, IsSearchTree, Mark, Answered, Open, Empty, Node, node_instance-child, IsValid-from_node, choice_fold-node, IsInstance-node, live-in_node, place-of_node, placed-of_node, first_difference, covered, square_cell}
 use Rattle.asg_model.specs.Values.{chosen_cost, costs_of}
 use Rattle.asg_order.specs.laws.Products.{fold_is_value}
 use Rattle.asg_proof.specs.laws.PhaseLists.{index_is_value}
 use Rattle.asg_rankings.specs.laws.ChosenRows.{chosen_at}
 use Rattle.asg_model.specs.declared.parts.Place.TheVariants.{All as PlaceAll}
+use Rattle.asg_values.specs.laws.Elements.{Passes, count_by_found}
 
 -- ---- counts
 
-abbrev Found : {A : Type 0} (p : A → Bool) (xs : List A) → Type 0
-Found {A} p xs = (k : ℕ) × (x : A) × (slice_get xs k ≡ Some x) × (p x ≡ true)
-
-found_more : {A : Type 0} (p : A → Bool) (x : A) (xs : List A) (b : Bool) → p x ≡ b → (count_by p xs ≡ 0) ⊎ Found p xs → (count_by p (x ∷ xs) ≡ 0) ⊎ Found p (x ∷ xs)
-found_more p x xs true e r = inr (0, x, refl, e)
-found_more p x xs false e (inl none) =
-    inl (let step = sum_by-cons (λ y. cond (p y) 1 0) x xs in let fails : cond {A = ℕ} (p x) 1 0 ≡ 0 = ap (λ (b : Bool). cond {A = ℕ} b 1 0) e in omega arith)
-found_more p x xs false e (inr (k, y, at, passes)) = inr (suc k, y, at, passes)
-
--- a count is 0, or some element passes
-count_by_found : {A : Type 0} (p : A → Bool) (xs : List A) → (count_by p xs ≡ 0) ⊎ Found p xs
-count_by_found p [] = inl refl
-count_by_found p (x ∷ xs) = found_more p x xs (p x) refl (count_by_found p xs)
-
-one_passes : {A : Type 0} (p : A → Bool) (xs : List A) → count_by p xs ≡ 1 → Found p xs
-one_passes p xs one = ⊎_elim (λ (none : count_by p xs ≡ 0). absurd (omega (arith, none, one))) (λ (some : Found p xs). some) (count_by_found p xs)
+one_passes : {A : Type 0} (p : A → Bool) (xs : List A) → count_by p xs ≡ 1 → Passes p xs
+one_passes p xs one = ⊎_elim (λ (none : count_by p xs ≡ 0). absurd (omega (arith, none, one))) (λ (some : Passes p xs). some) (count_by_found p xs)
 
 -- ---- products of choices are values
 

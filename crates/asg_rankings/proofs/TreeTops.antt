@@ -1,6 +1,7 @@
 -- A search tree where sums stop at a top is one where they stop at a greater top.
-use Rattle.asg_rankings.proofs.Common.{◌≡◌, ℕ, ◌≤◌, List, [], ◌∷◌, Option, arith, le-leb, leb-true, Problem, square_side, Cost, bounded_sums, bounded_difference, choice_fold, Word, PhaseOf, AreAdmittedPhases, index_of, node_at, AreAdmittedWords, IsMarked, last_answer, IsSearchTree, Mark, Answered, Open, Empty, Node, square_cell}
+use Rattle.asg_rankings.proofs.Common.{◌≡◌, ℕ, ◌≤◌, List, [], ◌∷◌, Option, arith, le-leb, leb-true, Problem, square_side, Cost, bounded_sums, bounded_difference, choice_fold, Word, PhaseOf, index_of, node_at, AreAdmittedWords, IsMarked, last_answer, IsSearchTree, Mark, Answered, Open, Empty, Node, square_cell}
 use Rattle.asg_monoids.specs.laws.SumFolds.{bounded_fold}
+use Rattle.asg_proof.proofs.Tops.{AreAdmittedPhases-by_top}
 
 -- an index by the lesser top is at most that by the greater one
 index_rises : (low high : ℕ) (phases : List (PhaseOf ℕ)) → low ≤ high → index_of (bounded_sums low) phases ≤ index_of (bounded_sums high) phases
@@ -8,16 +9,12 @@ index_rises low high [] le = omega arith
 index_rises low high (phase ∷ rest) le =
     omega (arith, le, index_rises low high rest le, bounded_fold low phase.steps, bounded_fold high phase.steps)
 
--- phases that are admitted by the lesser top are admitted by the greater one, from the same square
-abbrev StaysAdmitted : ℕ → ℕ → Type 0
-StaysAdmitted low high = (side : ℕ) (phases : List (PhaseOf ℕ)) (square : ℕ → ℕ → Option ℕ) → AreAdmittedPhases (bounded_sums low) bounded_difference side phases square → AreAdmittedPhases (bounded_sums high) bounded_difference side phases square
-
-module _ (low high : ℕ) (le : low ≤ high) (stays : StaysAdmitted low high) (word_of : ℕ → Word) (enter : Cost → ℕ) where
+module _ (low high : ℕ) (le : low ≤ high) (word_of : ℕ → Word) (enter : Cost → ℕ) where
   words_by_top : (Y : Problem) (words : List (PhaseOf Word)) → AreAdmittedWords (bounded_sums low) bounded_difference word_of enter Y words → AreAdmittedWords (bounded_sums high) bounded_difference word_of enter Y words
   words_by_top Y words trail = record {
     phases = trail.phases;
     written = trail.written;
-    admitted = stays (square_side Y) trail.phases (square_cell Y 0 enter) trail.admitted;
+    admitted = AreAdmittedPhases-by_top low high le (square_side Y) trail.phases (square_cell Y 0 enter) trail.admitted;
   }
 
   marked_by_top : (X : Problem) (answers : List (List (Option ℕ))) (nodes : List Node) (n : ℕ) (mark : Mark) → IsMarked (bounded_sums low) bounded_difference word_of enter X answers nodes n mark → IsMarked (bounded_sums high) bounded_difference word_of enter X answers nodes n mark

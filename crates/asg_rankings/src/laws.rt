@@ -27,7 +27,7 @@ ghost use Rattle.asg_rankings.specs.Nodes.{node_at, node_answer, node_instance, 
 ghost use Rattle.asg_rankings.specs.SearchTrees.{last_answer, IsBelowParent, IsSearchTree};
 
 use asg_order::{DMonoid, Kind, Written};
-use asg_proof::laws::{index_law, lower_bound_law, tops_law};
+use asg_proof::laws::{index_law, lower_bound_law};
 use asg_values::laws::infeasible_law;
 
 /// The partition law: where all rows are placed, the valid choices of an instance other than a
@@ -176,6 +176,4 @@ pub fn tree_tops_law()
         ≡ choice_fold (bounded_sums low) enter X (last_answer answers)
         → IsSearchTree (bounded_sums low) bounded_difference word_of enter X count answers nodes
         → IsSearchTree (bounded_sums high) bounded_difference word_of enter X count answers nodes }
-{
-    tops_law();
-}
+{}

@@ -9,13 +9,8 @@ use Rattle.asg_sum_edits.specs.declared.founds.Found.{Found}
 use Rattle.asg_sum_edits.proofs.LeastLaw.{least_is_best}
 use Rattle.asg_edited.specs.laws.WrittenCells.{other_cell, put_here}
 use Rattle.asg_model.specs.declared.edits.Edit.TheVariants.{Cost as SetCost}
-
-of_cond : (b : Bool) (o : Option Cost) (x : Cost) → cond b o None ≡ Some x → o ≡ Some x
-of_cond true o x e = e
-of_cond false o x e = absurd (let none = e in cc)
-
-some_is : (x y : Cost) → Some x ≡ Some y → x ≡ y
-some_is x y e = cc
+use Rattle.asg_values.specs.laws.Options.{there_where}
+use Rattle.asg_model.proofs.Kit.{same_Some}
 
 module _ (X : Problem) (row col r c : ℕ) (cost : Cost) (at_row : row_place_of X row ≡ Some r) (at_column : column_place_of X col ≡ Some c) where
   abbrev Y : Problem
@@ -37,8 +32,8 @@ module _ (X : Problem) (row col r c : ℕ) (cost : Cost) (at_row : row_place_of 
       let there = put_here (place_of X row col) cost X.cells in
       let at_s : cost_at Y.cells s (place_of X row col).1 ≡ Some cost = subst (λ k. cost_at Y.cells k (place_of X row col).1 ≡ Some cost) (row_is ∙ sym e) there in
       let at_d : cost_at Y.cells s d ≡ Some cost = subst (λ k. cost_at Y.cells s k ≡ Some cost) (column_is ∙ sym f) at_s in
-      let is : cost_at Y.cells s d ≡ Some x = of_cond (is_active X s && is_open X d) (cost_at Y.cells s d) x live in
-      some_is x cost (sym is ∙ at_d)
+      let is : cost_at Y.cells s d ≡ Some x = (there_where (is_active X s && is_open X d) (cost_at Y.cells s d) x live).1 in
+      same_Some x cost (sym is ∙ at_d)
 
   above_put : (objective : Objective) (falls after rises : List ℕ) → AreAbove objective X falls rises → ((k : ℕ) → slice_index after k ≤ slice_index falls k) → slice_index after r ≤ sum_entered objective cost + slice_index rises c → AreAbove objective Y after rises
   above_put objective falls after rises above others low s d x live =

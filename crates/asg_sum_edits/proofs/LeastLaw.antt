@@ -1,13 +1,14 @@
 -- A valid choice that comes to no more than the dual variables say is best.
-use Rattle.asg_sum_edits.proofs.Common.{◌≡◌, ℕ, zero, suc, ◌+◌, ◌<◌, ◌≤◌, min, Bool, true, false, cond, List, [], ◌∷◌, map, length, get_or, is_some, IfSome, IsSome, IsTrue, slice_get, Some, None, All, sum_by, sum, count_by, Option, option_to_list, filter_map, refl, ap, ◌∙◌, subst, ⊎_elim, arith, eq-eqb, All-head, All-tail, cases_lt, count_by-le-length, get_or_from_slice_get, nat_tests, option_map_or, range_with_len, sum-map, sum_by-append, sum_by-cons, capacity_at, IsInstance, live_at, Problem, IsValid, takes, chosen_cost, costs_of, Objective, Sum, SumMax, Column, Cost, cost_reach, is_sum_objective, sum_entered, top_of, is_narrow_objective, bounded_fold, sums_keep_order, Bridges-from_KeepsOrder, lies_within, AreAbove, IsOneToOne, IsSingle, chosen_sum, option_and_then}
+use Rattle.asg_sum_edits.proofs.Common.{◌≡◌, ℕ, zero, suc, ◌+◌, ◌<◌, ◌≤◌, min, Bool, true, false, cond, List, [], ◌∷◌, map, length, get_or, is_some, IsSome, IsTrue, slice_get, Some, None, All, sum_by, sum, count_by, Option, option_to_list, filter_map, refl, ap, ◌∙◌, subst, ⊎_elim, arith, eq-eqb, All-head, All-tail, cases_lt, count_by-le-length, get_or_from_slice_get, nat_tests, option_map_or, range_with_len, sum-map, sum_by-append, sum_by-cons, capacity_at, IsInstance, live_at, Problem, IsValid, takes, chosen_cost, costs_of, Objective, Column, Cost, cost_reach, sum_entered, top_of, is_narrow_objective, bounded_fold, sums_keep_order, Bridges-from_KeepsOrder, lies_within, AreAbove, IsOneToOne, IsSingle, chosen_sum, option_and_then}
 use Rattle.asg_model.specs.Best.{IsBest}
 use Rattle.asg_model.specs.laws.Counting.{sum_below-add, sum_below-exchange, sum_below-le, sum_by-below, term-le-sum_below}
 use Rattle.asg_model.specs.laws.Listing.{filter_map-range_more}
-use Rattle.asg_model.specs.Refused.{PassesNegative, is_refused}
 use Rattle.asg_model.specs.Sums.{count_below, one, sum_below}
 use Rattle.asg_monoids.specs.BoundedSums.{bounded_sums}
 use Rattle.asg_order.specs.Bridge.{choice_fold}
 use Rattle.asg_order.specs.Monoid.{IsLess}
+use Rattle.asg_narrow_kinds.specs.laws.NarrowObjectives.{PassesNegative-narrow, is_sum-narrow}
+use Rattle.asg_model.proofs.Kit.{get_or_past}
 
 -- where all of a list are there, each is
 all_some : (g : List (Option ℕ)) → count_by is_some g ≡ length g → (r : ℕ) → r < length g → (c : ℕ) × (slice_get g r ≡ Some (Some c))
@@ -49,12 +50,6 @@ one_passes p k (suc n) e = by (p n) refl (one_passes p k n)
         let none : cond (p n) k 0 ≡ 0 = ap (λ b. cond b k 0) is in
         let before = rest (omega (arith, last, e)) in
         omega (arith, none, before)
-
--- past the end of a list it has 0
-past : (xs : List ℕ) (k : ℕ) → length xs ≤ k → get_or xs k 0 ≡ 0
-past [] k h = refl
-past (x ∷ xs) zero h = absurd (omega (arith, h))
-past (x ∷ xs) (suc k) h = past xs k (omega (arith, h))
 
 -- a column that takes one row at most has room for one
 single_at : (columns : List Column) (c : ℕ) → All IsSingle columns → option_map_or (λ (column : Column). column.cap) (slice_get columns c) 0 ≤ 1
@@ -104,7 +99,7 @@ module _ (objective : Objective) (X : Problem) (falls rises : List ℕ) (g : Lis
       (λ (within : c < length rises).
       let term : taken r c ≤ rise_of r = term-le-sum_below (taken r) (length rises) c within in
       omega (arith, term, here))
-      (λ (beyond : length rises ≤ c). let none = past rises c beyond in omega (arith, none))
+      (λ (beyond : length rises ≤ c). let none = get_or_past rises c 0 beyond in omega (arith, none))
       (cases_lt c (length rises))
 
   row_above : (r : ℕ) → r < length X.rows → get_or falls r 0 ≤ number r + rise_of r
@@ -148,31 +143,14 @@ module _ (objective : Objective) (X : Problem) (falls rises : List ℕ) (g : Lis
 less_below : (top x y : ℕ) → IsLess (bounded_sums top) x y → x < y
 less_below top x y less = grind (arith, nat_tests, less)
 
-narrow_is_sum : (objective : Objective) → IsTrue (is_narrow_objective objective) → is_sum_objective objective ≡ true
-narrow_is_sum Sum is = refl
-narrow_is_sum SumMax is = refl
-narrow_is_sum _ is = absurd (let no_such = is in cc)
-
-narrow_refuses_none : (objective : Objective) → IsTrue (is_narrow_objective objective) → (cost : Cost) → is_refused objective cost ≡ false
-narrow_refuses_none Sum is cost = refl
-narrow_refuses_none SumMax is cost = refl
-narrow_refuses_none _ is cost = absurd (let no_such = is in cc)
-
-if_any : {A : Type 0} (P : A → Type 0) → ((x : A) → P x) → (o : Option A) → IfSome o P
-if_any P all None = tt
-if_any P all (Some x) = all x
-
-pub narrow_passes : (objective : Objective) (X : Problem) → IsTrue (is_narrow_objective objective) → PassesNegative objective X
-narrow_passes objective X is r c = if_any (λ cost. is_refused objective cost ≡ false) (narrow_refuses_none objective is) (live_at X r c)
-
 pub least_is_best : (objective : Objective) (X : Problem) (falls rises : List ℕ) (f : List (Option ℕ)) → IsTrue (is_narrow_objective objective) → IsInstance X → IsOneToOne X → length falls ≡ length X.rows → AreAbove objective X falls rises → IsValid X f → chosen_sum objective X f + sum rises ≤ sum falls → IsBest objective X f
 least_is_best objective X falls rises f narrow instance one_to_one over above valid balance = record {
   valid = valid;
   none_better = λ g valid_g better.
       let M = bounded_sums (top_of objective) in
       let enter = sum_entered objective in
-      let keeps = sums_keep_order objective (narrow_is_sum objective narrow) in
-      let bridge = Bridges-from_KeepsOrder M enter objective cost_reach keeps X g f instance.well_formed.few_rows (lies_within cost_reach X (omega arith) instance) (narrow_passes objective X narrow) valid_g valid in
+      let keeps = sums_keep_order objective (is_sum-narrow objective narrow) in
+      let bridge = Bridges-from_KeepsOrder M enter objective cost_reach keeps X g f instance.well_formed.few_rows (lies_within cost_reach X (omega arith) instance) (PassesNegative-narrow objective X narrow) valid_g valid in
       let less : choice_fold M enter X g < choice_fold M enter X f = less_below (top_of objective) (choice_fold M enter X g) (choice_fold M enter X f) (bridge.0 better) in
       let fold_g : choice_fold M enter X g ≡ min (chosen_sum objective X g) (top_of objective) = bounded_fold (top_of objective) (map enter (costs_of X g)) ∙ ap (λ s. min s (top_of objective)) (sum-map enter (costs_of X g)) in
       let fold_f : choice_fold M enter X f ≡ min (chosen_sum objective X f) (top_of objective) = bounded_fold (top_of objective) (map enter (costs_of X f)) ∙ ap (λ s. min s (top_of objective)) (sum-map enter (costs_of X f)) in

@@ -1,38 +1,21 @@
 -- What the tests of a guess show.
-use Rattle.asg_sum_edits.proofs.Common.{◌≡◌, ℕ, zero, suc, ◌+◌, ◌*◌, ◌<◌, ◌≤◌, Bool, true, false, cond, ◌&&◌, List, [], ◌∷◌, length, get_or, ℤ, pos, ◌+ℤ◌, ◌-ℤ◌, ◌≤ℤ◌, IsTrue, slice_get, slice_index, slice_index_or, Some, None, sum, Option, int_eq, sym, refl, ap, ◌∙◌, subst, arith, and_parts, false≢true, ints, option_map_or, IsInstance, cost_at, is_active, is_open, live_at, Problem, AreRowParts, absent, table_cost, IsValid, choice_value, costs_of, first_parts, total, Objective, Sum, SumMax, One, Column, Cost, cost_reach, sum_entered, is_narrow_objective, sum_shifted, sum_turned, near_a, costs_may_enter, length-costs_of, lies_within, AreFirstsAbove, IsOneToOne, IsRowAbove, chosen_sum, first_entered, number_of}
-use Rattle.asg_sum_edits.proofs.LeastLaw.{narrow_passes}
+use Rattle.asg_sum_edits.proofs.Common.{◌≡◌, ℕ, ◌+◌, ◌*◌, ◌<◌, ◌≤◌, List, length, ℤ, pos, ◌+ℤ◌, ◌-ℤ◌, ◌≤ℤ◌, IsTrue, slice_index, slice_index_or, Some, sum, Option, int_eq, sym, ap, ◌∙◌, subst, arith, ints, IsInstance, Problem, AreRowParts, absent, table_cost, IsValid, choice_value, costs_of, first_parts, total, Objective, Sum, SumMax, One, Cost, cost_reach, sum_entered, is_narrow_objective, sum_shifted, sum_turned, near_a, costs_may_enter, length-costs_of, lies_within, AreFirstsAbove, IsOneToOne, IsRowAbove, chosen_sum, first_entered, number_of}
+use Rattle.asg_narrow_kinds.specs.laws.NarrowObjectives.{PassesNegative-narrow}
+use Rattle.asg_values.specs.laws.LiveCells.{column_of_live, live_cell}
+use Rattle.asg_values.specs.laws.Options.{there_unless}
+use Rattle.asg_model.proofs.Kit.{same_Some}
 
 -- ---- rows
-
-live_parts : (b : Bool) (o : Option Cost) (x : Cost) → cond b o None ≡ Some x → (b ≡ true) × (o ≡ Some x)
-live_parts true o x e = (refl, e)
-live_parts false o x e = absurd (let none = e in cc)
-
-open_within : (columns : List Column) (c : ℕ) → option_map_or (λ (column : Column). column.usable) (slice_get columns c) false ≡ true → c < length columns
-open_within [] c e = absurd (false≢true e)
-open_within (column ∷ columns) zero e = omega arith
-open_within (column ∷ columns) (suc c) e = omega (arith, open_within columns c e)
-
--- a live cell is in a column that is there, and has a cost
-pub live_within : (X : Problem) (r c : ℕ) (x : Cost) → live_at X r c ≡ Some x → (c < length X.columns) × (cost_at X.cells r c ≡ Some x)
-live_within X r c x live =
-    let parts = live_parts (is_active X r && is_open X c) (cost_at X.cells r c) x live in
-    (open_within X.columns c (and_parts (is_active X r) (is_open X c) parts.0).1, parts.1)
 
 -- what was tested of a row's parts holds of its live cells
 pub row_above : (objective : Objective) (X : Problem) (r fall : ℕ) (rises : List ℕ) (firsts seconds : List ℤ) → AreRowParts X r firsts seconds → length rises ≡ length X.columns → ((c : ℕ) (cost : Cost) → c < length rises → table_cost seconds c (slice_index_or firsts c absent) ≡ Some cost → fall ≤ sum_entered objective cost + slice_index rises c) → IsRowAbove objective X r fall rises
 row_above objective X r fall rises firsts seconds parts over each c x live =
-    let at = live_within X r c x live in
-    each c x (omega (arith, at.0, over)) (sym (parts.costs c at.0) ∙ at.1)
+    let there = column_of_live X r c x live in
+    each c x (omega (arith, there, over)) (sym (parts.costs c there) ∙ (live_cell X r c x live).2)
 
 -- a fall that is no greater holds too
 pub row_below : (objective : Objective) (X : Problem) (r before fall : ℕ) (rises : List ℕ) → IsRowAbove objective X r before rises → fall ≤ before → IsRowAbove objective X r fall rises
 row_below objective X r before fall rises above low c x live = omega (arith, above c x live, low)
-
-past : (xs : List ℕ) (k : ℕ) → length xs ≤ k → get_or xs k 0 ≡ 0
-past [] k h = refl
-past (x ∷ xs) zero h = absurd (omega (arith, h))
-past (x ∷ xs) (suc k) h = past xs k (omega (arith, h))
 
 -- ---- sums
 
@@ -42,13 +25,13 @@ one_is x y e = cc
 -- the chosen costs come to the number that is made of their sum
 pub comes_to : (objective : Objective) (X : Problem) (f : List (Option ℕ)) (z : ℤ) → IsTrue (is_narrow_objective objective) → IsInstance X → IsOneToOne X → IsValid X f → choice_value objective X f ≡ One z → pos (chosen_sum objective X f) ≡ number_of objective (length X.rows) z
 comes_to Sum X f z narrow instance one_to_one valid value =
-    let may = costs_may_enter Sum cost_reach X f (lies_within cost_reach X (omega arith) instance) (narrow_passes Sum X narrow) in
+    let may = costs_may_enter Sum cost_reach X f (lies_within cost_reach X (omega arith) instance) (PassesNegative-narrow Sum X narrow) in
     let shift = (sum_shifted (λ cost. cost.a) (costs_of X f) (near_a Sum (costs_of X f) may)).0 in
     let count : length (costs_of X f) ≡ length X.rows = length-costs_of X f valid ∙ one_to_one.all in
     let is : total (first_parts (costs_of X f)) ≡ z = one_is (total (first_parts (costs_of X f))) z value in
     shift ∙ ap (λ t. t +ℤ pos (cost_reach * length (costs_of X f))) is ∙ ap (λ n. z +ℤ pos (cost_reach * n)) count
 comes_to SumMax X f z narrow instance one_to_one valid value =
-    let may = costs_may_enter SumMax cost_reach X f (lies_within cost_reach X (omega arith) instance) (narrow_passes SumMax X narrow) in
+    let may = costs_may_enter SumMax cost_reach X f (lies_within cost_reach X (omega arith) instance) (PassesNegative-narrow SumMax X narrow) in
     let turn = (sum_turned (λ cost. cost.a) (costs_of X f) (near_a SumMax (costs_of X f) may)).0 in
     let count : length (costs_of X f) ≡ length X.rows = length-costs_of X f valid ∙ one_to_one.all in
     let is : total (first_parts (costs_of X f)) ≡ z = one_is (total (first_parts (costs_of X f))) z value in
@@ -64,10 +47,6 @@ balanced objective X f z falls rises narrow instance one_to_one valid value test
 
 -- ---- first parts
 
-cost_by : (b : Bool) (y x : Cost) → cond b None (Some y) ≡ Some x → y ≡ x
-cost_by true y x e = absurd (let none = e in cc)
-cost_by false y x e = cc
-
 -- what a cost enters as by its first part is no more than what it enters as
 pub entered_first : (objective : Objective) (cost : Cost) → first_entered objective cost.a ≤ sum_entered objective cost
 entered_first Sum cost = omega arith
@@ -82,4 +61,4 @@ firsts_hold objective firsts seconds fall rises above c cost within e =
     let low = above c within in
     let first = entered_first objective made in
     let whole : fall ≤ sum_entered objective made + slice_index rises c = omega (arith, low, first) in
-    subst (λ (x : Cost). fall ≤ sum_entered objective x + slice_index rises c) (cost_by (int_eq a absent) made cost e) whole
+    subst (λ (x : Cost). fall ≤ sum_entered objective x + slice_index rises c) (same_Some made cost (there_unless (int_eq a absent) (Some made) cost e).1) whole

@@ -5,10 +5,8 @@ ghost use Rattle.asg_model.specs.Limits.{most_side};
 ghost use Rattle.asg_model.specs.Shapes.{square_side};
 
 use crate::NoMemory;
-use crate::row_tests::number;
-use asg_duals::tight_duals;
-use asg_model::{Cost, Instance, Objective};
-use asg_square::Square;
+use asg_duals::{sum_square, tight_duals};
+use asg_model::{Instance, Objective};
 use std::alloc::Global;
 
 /// A column for each row, by how much each row may fall, and by how much each column may rise: a
@@ -18,32 +16,6 @@ pub(crate) struct Guess {
     pub columns: Vec<u32>,
     pub falls: Vec<u64>,
     pub rises: Vec<u64>,
-}
-
-// The square of an instance whose live costs enter for `sum`. The error is want of memory.
-fn sum_square(alloc: Global, inst: &Instance) -> Result<Square<u64>, NoMemory>
-    requires { square_side inst.now ≤ most_side }
-{
-    let enter = |cost: Cost| -> u64 { number(Objective::Sum, cost) };
-    Square::of(alloc, inst, 0, &enter)
-}
-
-// The same for `sum-max`.
-fn sum_max_square(alloc: Global, inst: &Instance) -> Result<Square<u64>, NoMemory>
-    requires { square_side inst.now ≤ most_side }
-{
-    let enter = |cost: Cost| -> u64 { number(Objective::SumMax, cost) };
-    Square::of(alloc, inst, 0, &enter)
-}
-
-// The square of an instance for `sum` or `sum-max`. The error is want of memory.
-fn square_of(alloc: Global, objective: Objective, inst: &Instance) -> Result<Square<u64>, NoMemory>
-    requires { square_side inst.now ≤ most_side }
-{
-    match objective {
-        Objective::SumMax => sum_max_square(alloc, inst),
-        _ => sum_square(alloc, inst),
-    }
 }
 
 // By how much each number can sink: where there are more columns than rows, by the least one, which
@@ -77,7 +49,7 @@ pub(crate) fn first_guess(
 ) -> Result<Option<Guess>, NoMemory>
     requires { square_side inst.now ≤ most_side }
 {
-    let square = square_of(alloc, objective, inst)?;
+    let square = sum_square(alloc, objective, inst)?;
     let Some(duals) = tight_duals(alloc, &square)? else {
         return Ok(None);
     };

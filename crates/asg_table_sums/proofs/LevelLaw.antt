@@ -1,9 +1,7 @@
 -- A level choice is best.
-use Rattle.asg_table_sums.proofs.Common.{◌≡◌, ℕ, ◌+◌, ◌*◌, ◌<◌, ◌≤◌, min, true, false, ◌⊎◌, List, map, length, get_or, is_some, IfSome, Some, None, sum_by, count_by, Option, sym, refl, ap, ◌∙◌, inl, inr, ⊎_elim, arith, cases_lt, get_or_past, nat_tests, sum-map, capacity_at, IsInstance, live_at, Problem, sum_below, IsValid, takes, chosen_cost, choice_value, costs_of, Objective, Cost, sum_below-le, sum_below-add, cost_reach, is_sum_objective, sum_entered, top_of, lies_within, rise_at, IsRowLevel, IsLevel}
-use Rattle.asg_model.specs.declared.objectives.Objective.TheVariants.{Sum, SumMax}
+use Rattle.asg_table_sums.proofs.Common.{◌≡◌, ℕ, ◌+◌, ◌*◌, ◌<◌, ◌≤◌, min, true, ◌⊎◌, List, map, length, get_or, is_some, None, sum_by, count_by, Option, sym, ap, ◌∙◌, inl, inr, ⊎_elim, arith, cases_lt, get_or_past, nat_tests, sum-map, capacity_at, IsInstance, Problem, sum_below, IsValid, takes, chosen_cost, choice_value, costs_of, Objective, Cost, sum_below-le, sum_below-add, cost_reach, sum_entered, top_of, lies_within, rise_at, IsRowLevel, IsLevel}
 use Rattle.asg_model.specs.Best.{IsBest}
 use Rattle.asg_model.specs.Better.{IsBetter}
-use Rattle.asg_model.specs.Refused.{is_refused, PassesNegative}
 use Rattle.asg_monoids.specs.BoundedSums.{bounded_sums}
 use Rattle.asg_monoids.specs.NarrowObjectives.{is_narrow_objective}
 use Rattle.asg_monoids.specs.laws.SumFolds.{bounded_fold}
@@ -13,24 +11,7 @@ use Rattle.asg_order.specs.Monoid.{IsLess}
 use Rattle.asg_order.specs.laws.ChosenCosts.{Bridges-from_KeepsOrder}
 use Rattle.asg_table_sums.proofs.TakenSums.{taken, taken-le}
 use Rattle.asg_table_sums.proofs.RowSums.{Chosen, Out, row_of, entered, level_of_out, out_sum, row_sums, column_sums}
-
-is_sum : (objective : Objective) → is_narrow_objective objective ≡ true → is_sum_objective objective ≡ true
-is_sum Sum e = refl
-is_sum SumMax e = refl
-is_sum _ e = absurd (cc)
-
--- these objectives refuse no cost
-never_refused : (objective : Objective) → is_narrow_objective objective ≡ true → (cost : Cost) → is_refused objective cost ≡ false
-never_refused Sum e cost = refl
-never_refused SumMax e cost = refl
-never_refused _ e cost = absurd (cc)
-
-passes : (objective : Objective) (X : Problem) → is_narrow_objective objective ≡ true → PassesNegative objective X
-passes objective X e r c = each (live_at X r c)
-  where
-    each : (o : Option Cost) → IfSome o (λ cost. is_refused objective cost ≡ false)
-    each None = tt
-    each (Some cost) = never_refused objective e cost
+use Rattle.asg_narrow_kinds.specs.laws.NarrowObjectives.{PassesNegative-narrow, is_sum-narrow}
 
 module _ (objective : Objective) (X : Problem) (f : List (Option ℕ)) (rises : List ℕ) (level : ℕ) (is_level : IsLevel objective X f rises level) (g : List (Option ℕ)) (valid : IsValid X g) where
   abbrev enter : Cost → ℕ
@@ -129,11 +110,11 @@ module _ (objective : Objective) (X : Problem) (f : List (Option ℕ)) (rises : 
   -- and no other is better
   pub none_better : is_narrow_objective objective ≡ true → IsInstance X → ¬ IsBetter objective (choice_value objective X g) (choice_value objective X f)
   none_better narrow instance better =
-      let sums = is_sum objective narrow in
+      let sums = is_sum-narrow objective narrow in
       let top = top_of objective in
       let less : IsLess (bounded_sums top) (choice_fold (bounded_sums top) enter X g) (choice_fold (bounded_sums top) enter X f) =
       (Bridges-from_KeepsOrder (bounded_sums top) enter objective cost_reach (sums_keep_order objective sums) X g f instance.well_formed.few_rows
-      (lies_within cost_reach X (let reach : cost_reach ≤ cost_reach = omega arith in reach) instance) (passes objective X narrow) valid is_level.valid).0 better in
+      (lies_within cost_reach X (let reach : cost_reach ≤ cost_reach = omega arith in reach) instance) (PassesNegative-narrow objective X narrow) valid is_level.valid).0 better in
       let of_g : choice_fold (bounded_sums top) enter X g ≡ min (sum_by enter (costs_of X g)) top = bounded_fold top (map enter (costs_of X g)) ∙ ap (λ s. min s top) (sum-map enter (costs_of X g)) in
       let of_f : choice_fold (bounded_sums top) enter X f ≡ min (sum_by enter (costs_of X f)) top = bounded_fold top (map enter (costs_of X f)) ∙ ap (λ s. min s top) (sum-map enter (costs_of X f)) in
       below (choice_fold (bounded_sums top) enter X g) (choice_fold (bounded_sums top) enter X f) (sum_by enter (costs_of X g)) (sum_by enter (costs_of X f)) top of_g of_f sum_le less

@@ -1,6 +1,7 @@
 -- The sum of the costs of a valid choice, row by row.
-use Rattle.asg_table_sums.proofs.Common.{◌≡◌, ℕ, zero, suc, ◌+◌, ◌*◌, ◌<◌, cond, ◌⊎◌, List, [], ◌∷◌, length, get_or, is_some, IsSome, slice_get, Some, None, sum_by, count_by, Option, option_to_list, filter_map, option_and_then, refl, ap, ◌∙◌, inl, inr, mul-add, arith, option_map_or, range_with_len, slice_get-get_or, sum_by-append, sum_by-cons, live_at, Problem, sum_below, Chooses, IsValid, chosen_cost, costs_of, Cost, sum_by-below}
+use Rattle.asg_table_sums.proofs.Common.{◌≡◌, ℕ, zero, suc, ◌+◌, ◌*◌, ◌<◌, cond, ◌⊎◌, List, [], ◌∷◌, length, get_or, is_some, slice_get, Some, None, sum_by, count_by, Option, option_to_list, filter_map, option_and_then, refl, ap, ◌∙◌, inl, inr, mul-add, arith, option_map_or, range_with_len, slice_get-get_or, sum_by-append, sum_by-cons, live_at, Problem, sum_below, Chooses, IsValid, chosen_cost, costs_of, Cost, sum_by-below}
 use Rattle.asg_model.specs.laws.Listing.{filter_map-range_more}
+use Rattle.asg_values.specs.laws.Options.{some_there}
 
 -- what a row chooses: a column, with its cost
 pub record Chosen (X : Problem) (f : List (Option ℕ)) (r : ℕ) : Type 0 where
@@ -17,10 +18,6 @@ pub record Out (X : Problem) (f : List (Option ℕ)) (r : ℕ) : Type 0 where
   pub no_cost : chosen_cost X f r ≡ None
   pub no_column : get_or f r None ≡ None
 
-there : {A : Type 0} (o : Option A) → IsSome o → (x : A) × (o ≡ Some x)
-there None h = absurd (cc)
-there (Some x) h = (x, refl)
-
 module _ (X : Problem) (f : List (Option ℕ)) (valid : IsValid X f) where
   -- each row chooses, or stays out
   pub row_of : (r : ℕ) → r < length X.rows → Chosen X f r ⊎ Out X f r
@@ -36,7 +33,7 @@ module _ (X : Problem) (f : List (Option ℕ)) (valid : IsValid X f) where
           })
       by (Some c) e =
           let at : slice_get f r ≡ Some (Some c) = slice_get-get_or f r None (omega (arith, valid.over, h)) ∙ ap Some e in
-          let cost = there (live_at X r c) (valid.alive r c at) in
+          let cost = some_there (live_at X r c) (valid.alive r c at) in
           inl (record {
             column = c;
             cost = cost.0;

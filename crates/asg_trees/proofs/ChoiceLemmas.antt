@@ -1,7 +1,7 @@
 -- Choices that one list of numbers says.
-use Rattle.asg_trees.proofs.Common.{◌≡◌, ℕ, zero, suc, ◌+◌, ◌-◌, ◌*◌, ◌^◌, ◌<◌, ◌≤◌, List, [], ◌∷◌, ◌++◌, map, length, get_or, take, drop, IfSome, slice_get, Some, None, All, Option, sym, refl, ap, ◌∙◌, suc-mul, le-mul_of_pos_right, arith, length-drop, length-take-le, take_all, drop-drop, count_by-le-length, drop-append-le, get_or-map, get_or_from_slice_get, length-map, map_more, same_lists, slice_get_within, take-append-le, IsInstance, cost_at, is_active, is_open, Problem, IsValid, AreNumbersOf, choices_in, chosen_by, number_of}
+use Rattle.asg_trees.proofs.Common.{◌≡◌, ℕ, zero, suc, ◌+◌, ◌-◌, ◌*◌, ◌^◌, ◌<◌, ◌≤◌, List, [], ◌∷◌, ◌++◌, map, length, get_or, take, drop, IfSome, slice_get, Some, None, All, Option, sym, refl, ap, ◌∙◌, suc-mul, le-mul_of_pos_right, arith, length-drop, length-take-le, take_all, drop-drop, count_by-le-length, drop-append-le, get_or-map, get_or_from_slice_get, length-map, map_more, same_lists, slice_get_within, take-append-le, IsInstance, Problem, IsValid, AreNumbersOf, choices_in, chosen_by, number_of}
 use Rattle.std.proofs.lemmas.List.{append_assoc, length-append}
-use Rattle.asg_trees.proofs.NodeFacts.{column-from_open, live_open}
+use Rattle.asg_values.specs.laws.LiveCells.{column-from_live}
 
 -- ---- numbers
 
@@ -15,7 +15,7 @@ module _ (X : Problem) (instance : IsInstance X) (f : List (Option ℕ)) (valid 
   pub column_fits : (chosen : Option ℕ) → slice_get f r ≡ Some chosen → IfSome chosen (λ c. c < 2 ^ 32 - 1)
   column_fits None at = tt
   column_fits (Some c) at =
-      let within = column-from_open X c (live_open (is_active X r) (is_open X c) (cost_at X.cells r c) (valid.alive r c at)) in
+      let within = column-from_live X r c (valid.alive r c at) in
       omega (arith, within, instance.well_formed.few_columns)
 
 -- one more row's number

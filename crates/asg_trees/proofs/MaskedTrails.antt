@@ -1,36 +1,8 @@
--- Phases on squares from which cells are taken out, and the square of a child after its parent's
--- trail.
-use Rattle.asg_trees.proofs.Common.{◌≡◌, ℕ, ◌<◌, Bool, List, [], ◌∷◌, length, get_or, Option, sym, ap, ◌∙◌, subst, BitTable, has_bit, HasSize, from_kept, masked_by, Problem, square_side, Monoid, Word, PhaseOf, entered_at, staying_at, square_after, after_phase, IsAdmittedPhase, AreAdmittedPhases, HasSide-phases, child, masked, keeps_cell, square_cell, Grid, cell_at, masked_grid, IsTrailSquare, TreeOf}
-use Rattle.asg_proof.specs.Steps.{IsAdmittedStep, HasSide}
-use Rattle.asg_rankings.specs.laws.MaskedSquares.{square_after-masked, square_cell-child, after_phases-child}
+-- The square of a child after its parent's trail.
+use Rattle.asg_trees.proofs.Common.{◌≡◌, ℕ, ◌<◌, List, Option, sym, ap, ◌∙◌, subst, BitTable, has_bit, HasSize, from_kept, masked_by, Problem, square_side, Word, PhaseOf, AreAdmittedPhases, HasSide-phases, child, masked, keeps_cell, square_cell, Grid, cell_at, masked_grid, IsTrailSquare, TreeOf}
+use Rattle.asg_proof.specs.Steps.{HasSide}
+use Rattle.asg_rankings.specs.laws.MaskedSquares.{AreAdmittedPhases-masked, square_cell-child, after_phases-child}
 use Rattle.asg_proof.specs.laws.Squares.{HasSide-square_cell}
-
-module _ {V : Type 0} (M : Monoid V) (difference : V → V → V) (side : ℕ) (keep : ℕ → ℕ → Bool) where
-  step-masked : (entered staying : ℕ → Bool) (c : V) (square : ℕ → ℕ → Option V) → IsAdmittedStep M side entered staying c square → IsAdmittedStep M side entered staying c (masked keep square)
-  step-masked entered staying c square step = record {
-    value = step.value;
-    count = step.count;
-    least = λ r k x hr hk e s at. step.least r k x hr hk e s (from_kept (keep r k) (square r k) x at);
-  }
-
-  phase-masked : (phase : PhaseOf V) (square : ℕ → ℕ → Option V) → IsAdmittedPhase M difference side phase square → IsAdmittedPhase M difference side phase (masked keep square)
-  phase-masked phase square one = record {
-    rows = one.rows;
-    columns = one.columns;
-    admitted = λ t h.
-        subst (IsAdmittedStep M side (entered_at phase.enters t) (staying_at phase.leaves t) (get_or phase.steps t M.unit))
-        (sym (square_after-masked M difference keep phase square t))
-        (step-masked (entered_at phase.enters t) (staying_at phase.leaves t) (get_or phase.steps t M.unit) (square_after M difference phase square t) (one.admitted t h));
-  }
-
-  -- admitted phases are admitted where cells are taken out
-  pub phases-masked : (phases : List (PhaseOf V)) (square : ℕ → ℕ → Option V) → AreAdmittedPhases M difference side phases square → AreAdmittedPhases M difference side phases (masked keep square)
-  phases-masked [] square all = tt
-  phases-masked (phase ∷ rest) square all = (
-    phase-masked phase square all.0,
-    subst (AreAdmittedPhases M difference side rest) (sym (square_after-masked M difference keep phase square (length phase.steps)))
-        (phases-masked rest (after_phase M difference phase square) all.1),
-  )
 
 -- ---- the square of a child
 
@@ -56,7 +28,7 @@ module _ {V : Type 0} (T : TreeOf V) (Y : Problem) (trail : List (PhaseOf Word))
             phases = phases;
             written = s.admitted.written;
             admitted = subst (AreAdmittedPhases M T.difference (square_side Y) phases) (sym (square_cell-child Y M.unit T.enter f branch))
-                (phases-masked M T.difference (square_side Y) keep phases (square_cell Y M.unit T.enter) s.admitted.admitted);
+                (AreAdmittedPhases-masked M T.difference (square_side Y) keep phases (square_cell Y M.unit T.enter) s.admitted.admitted);
           };
           labels = record { side = s.labels.side; rows = s.labels.rows; row_labels = s.labels.row_labels; column_labels = s.labels.column_labels };
           cells = is ∙ ap (masked keep) s.cells ∙ sym (after_phases-child M T.difference T.enter Y f branch phases);

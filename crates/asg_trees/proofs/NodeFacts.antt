@@ -1,6 +1,6 @@
 -- What the instance of a node has of the whole one: labels, numbers, counted rows, and valid
 -- choices.
-use Rattle.asg_trees.proofs.Common.{◌≡◌, ℕ, ◌+◌, ◌<◌, ◌≤◌, Bool, true, false, cond, ◌&&◌, List, length, get_or, is_some, IsSome, nat_lt, Some, None, Option, sym, refl, ap, ◌∙◌, subst, ⊎_elim, arith, lt-ltb, All-get_or, cases_lt, false≢true, get_or-map-range_with_len, option_map_or, slice_get_past, ChoosesKept, HasKept, capacity_at, is_counted_by, is_live_within, IsInstance, most_capacity, cost_at, is_active, is_open, live_at, Problem, square_side, Chooses, IsValid, Whole, Cost, is_active-from_live, row-from_active, no_column, child, keeps_cell, node_instance, Node, kept-within, Grid, HasLabelsOf, cell_at, OutnumberColumns, masked_grid, has_cell}
+use Rattle.asg_trees.proofs.Common.{◌≡◌, ℕ, ◌+◌, ◌<◌, ◌≤◌, Bool, true, false, cond, ◌&&◌, List, length, get_or, is_some, IsSome, nat_lt, Some, None, Option, sym, refl, ap, ◌∙◌, subst, arith, lt-ltb, All-get_or, get_or-map-range_with_len, option_map_or, ChoosesKept, HasKept, capacity_at, is_counted_by, is_live_within, IsInstance, most_capacity, is_active, live_at, Problem, square_side, Chooses, IsValid, Whole, Cost, is_active-from_live, row-from_active, no_column, child, keeps_cell, node_instance, Node, kept-within, Grid, HasLabelsOf, cell_at, OutnumberColumns, masked_grid, has_cell}
 use Rattle.asg_model.specs.declared.parts.Column.{Column}
 use Rattle.asg_square.specs.Labels.{column_label, first_copy, row_label}
 use Rattle.asg_cell_tables.specs.LabelledCells.{is_labelled_within}
@@ -8,10 +8,8 @@ use Rattle.asg_square.specs.laws.Copies.{capacity_is, copy_below, label_at}
 use Rattle.asg_square.specs.laws.Rows.{copies_within, rows_within}
 use Rattle.asg_rankings.specs.laws.ChildCells.{live-from_child}
 use Rattle.asg_model.specs.declared.parts.Place.TheVariants.{All as PlaceAll}
-
-some_is : {A : Type 0} (o : Option A) → IsSome o → (x : A) × (o ≡ Some x)
-some_is None h = absurd (cc h)
-some_is (Some x) h = (x, refl)
+use Rattle.asg_values.specs.laws.LiveCells.{column-from_live}
+use Rattle.asg_values.specs.laws.Options.{some_there}
 
 module _ (X : Problem) (answers : List (List (Option ℕ))) (nodes : List Node) (n : ℕ) where
   abbrev Z : Problem
@@ -38,7 +36,7 @@ module _ (X : Problem) (answers : List (List (Option ℕ))) (nodes : List Node) 
       kept-within X answers nodes (λ Y. ((r d : ℕ) → Chooses g r d → IsSome (live_at Y r d)) → IsValid Y g) (λ alive. valid)
       (λ Y f branch up alive.
       let over = up (λ r d chooses.
-      let some = some_is (live_at (child Y f branch) r d) (alive r d chooses) in
+      let some = some_there (live_at (child Y f branch) r d) (alive r d chooses) in
       subst IsSome (sym (live-from_child Y f branch r d some.0 some.1).1) refl) in
       record { over = over.over; alive = alive; within = over.within; counted = over.counted })
       n n
@@ -50,21 +48,6 @@ whole_live (Some x) e = refl
 live_whole : (o : Option Cost) → IsSome o → option_map_or (λ cost. true) o false ≡ true
 live_whole None h = absurd (cc h)
 live_whole (Some x) h = refl
-
-pub live_open : (b d : Bool) (o : Option Cost) → IsSome (cond (b && d) o None) → d ≡ true
-live_open true true o h = refl
-live_open true false o h = absurd (false≢true h)
-live_open false true o h = absurd (false≢true h)
-live_open false false o h = absurd (false≢true h)
-
--- an open column is there
-pub column-from_open : (X : Problem) (c : ℕ) → is_open X c ≡ true → c < length X.columns
-column-from_open X c opened =
-    ⊎_elim
-    (λ (within : c < length X.columns). within)
-    (λ (past : length X.columns ≤ c).
-    absurd (false≢true (sym (ap (λ o. option_map_or (λ column. column.usable) o false) (slice_get_past X.columns c past)) ∙ opened)))
-    (cases_lt c (length X.columns))
 
 module _ {V : Type 0} (Z : Problem) (all : Z.place ≡ PlaceAll) (instance : IsInstance Z) (Q : Grid V) (bits : List ℕ) (labels : HasLabelsOf Z Q) (present : (r k : ℕ) → is_some (cell_at (masked_grid Q bits) r k) ≡ has_cell Z Whole r k) where
   label : (k : ℕ) → k < square_side Z → get_or Q.column_labels k None ≡ column_label Z k
@@ -98,7 +81,7 @@ module _ {V : Type 0} (Z : Problem) (all : Z.place ≡ PlaceAll) (instance : IsI
   pub kept-from_live : (r d : ℕ) → IsSome (live_at Z r d) → HasKept Q bits r d
   kept-from_live r d live =
       let active = is_active-from_live Z r d live in
-      let column = column-from_open Z d (live_open (is_active Z r) (is_open Z d) (cost_at Z.cells r d) live) in
+      let column = column-from_live Z r d live in
       let room : 0 < capacity_at Z d = omega (arith, capacity_is Z d no_column column, (All-get_or (λ (c : Column). (1 ≤ c.cap) × (c.cap ≤ most_capacity)) Z.columns d no_column column instance.well_formed.capacities).0) in
       let k = first_copy Z d + 0 in
       let hk : k < square_side Z = omega (arith, copy_below Z d 0 room, copies_within Z) in

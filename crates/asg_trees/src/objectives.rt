@@ -23,11 +23,9 @@ use crate::trees::{judge_from, judge_tree};
 use crate::verdicts::TreeVerdict;
 use asg_admit::Reduced;
 use asg_model::{Instance, Objective};
-use asg_monoids::laws::narrow_sums;
 use asg_monoids::{PeakKind, SumKind, TimeKind};
 use asg_narrow_kinds::NarrowKind;
 use asg_rankings::Node;
-use asg_rankings::laws::tree_tops_law;
 use asg_replays::{has_long, narrow_led, start};
 use std::alloc::Global;
 
@@ -119,8 +117,6 @@ fn judge_narrow(
     requires valid { All (IsValid inst.now) answers.now }
     ensures { IfOk result (TellsRanking objective inst.now count answers.now nodes.now) }
 {
-    narrow_sums();
-    tree_tops_law();
     let _rows = inst.rows();
     let verdict = narrow_verdict(alloc, objective, inst, count, answers, nodes)?;
     match verdict {

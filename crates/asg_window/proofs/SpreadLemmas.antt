@@ -1,14 +1,11 @@
 -- Extremes of grades, and spreads.
-use Rattle.asg_window.proofs.Common.{◌≡◌, ℕ, ◌+◌, ◌-◌, ◌*◌, ◌<◌, ◌≤◌, cond, List, get_or, is_some, IsSome, slice_index, Some, None, Option, sym, refl, ap, ◌∙◌, subst, ⊎_elim, arith, le-ltb, cases_lt, false≢true, same_Some, Grid, cell_at, IsPerm, IsAssignmentWithin, IsSpread, AreExtremes, IsOneMore, no_bound}
+use Rattle.asg_window.proofs.Common.{◌≡◌, ℕ, ◌+◌, ◌-◌, ◌*◌, ◌<◌, ◌≤◌, cond, List, get_or, is_some, IsSome, slice_index, Some, None, sym, ap, ◌∙◌, subst, ⊎_elim, arith, le-ltb, cases_lt, false≢true, same_Some, Grid, cell_at, IsPerm, IsAssignmentWithin, IsSpread, AreExtremes, IsOneMore, no_bound}
 use Rattle.asg_window.specs.declared.spreads.Extremes.{Extremes}
+use Rattle.asg_values.specs.laws.Options.{some_there}
 
 -- what stands in a cell that is there
 pub cell_there : (Q : Grid ℕ) (r c : ℕ) → IsSome (cell_at Q r c) → (g : ℕ) × (cell_at Q r c ≡ Some g)
-cell_there Q r c h = by (cell_at Q r c) h
-  where
-    by : (o : Option ℕ) → IsSome o → (g : ℕ) × (o ≡ Some g)
-    by (Some g) k = (g, refl)
-    by None k = absurd (false≢true k)
+cell_there Q r c h = some_there (cell_at Q r c) h
 
 -- a cell that is there has a column of the square
 pub cell_column : (Q : Grid ℕ) (r c : ℕ) → IsSome (cell_at Q r c) → c < Q.side

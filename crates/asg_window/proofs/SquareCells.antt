@@ -1,10 +1,11 @@
 -- The live cells of an instance in its square.
-use Rattle.asg_window.proofs.Common.{◌≡◌, ℕ, ◌+◌, ◌<◌, ◌≤◌, Bool, true, false, cond, ◌&&◌, length, is_some, IsSome, nat_lt, unsigned_abs, Some, None, Option, option_map, sym, refl, ap, ◌∙◌, subst, ⊎_elim, arith, lt-ltb, All-get_or, cases_lt, false≢true, none-some, option_map_or, same_Some, slice_get_past, extra_column_cell, corner_cell, labelled_cell, grade_of, free_grade, grade_upto, from_if_some, IsInstance, most_cost, cost_at, is_active, is_open, live_at, Problem, square_side, Cost, Place, first_part_in_range, square_cell, Grid, cell_at, IsSquareOf, row_label, column_label, first_copy, rows_within, copies_within, no_bound}
+use Rattle.asg_window.proofs.Common.{◌≡◌, ℕ, ◌+◌, ◌<◌, ◌≤◌, Bool, true, false, cond, ◌&&◌, is_some, IsSome, nat_lt, unsigned_abs, Some, None, Option, option_map, sym, refl, ap, ◌∙◌, subst, arith, lt-ltb, All-get_or, none-some, same_Some, extra_column_cell, corner_cell, labelled_cell, grade_of, free_grade, grade_upto, from_if_some, IsInstance, most_cost, live_at, Problem, square_side, Cost, Place, first_part_in_range, square_cell, Grid, cell_at, IsSquareOf, row_label, column_label, first_copy, rows_within, copies_within, no_bound}
 use Rattle.asg_model.specs.declared.parts.Column.{Column}
 use Rattle.asg_model.specs.Counts.{capacity_at}
 use Rattle.asg_square.specs.laws.Copies.{label_at, copy_below, capacity_is}
 use Rattle.asg_model.specs.laws.Rows.{is_active-from_live, row-from_active, counted-from_active, no_column}
 use Rattle.asg_model.specs.declared.parts.Place.TheVariants.{All as PlaceAll, Exactly}
+use Rattle.asg_values.specs.laws.LiveCells.{column_of_live}
 
 -- a live cell of the instance with this grade
 abbrev pub HasLive : Problem → ℕ → Type 0
@@ -53,18 +54,6 @@ grade_below X Q i square r c grade some e =
 abbrev pub HasCell : Grid ℕ → ℕ → Type 0
 HasCell Q grade = (r : ℕ) × (c : ℕ) × (r < Q.side) × (c < Q.side) × (cell_at Q r c ≡ Some grade)
 
-open_parts : (b d : Bool) (o : Option Cost) → IsSome (cond (b && d) o None) → d ≡ true
-open_parts true true o live = refl
-open_parts true false o live = absurd (false≢true live)
-open_parts false d o live = absurd (false≢true live)
-
--- an open column has a place
-column_there : (X : Problem) (d : ℕ) → is_open X d ≡ true → d < length X.columns
-column_there X d open_ =
-    ⊎_elim (λ (within : d < length X.columns). within)
-    (λ (past : length X.columns ≤ d). absurd (false≢true (sym (ap (λ o. option_map_or (λ column. column.usable) o false) (slice_get_past X.columns d past)) ∙ open_)))
-    (cases_lt d (length X.columns))
-
 -- each live cell of the instance stands in its square
 pub cell_from_live : (X : Problem) (Q : Grid ℕ) → IsInstance X → IsSquareOf X free_grade grade_of Q → (r d : ℕ) (cost : Cost) → live_at X r d ≡ Some cost → HasCell Q (grade_of cost)
 cell_from_live X Q i square r d cost live =
@@ -72,7 +61,7 @@ cell_from_live X Q i square r d cost live =
     let active = is_active-from_live X r d there in
     let counted = counted-from_active X X.place r active in
     let row : r < square_side X = omega (arith, row-from_active X r active, rows_within X i.well_formed.place_in_range) in
-    let column = column_there X d (open_parts (is_active X r) (is_open X d) (cost_at X.cells r d) there) in
+    let column = column_of_live X r d cost live in
     let cap_ = (All-get_or (λ (x : Column). (1 ≤ x.cap) × (x.cap ≤ 1000)) X.columns d no_column column i.well_formed.capacities).0 in
     let some : 0 < capacity_at X d = omega (arith, cap_, capacity_is X d no_column column) in
     let c = first_copy X d + 0 in

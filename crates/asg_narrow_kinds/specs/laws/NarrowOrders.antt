@@ -63,7 +63,7 @@ less_is {Better} x y p q ex ey better =
     subst (λ a. Better ↔ IsLess (bounded_sums narrow_top) a y) (sym ex)
     (subst (λ b. Better ↔ IsLess (bounded_sums narrow_top) p b) (sym ey) better)
 
-wide_order : (objective : Objective) → is_narrow_objective objective ≡ true → KeepsOrder (bounded_sums (2 ^ 120)) (sum_entered objective) objective cost_reach
+pub wide_order : (objective : Objective) → is_narrow_objective objective ≡ true → KeepsOrder (bounded_sums (2 ^ 120)) (sum_entered objective) objective cost_reach
 wide_order Sum is = sums_keep_order Sum is
 wide_order SumMax is = sums_keep_order SumMax is
 wide_order _ is = absurd (cc)

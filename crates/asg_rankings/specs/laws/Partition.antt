@@ -14,10 +14,7 @@ use Rattle.asg_square.specs.laws.Bijections.{sum_below-upto, same-rank}
 use Rattle.asg_rankings.specs.Children.{row_number, is_chosen, is_kept_at, is_kept, child}
 use Rattle.asg_rankings.specs.laws.ChildCells.{live-from_child, live-to_child}
 use Rattle.asg_rankings.specs.laws.ChosenRows.{chosen_at, at_rank, chooses-from_chosen, chosen-from_chooses, active-from_chosen, none-from_inactive, active_total, chosen-in_active}
-
-some_is : {V : Type 0} (o : Option V) → IsSome o → (x : V) × (o ≡ Some x)
-some_is None h = absurd (false≢true h)
-some_is (Some x) h = (x, refl)
+use Rattle.asg_values.specs.laws.Options.{some_there}
 
 -- where lists are as long and not equal, they differ first at some place
 pub first_difference : (f g : List (Option ℕ)) → length f ≡ length g → (f ≡ g) ⊎ ((r : ℕ) × (r < length f) × ((s : ℕ) → s < r → chosen_at f s ≡ chosen_at g s) × (chosen_at f r ≢ chosen_at g r))
@@ -80,7 +77,7 @@ module _ (X : Problem) (f : List (Option ℕ)) where
   IsValid-from_child branch g valid = record {
     over = valid.over;
     alive = λ r c chooses.
-        let some = some_is (live_at (child X f branch) r c) (valid.alive r c chooses) in
+        let some = some_there (live_at (child X f branch) r c) (valid.alive r c chooses) in
         subst IsSome (sym (live-from_child X f branch r c some.0 some.1).1) refl;
     within = valid.within;
     counted = valid.counted;
@@ -89,7 +86,7 @@ module _ (X : Problem) (f : List (Option ℕ)) where
   -- and choose cells that the branch keeps
   pub kept-from_child : (branch : ℕ) (g : List (Option ℕ)) → IsValid (child X f branch) g → (r c : ℕ) → chosen_at g r ≡ Some c → is_kept X f branch (r, c) ≡ true
   kept-from_child branch g valid r c e =
-      let some = some_is (live_at (child X f branch) r c) (valid.alive r c (chooses-from_chosen (child X f branch) g valid r c e)) in
+      let some = some_there (live_at (child X f branch) r c) (valid.alive r c (chooses-from_chosen (child X f branch) g valid r c e)) in
       (live-from_child X f branch r c some.0 some.1).0
 
   pub IsValid-to_child : (branch : ℕ) (g : List (Option ℕ)) → IsValid X g → ((r c : ℕ) → chosen_at g r ≡ Some c → is_kept X f branch (r, c) ≡ true) → IsValid (child X f branch) g

@@ -1,6 +1,7 @@
 use Rattle.asg_answers.proofs.Common.{◌≡◌, ◌+◌, drop, None, sym, ◌∙◌, subst, arith, Puts-nil, first_refused}
 use Rattle.asg_scripts.specs.Laws.{line_at_passes}
-use Rattle.asg_answers.proofs.EditLines.{AreFollowed-more, AreFollowed-none, Rose-over, WritesAll-followed, WritesFront-halted}
+use Rattle.asg_answers.proofs.EditLines.{AreFollowed-more, AreFollowed-none, WritesAll-followed, WritesFront-halted}
+use Rattle.asg_page.specs.laws.Flows.{Rose-later}
 use Rattle.asg_answers.proofs.edited.put_lines.Goals as goal
 
 pub lines-init : goal.lines-init
@@ -43,7 +44,7 @@ returns-in-Err-clause-halted g c =
     (c.in-Err.ensures.halted so_far.standing so_far.stands)
 
 pub returns-in-Err-clause-cause : goal.returns-in-Err-clause-cause
-returns-in-Err-clause-cause g c = λ is. Rose-over (g.K.Sink.faults c.args.out.now) (g.K.Sink.faults c.lines.out) (g.K.Sink.faults c.put_line.new.out) c.lines.invariant.never_fell (c.in-Err.ensures.cause is)
+returns-in-Err-clause-cause g c = λ is. Rose-later (g.K.Sink.faults c.args.out.now) (g.K.Sink.faults c.lines.out) (g.K.Sink.faults c.put_line.new.out) c.lines.invariant.never_fell (c.in-Err.ensures.cause is)
 
 pub returns-clause-written : goal.returns-clause-written
 returns-clause-written g c =

@@ -1,6 +1,6 @@
 use Rattle.asg_grade_lists.proofs.Common.{◌≤◌, drop, is_some, sym, ap, ◌∙◌, subst, AreOfGrade, LeadTo, RowsEndWell, narrow_top, cell_at}
 use Rattle.asg_proof.specs.laws.Squares.{HasSide-cell_at}
-use Rattle.asg_grade_lists.proofs.ListLemmas.{GradeLaw, OnePassLaw, list_leads}
+use Rattle.asg_grade_lists.proofs.ListLemmas.{list_leads}
 use Rattle.asg_grade_lists.proofs.lists.index_in_room.Goals as goal
 
 pub put_others-requires-clause-some : goal.put_others-requires-clause-some
@@ -12,8 +12,6 @@ returns c = λ top high.
     let words = c.args.phases.now in
     let g = c.in-Some.grade in
     let totals = c.put_others.new.totals in
-    let one_pass : OnePassLaw = record { admitted = c.one_pass_law.ensures.admitted; index = c.one_pass_law.ensures.index } in
-    let grades : GradeLaw = record { joined = c.grade_law.ensures.joined; index = c.grade_law.ensures.index } in
     let risen = rw c.in-Some.is at c.in_ok-first.ensures.rises in
     let small = rw c.in-Some.is at c.in_ok-first.ensures.small in
     let all = subst (λ n. AreOfGrade g n (drop 1 words) totals) c.requires.side (c.in_ok-are_put.ensures.put c.if-not-are_put.false) in
@@ -24,5 +22,5 @@ returns c = λ top high.
     (subst (λ xs. RowsEndWell g Q.side Q.side c.rows.result.now xs (cell_at Q)) c.columns.ensures.columns
     (c.rows_end_well.ensures c.if-not-rows_end_well.false)) in
     subst (λ n. LeadTo top Q.side (cell_at Q) words (g, n)) (sym c.sum-sum.ensures ∙ sym c.from.ensures)
-    (list_leads one_pass grades top g Q.side (cell_at Q) words totals
+    (list_leads top g Q.side (cell_at Q) words totals
     (λ r k x is. HasSide-cell_at Q c.side-side.ensures.grid r k (ap is_some is)) count few high all ends risen small)

@@ -1,6 +1,6 @@
-use Rattle.asg_hall_windows.proofs.Common.{IsMarked, ◌≡◌, ℕ, ◌+◌, ◌*◌, ◌<◌, ◌≤◌, IsTrue, List, length, get_or, take, sym, ◌∙◌, subst, arith, enumerate_from, sum_by, option_map_or, slice_get-get_or, ap, false, Column, is_reached, reached_part, no_column}
+use Rattle.asg_hall_windows.proofs.Common.{IsMarked, ◌<◌, ◌≤◌, IsTrue, List, length, get_or, subst, arith, sum_by, false, Column, is_reached, reached_part, no_column}
 use Rattle.asg_hall_windows.proofs.CellLemmas.{usable_there}
-use Rattle.asg_hall_windows.proofs.RowLemmas.{sum_by-enumerate_more, take-enumerate_all, part-le}
+use Rattle.asg_values.specs.laws.Elements.{sum_by-enumerate_more, take-enumerate_all, part-le}
 use Rattle.asg_hall_windows.proofs.capacities.capacity.Goals as goal
 
 pub loop-place-preserved : goal.loop-place-preserved

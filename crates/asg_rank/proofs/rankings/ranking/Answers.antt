@@ -10,7 +10,7 @@ returns-in-Sum-clause-outcome c =
     IfOk-weaker c.ranking_by.result (IsOutcomeIn (bounded_sums narrow_top) bounded_difference plain_word (sum_entered kind.objective) kind.objective X c.args.count) (IsRankOutcome c.args.objective X c.args.count)
     (λ outcome ranked.
     subst (λ o. IsRankOutcome o X c.args.count outcome) c.of.ensures
-    (narrow_outcome c.tree_tops_law.ensures kind.objective kind.is_narrow X c.rows-rows.ensures.instance passes c.args.count outcome ranked))
+    (narrow_outcome kind.objective kind.is_narrow X c.rows-rows.ensures.instance passes c.args.count outcome ranked))
     c.ranking_by.ensures.outcome
 
 pub returns-in-SumPair-clause-outcome : goal.returns-in-SumPair-clause-outcome

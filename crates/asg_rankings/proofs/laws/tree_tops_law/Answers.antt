@@ -3,4 +3,4 @@ use Rattle.asg_rankings.proofs.laws.tree_tops_law.Goals as goal
 
 pub returns : goal.returns
 returns c low high word_of enter X count answers nodes le same tree =
-    IsSearchTree-by_top low high le (λ side phases square. c.tops_law.ensures.admitted low high side phases square le) word_of enter X count answers nodes same tree
+    IsSearchTree-by_top low high le word_of enter X count answers nodes same tree

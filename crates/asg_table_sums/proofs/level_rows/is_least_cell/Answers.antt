@@ -1,5 +1,6 @@
 use Rattle.asg_table_sums.proofs.Common.{◌+◌, ◌≤◌, pos, ◌+ℤ◌, ◌-ℤ◌, ◌≤ℤ◌, slice_index_or, sym, subst, arith, to_z-of_z, absent, shifted, sum_entered, rise_at, w64}
-use Rattle.asg_table_sums.proofs.RowCosts.{column_there, shifted_le, turned_le, shifted_under, turned_under}
+use Rattle.asg_table_sums.proofs.RowCosts.{shifted_le, turned_le, shifted_under, turned_under}
+use Rattle.asg_values.specs.laws.LiveCells.{column_of_live}
 use Rattle.asg_table_sums.proofs.level_rows.is_least_cell.Goals as goal
 
 pub returns-in-Sum-clause-least : goal.returns-in-Sum-clause-least
@@ -11,7 +12,7 @@ returns-in-Sum-clause-least c = λ yes k x y own other.
     let parts = c.in-Some.ensures.parts in
     subst (λ o. sum_entered o x + rise_at rises d ≤ sum_entered o y + rise_at rises k) (sym c.in-Sum.is)
     (shifted_le X c.rows-rows.ensures.instance r c.in-Some.parts.firsts.now c.in-Some.parts.seconds.now parts d k x y own other (rise_at rises d) (rise_at rises k)
-    (c.is_least_and_under.ensures.least yes k (omega (arith, column_there X r k y other, parts.whole))))
+    (c.is_least_and_under.ensures.least yes k (omega (arith, column_of_live X r k y other, parts.whole))))
 
 pub returns-in-SumMax-clause-least : goal.returns-in-SumMax-clause-least
 returns-in-SumMax-clause-least c = λ yes k x y own other.
@@ -22,7 +23,7 @@ returns-in-SumMax-clause-least c = λ yes k x y own other.
     let parts = c.in-Some.ensures.parts in
     subst (λ o. sum_entered o x + rise_at rises d ≤ sum_entered o y + rise_at rises k) (sym c.in-SumMax.is)
     (turned_le X c.rows-rows.ensures.instance r c.in-Some.parts.firsts.now c.in-Some.parts.seconds.now parts d k x y own other (rise_at rises d) (rise_at rises k)
-    (c.is_greatest_and_under.ensures.least yes k (omega (arith, column_there X r k y other, parts.whole))))
+    (c.is_greatest_and_under.ensures.least yes k (omega (arith, column_of_live X r k y other, parts.whole))))
 
 pub returns-in-Sum-clause-under : goal.returns-in-Sum-clause-under
 returns-in-Sum-clause-under c = λ yes x live.

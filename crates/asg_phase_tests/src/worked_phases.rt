@@ -30,6 +30,19 @@ pub(crate) const WORKED: [Option<u128>; 9] = [
     Some(1_000_000_002),
 ];
 
+/// The same in 64 bits.
+pub(crate) const NARROW: [Option<u64>; 9] = [
+    Some(1_000_000_004),
+    Some(1_000_000_001),
+    Some(1_000_000_003),
+    Some(1_000_000_002),
+    Some(1_000_000_000),
+    Some(1_000_000_005),
+    Some(1_000_000_003),
+    Some(1_000_000_002),
+    Some(1_000_000_002),
+];
+
 /// The cells of a square of three rows.
 pub(crate) type Cells = [[u128; 3]; 3];
 

@@ -7,6 +7,6 @@
 mod runs;
 
 pub use runs::{
-    ASN, Case, Cases, Faulty, Files, RECT, Ran, SQUARE, THREE, ends, held, is_ended, is_stopped,
-    run_over, run_within, scripted,
+    ASN, Case, Cases, Faulty, Files, GRAPH, RECT, Ran, SQUARE, TABLE, THREE, ends, held, is_ended,
+    is_stopped, joined, run_over, run_within, scripted,
 };

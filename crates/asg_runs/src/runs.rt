@@ -182,6 +182,21 @@ pub fn ends(
     Ok(is_ended(&ran, want.0, want.1))
 }
 
+// Adds texts to one.
+fn add_parts(text: &mut String, parts: &[&str]) -> Result<(), AllocError> {
+    for part in parts {
+        text.push_str(part)?;
+    }
+    Ok(())
+}
+
+/// Texts one after the other.
+pub fn joined(alloc: Global, parts: &[&str]) -> Result<String, AllocError> {
+    let mut text = String::new(alloc);
+    add_parts(&mut text, parts)?;
+    Ok(text)
+}
+
 /// Words, the numbers of the fetches that fail, those of the puts that fail with how many bytes
 /// they still take, the status and what is written.
 pub type Faulty = (
@@ -208,7 +223,7 @@ pub fn is_stopped(alloc: Global, f: &[u8], g: &[u8], case: &Faulty) -> Result<bo
 pub const THREE: &[u8] = b"3\n4 1 3\n2 0 5\n3 2 2\n";
 
 /// A request that is solved: the options, the file, the status, and what the document says behind
-/// the line of its status.
+/// the word of its line `value`, or `hall` where there is no valid choice.
 pub type Case = (&'static [&'static str], &'static str, u8, &'static str);
 
 /// An objective, and requests that are solved for it.
@@ -216,6 +231,14 @@ pub type Cases = (&'static str, &'static [Case]);
 
 /// The same square as the text of a file.
 pub const SQUARE: &str = "3\n4 1 3\n2 0 5\n3 2 2\n";
+
+/// The same as a graph.
+pub const GRAPH: &str =
+    "c a small instance\np asn 6 9\nn 1\nn 2\nn 3\na 1 4 4\na 1 5 1\na 1 6 3\na 2 4 2\n\
+     a 2 5 0\na 2 6 5\na 3 4 3\na 3 5 2\na 3 6 2\n";
+
+/// A table of two rows and three columns, of which one cell of each row is absent.
+pub const TABLE: &str = "2 3\n5 - 1\n- 2 1\n";
 
 /// The options of files that hold a table or a graph.
 pub const RECT: &[&str] = &["--format", "rect"];

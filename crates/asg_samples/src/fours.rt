@@ -28,6 +28,11 @@ pub const ONE_COLUMN: Fours = [
     1, ABSENT, ABSENT, ABSENT, 2, ABSENT, ABSENT, ABSENT, 3, 3, 3, 3, 4, 4, 4, 4,
 ];
 
+/// The second column has one cost, the others different ones; the last row and column have no cell.
+pub const ONE_COST: Fours = [
+    1, 5, 9, ABSENT, 2, 5, 8, ABSENT, 3, 5, 7, ABSENT, ABSENT, ABSENT, ABSENT, ABSENT,
+];
+
 /// Cells in two columns alone.
 pub const TWO_COLUMNS: Fours = [
     1, 5, ABSENT, ABSENT, 2, 6, ABSENT, ABSENT, 3, 7, ABSENT, ABSENT, 4, 8, ABSENT, ABSENT,

@@ -12,7 +12,7 @@ mod samples;
 mod squares;
 
 pub use faults::Fault;
-pub use fours::{Fours, ONE_COLUMN, PRODUCTS, SIGNED, THREE, TWO_COLUMNS, four_by_four};
+pub use fours::{Fours, ONE_COLUMN, ONE_COST, PRODUCTS, SIGNED, THREE, TWO_COLUMNS, four_by_four};
 pub use samples::Sample;
 pub use squares::reduced_of;
 

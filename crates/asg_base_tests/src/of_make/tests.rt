@@ -20,7 +20,7 @@ static CELLS: [Cell; 9] = [
     (2, 2, 591),
 ];
 
-// The cells, for a caller that needn't know them.
+// These, for a caller that needn't know them.
 fn cells() -> &'static [Cell] {
     &CELLS
 }

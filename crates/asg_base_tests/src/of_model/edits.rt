@@ -91,11 +91,11 @@ const CHANGED: [Parts; 9] = [
     TWO_FOUR,
 ];
 
-static EDITED: [Edited; 2] = [(&DROPS, LEFT), (&CELLS, CHANGED)];
+static EDITS: [Edited; 2] = [(&DROPS, LEFT), (&CELLS, CHANGED)];
 
-// The edits, for a caller that needn't know them.
+// These, for a caller that needn't know them.
 fn edits() -> &'static [Edited] {
-    &EDITED
+    &EDITS
 }
 
 // How an edit is refused, if it is.

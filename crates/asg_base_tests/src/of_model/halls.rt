@@ -42,17 +42,18 @@ const HALL_OF_SMALLER: [Hall; 2] = [
     (Band::Under(2), &[3], false),
 ];
 
-// Squares, and rows of each, for a caller that needn't know them.
-fn halls() -> &'static [(Sample<'static>, &'static [Hall])] {
-    &HALLS
-}
-
-static HALLS: [(Sample<'static>, &[Hall]); 4] = [
+// Squares, and rows of each.
+static HALLS: [(Sample<'static>, &'static [Hall]); 4] = [
     (PLAIN, &HALL_OF_PLAIN),
     (WIDE, &HALL_OF_WIDE),
     (TWO, &HALL_OF_TWO),
     (SMALLER, &HALL_OF_SMALLER),
 ];
+
+// These, for a caller that needn't know them.
+fn halls() -> &'static [(Sample<'static>, &'static [Hall])] {
+    &HALLS
+}
 
 // Whether rows are told to be a Hall set or not.
 fn are_told(inst: &Instance, cases: &[Hall]) -> bool {

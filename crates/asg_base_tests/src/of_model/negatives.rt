@@ -53,12 +53,13 @@ fn refuses(
     Ok(are_refused)
 }
 
-// Squares, and what each objective refuses, for a caller that needn't know them.
+// Squares, and what each objective refuses.
+static REFUSALS: [(Sample<'static>, Refused); 2] = [(SIGNED, OF_SIGNED), (PLAIN, NONE_REFUSED)];
+
+// These, for a caller that needn't know them.
 fn refusals() -> &'static [(Sample<'static>, Refused)] {
     &REFUSALS
 }
-
-static REFUSALS: [(Sample<'static>, Refused); 2] = [(SIGNED, OF_SIGNED), (PLAIN, NONE_REFUSED)];
 
 #[test]
 fn finds_the_first_negative(rt: HostRuntime) -> Result<(), Fail> {

@@ -29,17 +29,18 @@ fn tells_choice(alloc: Global, inst: &Instance, case: &Chosen) -> Result<bool, N
     Ok(is_valid(inst, &choice) == case.1)
 }
 
-// Squares, and choices of each, for a caller that needn't know them.
-fn choices() -> &'static [(Sample<'static>, &'static [Chosen])] {
-    &CHOICES
-}
-
-static CHOICES: [(Sample<'static>, &[Chosen]); 4] = [
+// Squares, and choices of each.
+static CHOICES: [(Sample<'static>, &'static [Chosen]); 4] = [
     (PLAIN, &OF_PLAIN),
     (WIDE, &OF_WIDE),
     (TWO, &OF_TWO),
     (SMALLER, &OF_SMALLER),
 ];
+
+// These, for a caller that needn't know them.
+fn choices() -> &'static [(Sample<'static>, &'static [Chosen])] {
+    &CHOICES
+}
 
 // Whether each choice is told so.
 fn are_told(alloc: Global, inst: &Instance, cases: &[Chosen]) -> Result<bool, NoMemory> {

@@ -177,12 +177,8 @@ fn gives_values(
     Ok(gives_cases?)
 }
 
-// Squares, and choices of each with their values, for a caller that needn't know them.
-fn values() -> &'static [(Sample<'static>, &'static [Case])] {
-    &VALUES
-}
-
-static VALUES: [(Sample<'static>, &[Case]); 6] = [
+// Squares, and choices of each with their values.
+static VALUES: [(Sample<'static>, &'static [Case]); 6] = [
     (PAIRED, &OF_SQUARE),
     (TURNED, &OF_TURNED),
     (DROPPED, &OF_DROPPED),
@@ -190,6 +186,11 @@ static VALUES: [(Sample<'static>, &[Case]); 6] = [
     (PAIRED_WIDE, &OF_WIDE),
     (PAIRED_TWO, &OF_TWO),
 ];
+
+// These, for a caller that needn't know them.
+fn values() -> &'static [(Sample<'static>, &'static [Case])] {
+    &VALUES
+}
 
 // Whether each choice of each square has them.
 fn gives_all_values(alloc: Global, cells: Cells) -> Result<bool, Fault> {

@@ -4,7 +4,6 @@ use crate::of_check::phase_tests::verdict;
 use crate::of_check::ranking_tests::{PAIR, judged, text};
 use asg_check::{Form, NoMemory};
 use asg_model::Instance;
-use asg_samples::Fault;
 use std::alloc::Global;
 use std::test::Fail;
 
@@ -60,7 +59,7 @@ static DOCUMENTS: [Edited; 13] = [
     (Form::Solve, SOLVED, BEST, PHASES, 0, 0),
 ];
 
-// These documents, for a caller that needn't know them.
+// These, for a caller that needn't know them.
 fn documents() -> &'static [Edited] {
     &DOCUMENTS
 }
@@ -82,16 +81,11 @@ fn first_otherwise(alloc: Global, inst: &Instance) -> Result<Option<usize>, NoMe
     Ok(None)
 }
 
-// The place of the first over those costs.
-fn first_judged_otherwise(alloc: Global) -> Result<Option<usize>, Fault> {
-    let inst = PAIR.instance(alloc)?;
-    let place = first_otherwise(alloc, &inst);
-    drop(inst);
-    Ok(place?)
-}
-
 #[test]
 fn judges_edited_answers(rt: HostRuntime) -> Result<(), Fail> {
-    assert_eq!(rt; first_judged_otherwise(rt.alloc())?, None);
+    let inst = PAIR.instance(rt.alloc())?;
+    let place = first_otherwise(rt.alloc(), &inst);
+    drop(inst);
+    assert_eq!(rt; place?, None);
     Ok(())
 }

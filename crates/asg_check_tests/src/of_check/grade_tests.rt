@@ -56,7 +56,7 @@ static TIMES: [Judged; 7] = [
     (2, (2, 1), &[FIRST, FIRST, SECOND], 6, 2),
 ];
 
-// The cases, for a caller that needn't know them.
+// These, for a caller that needn't know them.
 fn times() -> &'static [Judged] {
     &TIMES
 }

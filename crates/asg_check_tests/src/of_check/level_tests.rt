@@ -93,7 +93,7 @@ static DOCUMENTS: [Documents; 3] = [
     ),
 ];
 
-// These documents, for a caller that needn't know them.
+// These, for a caller that needn't know them.
 fn documents() -> &'static [Documents] {
     &DOCUMENTS
 }

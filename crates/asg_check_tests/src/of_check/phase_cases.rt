@@ -73,11 +73,6 @@ const LEAST: Columns = (2, 1, 3);
 // A choice of the greatest least cost.
 const WIDEST: Columns = (3, 1, 2);
 
-/// Cases of sums, for a caller that needn't know them.
-pub(crate) fn sums() -> &'static [Cases] {
-    &SUMS
-}
-
 const OF_SUM: [Judged; 14] = [
     (&[FIRST, SECOND, THIRD], 0, 0),
     (&[FIRST, FAULTY, THIRD], 6, 2),
@@ -112,6 +107,7 @@ const OF_CAPPED_7: [Judged; 2] = [
     (&[CAPPED_FIRST, CAPPED_SECOND, CAPPED_FAULTY], 6, 3),
 ];
 
+// Cases of sums.
 static SUMS: [Cases; 6] = [
     (Sum, (5, 0), LEAST, &OF_SUM),
     (Sum, (6, 0), (1, 2, 3), &[(&[FIRST, SECOND, THIRD], 7, 0)]),
@@ -146,9 +142,9 @@ static SUMS: [Cases; 6] = [
     (Capped(7), (5, 0), LEAST, &OF_CAPPED_7),
 ];
 
-/// Cases of greatest and least costs, likewise.
-pub(crate) fn peaks() -> &'static [Cases] {
-    &PEAKS
+/// These, for a caller that needn't know them.
+pub(crate) fn sums() -> &'static [Cases] {
+    &SUMS
 }
 
 const OF_BOTTLENECK: [Judged; 4] = [
@@ -167,6 +163,7 @@ const OF_BOTTLENECK_MAX: [Judged; 2] = [
     (&[(&[(0, 999_999_999)], &[0, 0, 0], &[0, 1, 0])], 6, 1),
 ];
 
+// Cases of greatest and least costs, likewise.
 static PEAKS: [Cases; 5] = [
     (Bottleneck, (2, 0), LEAST, &OF_BOTTLENECK),
     (BottleneckMax, (2, 0), WIDEST, &OF_BOTTLENECK_MAX),
@@ -174,3 +171,8 @@ static PEAKS: [Cases; 5] = [
     (Balanced, (1, 0), LEAST, &[(&[THIRD], 2, 0)]),
     (Lex, (2, 0), LEAST, &[(&[THIRD], 2, 0)]),
 ];
+
+/// These, for a caller that needn't know them.
+pub(crate) fn peaks() -> &'static [Cases] {
+    &PEAKS
+}

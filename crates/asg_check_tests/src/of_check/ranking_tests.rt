@@ -15,7 +15,7 @@ use asg_model::Objective::Sum;
 use asg_model::limits::MOST_SIDE;
 use asg_model::{Instance, Place};
 use asg_reasons::Verdict;
-use asg_samples::{Fault, Sample};
+use asg_samples::Sample;
 use asg_values::negative;
 use std::alloc::Global;
 use std::test::Fail;
@@ -101,7 +101,7 @@ static DOCUMENTS: [Ranked; 15] = [
     (2, TWO, CHOICES, LOW, 11, 4),
 ];
 
-// These documents, for a caller that needn't know them.
+// These, for a caller that needn't know them.
 fn documents() -> &'static [Ranked] {
     &DOCUMENTS
 }
@@ -214,16 +214,11 @@ fn first_otherwise(alloc: Global, inst: &Instance) -> Result<Option<usize>, NoMe
     Ok(None)
 }
 
-// The place of the first over those costs.
-fn first_judged_otherwise(alloc: Global) -> Result<Option<usize>, Fault> {
-    let inst = PAIR.instance(alloc)?;
-    let place = first_otherwise(alloc, &inst);
-    drop(inst);
-    Ok(place?)
-}
-
 #[test]
 fn judges_rankings(rt: HostRuntime) -> Result<(), Fail> {
-    assert_eq!(rt; first_judged_otherwise(rt.alloc())?, None);
+    let inst = PAIR.instance(rt.alloc())?;
+    let place = first_otherwise(rt.alloc(), &inst);
+    drop(inst);
+    assert_eq!(rt; place?, None);
     Ok(())
 }

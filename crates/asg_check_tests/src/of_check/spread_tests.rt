@@ -119,18 +119,13 @@ fn first_of_sample(alloc: Global, sample: &Sample<'_>) -> Result<Option<usize>, 
     Ok(place?)
 }
 
-// Whether it is shown of a spread that windows of single costs prove it.
-fn is_wide_shown(alloc: Global) -> Result<bool, Fault> {
-    let inst = SQUARE.instance(alloc)?;
-    let shown = is_shown(alloc, &inst, 2, CASES[0].0);
-    drop(inst);
-    Ok(shown?)
-}
-
 #[test]
 fn tells_windows_at_once(rt: HostRuntime) -> Result<(), Fail> {
     assert_eq!(rt; first_of_sample(rt.alloc(), &SQUARE)?, None);
     assert_eq!(rt; first_of_sample(rt.alloc(), &GAPPED)?, None);
-    assert_eq!(rt; is_wide_shown(rt.alloc())?, false);
+    let inst = SQUARE.instance(rt.alloc())?;
+    let shown = is_shown(rt.alloc(), &inst, 2, CASES[0].0);
+    drop(inst);
+    assert_eq!(rt; shown?, false);
     Ok(())
 }

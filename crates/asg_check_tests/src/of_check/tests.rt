@@ -88,7 +88,7 @@ static ANSWERS: [Answered; 13] = [
     (Lex, Lex, 1, (1, 2), 1, Some(2)),
 ];
 
-// These cases, for a caller that needn't know them.
+// These, for a caller that needn't know them.
 fn answers() -> &'static [Answered] {
     &ANSWERS
 }
@@ -122,17 +122,12 @@ fn first_otherwise(alloc: Global, inst: &Instance) -> Result<Option<usize>, NoMe
     Ok(None)
 }
 
-// The place of the first over the row with open columns.
-fn first_judged_otherwise(alloc: Global) -> Result<Option<usize>, Fault> {
-    let inst = instance(alloc, true)?;
-    let place = first_otherwise(alloc, &inst);
-    drop(inst);
-    Ok(place?)
-}
-
 #[test]
 fn judges_answers(rt: HostRuntime) -> Result<(), Fail> {
-    assert_eq!(rt; first_judged_otherwise(rt.alloc())?, None);
+    let inst = instance(rt.alloc(), true)?;
+    let place = first_otherwise(rt.alloc(), &inst);
+    drop(inst);
+    assert_eq!(rt; place?, None);
     Ok(())
 }
 

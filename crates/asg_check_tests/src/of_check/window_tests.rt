@@ -72,7 +72,7 @@ static DOCUMENTS: [Documents; 4] = [
     ),
 ];
 
-// These documents, for a caller that needn't know them.
+// These, for a caller that needn't know them.
 fn documents() -> &'static [Documents] {
     &DOCUMENTS
 }
@@ -85,7 +85,7 @@ const NO_SPREAD: &[u8] = b"balanced\nstatus best\nvalue 0\n";
 
 // Over one row with the costs `3 1`: the lines of the cell, the proof, and the reason and its
 // place.
-static ROWS: [(&[u8], &[u8], u8, i64); 4] = [
+static ROWS: [(&'static [u8], &'static [u8], u8, i64); 4] = [
     (b"cells 1\n1 1\n", b"windows 0\n", 0, 0),
     (b"cells 1\n1 1\n", b"windows 1\nwindow 4 9 1\n", 0, 0),
     (b"cells 1\n1 2\n", b"windows 1\nwindow 0 9 1\n", 5, 1),
@@ -229,16 +229,11 @@ fn first_row_otherwise(alloc: Global, inst: &Instance) -> Result<Option<&'static
     Ok(None)
 }
 
-// That of the first that isn't over one row.
-fn first_row_judged_otherwise(alloc: Global) -> Result<Option<&'static [u8]>, Fault> {
-    let inst = instance(alloc, true)?;
-    let proof = first_row_otherwise(alloc, &inst);
-    drop(inst);
-    Ok(proof?)
-}
-
 #[test]
 fn judges_windows_for_no_spread(rt: HostRuntime) -> Result<(), Fail> {
-    assert_eq!(rt; first_row_judged_otherwise(rt.alloc())?, None);
+    let inst = instance(rt.alloc(), true)?;
+    let proof = first_row_otherwise(rt.alloc(), &inst);
+    drop(inst);
+    assert_eq!(rt; proof?, None);
     Ok(())
 }

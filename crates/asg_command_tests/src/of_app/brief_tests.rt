@@ -44,6 +44,11 @@ static SOLVED: [Solved; 13] = [
     ("capped=7", &[], "1\n-1\n", 3, "refused instance 14 1 1\n"),
 ];
 
+// These, for a caller that needn't know them.
+fn solved() -> &'static [Solved] {
+    &SOLVED
+}
+
 // As many answers as were asked for, fewer, ties, values of each form, no valid choice, and too
 // many choices.
 static RANKED: [Ranked; 10] = [
@@ -71,12 +76,7 @@ static RANKED: [Ranked; 10] = [
     ),
 ];
 
-// These requests, for a caller that needn't know them.
-fn solved() -> &'static [Solved] {
-    &SOLVED
-}
-
-// The same.
+// These, for a caller that needn't know them.
 fn ranked() -> &'static [Ranked] {
     &RANKED
 }

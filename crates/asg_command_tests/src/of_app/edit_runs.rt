@@ -1,15 +1,19 @@
 //! Scripts of edits, for the tests of runs over memory.
 
-/// A script: the objective, the options, the instance's file, the lines, how many documents it has,
-/// and what the documents say behind `objective OBJECTIVE`, up to their proofs.
+use asg_runs::SQUARE;
+
+/// A script: the objective, the options, the instance's file, the lines, and what each document
+/// says behind the word of its line `value`, [`NONE`] where it has none.
 pub(crate) type Script = (
     &'static str,
     &'static [&'static str],
     &'static str,
     &'static str,
-    &'static str,
     &'static [&'static str],
 );
+
+/// In place of a value where there is no valid choice.
+pub(crate) const NONE: &str = "";
 
 // Costs that rise and fall, rows and columns that are dropped, what makes nothing valid and valid
 // again, each objective, a place rule and capacities.
@@ -17,34 +21,26 @@ static SCRIPTS: [Script; 12] = [
     (
         "sum",
         &[],
-        "3\n4 1 3\n2 0 5\n3 2 2\n",
+        SQUARE,
         "cost 1 2 9\nsolve\ndrop-row 2\nsolve\ndrop-column 2\nsolve\ndrop-column 3\nsolve\n",
-        "yes 4\n",
-        &[
-            "status best\nvalue 6\ncells 3\n",
-            "status best\nvalue 5\ncells 2\n",
-            "status best\nvalue 6\ncells 2\n",
-            "status none\nhall ",
-        ],
+        &["6\ncells 3\n", "5\ncells 2\n", "6\ncells 2\n", NONE],
     ),
     (
         "sum",
         &[],
-        "3\n4 1 3\n2 0 5\n3 2 2\n",
+        SQUARE,
         "cost 1 1 0\nsolve\n",
-        "yes 1\n",
-        &["status best\nvalue 2\ncells 3\n1 1\n2 2\n3 3\n"],
+        &["2\ncells 3\n1 1\n2 2\n3 3\n"],
     ),
     (
         "sum",
         &[],
-        "3\n4 1 3\n2 0 5\n3 2 2\n",
+        SQUARE,
         "solve\nsolve\n\nsolve",
-        "yes 3\n",
         &[
-            "status best\nvalue 5\ncells 3\n1 2\n2 1\n3 3\n",
-            "status best\nvalue 5\ncells 3\n1 2\n2 1\n3 3\n",
-            "status best\nvalue 5\ncells 3\n1 2\n2 1\n3 3\n",
+            "5\ncells 3\n1 2\n2 1\n3 3\n",
+            "5\ncells 3\n1 2\n2 1\n3 3\n",
+            "5\ncells 3\n1 2\n2 1\n3 3\n",
         ],
     ),
     (
@@ -52,23 +48,21 @@ static SCRIPTS: [Script; 12] = [
         &[],
         "2\n1 -\n2 -\n",
         "solve\ncost 2 2 7\nsolve\nforbid 2 2\nsolve\ncost 1 2 3:4\nsolve\n",
-        "yes 4\n",
         &[
-            "status none\nhall ",
-            "status best\nvalue 8\ncells 2\n1 1\n2 2\n",
-            "status none\nhall ",
-            "status best\nvalue 5\ncells 2\n1 2\n2 1\n",
+            NONE,
+            "8\ncells 2\n1 1\n2 2\n",
+            NONE,
+            "5\ncells 2\n1 2\n2 1\n",
         ],
     ),
     (
         "sum-max",
         &[],
-        "3\n4 1 3\n2 0 5\n3 2 2\n",
+        SQUARE,
         "solve\nforbid 2 3\nsolve\n",
-        "yes 2\n",
         &[
-            "status best\nvalue 11\ncells 3\n1 1\n2 3\n3 2\n",
-            "status best\nvalue 7\ncells 3\n1 3\n2 1\n3 2\n",
+            "11\ncells 3\n1 1\n2 3\n3 2\n",
+            "7\ncells 3\n1 3\n2 1\n3 2\n",
         ],
     ),
     (
@@ -76,77 +70,49 @@ static SCRIPTS: [Script; 12] = [
         &[],
         "2\n1:9 1:2\n1:3 1:1\n",
         "solve\ncost 1 1 1:1\nsolve\n",
-        "yes 2\n",
-        &[
-            "status best\nvalue 2:5\ncells 2\n1 2\n2 1\n",
-            "status best\nvalue 2:2\ncells 2\n1 1\n2 2\n",
-        ],
+        &["2:5\ncells 2\n1 2\n2 1\n", "2:2\ncells 2\n1 1\n2 2\n"],
     ),
     (
         "capped=6",
         &[],
-        "3\n4 1 3\n2 0 5\n3 2 2\n",
+        SQUARE,
         "solve\ncost 1 2 9\nsolve\n",
-        "yes 2\n",
-        &[
-            "status best\nvalue 5\ncells 3\n1 2\n2 1\n3 3\n",
-            "status best\nvalue 6\ncells 3\n",
-        ],
+        &["5\ncells 3\n1 2\n2 1\n3 3\n", "6\ncells 3\n"],
     ),
     (
         "bottleneck",
         &[],
-        "3\n4 1 3\n2 0 5\n3 2 2\n",
+        SQUARE,
         "solve\ncost 3 3 9\nsolve\n",
-        "yes 2\n",
-        &[
-            "status best\nvalue 2\ncells 3\n1 2\n2 1\n3 3\n",
-            "status best\nvalue 3\ncells 3\n",
-        ],
+        &["2\ncells 3\n1 2\n2 1\n3 3\n", "3\ncells 3\n"],
     ),
     (
         "bottleneck-max",
         &[],
-        "3\n4 1 3\n2 0 5\n3 2 2\n",
+        SQUARE,
         "solve\ndrop-row 3\nsolve\n",
-        "yes 2\n",
-        &[
-            "status best\nvalue 2\ncells 3\n",
-            "status best\nvalue 4\ncells 2\n1 1\n2 3\n",
-        ],
+        &["2\ncells 3\n", "4\ncells 2\n1 1\n2 3\n"],
     ),
     (
         "time-cost",
         &[],
         "2\n3:5 3:1\n3:1 3:9\n",
         "solve\ncost 1 2 3:20\nsolve\n",
-        "yes 2\n",
-        &[
-            "status best\nvalue 3:2\ncells 2\n1 2\n2 1\n",
-            "status best\nvalue 3:14\ncells 2\n1 1\n2 2\n",
-        ],
+        &["3:2\ncells 2\n1 2\n2 1\n", "3:14\ncells 2\n1 1\n2 2\n"],
     ),
     (
         "sum",
         &["--place", "2"],
-        "3\n4 1 3\n2 0 5\n3 2 2\n",
+        SQUARE,
         "solve\ncost 1 1 -1\nsolve\n",
-        "yes 2\n",
-        &[
-            "status best\nvalue 2\ncells 2\n2 2\n3 3\n",
-            "status best\nvalue -1\ncells 2\n1 1\n2 2\n",
-        ],
+        &["2\ncells 2\n2 2\n3 3\n", "-1\ncells 2\n1 1\n2 2\n"],
     ),
     (
         "sum",
         &["--each", "2"],
-        "3\n4 1 3\n2 0 5\n3 2 2\n",
+        SQUARE,
         "solve\ndrop-column 2\nsolve\n",
-        "yes 2\n",
-        &[
-            "status best\nvalue 3\ncells 3\n1 2\n2 2\n3 3\n",
-            "status best\nvalue 7\ncells 3\n1 3\n2 1\n3 3\n",
-        ],
+        &["3\ncells 3\n1 2\n2 2\n3 3\n", "7\ncells 3\n1 3\n2 1\n3 3\n"],
     ),
 ];
 

@@ -1,6 +1,6 @@
 //! Requests to edit, and to check what they write, as runs over memory.
 
-use crate::of_app::edit_runs::{Script, scripts};
+use crate::of_app::edit_runs::{NONE, Script, scripts};
 use asg_runs::{Files, Ran, THREE, ends, is_ended, run_over, scripted};
 use std::alloc::{AllocError, Global};
 use std::test::Fail;
@@ -21,11 +21,21 @@ fn next_document(written: &[u8], place: usize) -> usize {
     written.len()
 }
 
+// How the document of a value begins.
+fn begin(alloc: Global, objective: &str, value: &str) -> Result<String, AllocError> {
+    let status = if value == NONE {
+        "none\nhall "
+    } else {
+        "best\nvalue "
+    };
+    format!(in alloc; "assignment 1\ncommand edit\nobjective {objective}\nstatus {status}{value}")
+}
+
 // Whether documents begin as the case says, and are as many.
 fn are_begun(alloc: Global, case: &Script, written: &[u8]) -> Result<bool, AllocError> {
     let mut place = 0;
-    for lines in case.5 {
-        let text = format!(in alloc; "assignment 1\ncommand edit\nobjective {}\n{lines}", case.0)?;
+    for value in case.4 {
+        let text = begin(alloc, case.0, value)?;
         if place >= written.len() || !written[place..].starts_with(text.as_bytes()) {
             return Ok(false);
         }
@@ -38,7 +48,8 @@ fn are_begun(alloc: Global, case: &Script, written: &[u8]) -> Result<bool, Alloc
 fn is_accepted(alloc: Global, case: &Script, ran: &Ran) -> Result<bool, AllocError> {
     let words = ["check", case.0, "f", "g", "--script", "s"];
     let files = scripted(case.2.as_bytes(), &ran.written, case.3.as_bytes());
-    ends(alloc, &words, case.1, files, (0, case.4.as_bytes()))
+    let told = format!(in alloc; "yes {}\n", case.4.len())?;
+    ends(alloc, &words, case.1, files, (0, told.as_bytes()))
 }
 
 // Whether a run has the documents of a case, and they are accepted.
@@ -61,7 +72,7 @@ fn documents_of_scripts(rt: HostRuntime) -> Result<(), Fail> {
 }
 
 // Scripts that are refused, with the number and the line.
-static REFUSED: [(&str, &str, &str); 10] = [
+static REFUSED: [(&'static str, &'static str, &'static str); 10] = [
     ("sum", "drop-row 1\ndrop-row 2\ndrop-row 3\n", "16 3"),
     ("sum", "cost 9 1 0\n", "11 1"),
     ("sum", "solve\ncost 1 9 0\n", "12 2"),
@@ -74,7 +85,7 @@ static REFUSED: [(&str, &str, &str); 10] = [
     ("bottleneck", "forbid 9 9\nmove\n", "1 2"),
 ];
 
-// The refused scripts, for a caller that needn't know them.
+// These, for a caller that needn't know them.
 fn refused() -> &'static [(&'static str, &'static str, &'static str)] {
     &REFUSED
 }
@@ -132,7 +143,7 @@ fn judges(alloc: Global, script: &str, answer: &str, want: (u8, &str)) -> Result
 }
 
 // Scripts and documents, the status, and what is told of them.
-static COUNTED: [(&str, &str, u8, &str); 4] = [
+static COUNTED: [(&'static str, &'static str, u8, &'static str); 4] = [
     ("", "", 0, "yes 0\n"),
     ("solve\n", "", 5, "refused document 0\n"),
     ("", SOLVED, 5, "refused document 0\n"),
@@ -154,7 +165,7 @@ fn documents_are_counted(rt: HostRuntime) -> Result<(), Fail> {
 }
 
 // Scripts, and how that document, written twice, is judged for each.
-static TWICE: [(&str, u8, &str); 3] = [
+static TWICE: [(&'static str, u8, &'static str); 3] = [
     ("solve\nsolve\n", 0, "yes 2\n"),
     ("solve\ncost 1 2 2\nsolve\n", 6, "no 2 4 0\n"),
     ("cost 1 1 0\nsolve\nsolve\n", 6, "no 1 6 1\n"),
@@ -174,10 +185,8 @@ fn judges_twice(alloc: Global, script: &str, want: (u8, &str)) -> Result<bool, A
 #[test]
 fn documents_are_judged_in_turn(rt: HostRuntime) -> Result<(), Fail> {
     for (script, code, text) in twice() {
-        assert!(rt;
-            judges_twice(rt.alloc(), script, (*code, *text))?,
-            "{script}"
-        );
+        let is_so = judges_twice(rt.alloc(), script, (*code, *text))?;
+        assert!(rt; is_so, "{script}");
     }
     Ok(())
 }
@@ -185,27 +194,12 @@ fn documents_are_judged_in_turn(rt: HostRuntime) -> Result<(), Fail> {
 #[test]
 fn a_document_of_an_edit_is_none_of_a_solve(rt: HostRuntime) -> Result<(), Fail> {
     let alloc = rt.alloc();
+    let check = ["check", "sum", "f", "g"];
     let files = scripted(THREE, SOLVED.as_bytes(), b"");
-    assert!(rt;
-        ends(
-            alloc,
-            &["check", "sum", "f", "g"],
-            &[],
-            files,
-            (6, b"no 1 2 0\n")
-        )?
-    );
+    assert!(rt; ends(alloc, &check, &[], files, (6, b"no 1 2 0\n"))?);
     let empty = scripted(THREE, b"", b"");
     assert!(rt; ends(alloc, &["edit", "sum", "f", "s"], &[], empty, (0, b""))?);
-    assert!(rt;
-        ends(
-            alloc,
-            &["check", "sum", "f", "g"],
-            &[],
-            empty,
-            (5, b"refused document 0\n")
-        )?
-    );
+    assert!(rt; ends(alloc, &check, &[], empty, (5, b"refused document 0\n"))?);
     Ok(())
 }
 

@@ -14,7 +14,7 @@ type Fault = (u32, u32, usize);
 
 static FAULTS: [Fault; 4] = [(1, 0, 0), (1, 7, 7), (2, 0, 65_536), (2, 7, 65_543)];
 
-// The faults, for a caller that needn't know them.
+// These, for a caller that needn't know them.
 fn faults() -> &'static [Fault] {
     &FAULTS
 }

@@ -1,12 +1,12 @@
 //! Requests to rank, and to check rankings, as runs over memory.
 
-use asg_runs::{Ran, THREE, ends, held, run_over};
+use asg_runs::{Ran, SQUARE, THREE, ends, held, run_over};
 use std::alloc::{AllocError, Global};
 use std::test::Fail;
 
-// A request to rank: the objective, the count, the file, the status, and what the document says
-// behind its objective.
-type Ranking = (&'static str, &'static str, &'static str, u8, &'static str);
+// A request to rank: the objective, the count, the file, and what the document says behind the word
+// of its line `answers`; nothing where no choice is valid, so that all of it is in the Hall set.
+type Ranking = (&'static str, &'static str, &'static str, &'static str);
 
 // As many answers as were asked for, fewer, ties, each algebraic objective, and an instance without
 // a valid choice.
@@ -15,68 +15,51 @@ static RANKINGS: [Ranking; 9] = [
         "sum",
         "2",
         "2\n1 2\n4 3\n",
-        0,
-        "status ranked\ncount 2\nanswers 2\nanswer 4\ncells 2\n1 1\n2 2\nanswer 6\ncells 2\n1 2\n\
-         2 1\nproof tree ",
+        "2\nanswer 4\ncells 2\n1 1\n2 2\nanswer 6\ncells 2\n1 2\n2 1\nproof tree ",
     ),
     (
         "sum",
         "10",
-        "3\n4 1 3\n2 0 5\n3 2 2\n",
-        0,
-        "status ranked\ncount 10\nanswers 6\nanswer 5\ncells 3\n1 2\n2 1\n3 3\nanswer 6\n",
+        SQUARE,
+        "6\nanswer 5\ncells 3\n1 2\n2 1\n3 3\nanswer 6\n",
     ),
     (
         "sum",
         "3",
         "1\n8\n",
-        0,
-        "status ranked\ncount 3\nanswers 1\nanswer 8\ncells 1\n1 1\nproof tree ",
+        "1\nanswer 8\ncells 1\n1 1\nproof tree ",
     ),
     (
         "sum-max",
         "1",
-        "3\n4 1 3\n2 0 5\n3 2 2\n",
-        0,
-        "status ranked\ncount 1\nanswers 1\nanswer 11\ncells 3\n1 1\n2 3\n3 2\nproof tree ",
+        SQUARE,
+        "1\nanswer 11\ncells 3\n1 1\n2 3\n3 2\nproof tree ",
     ),
     (
         "pair",
         "2",
         "2\n1:9 1:2\n1:3 1:1\n",
-        0,
-        "status ranked\ncount 2\nanswers 2\nanswer 2:5\ncells 2\n1 2\n2 1\nanswer 2:10\ncells 2\n\
-         1 1\n2 2\nproof tree ",
+        "2\nanswer 2:5\ncells 2\n1 2\n2 1\nanswer 2:10\ncells 2\n1 1\n2 2\nproof tree ",
     ),
     (
         "capped=6",
         "2",
-        "3\n4 1 3\n2 0 5\n3 2 2\n",
-        0,
-        "status ranked\ncount 2\nanswers 2\nanswer 5\ncells 3\n1 2\n2 1\n3 3\nanswer 6\n",
+        SQUARE,
+        "2\nanswer 5\ncells 3\n1 2\n2 1\n3 3\nanswer 6\n",
     ),
     (
         "bottleneck",
         "1",
-        "3\n4 1 3\n2 0 5\n3 2 2\n",
-        0,
-        "status ranked\ncount 1\nanswers 1\nanswer 2\ncells 3\n1 2\n2 1\n3 3\nproof tree ",
+        SQUARE,
+        "1\nanswer 2\ncells 3\n1 2\n2 1\n3 3\nproof tree ",
     ),
     (
         "time-cost",
         "2",
         "2\n3:5 3:1\n3:1 3:9\n",
-        0,
-        "status ranked\ncount 2\nanswers 2\nanswer 3:2\ncells 2\n1 2\n2 1\nanswer 3:14\ncells 2\n\
-         1 1\n2 2\nproof tree ",
+        "2\nanswer 3:2\ncells 2\n1 2\n2 1\nanswer 3:14\ncells 2\n1 1\n2 2\nproof tree ",
     ),
-    (
-        "bottleneck-max",
-        "2",
-        "1\n-\n",
-        1,
-        "status none\nhall 1\nend\n",
-    ),
+    ("bottleneck-max", "2", "1\n-\n", ""),
 ];
 
 // The rankings, for a caller that needn't know them.
@@ -90,11 +73,22 @@ fn ranked(alloc: Global, case: &Ranking) -> Result<Ran, AllocError> {
     run_over(alloc, &words, &[], held(case.2.as_bytes(), b""))
 }
 
+// How the document of a case begins behind its line `objective`.
+fn begin(alloc: Global, case: &Ranking) -> Result<String, AllocError> {
+    let (count, answers) = (case.1, case.3);
+    if answers.is_empty() {
+        String::from_str(alloc, "status none\nhall 1\nend\n")
+    } else {
+        format!(in alloc; "status ranked\ncount {count}\nanswers {answers}")
+    }
+}
+
 // Whether a run has the status of a case, and its document begins as the case says.
 fn is_ranked(alloc: Global, case: &Ranking, ran: &Ran) -> Result<bool, AllocError> {
-    let (objective, lines) = (case.0, case.4);
-    let text = format!(in alloc; "assignment 1\ncommand rank\nobjective {objective}\n{lines}")?;
-    Ok(ran.code == case.3 && ran.written.starts_with(text.as_bytes()))
+    let (objective, begin) = (case.0, begin(alloc, case)?);
+    let code = if case.3.is_empty() { 1 } else { 0 };
+    let text = format!(in alloc; "assignment 1\ncommand rank\nobjective {objective}\n{begin}")?;
+    Ok(ran.code == code && ran.written.starts_with(text.as_bytes()))
 }
 
 // Whether what a run wrote is accepted, where as many choices are asked for.
@@ -155,22 +149,22 @@ const BEGUN: &str =
      cells 2\n1 1\n2 2\nanswer 6\ncells 2\n1 2\n2 1\n";
 
 // Its tree, in which the Hall set of the third node lacks a row, or the second node lacks a branch.
-static TREES: [(&str, &str); 2] = [
+static TREES: [(&'static str, &'static str); 2] = [
     (
         "proof tree 5\nnode 0 0 answered 1 2\nsteps 1000000001\nenters 0 1\nleaves 1 1\n\
-         steps 1000000003\nenters 1 0\nleaves 1 1\nnode 1 1 answered 2 1\nsteps 1 1\n\
-         enters 0 1\nleaves 2 1\nnode 1 2 empty 1\nnode 2 1 open 0\nnode 2 2 open 0\nend\n",
+             steps 1000000003\nenters 1 0\nleaves 1 1\nnode 1 1 answered 2 1\nsteps 1 1\n\
+             enters 0 1\nleaves 2 1\nnode 1 2 empty 1\nnode 2 1 open 0\nnode 2 2 open 0\nend\n",
         "no 1 10 3\n",
     ),
     (
         "proof tree 4\nnode 0 0 answered 1 2\nsteps 1000000001\nenters 0 1\nleaves 1 1\n\
-         steps 1000000003\nenters 1 0\nleaves 1 1\nnode 1 1 answered 2 1\nsteps 1 1\n\
-         enters 0 1\nleaves 2 1\nnode 1 2 empty 1 2\nnode 2 1 open 0\nend\n",
+             steps 1000000003\nenters 1 0\nleaves 1 1\nnode 1 1 answered 2 1\nsteps 1 1\n\
+             enters 0 1\nleaves 2 1\nnode 1 2 empty 1 2\nnode 2 1 open 0\nend\n",
         "no 1 10 2\n",
     ),
 ];
 
-// These trees, for a caller that needn't know them.
+// These, for a caller that needn't know them.
 fn trees() -> &'static [(&'static str, &'static str)] {
     &TREES
 }
@@ -197,7 +191,8 @@ fn trees_that_are_bent(rt: HostRuntime) -> Result<(), Fail> {
     Ok(())
 }
 
-// Whether so many choices of the square of three rows, for its side with these options, are refused so.
+// Whether so many choices of the square of three rows, for its side with these options, are refused
+// so.
 fn refuses(alloc: Global, options: &[&str], text: &str) -> Result<bool, AllocError> {
     let want = (3, text.as_bytes());
     ends(

@@ -5,16 +5,16 @@ use std::test::Fail;
 
 // Documents with levels: those that prove the best choice for the costs `4 1 3 / 2 0 5 / 3 2 2`,
 // and one whose numbers are at their bounds.
-static WRITTEN: [&[u8]; 2] = [
+static WRITTEN: [&'static [u8]; 2] = [
     b"assignment 1\ncommand solve\nobjective lex\nstatus best\nvalue 2 2 1\ncells 3\n1 2\n2 1\n\
-      3 3\nproof levels 2\nperm 2 1 3\nlevel 2 2 2\nsteps 1\nenters 0 0 1\nleaves 1 0 1\nsteps 1\n\
-      enters 1 1 0\nleaves 1 1 1\nlevel 1 1 1\nsteps 1\nenters 0 1 1\nleaves 1 1 1\nend\n",
+          3 3\nproof levels 2\nperm 2 1 3\nlevel 2 2 2\nsteps 1\nenters 0 0 1\nleaves 1 0 1\nsteps 1\n\
+          enters 1 1 0\nleaves 1 1 1\nlevel 1 1 1\nsteps 1\nenters 0 1 1\nleaves 1 1 1\nend\n",
     b"assignment 1\ncommand solve\nobjective lex\nstatus best\n\
-      value 9223372036854775807 -9223372036854775808\ncells 1\n1 1\nproof levels 1\n\
-      perm 4294967295 1\nlevel -9223372036854775808 4294967295 0\nend\n",
+          value 9223372036854775807 -9223372036854775808\ncells 1\n1 1\nproof levels 1\n\
+          perm 4294967295 1\nlevel -9223372036854775808 4294967295 0\nend\n",
 ];
 
-// These documents, for a caller that needn't know them.
+// These, for a caller that needn't know them.
 fn written() -> &'static [&'static [u8]] {
     &WRITTEN
 }
@@ -26,7 +26,7 @@ fn documents_with_levels_are_written_as_they_were_read(rt: HostRuntime) -> Resul
 }
 
 // What follows `proof levels` in line 8 of a document, and the line in which it is refused.
-static LINES: [(&[u8], u32); 11] = [
+static LINES: [(&'static [u8], u32); 11] = [
     (b" 0\nperm 1\nend\n", 8),
     (b" 4294967296\n", 8),
     (b" 1\nlevel 0 1 0\nend\n", 9),
@@ -40,7 +40,7 @@ static LINES: [(&[u8], u32); 11] = [
     (b" 1\nperm 1\nlevel 0 1 0\nlevel 0 1 0\nend\n", 11),
 ];
 
-// The lines, for a caller that needn't know them.
+// These, for a caller that needn't know them.
 fn lines() -> &'static [(&'static [u8], u32)] {
     &LINES
 }

@@ -39,7 +39,7 @@ const WRITTEN: [&[u8]; 7] = [
 ];
 
 // The objective, a text behind its line, and the line in which it is refused; 0 where it is read.
-static LINES: [(&[u8], &[u8], u32); 11] = [
+static LINES: [(&'static [u8], &'static [u8], u32); 11] = [
     (b"capped=0", b"", 3),
     (b"capped=05", b"", 3),
     (b"capped=1000000000001", b"", 3),
@@ -53,6 +53,11 @@ static LINES: [(&[u8], &[u8], u32); 11] = [
     (b"time-cost", TIME_COST_STEPS_PAST, 9),
 ];
 
+// These, for a caller that needn't know them.
+fn lines() -> &'static [(&'static [u8], &'static [u8], u32)] {
+    &LINES
+}
+
 // Phases of `time-cost` of which a step has no grade, and one whose grade is past 64 bits.
 const TIME_COST_STEPS_1: &[u8] = b"status best\nvalue 3:4\ncells 1\n1 1\nproof phases 1\nsteps 1\n";
 
@@ -60,7 +65,7 @@ const TIME_COST_STEPS_PAST: &[u8] =
     b"status best\nvalue 3:4\ncells 1\n1 1\nproof phases 1\nsteps 18446744073709551616:1\n";
 
 // A text behind the word of a proof of `sum` by phases, and the line in which it is refused.
-static PHASES: [(&[u8], u32); 13] = [
+static PHASES: [(&'static [u8], u32); 13] = [
     (b" 4294967296\n", 8),
     (b" 01\n", 8),
     (b" 0\nend\n", 0),
@@ -75,6 +80,11 @@ static PHASES: [(&[u8], u32); 13] = [
     (b" 1\nsteps 1\nenters 0\nleaves 1\nend\n", 0),
     (b" 4294967295\nsteps 1\nenters 0\nleaves 1\nend\n", 12),
 ];
+
+// These, for a caller that needn't know them.
+fn phases() -> &'static [(&'static [u8], u32)] {
+    &PHASES
+}
 
 // A length that no text here reaches.
 const LONGEST_TEXT: usize = 1_000;
@@ -184,11 +194,6 @@ fn documents_are_written_as_they_were_read(rt: HostRuntime) -> Result<(), Fail> 
     Ok(())
 }
 
-// The lines, for a caller that needn't know them.
-fn lines() -> &'static [(&'static [u8], &'static [u8], u32)] {
-    &LINES
-}
-
 // The first of the lines that isn't refused where it is to be.
 fn first_line_not_refused(alloc: Global) -> Result<Option<&'static [u8]>, AllocError> {
     for (objective, text, line) in lines() {
@@ -224,11 +229,6 @@ pub(crate) fn first_not_refused(
         }
     }
     Ok(None)
-}
-
-// The phases, for a caller that needn't know them.
-fn phases() -> &'static [(&'static [u8], u32)] {
-    &PHASES
 }
 
 // What comes before the phases.

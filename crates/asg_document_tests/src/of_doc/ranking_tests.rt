@@ -17,19 +17,19 @@ const RANKING: &[u8] = b"assignment 1\ncommand rank\nobjective sum\nstatus ranke
       node 1 2 empty 1 2\nnode 2 1 open 0\nnode 2 2 open 0\nend\n";
 
 // This, and others whose numbers are at their bounds, and whose values and steps have other forms.
-static WRITTEN: [&[u8]; 3] = [
+static WRITTEN: [&'static [u8]; 3] = [
     RANKING,
     b"assignment 1\ncommand solve\nobjective time-cost\nstatus ranked\ncount 4000000\nanswers 1\n\
-      answer -7:12\ncells 1\n4 5\nproof tree 2\n\
-      node 4294967295 4294967295 answered 4294967295 1\n\
-      steps 999999993:12\nenters 0\nleaves 4294967295\n\
-      node 0 0 answered 0 0\nend\n",
+          answer -7:12\ncells 1\n4 5\nproof tree 2\n\
+          node 4294967295 4294967295 answered 4294967295 1\n\
+          steps 999999993:12\nenters 0\nleaves 4294967295\n\
+          node 0 0 answered 0 0\nend\n",
     b"assignment 1\ncommand rank\nobjective lex\nstatus ranked\ncount 1\nanswers 2\n\
-      answer 2 -1\ncells 1\n1 1\nanswer 2\ncells 1\n1 1\nproof tree 1\n\
-      node 0 0 empty 4294967295 4294967295\nend\n",
+          answer 2 -1\ncells 1\n1 1\nanswer 2\ncells 1\n1 1\nproof tree 1\n\
+          node 0 0 empty 4294967295 4294967295\nend\n",
 ];
 
-// These documents, for a caller that needn't know them.
+// These, for a caller that needn't know them.
 fn written() -> &'static [&'static [u8]] {
     &WRITTEN
 }
@@ -132,7 +132,7 @@ fn a_ranking_is_read(rt: HostRuntime) {
 }
 
 // What follows `status ranked` in line 4 of a document, and the line in which it is refused.
-static LINES: [(&[u8], u32); 13] = [
+static LINES: [(&'static [u8], u32); 13] = [
     (b"end\n", 5),
     (b"count 0\n", 5),
     (b"count 4000001\n", 5),
@@ -157,8 +157,13 @@ static LINES: [(&[u8], u32); 13] = [
     ),
 ];
 
+// These, for a caller that needn't know them.
+fn lines() -> &'static [(&'static [u8], u32)] {
+    &LINES
+}
+
 // What follows `proof tree` in line 10 of a document, and the line in which it is refused.
-static NODES: [(&[u8], u32); 15] = [
+static NODES: [(&'static [u8], u32); 15] = [
     (b" 1\nend\n", 11),
     (b" 1\nnode 0 0 open\nend\n", 11),
     (b" 1\nnode 0 0 open 01\nend\n", 11),
@@ -176,12 +181,7 @@ static NODES: [(&[u8], u32); 15] = [
     (b" 2\nnode 0 0 open 0\nend\n", 12),
 ];
 
-// The lines, for a caller that needn't know them.
-fn lines() -> &'static [(&'static [u8], u32)] {
-    &LINES
-}
-
-// And the nodes.
+// These, for a caller that needn't know them.
 fn nodes() -> &'static [(&'static [u8], u32)] {
     &NODES
 }

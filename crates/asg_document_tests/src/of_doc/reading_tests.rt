@@ -12,7 +12,7 @@ const BEST: &[u8] = b"assignment 1\ncommand solve\nobjective bottleneck\nstatus 
       cells 3\n1 2\n2 1\n3 3\nproof below 3\nend\n";
 
 // Texts behind the objective, and the line in which they are refused.
-static CLAIMS: [(&[u8], u32); 18] = [
+static CLAIMS: [(&'static [u8], u32); 18] = [
     (b"status none\nhall 0 4294967295\nend\n", 0),
     (b"status none\nhall 4294967296\nend\n", 5),
     (b"status none\nhall\nend\n", 5),
@@ -23,7 +23,7 @@ static CLAIMS: [(&[u8], u32); 18] = [
     (b"status rank\n", 4),
     (
         b"status best\nvalue -170141183460469231731687303715884105728\ncells 1\n4294967295 0\n\
-          proof below 0\nend\n",
+              proof below 0\nend\n",
         0,
     ),
     (
@@ -45,6 +45,11 @@ static CLAIMS: [(&[u8], u32); 18] = [
         8,
     ),
 ];
+
+// These, for a caller that needn't know them.
+fn claims() -> &'static [(&'static [u8], u32)] {
+    &CLAIMS
+}
 
 // Whether this is the claim of `BEST`.
 fn claims_best(claim: &Claim) -> bool {
@@ -129,11 +134,6 @@ fn first_text_not_refused(alloc: Global) -> Option<&'static [u8]> {
         }
     }
     None
-}
-
-// The claims, for a caller that needn't know them.
-fn claims() -> &'static [(&'static [u8], u32)] {
-    &CLAIMS
 }
 
 #[test]

@@ -123,61 +123,22 @@ fn is_finished(page: &mut Page, sink: &mut MemorySink, bytes: &[u8]) -> bool {
     finish(page, sink).is_ok() && sink.bytes() == bytes
 }
 
-// Whether the least one is.
-fn is_least_held(
-    alloc: Global,
-    page: &mut Page,
-    sink: &mut MemorySink,
-) -> Result<bool, AllocError> {
-    let document = least(alloc)?;
+// The same of a document that is let go.
+fn is_held_once(document: Document, page: &mut Page, sink: &mut MemorySink) -> bool
+    requires { HasText document }
+{
     let is_held = is_held(&document, page, sink);
     drop(document);
-    Ok(is_held)
-}
-
-// Whether the greatest one is.
-fn is_greatest_held(
-    alloc: Global,
-    page: &mut Page,
-    sink: &mut MemorySink,
-) -> Result<bool, AllocError> {
-    let document = greatest(alloc)?;
-    let is_held = is_held(&document, page, sink);
-    drop(document);
-    Ok(is_held)
-}
-
-// Whether the one without a valid choice is.
-fn is_nothing_held(
-    alloc: Global,
-    page: &mut Page,
-    sink: &mut MemorySink,
-) -> Result<bool, AllocError> {
-    let document = nothing(alloc)?;
-    let is_held = is_held(&document, page, sink);
-    drop(document);
-    Ok(is_held)
-}
-
-// Whether the one after edits is.
-fn is_edited_held(
-    alloc: Global,
-    page: &mut Page,
-    sink: &mut MemorySink,
-) -> Result<bool, AllocError> {
-    let document = edited(alloc)?;
-    let is_held = is_held(&document, page, sink);
-    drop(document);
-    Ok(is_held)
+    is_held
 }
 
 // Whether each of them is.
 fn are_held(alloc: Global, page: &mut Page, sink: &mut MemorySink) -> Result<bool, AllocError> {
     Ok(
-        is_least_held(alloc, page, sink)?
-            && is_greatest_held(alloc, page, sink)?
-            && is_nothing_held(alloc, page, sink)?
-            && is_edited_held(alloc, page, sink)?,
+        is_held_once(least(alloc)?, page, sink)
+            && is_held_once(greatest(alloc)?, page, sink)
+            && is_held_once(nothing(alloc)?, page, sink)
+            && is_held_once(edited(alloc)?, page, sink),
     )
 }
 

@@ -26,7 +26,7 @@ const WRITTEN: [&[u8]; 4] = [
 ];
 
 // A text behind a proof by windows, and the line in which it is refused.
-static LINES: [(&[u8], u32); 16] = [
+static LINES: [(&'static [u8], u32); 16] = [
     (b" 4294967296\n", 8),
     (b" 01\n", 8),
     (b" 1\nend\n", 9),
@@ -44,6 +44,11 @@ static LINES: [(&[u8], u32); 16] = [
     (b" 1\nwindow 0 1 1\nwindow 0 1 1\nend\n", 10),
     (b" 4294967295\nwindow 0 1 1\nend\n", 10),
 ];
+
+// These, for a caller that needn't know them.
+fn lines() -> &'static [(&'static [u8], u32)] {
+    &LINES
+}
 
 #[test]
 fn documents_with_windows_are_written_as_they_were_read(rt: HostRuntime) -> Result<(), Fail> {
@@ -94,11 +99,6 @@ fn reads_balanced(alloc: Global) -> bool {
 #[test]
 fn windows_are_read(rt: HostRuntime) {
     assert!(rt; reads_balanced(rt.alloc()));
-}
-
-// The lines, for a caller that needn't know them.
-fn lines() -> &'static [(&'static [u8], u32)] {
-    &LINES
 }
 
 // What comes before them.

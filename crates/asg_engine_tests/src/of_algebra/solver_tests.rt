@@ -143,12 +143,6 @@ fn narrow_sums_far_from_the_top_and_near_it(rt: HostRuntime) -> Result<(), Fail>
 /// Cells of two rows and two columns.
 pub(crate) const PEAKS: [Option<u64>; 4] = [Some(3), Some(1), Some(2), Some(5)];
 
-#[test]
-fn greatest_of_two_rows(rt: HostRuntime) -> Result<(), Fail> {
-    assert!(rt; answer(rt.alloc(), &Greatest, 2, &PEAKS, &[1, 0])? == (2, true));
-    Ok(())
-}
-
 /// Pairs of a grade and a value.
 pub(crate) const GRADED: [Option<(u64, u128)>; 4] = [
     Some((1, 2)),
@@ -163,7 +157,8 @@ pub(crate) const GRADES: Graded<Bounded> = Graded {
 };
 
 #[test]
-fn grades_of_two_rows(rt: HostRuntime) -> Result<(), Fail> {
+fn greatest_cells_and_grades_of_two_rows(rt: HostRuntime) -> Result<(), Fail> {
+    assert!(rt; answer(rt.alloc(), &Greatest, 2, &PEAKS, &[1, 0])? == (2, true));
     assert!(rt; answer(rt.alloc(), &GRADES, 2, &GRADED, &[1, 0])? == ((1, 3), true));
     Ok(())
 }

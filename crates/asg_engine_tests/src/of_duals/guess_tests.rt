@@ -68,13 +68,18 @@ fn are_absorbed<M: DMonoid>(m: &M, reduced: &Reduced<M::Value>, columns: &[u32])
 fn index_by<M: DMonoid>(
     m: &M,
     reduced: Reduced<M::Value>,
-    guess: &Guess<M::Value>,
+    guess: Option<Guess<M::Value>>,
 ) -> Option<M::Value>
     requires { IsReduced (M.monoid_of m.now) reduced }
 {
     let mut reduced = reduced;
+    let Some(guess) = guess else {
+        drop(reduced);
+        return None;
+    };
     let is_good = all_apply(m, &mut reduced, guess.phases())
         && are_absorbed(m, &reduced, guess.columns());
+    drop(guess);
     let index = reduced.index;
     drop(reduced);
     if is_good { Some(index) } else { None }
@@ -104,13 +109,8 @@ const DECIDED: [Option<u128>; 9] = [
 // What the phases that are guessed for a square of pairs of this side lead to.
 fn pairs_solved(alloc: Global, side: u32, cells: &[Option<u128>]) -> Result<Option<u128>, Fault> {
     let reduced = reduced_of(alloc, &SUMS, side, cells)?;
-    let Some(guess) = pair_guess(alloc, &reduced.now)? else {
-        drop(reduced);
-        return Ok(None);
-    };
-    let index = index_by(&SUMS, reduced, &guess);
-    drop(guess);
-    Ok(index)
+    let guess = pair_guess(alloc, &reduced.now)?;
+    Ok(index_by(&SUMS, reduced, guess))
 }
 
 // Pairs whose second parts add up to more than a first part: the least sum isn't that of the least
@@ -170,13 +170,8 @@ fn capped_solved(
     cells: &[Option<u128>; 9],
 ) -> Result<Option<u128>, Fault> {
     let reduced = reduced_of(alloc, cap, 3, cells)?;
-    let Some(guess) = capped_guess(alloc, &reduced.now, cap.top)? else {
-        drop(reduced);
-        return Ok(None);
-    };
-    let index = index_by(cap, reduced, &guess);
-    drop(guess);
-    Ok(index)
+    let guess = capped_guess(alloc, &reduced.now, cap.top)?;
+    Ok(index_by(cap, reduced, guess))
 }
 
 // Where sums stop, the cells up to there, and what phases lead to.
@@ -222,13 +217,8 @@ fn grades_solved(
     cells: &[Option<(u64, u128)>],
 ) -> Result<Option<(u64, u128)>, Fault> {
     let reduced = reduced_of(alloc, &GRADES, side, cells)?;
-    let Some(guess) = grade_guess(alloc, &reduced.now)? else {
-        drop(reduced);
-        return Ok(None);
-    };
-    let index = index_by(&GRADES, reduced, &guess);
-    drop(guess);
-    Ok(index)
+    let guess = grade_guess(alloc, &reduced.now)?;
+    Ok(index_by(&GRADES, reduced, guess))
 }
 
 // Squares of graded sums, each with its side, and what phases lead to.
@@ -272,13 +262,8 @@ const NONE: [Option<u64>; 4] = [Some(1), None, Some(1), None];
 // What the phases that are guessed for a square of numbers of this side lead to in maxima.
 fn peaks_solved(alloc: Global, side: u32, cells: &[Option<u64>]) -> Result<Option<u64>, Fault> {
     let reduced = reduced_of(alloc, &Greatest, side, cells)?;
-    let Some(guess) = peak_guess(alloc, &reduced.now)? else {
-        drop(reduced);
-        return Ok(None);
-    };
-    let index = index_by(&Greatest, reduced, &guess);
-    drop(guess);
-    Ok(index)
+    let guess = peak_guess(alloc, &reduced.now)?;
+    Ok(index_by(&Greatest, reduced, guess))
 }
 
 // Squares of numbers, each with its side, and what phases lead to.

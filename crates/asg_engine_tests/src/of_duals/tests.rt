@@ -1,12 +1,11 @@
 //! Small squares, solved by hand: their assignments, and that their phases are few, are admitted,
 //! and end with cells of 0 on the assignment and an index that is its sum.
 
-ghost use Rattle.std.specs.Prelude.{◌≡◌};
 ghost use Rattle.asg_admit.specs.Reduced.{IsReduced};
 ghost use Rattle.asg_monoids.specs.BoundedSums.{bounded_sums, narrow_top};
 
 use asg_admit::Reduced;
-use asg_duals::{Duals, first_duals, short_phases, tight_duals};
+use asg_duals::{Duals, short_phases, tight_duals};
 use asg_kept::{DualSquare, Keeps, KeptSquare, RowSquare, cell_of};
 use asg_monoids::NarrowSums;
 use asg_proof::Phase;
@@ -160,47 +159,14 @@ fn is_solved(
     })
 }
 
+// The worked square, two rows that share a column, wide cells, and products of 40 rows and columns,
+// which are solved from coarse to fine, each row by the column opposite to it: their sum is
+// 40 · 41 · 42 / 6.
 #[test]
-fn turns_duals_of_the_worked_square_into_two_phases(rt: HostRuntime) -> Result<(), Fail> {
+fn squares_are_solved_by_their_duals(rt: HostRuntime) -> Result<(), Fail> {
     assert!(rt; is_solved(rt.alloc(), 3, &WORKED, 2, 1, 3_000_000_005)?);
-    Ok(())
-}
-
-// The column of the first row by the dual variables that are found first.
-fn first_column(alloc: Global, side: u32, cells: &[Option<u64>]) -> Result<Option<u32>, Fault> {
-    let reduced = reduced_of(alloc, &NarrowSums, side, cells)?;
-    let found = first_duals(alloc, &reduced.now);
-    drop(reduced);
-    let Some(duals) = found? else {
-        return Ok(None);
-    };
-    let first = duals.columns().first().copied();
-    drop(duals);
-    Ok(first)
-}
-
-#[test]
-fn finds_duals_first(rt: HostRuntime) -> Result<(), Fail> {
-    assert!(rt; first_column(rt.alloc(), 3, &WORKED)? == Some(1));
-    Ok(())
-}
-
-#[test]
-fn finds_none_where_two_rows_share_a_column(rt: HostRuntime) -> Result<(), Fail> {
     assert!(rt; solved(rt.alloc(), 2, &SHARED)?.is_none());
-    Ok(())
-}
-
-#[test]
-fn solves_wide_cells_in_64_bits(rt: HostRuntime) -> Result<(), Fail> {
     assert!(rt; is_solved(rt.alloc(), 2, &WIDE, 2, 1, (1 << 41) + 7)?);
-    Ok(())
-}
-
-// Products of 40 rows and columns are solved from coarse to fine, each row by the column opposite
-// to it: the sum is 40 · 41 · 42 / 6.
-#[test]
-fn solves_products_from_coarse_to_fine(rt: HostRuntime) -> Result<(), Fail> {
     let cells = products(rt.alloc())?;
     assert!(rt; is_solved(rt.alloc(), 40, cells.as_slice(), 6, 39, 11_480)?);
     Ok(())

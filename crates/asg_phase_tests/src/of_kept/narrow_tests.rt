@@ -6,7 +6,7 @@ ghost use Rattle.asg_monoids.specs.BoundedSums.{bounded_sums, narrow_top};
 ghost use Rattle.asg_order.specs.Monoid.{IsValue};
 
 use crate::of_kept::tests::{replays, settled};
-use crate::worked_phases::FIRST;
+use crate::worked_phases::{FIRST, NARROW};
 use asg_admit::Reduced;
 use asg_kept::{DualSquare, Keeps, RowSquare, cell_of};
 use asg_monoids::NarrowSums;
@@ -15,24 +15,11 @@ use asg_square::NoMemory;
 use std::alloc::Global;
 use std::test::Fail;
 
-// The cells of the worked square.
-const CELLS: [Option<u64>; 9] = [
-    Some(1_000_000_004),
-    Some(1_000_000_001),
-    Some(1_000_000_003),
-    Some(1_000_000_002),
-    Some(1_000_000_000),
-    Some(1_000_000_005),
-    Some(1_000_000_003),
-    Some(1_000_000_002),
-    Some(1_000_000_002),
-];
-
 // The worked square, with the index 0.
 fn worked(alloc: Global) -> Result<Reduced<u64>, Fault>
     ensures { IfOk result (IsReduced (bounded_sums narrow_top)) }
 {
-    reduced_of(alloc, &NarrowSums, 3, &CELLS)
+    reduced_of(alloc, &NarrowSums, 3, &NARROW)
 }
 
 // The steps of the first phase, and the first row and the index after it.

@@ -3,6 +3,7 @@
 
 ghost use Rattle.std.specs.Prelude.{◌≡◌, ◌<◌, ◌≤◌, All, IfOk, IfSome, length};
 
+use crate::worked_phases::NARROW;
 use asg_admit::Reduced;
 use asg_monoids::{Bounded, NarrowSums};
 use asg_phase_totals::{ListTest, PhaseTotals};
@@ -15,24 +16,11 @@ use std::test::Fail;
 // What is added to each cost.
 const SHIFT: u64 = 1_000_000_000;
 
-// The cells of the worked square.
-const CELLS: [Option<u64>; 9] = [
-    Some(SHIFT + 4),
-    Some(SHIFT + 1),
-    Some(SHIFT + 3),
-    Some(SHIFT + 2),
-    Some(SHIFT),
-    Some(SHIFT + 5),
-    Some(SHIFT + 3),
-    Some(SHIFT + 2),
-    Some(SHIFT + 2),
-];
-
 // The worked square.
 fn worked(alloc: Global) -> Result<Option<Square<u64>>, Fault>
     ensures { IfOk result (λ o. IfSome o (λ Q. Q.side ≡ 3)) }
 {
-    let Reduced { now, index: _index } = reduced_of(alloc, &NarrowSums, 3, &CELLS)?;
+    let Reduced { now, index: _index } = reduced_of(alloc, &NarrowSums, 3, &NARROW)?;
     if now.side() != 3 {
         return Ok(None);
     }
@@ -112,12 +100,12 @@ fn a_phase_that_raises_a_row_more_ends_a_pass(rt: HostRuntime) -> Result<(), Fai
 }
 
 // A phase of these steps, at most two.
-fn phase(
+fn phase<V: Copy>(
     alloc: Global,
-    steps: &[u64],
+    steps: &[V],
     enters: &[u32],
     leaves: &[u32],
-) -> Result<Phase<u64>, NoMemory>
+) -> Result<Phase<V>, NoMemory>
     requires { length steps.now ≤ 2 }
     ensures { IfOk result (λ p. length p.steps ≤ 2) }
 {
@@ -160,7 +148,7 @@ fn told(alloc: Global, first: &[u64; 1]) -> Result<Option<bool>, Fault> {
 }
 
 // The step of the first phase, a greater one, and one at which nothing is told, and what is told.
-static TOLD: [([u64; 1], Option<bool>); 3] = [
+static TOLD_CASES: [([u64; 1], Option<bool>); 3] = [
     ([SHIFT + 1], Some(true)),
     ([SHIFT + 2], Some(false)),
     ([1 << 62], None),
@@ -168,7 +156,7 @@ static TOLD: [([u64; 1], Option<bool>); 3] = [
 
 // These, for a caller that needn't know them.
 fn told_cases() -> &'static [([u64; 1], Option<bool>)] {
-    &TOLD
+    &TOLD_CASES
 }
 
 #[test]
@@ -202,10 +190,7 @@ const WIDE_CELLS: [Option<u128>; 9] = [
 fn wide_list(alloc: Global, first: u128) -> Result<Vec<Phase<u128>>, NoMemory>
     ensures { IfOk result (λ ps. All (λ p. length p.steps ≤ 2) ps.items) }
 {
-    let steps = Vec::from_slice(alloc, &[first])?;
-    let enters = Vec::from_slice(alloc, &[0, 1, 1])?;
-    let leaves = Vec::from_slice(alloc, &[1, 1, 1])?;
-    let one = Phase::of(steps, enters, leaves);
+    let one = phase(alloc, &[first], &[0, 1, 1], &[1, 1, 1])?;
     Ok(vec![in alloc; one]?)
 }
 
@@ -234,7 +219,7 @@ fn wide_told(alloc: Global, first: u128) -> Result<Option<bool>, Fault> {
 }
 
 // The step of the first phase, a greater one, and one at which nothing is told, and what is told.
-static WIDE_TOLD: [(u128, Option<bool>); 3] = [
+static WIDE_CASES: [(u128, Option<bool>); 3] = [
     (WIDE_SHIFT + 1, Some(true)),
     (WIDE_SHIFT + 2, Some(false)),
     (1 << 120, None),
@@ -242,7 +227,7 @@ static WIDE_TOLD: [(u128, Option<bool>); 3] = [
 
 // These, for a caller that needn't know them.
 fn wide_cases() -> &'static [(u128, Option<bool>)] {
-    &WIDE_TOLD
+    &WIDE_CASES
 }
 
 #[test]

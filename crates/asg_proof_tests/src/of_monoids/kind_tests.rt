@@ -10,15 +10,11 @@ use asg_order::{Kind, Ordered};
 
 const COST: Cost = Cost { a: 4, b: 7 };
 
-const LEAST: Cost = Cost {
-    a: -1_000_000_000,
-    b: -1_000_000_000,
-};
+const MOST: i64 = 1_000_000_000;
 
-const GREATEST: Cost = Cost {
-    a: 1_000_000_000,
-    b: 1_000_000_000,
-};
+const LEAST: Cost = Cost { a: -MOST, b: -MOST };
+
+const GREATEST: Cost = Cost { a: MOST, b: MOST };
 
 // Whether costs enter as these sums.
 fn are_sums() -> bool {
@@ -91,88 +87,31 @@ fn entered<K: Kind>(kind: &K, costs: (Cost, Cost, Cost)) -> <K::M as Ordered>::V
     )
 }
 
-// The costs of an assignment, and the products of their entered values for `sum`, `sum-max`, both
-// parts of `pair`, `capped` at 7, `bottleneck`, `bottleneck-max` and `time-cost`.
-type Products = (
-    [(u8, u8); 3],
-    u128,
-    u128,
-    (u64, u64),
-    u128,
-    u64,
-    u64,
-    (u64, u128),
-);
+// The costs of an assignment, and the products of their values before these enter: the sums of the
+// first and of the second parts, the first capped at 7, the greatest and the least first part, and
+// the grade and the amount of the time and the cost.
+type Products = ([(u8, u8); 3], u8, u8, u8, u8, u8, (u8, u8));
 
 // The six assignments of `4:1 1:7 3:2 / 2:5 0:3 5:6 / 3:4 2:8 2:9`, a cost being written `a:b`.
 const ASSIGNMENTS: [Products; 6] = [
-    (
-        [(4, 1), (0, 3), (2, 9)],
-        3_000_000_006,
-        2_999_999_994,
-        (3_000_000_006, 3_000_000_013),
-        6,
-        1_000_000_004,
-        1_000_000_000,
-        (1_000_000_004, 1),
-    ),
-    (
-        [(4, 1), (5, 6), (2, 8)],
-        3_000_000_011,
-        2_999_999_989,
-        (3_000_000_011, 3_000_000_015),
-        7,
-        1_000_000_005,
-        999_999_998,
-        (1_000_000_005, 6),
-    ),
-    (
-        [(1, 7), (2, 5), (2, 9)],
-        3_000_000_005,
-        2_999_999_995,
-        (3_000_000_005, 3_000_000_021),
-        5,
-        1_000_000_002,
-        999_999_999,
-        (1_000_000_002, 14),
-    ),
-    (
-        [(1, 7), (5, 6), (3, 4)],
-        3_000_000_009,
-        2_999_999_991,
-        (3_000_000_009, 3_000_000_017),
-        7,
-        1_000_000_005,
-        999_999_999,
-        (1_000_000_005, 6),
-    ),
-    (
-        [(3, 2), (2, 5), (2, 8)],
-        3_000_000_007,
-        2_999_999_993,
-        (3_000_000_007, 3_000_000_015),
-        7,
-        1_000_000_003,
-        999_999_998,
-        (1_000_000_003, 2),
-    ),
-    (
-        [(3, 2), (0, 3), (3, 4)],
-        3_000_000_006,
-        2_999_999_994,
-        (3_000_000_006, 3_000_000_009),
-        6,
-        1_000_000_003,
-        1_000_000_000,
-        (1_000_000_003, 6),
-    ),
+    ([(4, 1), (0, 3), (2, 9)], 6, 13, 6, 4, 0, (4, 1)),
+    ([(4, 1), (5, 6), (2, 8)], 11, 15, 7, 5, 2, (5, 6)),
+    ([(1, 7), (2, 5), (2, 9)], 5, 21, 5, 2, 1, (2, 14)),
+    ([(1, 7), (5, 6), (3, 4)], 9, 17, 7, 5, 1, (5, 6)),
+    ([(3, 2), (2, 5), (2, 8)], 7, 15, 7, 3, 2, (3, 2)),
+    ([(3, 2), (0, 3), (3, 4)], 6, 9, 6, 3, 0, (3, 6)),
 ];
+
+// What the parts of three costs, and of one, are raised by as they enter.
+const OF_THREE: u128 = 3_000_000_000;
+
+const OF_ONE: u64 = 1_000_000_000;
 
 // Whether the products of the entered values are these.
 fn are_products(products: &Products) -> bool {
-    let (parts, sum, sum_max, pair, capped, bottleneck, bottleneck_max, time) = *products;
+    let (parts, first, second, capped, greatest, least, time) = *products;
     let costs = (cost(parts[0]), cost(parts[1]), cost(parts[2]));
-    let joined = u128::from(pair.0) * (1 << 42) + u128::from(pair.1);
+    let sum = OF_THREE + u128::from(first);
     let sums = [
         entered(&SumKind::of(Objective::Sum), costs),
         entered(&SumKind::of(Objective::SumMax), costs),
@@ -183,9 +122,14 @@ fn are_products(products: &Products) -> bool {
         entered(&PeakKind::of(Objective::Bottleneck), costs),
         entered(&PeakKind::of(Objective::BottleneckMax), costs),
     ];
-    sums == [sum, sum_max, joined, capped]
-        && peaks == [bottleneck, bottleneck_max]
-        && entered(&TimeKind::new(), costs) == time
+    let joined = sum * (1 << 42) + OF_THREE + u128::from(second);
+    sums == [
+        sum,
+        OF_THREE - u128::from(first),
+        joined,
+        u128::from(capped),
+    ] && peaks == [OF_ONE + u64::from(greatest), OF_ONE - u64::from(least)]
+        && entered(&TimeKind::new(), costs) == (OF_ONE + u64::from(time.0), u128::from(time.1))
 }
 
 #[test]

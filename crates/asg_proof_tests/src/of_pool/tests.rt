@@ -105,11 +105,11 @@ fn cut(region: &mut Region<u64>, trail: Trail)
 }
 
 // How many records are reserved, and how many are spare then.
-static RESERVED: [(u32, u32); 3] = [(3, 3), (2, 3), (5, 5)];
+static RESERVES: [(u32, u32); 3] = [(3, 3), (2, 3), (5, 5)];
 
 // These, for a caller that needn't know them.
 fn reserves() -> &'static [(u32, u32)] {
-    &RESERVED
+    &RESERVES
 }
 
 // Whether so many records are spare after each reserve.

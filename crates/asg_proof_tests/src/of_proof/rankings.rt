@@ -8,7 +8,7 @@ ghost use Rattle.asg_model.specs.declared.parts.Place.TheVariants.{All as PlaceA
 use asg_model::{ABSENT, Choice, Instance, Place};
 use asg_proof::Phases;
 use asg_rankings::{Mark, Node, Nodes, child};
-use asg_samples::{Fault, Sample};
+use asg_samples::Sample;
 use asg_values::is_valid;
 use std::alloc::{AllocError as NoMemory, Global};
 use std::test::Fail;
@@ -90,17 +90,12 @@ fn has_both(alloc: Global, inst: &Instance) -> Result<bool, NoMemory> {
     Ok(first? && second?)
 }
 
-// Whether those of two rows of three are.
-fn has_children(alloc: Global) -> Result<bool, Fault> {
-    let inst = TWO_OF_THREE.instance(alloc)?;
-    let has_both = has_both(alloc, &inst);
-    drop(inst);
-    Ok(has_both?)
-}
-
 #[test]
 fn children_by_each_branch(rt: HostRuntime) -> Result<(), Fail> {
-    assert!(rt; has_children(rt.alloc())?);
+    let inst = TWO_OF_THREE.instance(rt.alloc())?;
+    let has_both = has_both(rt.alloc(), &inst);
+    drop(inst);
+    assert!(rt; has_both?);
     Ok(())
 }
 

@@ -43,6 +43,7 @@ const CLOSE_SECOND: Line = Line::Edit(Edit::DropColumn { col: 2 });
 
 const CLOSE_THIRD: Line = Line::Edit(Edit::DropColumn { col: 3 });
 
+// The held scripts.
 static HELD: [Held; 6] = [
     (Sum, b"", &[]),
     (
@@ -73,6 +74,12 @@ static HELD: [Held; 6] = [
     ),
 ];
 
+// These, for a caller that needn't know them.
+fn held() -> &'static [Held] {
+    &HELD
+}
+
+// The refused scripts.
 static REFUSED: [Refused; 18] = [
     // Each kind of refusal that a script has.
     (Sum, b"move 1 2", 1, 1),
@@ -103,12 +110,7 @@ static REFUSED: [Refused; 18] = [
     ),
 ];
 
-// The held scripts, for a caller that needn't know them.
-fn held() -> &'static [Held] {
-    &HELD
-}
-
-// The refused scripts, for a caller that needn't know them.
+// These, for a caller that needn't know them.
 fn refused() -> &'static [Refused] {
     &REFUSED
 }

@@ -23,7 +23,7 @@ static TEXTS: [Text; 6] = [
     ),
 ];
 
-// The texts, for a caller that needn't know them.
+// These, for a caller that needn't know them.
 fn texts() -> &'static [Text] {
     &TEXTS
 }

@@ -54,6 +54,7 @@ static SCRIPTS: [Script; 5] = [
     (b"solve\r\nsolve ", &[(1, Line::Solve), (2, Line::Solve)]),
 ];
 
+// The refused scripts.
 static REFUSED: [Refused; 26] = [
     (b"move 1 2", BadScriptLine(1)),
     (b"Solve", BadScriptLine(1)),
@@ -83,14 +84,14 @@ static REFUSED: [Refused; 26] = [
     (b"solve\nmove\ncost 1 2 -1000000001", BadScriptLine(2)),
 ];
 
+// These, for a caller that needn't know them.
+fn refused() -> &'static [Refused] {
+    &REFUSED
+}
+
 // The scripts, for a caller that needn't know them.
 fn scripts() -> &'static [Script] {
     &SCRIPTS
-}
-
-// The refused scripts, for a caller that needn't know them.
-fn refused() -> &'static [Refused] {
-    &REFUSED
 }
 
 // Whether a script is read as these lines.

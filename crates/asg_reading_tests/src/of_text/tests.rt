@@ -1,21 +1,21 @@
 //! Tests of the readers, over tables of files.
 
-use crate::of_text::read_files::{CellOf, File, files};
+use crate::of_text::read_files::{File, RowOf, Second, files};
 use crate::of_text::refused_files::{Refused, refused};
 use asg_model::limits::LONGEST_FILE;
-use asg_model::{Column, Cost, Instance, Row};
+use asg_model::{ABSENT, Column, Cost, Instance, Row};
 use asg_text::{Format, read};
 use asg_tokens::TextRefusal;
 use std::alloc::Global;
 
-// Whether these are rows with these ids.
-fn are_rows(rows: &[Row], ids: &[u32]) -> bool {
+// Whether these are rows with the ids of those.
+fn are_rows(rows: &[Row], wanted: &[RowOf]) -> bool {
     for (place, row) in rows.iter().enumerate() {
-        if !row.active || ids.get(place) != Some(&row.id) {
+        if !row.active || wanted.get(place).map(|each| each.0) != Some(row.id) {
             return false;
         }
     }
-    rows.len() == ids.len()
+    rows.len() == wanted.len()
 }
 
 // Whether these are columns with these ids.
@@ -28,20 +28,21 @@ fn are_columns(columns: &[Column], ids: &[u32]) -> bool {
     columns.len() == ids.len()
 }
 
-// Whether the row of this id has these cells in the columns of these ids.
-fn has_row(inst: &Instance, row: u32, columns: &[u32], cells: &[CellOf]) -> bool {
-    for column in columns {
-        if cost_of(inst, row, *column) != expected_cost(cells, row, *column) {
+// Whether a row has its costs in the columns of these ids.
+fn has_row(inst: &Instance, columns: &[u32], row: &RowOf, seconds: &[Second]) -> bool {
+    for (place, column) in columns.iter().enumerate() {
+        let first = row.1.get(place).copied().unwrap_or(ABSENT);
+        if cost_of(inst, row.0, *column) != expected_cost(first, row.0, *column, seconds) {
             return false;
         }
     }
     true
 }
 
-// Whether the instance has these rows, columns and cells.
-fn has(inst: &Instance, rows: &[u32], columns: &[u32], cells: &[CellOf]) -> bool {
+// Whether the instance has these columns, rows and costs.
+fn has(inst: &Instance, columns: &[u32], rows: &[RowOf], seconds: &[Second]) -> bool {
     for row in rows {
-        if !has_row(inst, *row, columns, cells) {
+        if !has_row(inst, columns, row, seconds) {
             return false;
         }
     }
@@ -56,26 +57,27 @@ fn cost_of(inst: &Instance, row: u32, column: u32) -> Option<Cost> {
     }
 }
 
-// The cost that a cell of these ids is to have.
-fn expected_cost(cells: &[CellOf], row: u32, column: u32) -> Option<Cost> {
-    cells
+// The cost that a cell of these ids is to have, with this first part.
+fn expected_cost(a: i64, row: u32, column: u32, seconds: &[Second]) -> Option<Cost> {
+    if a == ABSENT {
+        return None;
+    }
+    let second = seconds
         .iter()
-        .find(|cell| cell.0 == row && cell.1 == column)
-        .map(|cell| Cost {
-            a: cell.2,
-            b: cell.3,
-        })
+        .find(|each| each.0 == row && each.1 == column);
+    let b = second.map(|each| each.2).unwrap_or(0);
+    Some(Cost { a, b })
 }
 
-// Whether a file is read as the instance with its rows, columns and cells.
-fn is_read(alloc: Global, file: &File<'static>) -> bool {
-    let (format, text, rows, columns, cells) = *file;
+// Whether a file is read as the instance with its columns, rows and costs.
+fn is_read(alloc: Global, format: Format, file: &File) -> bool {
+    let (text, columns, rows, seconds) = *file;
     if text.len() > LONGEST_FILE {
         return false;
     }
     match read(alloc, format, text) {
         Ok(inst) => {
-            let is_so = has(&inst, rows, columns, cells);
+            let is_so = has(&inst, columns, rows, seconds);
             drop(inst);
             is_so
         }
@@ -83,11 +85,20 @@ fn is_read(alloc: Global, file: &File<'static>) -> bool {
     }
 }
 
+// The first of the files that isn't read so.
+fn first_not_read(alloc: Global, format: Format, files: &[File]) -> Option<&'static [u8]> {
+    for file in files {
+        if !is_read(alloc, format, file) {
+            return Some(file.0);
+        }
+    }
+    None
+}
+
 #[test]
 fn files_are_read(rt: HostRuntime) {
-    for file in files() {
-        let text = file.1;
-        assert!(rt; is_read(rt.alloc(), file), "{text:?}");
+    for (format, files) in files() {
+        assert_eq!(rt; first_not_read(rt.alloc(), *format, files), None);
     }
 }
 

@@ -1,6 +1,6 @@
 //! Command lines, and what they ask for.
 
-use crate::of_words::lines::{refused, requests};
+use crate::of_words::lines::{plain, refused, requests, spelled};
 use asg_requests::{FileName, Job, Request, Task, WordsRefusal};
 use asg_words::parse;
 use std::alloc::{AllocError, Global};
@@ -77,6 +77,28 @@ fn is_told(alloc: Global, line: &str, want: &str) -> Result<bool, AllocError> {
     Ok(told.as_str() == want)
 }
 
+// Whether they come to this, and behind it to what a job without options has.
+fn is_plain(alloc: Global, line: &str, begin: &str) -> Result<bool, AllocError> {
+    let want = format!(in alloc; "{begin} Square All 1 false")?;
+    is_told(alloc, line, &want)
+}
+
+#[test]
+fn words_that_ask_for_work(rt: HostRuntime) -> Result<(), Fail> {
+    for (line, begin) in plain() {
+        assert!(rt; is_plain(rt.alloc(), line, begin)?, "{line}");
+    }
+    Ok(())
+}
+
+#[test]
+fn words_that_are_spelled_otherwise(rt: HostRuntime) -> Result<(), Fail> {
+    for (line, begin) in spelled() {
+        assert!(rt; is_plain(rt.alloc(), line, begin)?, "{line}");
+    }
+    Ok(())
+}
+
 #[test]
 fn words_that_ask_for_something(rt: HostRuntime) -> Result<(), Fail> {
     for (line, request) in requests() {
@@ -87,8 +109,10 @@ fn words_that_ask_for_something(rt: HostRuntime) -> Result<(), Fail> {
 
 #[test]
 fn words_that_ask_for_nothing(rt: HostRuntime) -> Result<(), Fail> {
-    for line in refused() {
-        assert!(rt; is_told(rt.alloc(), line, "usage")?, "{line}");
+    for lines in refused() {
+        for line in *lines {
+            assert!(rt; is_told(rt.alloc(), line, "usage")?, "{line}");
+        }
     }
     Ok(())
 }

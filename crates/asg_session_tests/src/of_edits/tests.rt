@@ -51,7 +51,7 @@ static CASES: [Case; 4] = [
     (&WIDE, false, &TOLD_NEVER),
 ];
 
-// The cases, for a caller that needn't know them.
+// These, for a caller that needn't know them.
 fn cases() -> &'static [Case] {
     &CASES
 }

@@ -17,7 +17,7 @@ static RAISES: [Step; 5] = [
     Step::Put(2, 2, 1, 0),
 ];
 
-// The edits, for a caller that needn't know them.
+// These, for a caller that needn't know them.
 fn raises() -> &'static [Step] {
     &RAISES
 }

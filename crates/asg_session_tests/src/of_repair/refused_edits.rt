@@ -20,7 +20,7 @@ static REFUSED: [(Step, EditRefusal); 8] = [
     (Step::Put(2, 1, -1, 0), EditRefusal::RowDropped),
 ];
 
-// The edits, for a caller that needn't know them.
+// These, for a caller that needn't know them.
 fn refused() -> &'static [(Step, EditRefusal)] {
     &REFUSED
 }

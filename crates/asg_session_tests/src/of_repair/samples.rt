@@ -168,7 +168,7 @@ static CASES: [Case; 10] = [
     (&TWO_PLACED, Objective::Sum, &PLACES),
 ];
 
-/// The cases, for a caller that needn't know them.
+/// These, for a caller that needn't know them.
 pub(crate) fn cases() -> &'static [Case] {
     &CASES
 }

@@ -1,7 +1,5 @@
 //! Lists of phases of the grade 2 on the square of a sample, by hand.
 
-ghost use Rattle.std.specs.Prelude.{◌≡◌, ◌≤◌};
-
 use crate::of_objectives::samples::PLAIN;
 use asg_algebra::entered_square;
 use asg_grade_lists::{NoMemory, grade_list_index};

@@ -14,40 +14,28 @@ pub(crate) const PLAIN: Sample<'static> = Sample {
 
 /// A square whose first two rows have the second column alone.
 pub(crate) const ONE_COLUMN: Sample<'static> = Sample {
-    rows: &[true, true, true],
-    columns: &[(1, true), (1, true), (1, true)],
     firsts: &[ABSENT, 1, ABSENT, ABSENT, 0, ABSENT, 3, 2, 2],
     seconds: &[0, 7, 0, 0, 3, 0, 4, 8, 9],
-    place: Place::All,
+    ..PLAIN
 };
 
 /// Costs that are as far apart as may be: `L:M -M:0 0:7 / -M:3 M:M M:M / 5:M M:M M:1`, where `M` is
 /// 10^9 and `L` is 1 less.
 pub(crate) const FAR: Sample<'static> = Sample {
-    rows: &[true, true, true],
+    firsts: &[M - 1, -M, 0, -M, M, M, 5, M, M],
+    seconds: &[M, 0, 7, 3, M, M, M, M, 1],
+    ..PLAIN
+};
+
+// The greatest cost.
+const M: i64 = 1_000_000_000;
+
+/// Two rows in three columns, whose least sum is 3.
+pub(crate) const WIDE: Sample<'static> = Sample {
+    rows: &[true, true],
     columns: &[(1, true), (1, true), (1, true)],
-    firsts: &[
-        999_999_999,
-        -1_000_000_000,
-        0,
-        -1_000_000_000,
-        1_000_000_000,
-        1_000_000_000,
-        5,
-        1_000_000_000,
-        1_000_000_000,
-    ],
-    seconds: &[
-        1_000_000_000,
-        0,
-        7,
-        3,
-        1_000_000_000,
-        1_000_000_000,
-        1_000_000_000,
-        1_000_000_000,
-        1,
-    ],
+    firsts: &[4, 1, 4, 2, 0, 5],
+    seconds: &[0, 0, 0, 0, 0, 0],
     place: Place::All,
 };
 

@@ -7,10 +7,8 @@ use asg_samples::Sample;
 /// The first two rows of the plain square, and a row that isn't active.
 pub(crate) const DROPPED: Sample<'static> = Sample {
     rows: &[true, true, false],
-    columns: &[(1, true), (1, true), (1, true)],
-    firsts: &[4, 1, 3, 2, 0, 5, 3, 2, 2],
     seconds: &[],
-    place: Place::All,
+    ..PLAIN
 };
 
 /// Two rows, `1 4 / 2 3`, and a first column that takes both.
@@ -24,20 +22,16 @@ pub(crate) const WIDE: Sample<'static> = Sample {
 
 /// Three rows whose costs are all 5.
 pub(crate) const EQUAL: Sample<'static> = Sample {
-    rows: &[true, true, true],
-    columns: &[(1, true), (1, true), (1, true)],
     firsts: &[5; 9],
     seconds: &[],
-    place: Place::All,
+    ..PLAIN
 };
 
 /// Two rows with one valid choice, that of the costs 1 and 3.
 pub(crate) const SINGLE: Sample<'static> = Sample {
-    rows: &[true, true],
     columns: &[(1, true), (1, true)],
     firsts: &[1, 2, ABSENT, 3],
-    seconds: &[],
-    place: Place::All,
+    ..WIDE
 };
 
 /// One row and one column, of the cost 7.

@@ -1,6 +1,6 @@
 //! Rankings, their numbers of nodes and Hall sets, by hand.
 
-ghost use Rattle.std.specs.Prelude.{◌≡◌, IsTrue};
+ghost use Rattle.std.specs.Prelude.{◌≡◌};
 ghost use Rattle.asg_model.specs.Objectives.{is_algebraic};
 
 use crate::of_objectives::samples::{ONE_COLUMN, PLAIN};

@@ -1,13 +1,14 @@
 //! Whether phases prove a choice of two rows, for tests.
 
 ghost use Rattle.std.specs.Prelude.{IsTrue};
-ghost use Rattle.asg_monoids.specs.NarrowObjectives.{is_narrow_objective};
+ghost use Rattle.asg_monoids.specs.Entered.{is_sum_objective};
 
 use asg_model::limits::MOST_SIDE;
 use asg_model::{Choice, Instance, Objective};
 use asg_proof::Phase;
 use asg_samples::{Fault, Sample};
 use asg_table_phases::{NoMemory, proves};
+use asg_values::negative;
 use std::alloc::Global;
 
 // By how much each cost is shifted.
@@ -46,9 +47,9 @@ fn are_proved_for(
     columns: (Option<u32>, Option<u32>),
     phases: &[Phase<u64>],
 ) -> Result<bool, NoMemory>
-    requires { IsTrue (is_narrow_objective objective) }
+    requires { IsTrue (is_sum_objective objective) }
 {
-    if inst.side() > MOST_SIDE {
+    if inst.side() > MOST_SIDE || negative(objective, inst).is_some() {
         return Ok(false);
     }
     let choice = choice_of(alloc, columns.0, columns.1)?;
@@ -63,7 +64,7 @@ pub(crate) fn are_proved_by(
     columns: (Option<u32>, Option<u32>),
     phases: Vec<Phase<u64>>,
 ) -> Result<bool, Fault>
-    requires { IsTrue (is_narrow_objective objective) }
+    requires { IsTrue (is_sum_objective objective) }
 {
     let inst = sample.instance(alloc)?;
     let are_proved = are_proved_for(alloc, objective, &inst, columns, phases.as_slice());

@@ -1,5 +1,6 @@
 //! Phases that prove a choice where the square has other rows or columns than the table, by hand.
 
+use crate::of_objectives::samples::WIDE;
 use crate::of_table_phases::cases::{SHIFT, are_proved_by, phase};
 use asg_model::{Objective, Place};
 use asg_proof::Phase;
@@ -7,15 +8,6 @@ use asg_samples::Sample;
 use asg_table_phases::NoMemory;
 use std::alloc::Global;
 use std::test::Fail;
-
-// Two rows in three columns, whose least sum is 3.
-const WIDE: Sample<'static> = Sample {
-    rows: &[true, true],
-    columns: &[(1, true), (1, true), (1, true)],
-    firsts: &[4, 1, 4, 2, 0, 5],
-    seconds: &[0, 0, 0, 0, 0, 0],
-    place: Place::All,
-};
 
 // One of two rows in one column, at least for 1.
 const PLACED: Sample<'static> = Sample {
@@ -28,11 +20,9 @@ const PLACED: Sample<'static> = Sample {
 
 // Two rows in one column that takes both.
 const SHARED: Sample<'static> = Sample {
-    rows: &[true, true],
     columns: &[(2, true)],
-    firsts: &[1, 2],
-    seconds: &[0, 0],
     place: Place::All,
+    ..PLACED
 };
 
 // One phase: both rows fall to the least cost, and the column that is a copy of none rises by it.
@@ -70,44 +60,29 @@ fn fallen_phases(alloc: Global) -> Result<Vec<Phase<u64>>, NoMemory> {
     Ok(phases)
 }
 
-// The third column is left, and rises by no more than the row that stands for none falls.
+// The third column is left, and rises by no more than the row that stands for none falls. That row
+// has cells that are 0, and falls no further.
 #[test]
-fn sum_in_more_columns_is_proved(rt: HostRuntime) -> Result<(), Fail> {
+fn sums_in_more_columns(rt: HostRuntime) -> Result<(), Fail> {
     let columns = (Some(1), Some(0));
     let phases = wide_phases(rt.alloc())?;
     assert!(rt; are_proved_by(rt.alloc(), Objective::Sum, &WIDE, columns, phases)?);
-    Ok(())
-}
-
-// The row that stands for none has cells that are 0, and falls no further.
-#[test]
-fn free_cells_stay_above_0(rt: HostRuntime) -> Result<(), Fail> {
-    let columns = (Some(1), Some(0));
     let phases = fallen_phases(rt.alloc())?;
     assert!(rt; !are_proved_by(rt.alloc(), Objective::Sum, &WIDE, columns, phases)?);
     Ok(())
 }
 
+// Of two rows in one column the lesser one is proved, the other one isn't, and where the column
+// takes both, both are.
 #[test]
-fn sum_of_one_row_is_proved(rt: HostRuntime) -> Result<(), Fail> {
-    let columns = (Some(0), None);
+fn sums_in_one_column(rt: HostRuntime) -> Result<(), Fail> {
+    let (first, other) = ((Some(0), None), (None, Some(0)));
     let phases = placed_phases(rt.alloc(), SHIFT.wrapping_add(1))?;
-    assert!(rt; are_proved_by(rt.alloc(), Objective::Sum, &PLACED, columns, phases)?);
-    Ok(())
-}
-
-#[test]
-fn sum_of_another_row_is_not(rt: HostRuntime) -> Result<(), Fail> {
-    let columns = (None, Some(0));
+    assert!(rt; are_proved_by(rt.alloc(), Objective::Sum, &PLACED, first, phases)?);
     let phases = placed_phases(rt.alloc(), SHIFT.wrapping_add(2))?;
-    assert!(rt; !are_proved_by(rt.alloc(), Objective::Sum, &PLACED, columns, phases)?);
-    Ok(())
-}
-
-#[test]
-fn sum_in_one_column_is_proved(rt: HostRuntime) -> Result<(), Fail> {
-    let columns = (Some(0), Some(0));
+    assert!(rt; !are_proved_by(rt.alloc(), Objective::Sum, &PLACED, other, phases)?);
     let phases = shared_phases(rt.alloc())?;
-    assert!(rt; are_proved_by(rt.alloc(), Objective::Sum, &SHARED, columns, phases)?);
+    let both = (Some(0), Some(0));
+    assert!(rt; are_proved_by(rt.alloc(), Objective::Sum, &SHARED, both, phases)?);
     Ok(())
 }

@@ -1,16 +1,15 @@
 //! Phases that prove a choice of a square, by hand.
 
 ghost use Rattle.std.specs.Prelude.{IsTrue};
-ghost use Rattle.asg_monoids.specs.NarrowObjectives.{is_narrow_objective};
+ghost use Rattle.asg_monoids.specs.Entered.{is_sum_objective};
 
-use crate::of_table_phases::cases::{SHIFT, are_proved_by, choice_of, phase};
+use crate::of_table_phases::cases::{SHIFT, are_proved_by, phase};
 use asg_model::limits::MOST_SIDE;
 use asg_model::{Instance, Objective, Place};
 use asg_phase_totals::PhaseTotals;
 use asg_proof::Phase;
 use asg_samples::{Fault, Sample};
-use asg_table_phases::{NoMemory, fits_capped_table, fits_table, proves_capped};
-use asg_values::negative;
+use asg_table_phases::{NoMemory, fits_table};
 use std::alloc::Global;
 use std::test::Fail;
 
@@ -25,11 +24,8 @@ const LEAST: Sample<'static> = Sample {
 
 // The square `-1 -3 / -2 -5`, whose greatest sum is -5.
 const GREATEST: Sample<'static> = Sample {
-    rows: &[true, true],
-    columns: &[(1, true), (1, true)],
     firsts: &[-1, -3, -2, -5],
-    seconds: &[0, 0, 0, 0],
-    place: Place::All,
+    ..LEAST
 };
 
 // Appends two phases: the rows fall to their least costs, 1 and 2, and then the second column by
@@ -60,57 +56,33 @@ fn are_proved(
     columns: (u32, u32),
     last: u64,
 ) -> Result<bool, Fault>
-    requires { IsTrue (is_narrow_objective objective) }
+    requires { IsTrue (is_sum_objective objective) }
 {
     let phases = phases(alloc, SHIFT, last)?;
     let columns = (Some(columns.0), Some(columns.1));
     are_proved_by(alloc, objective, sample, columns, phases)
 }
 
+// The least and the greatest sum are proved, and neither another choice nor by steps past a cell.
 #[test]
-fn least_sum_is_proved(rt: HostRuntime) -> Result<(), Fail> {
+fn sums_are_proved(rt: HostRuntime) -> Result<(), Fail> {
     assert!(rt; are_proved(rt.alloc(), Objective::Sum, &LEAST, (1, 0), 2)?);
-    Ok(())
-}
-
-#[test]
-fn greatest_sum_is_proved(rt: HostRuntime) -> Result<(), Fail> {
     assert!(rt; are_proved(rt.alloc(), Objective::SumMax, &GREATEST, (1, 0), 2)?);
-    Ok(())
-}
-
-#[test]
-fn another_sum_is_not(rt: HostRuntime) -> Result<(), Fail> {
     assert!(rt; !are_proved(rt.alloc(), Objective::Sum, &LEAST, (0, 1), 2)?);
-    Ok(())
-}
-
-#[test]
-fn steps_past_a_cell_do_not_fit(rt: HostRuntime) -> Result<(), Fail> {
     assert!(rt; !are_proved(rt.alloc(), Objective::Sum, &LEAST, (0, 1), 3)?);
     Ok(())
 }
 
-// Whether these phases, with no shift, prove the least choice of an instance where sums stop at a
-// cap.
-fn is_capped_proved_for(alloc: Global, inst: &Instance, cap: u32) -> Result<bool, NoMemory> {
-    let cap = u64::from(cap);
-    if inst.side() > MOST_SIDE || negative(Objective::Capped(cap), inst).is_some() {
-        return Ok(false);
-    }
-    let choice = choice_of(alloc, Some(1), Some(0))?;
+// Whether these phases, with no shift, prove the least choice where sums stop at a cap.
+fn is_capped_proved(alloc: Global, cap: u64) -> Result<bool, Fault> {
     let phases = phases(alloc, 0, 2)?;
-    let is_proved = proves_capped(alloc, cap, inst, &choice, phases.as_slice());
-    drop(phases);
-    is_proved
-}
-
-// Whether they prove it for the least square.
-fn is_capped_proved(alloc: Global, cap: u32) -> Result<bool, Fault> {
-    let inst = LEAST.instance(alloc)?;
-    let is_proved = is_capped_proved_for(alloc, &inst, cap);
-    drop(inst);
-    Ok(is_proved?)
+    are_proved_by(
+        alloc,
+        Objective::Capped(cap),
+        &LEAST,
+        (Some(1), Some(0)),
+        phases,
+    )
 }
 
 // The sum is 5: a cap of 5 is reached by no step past it.
@@ -129,21 +101,17 @@ fn none_fit_on(alloc: Global, inst: &Instance) -> Result<bool, NoMemory> {
         return Ok(false);
     }
     let totals = PhaseTotals::none(alloc, side)?;
-    let none_fit = fits_table(Objective::Sum, inst, &totals) && fits_capped_table(9, inst, &totals);
+    let none_fit = fits_table(Objective::Sum, inst, &totals)
+        && fits_table(Objective::Capped(9), inst, &totals);
     drop(totals);
     Ok(none_fit)
 }
 
-// Whether none fit the least square.
-fn none_fit(alloc: Global) -> Result<bool, Fault> {
-    let inst = LEAST.instance(alloc)?;
-    let none_fit = none_fit_on(alloc, &inst);
-    drop(inst);
-    Ok(none_fit?)
-}
-
 #[test]
 fn no_phases_fit(rt: HostRuntime) -> Result<(), Fail> {
-    assert!(rt; none_fit(rt.alloc())?);
+    let inst = LEAST.instance(rt.alloc())?;
+    let none_fit = none_fit_on(rt.alloc(), &inst);
+    drop(inst);
+    assert!(rt; none_fit?);
     Ok(())
 }

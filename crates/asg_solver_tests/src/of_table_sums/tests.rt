@@ -3,21 +3,12 @@
 ghost use Rattle.std.specs.Prelude.{IsTrue};
 ghost use Rattle.asg_monoids.specs.NarrowObjectives.{is_narrow_objective};
 
-use crate::of_objectives::samples::{ONE_COLUMN, PLAIN};
+use crate::of_objectives::samples::{ONE_COLUMN, PLAIN, WIDE};
 use asg_model::{Choice, Instance, NoMemory, Objective, Place};
 use asg_samples::{Fault, Sample};
 use asg_table_sums::best_by_table;
 use std::alloc::Global;
 use std::test::Fail;
-
-// Two rows in three columns.
-const WIDE: Sample<'static> = Sample {
-    rows: &[true, true],
-    columns: &[(1, true), (1, true), (1, true)],
-    firsts: &[4, 1, 4, 2, 0, 5],
-    seconds: &[0, 0, 0, 0, 0, 0],
-    place: Place::All,
-};
 
 // Three rows in two columns, of which one takes two rows.
 const SHARED: Sample<'static> = Sample {
@@ -30,11 +21,9 @@ const SHARED: Sample<'static> = Sample {
 
 // The same rows, of which two are placed.
 const PARTLY: Sample<'static> = Sample {
-    rows: &[true, true, true],
     columns: &[(1, true), (1, true)],
-    firsts: &[1, 9, 2, 4, 3, 7],
-    seconds: &[0, 0, 0, 0, 0, 0],
     place: Place::Exactly(2),
+    ..SHARED
 };
 
 // No column.

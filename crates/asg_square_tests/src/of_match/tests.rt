@@ -1,7 +1,7 @@
 //! Perfect assignments, deficient rows and augmenting paths.
 
 ghost use Rattle.std.specs.Prelude.{◌≡◌, ◌+◌, ◌*◌, ◌<◌, ℕ, None, false, IsTrue, length, replicate, slice_index_or};
-ghost use Rattle.asg_match.specs.Matching.{AllAllowed, IsMatched, column_at};
+ghost use Rattle.asg_match.specs.Matching.{IsMatched, column_at};
 
 use asg_match::{
     Allowed, Grown, Matching, NoMemory, Pairing, Rows, Tree, augment, perfect_or_hall,
@@ -31,7 +31,7 @@ fn cells_of(text: &[u8; 9]) -> Grid {
 }
 
 // Allowed cells, and the columns of the perfect assignment that is found, or the deficient rows.
-static CASES: [(&[u8; 9], Option<[u32; 3]>, &[u32]); 5] = [
+static CASES: [(&'static [u8; 9], Option<[u32; 3]>, &'static [u32]); 5] = [
     (b"xxxxxxxxx", Some([0, 1, 2]), &[]),
     (b"x..x.x.xx", Some([0, 2, 1]), &[]),
     (b".x.x.xxx.", Some([1, 2, 0]), &[]),

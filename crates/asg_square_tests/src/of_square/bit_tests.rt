@@ -1,7 +1,5 @@
 //! Bits of rows that are set and cleared side by side, and the cells that bits keep.
 
-ghost use Rattle.std.specs.Prelude.{◌≡◌};
-
 use crate::of_square::samples::sample;
 use asg_bit_rows::BitRows;
 use asg_model::Place::All;

@@ -92,7 +92,7 @@ fn is_perfect(
 }
 
 // A place rule, a choice, and the perfect assignment that it gives.
-static CHOICES: [(Place, [Option<u32>; 3], &[u32]); 2] = [
+static CHOICES: [(Place, [Option<u32>; 3], &'static [u32]); 2] = [
     (All, [Some(1), Some(0), Some(1)], &[1, 0, 2, 3]),
     (Exactly(1), [None, Some(0), None], &[5, 0, 4, 3, 2, 1]),
 ];

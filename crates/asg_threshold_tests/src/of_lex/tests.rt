@@ -5,63 +5,40 @@ use asg_model::Place::{All, Exactly};
 use asg_model::limits::MOST_SIDE;
 use asg_model::{ABSENT, Band, Choice, Instance, NoMemory, Objective, Place, Value};
 use asg_proof::{Level, Outcome, Proof};
-use asg_samples::{Fours, ONE_COLUMN, PRODUCTS, SIGNED, Sample, THREE, TWO_COLUMNS, four_by_four};
+use asg_samples::{
+    Fours, ONE_COLUMN, ONE_COST, PRODUCTS, SIGNED, Sample, THREE, TWO_COLUMNS, four_by_four,
+};
 use asg_values::{is_hall, is_valid, value};
 use std::alloc::Global;
 use std::test::Fail;
 
-// The second column has one cost, the others different ones.
-const ONE_COST: Fours = [
-    1, 5, 9, ABSENT, 2, 5, 8, ABSENT, 3, 5, 7, ABSENT, ABSENT, ABSENT, ABSENT, ABSENT,
-];
-
 // The place rule, whether the second column holds three, whether the last row is active and the
-// last column open, the costs, and the value from the greatest cost down, if a choice is valid: the
-// places behind its end are absent.
-type Case = (Place, bool, bool, Fours, Option<[i64; 4]>);
+// last column open, the costs, and the value from the greatest cost down, if a choice is valid.
+type Case = (Place, bool, bool, Fours, Option<&'static [i64]>);
 
 static CASES: [Case; 17] = [
-    (All, false, true, [5; 16], Some([5, 5, 5, 5])),
-    (All, false, true, SIGNED, Some([-2, -3, -3, -5])),
-    (All, false, true, PRODUCTS, Some([6, 6, 4, 4])),
-    (All, false, false, THREE, Some([2, 2, 1, ABSENT])),
-    (All, true, false, THREE, Some([2, 1, 0, ABSENT])),
-    (
-        Exactly(2),
-        false,
-        false,
-        THREE,
-        Some([2, 0, ABSENT, ABSENT]),
-    ),
-    (
-        Exactly(1),
-        false,
-        false,
-        THREE,
-        Some([0, ABSENT, ABSENT, ABSENT]),
-    ),
-    (All, false, false, ONE_COST, Some([7, 5, 1, ABSENT])),
-    (All, true, false, ONE_COST, Some([5, 5, 1, ABSENT])),
-    (
-        Exactly(1),
-        false,
-        true,
-        PRODUCTS,
-        Some([1, ABSENT, ABSENT, ABSENT]),
-    ),
-    (Exactly(3), false, true, PRODUCTS, Some([4, 3, 3, ABSENT])),
-    (Exactly(4), false, true, PRODUCTS, Some([6, 6, 4, 4])),
+    (All, false, true, [5; 16], Some(&[5, 5, 5, 5])),
+    (All, false, true, SIGNED, Some(&[-2, -3, -3, -5])),
+    (All, false, true, PRODUCTS, Some(&[6, 6, 4, 4])),
+    (All, false, false, THREE, Some(&[2, 2, 1])),
+    (All, true, false, THREE, Some(&[2, 1, 0])),
+    (Exactly(2), false, false, THREE, Some(&[2, 0])),
+    (Exactly(1), false, false, THREE, Some(&[0])),
+    (All, false, false, ONE_COST, Some(&[7, 5, 1])),
+    (All, true, false, ONE_COST, Some(&[5, 5, 1])),
+    (Exactly(1), false, true, PRODUCTS, Some(&[1])),
+    (Exactly(3), false, true, PRODUCTS, Some(&[4, 3, 3])),
+    (Exactly(4), false, true, PRODUCTS, Some(&[6, 6, 4, 4])),
     (Exactly(4), false, false, PRODUCTS, None),
     (All, false, true, ONE_COLUMN, None),
-    (All, true, true, TWO_COLUMNS, Some([7, 6, 5, 4])),
+    (All, true, true, TWO_COLUMNS, Some(&[7, 6, 5, 4])),
     (All, false, true, TWO_COLUMNS, None),
     (All, false, true, [ABSENT; 16], None),
 ];
 
-// The costs before the first absent one.
-fn present(costs: &[i64]) -> &[i64] {
-    let count = costs.iter().take_while(|cost| **cost != ABSENT).count();
-    &costs[..count]
+// These, for a caller that needn't know them.
+fn cases() -> &'static [Case] {
+    &CASES
 }
 
 // How many of the costs are this one.
@@ -119,11 +96,10 @@ fn is_due(
     alloc: Global,
     inst: &Instance,
     outcome: &Outcome,
-    want: &Option<[i64; 4]>,
+    want: Option<&[i64]>,
 ) -> Result<bool, NoMemory> {
     match (outcome, want) {
         (Outcome::Best { choice, proof }, Some(costs)) => {
-            let costs = present(costs);
             Ok(has_value(alloc, inst, choice, costs)? && is_proved(proof, costs))
         }
         (Outcome::Nothing { rows }, None) => Ok(is_hall(inst, Band::Whole, rows.as_slice())),
@@ -132,7 +108,7 @@ fn is_due(
 }
 
 // Whether the outcome of an instance is that.
-fn is_right(alloc: Global, inst: &Instance, want: &Option<[i64; 4]>) -> Result<bool, Fail> {
+fn is_right(alloc: Global, inst: &Instance, want: Option<&[i64]>) -> Result<bool, Fail> {
     if inst.side() > MOST_SIDE {
         return Ok(false);
     }
@@ -146,7 +122,7 @@ fn is_right(alloc: Global, inst: &Instance, want: &Option<[i64; 4]>) -> Result<b
 fn is_right_on(alloc: Global, case: &Case) -> Result<bool, Fail> {
     let (place, wide, last, costs, want) = case;
     let inst = four_by_four(alloc, *place, *wide, *last, costs)?;
-    let is_right = is_right(alloc, &inst, want);
+    let is_right = is_right(alloc, &inst, *want);
     drop(inst);
     is_right
 }
@@ -172,11 +148,6 @@ fn refusal_of(alloc: Global, active: &[bool], firsts: &[i64]) -> Result<Option<L
     let refusal = refusal_on(alloc, &inst);
     drop(inst);
     Ok(refusal)
-}
-
-// These cases, for a caller that needn't know them.
-fn cases() -> &'static [Case] {
-    &CASES
 }
 
 // The place of the first case whose instance has another outcome.

@@ -4,16 +4,13 @@ use asg_model::Place::{All, Exactly};
 use asg_model::limits::MOST_SIDE;
 use asg_model::{ABSENT, Band, Choice, Instance, NoMemory, Objective, Place, Value};
 use asg_proof::{Outcome, Proof, Window};
-use asg_samples::{Fours, ONE_COLUMN, PRODUCTS, SIGNED, THREE, TWO_COLUMNS, four_by_four};
+use asg_samples::{
+    Fours, ONE_COLUMN, ONE_COST, PRODUCTS, SIGNED, THREE, TWO_COLUMNS, four_by_four,
+};
 use asg_values::{is_hall, is_valid, value};
 use asg_window::balanced;
 use std::alloc::Global;
 use std::test::Fail;
-
-// The second column has one cost, the others different ones.
-const ONE_COST: Fours = [
-    1, 5, 9, ABSENT, 2, 5, 8, ABSENT, 3, 5, 7, ABSENT, ABSENT, ABSENT, ABSENT, ABSENT,
-];
 
 // The place rule, whether the second column holds three, whether the last row is active and the
 // last column open, the costs, and the value, if a choice is valid.

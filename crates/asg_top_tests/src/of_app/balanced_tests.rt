@@ -1,37 +1,32 @@
 //! Requests with the objective `balanced`, as runs over memory.
 
 use crate::of_app::solve_tests::first_unanswered;
-use asg_runs::{ASN, Case, RECT, SQUARE, THREE, ends, held};
+use asg_runs::{ASN, Case, RECT, SQUARE, TABLE, THREE, ends, held};
 use std::alloc::{AllocError, Global};
 use std::test::Fail;
 
 // Requests to solve with their answers: a square, fewer rows to be placed, a greater capacity, a
 // table with absent cells, a graph without a valid choice, and one cell, which needs no window.
 static BALANCED: [Case; 6] = [
-    (&[], SQUARE, 0, "value 1\ncells 3\n"),
-    (&["--place", "2"], SQUARE, 0, "value 0\ncells 2\n"),
+    (&[], SQUARE, 0, "1\ncells 3\n"),
+    (&["--place", "2"], SQUARE, 0, "0\ncells 2\n"),
     (
         &["--format", "rect", "--each", "2"],
         "2 1\n1\n2\n",
         0,
-        "value 1\ncells 2\n1 1\n2 1\nproof windows ",
+        "1\ncells 2\n1 1\n2 1\nproof windows ",
     ),
-    (
-        RECT,
-        "2 3\n5 - 1\n- 2 1\n",
-        0,
-        "value 1\ncells 2\n1 3\n2 2\nproof windows ",
-    ),
-    (ASN, "p asn 4 2\nn 1\nn 2\na 1 3 5\na 2 3 6\n", 1, "hall "),
+    (RECT, TABLE, 0, "1\ncells 2\n1 3\n2 2\nproof windows "),
+    (ASN, "p asn 4 2\nn 1\nn 2\na 1 3 5\na 2 3 6\n", 1, ""),
     (
         &[],
         "1\n-1000000000\n",
         0,
-        "value 0\ncells 1\n1 1\nproof windows 0\nend\n",
+        "0\ncells 1\n1 1\nproof windows 0\nend\n",
     ),
 ];
 
-// These requests, for a caller that needn't know them.
+// These, for a caller that needn't know them.
 fn balanced() -> &'static [Case] {
     &BALANCED
 }
@@ -64,6 +59,11 @@ static PROOFS: [Judged; 2] = [
     ),
 ];
 
+// These, for a caller that needn't know them.
+fn proofs() -> &'static [Judged] {
+    &PROOFS
+}
+
 // Whether this is told of a proof.
 fn is_told(alloc: Global, case: &Judged) -> Result<bool, AllocError> {
     let proof = case.0;
@@ -71,11 +71,6 @@ fn is_told(alloc: Global, case: &Judged) -> Result<bool, AllocError> {
     let files = held(THREE, answer.as_bytes());
     let words = ["check", "balanced", "f", "g"];
     ends(alloc, &words, &[], files, (case.1, case.2.as_bytes()))
-}
-
-// These proofs, for a caller that needn't know them.
-fn proofs() -> &'static [Judged] {
-    &PROOFS
 }
 
 #[test]

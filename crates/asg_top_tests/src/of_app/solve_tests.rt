@@ -10,20 +10,20 @@ use std::test::Fail;
 const USAGE: &str = "usage: asg solve OBJECTIVE INSTANCE | rank OBJECTIVE INSTANCE --count K | \
     edit OBJECTIVE INSTANCE SCRIPT | check OBJECTIVE INSTANCE ANSWER | make SEED SIDE\n";
 
-// The status line of a document that is written with a status of a run.
-fn status_line(code: u8) -> &'static str {
+// How a document begins behind its objective that is written with a status of a run.
+fn begin(code: u8) -> &'static str {
     if code == 0 {
-        "status best"
+        "status best\nvalue "
     } else {
-        "status none"
+        "status none\nhall "
     }
 }
 
 // Whether a run has the status of a case, and its document begins as the case says.
 fn is_written(alloc: Global, objective: &str, case: &Case, ran: &Ran) -> Result<bool, AllocError> {
-    let (status, lines) = (status_line(case.2), case.3);
+    let (begin, rest) = (begin(case.2), case.3);
     let head = format!(in alloc; "assignment 1\ncommand solve\nobjective {objective}\n")?;
-    let text = format!(in alloc; "{head}{status}\n{lines}")?;
+    let text = format!(in alloc; "{head}{begin}{rest}")?;
     Ok(ran.code == case.2 && ran.written.starts_with(text.as_bytes()))
 }
 
@@ -105,7 +105,7 @@ fn a_hall_set_of_two_rows(rt: HostRuntime) -> Result<(), Fail> {
 }
 
 // Words that are no request, and requests that aren't built.
-static NO_REQUESTS: [&[&str]; 20] = [
+static NO_REQUESTS: [&'static [&'static str]; 20] = [
     &[],
     &["solve", "bottleneck"],
     &["solve", "bottleneck", "f", "g"],
@@ -128,7 +128,7 @@ static NO_REQUESTS: [&[&str]; 20] = [
     &["make", "1", "0"],
 ];
 
-// These words, for a caller that needn't know them.
+// These, for a caller that needn't know them.
 fn no_requests() -> &'static [&'static [&'static str]] {
     &NO_REQUESTS
 }
@@ -162,7 +162,7 @@ static FAULTS: [Faulty; 6] = [
     (&["solve"], &[], &[(1, 3)], 8, b"usa"),
 ];
 
-// These cases, for a caller that needn't know them.
+// These, for a caller that needn't know them.
 fn faults() -> &'static [Faulty] {
     &FAULTS
 }

@@ -1,6 +1,7 @@
 pub mod Common
 mod TableCells
 mod ColumnCopies
+mod RefusedCosts
 mod RowCosts
 mod AdmittedTables
 mod ProvedChoices

@@ -1,11 +1,12 @@
 //! Whether phases prove a choice of an instance.
 
-ghost use Rattle.std.specs.Prelude.{◌≡◌, ◌≤◌, All, IfOk, IsTrue, map};
+ghost use Rattle.std.specs.Prelude.{◌≡◌, ◌≤◌, All, IfOk, IsTrue, false, map};
 ghost use Rattle.asg_model.specs.Limits.{most_side};
 ghost use Rattle.asg_model.specs.Refused.{PassesNegative};
 ghost use Rattle.asg_model.specs.Shapes.{square_side};
 ghost use Rattle.asg_monoids.specs.BoundedSums.{bounded_sums, narrow_top, plain_word};
 ghost use Rattle.asg_monoids.specs.Entered.{is_sum_objective, sum_entered, top_of};
+ghost use Rattle.asg_monoids.specs.NarrowObjectives.{is_narrow_objective};
 ghost use Rattle.asg_order.specs.Bridge.{choice_fold};
 ghost use Rattle.asg_order.specs.Monoid.{IsValue};
 ghost use Rattle.asg_proof.specs.FoldProofs.{ProvesPhases};
@@ -26,7 +27,7 @@ use std::alloc::Global;
 // Whether the entered costs of a choice add up to so much.
 fn adds_up_to(objective: Objective, inst: &Instance, choice: &Choice, sum: u64) -> bool
     requires objective { IsTrue (is_sum_objective objective) }
-    requires passes { PassesNegative objective inst.now }
+    requires passes { is_narrow_objective objective ≡ false → PassesNegative objective inst.now }
     ensures sum { IsTrue result → sum
         ≡ choice_fold (bounded_sums (top_of objective)) (sum_entered objective) inst.now choice.now }
     ensures few { IsTrue result → sum ≤ top_of objective }
@@ -51,7 +52,7 @@ pub fn proves(
 ) -> Result<bool, NoMemory>
     requires objective { IsTrue (is_sum_objective objective) }
     requires side { square_side inst.now ≤ most_side }
-    requires passes { PassesNegative objective inst.now }
+    requires passes { is_narrow_objective objective ≡ false → PassesNegative objective inst.now }
     ensures proved { IfOk result (λ is. IsTrue is
         → ProvesPhases objective inst.now choice.now (map (worded plain_word) phases.now)) }
     ensures few { IfOk result (λ is. IsTrue is

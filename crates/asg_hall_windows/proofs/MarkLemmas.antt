@@ -1,5 +1,5 @@
 -- Marks that are kept, and those that are added.
-use Rattle.asg_hall_windows.proofs.Common.{◌≡◌, ℕ, ◌+◌, ◌*◌, ◌/◌, ◌%◌, ◌<◌, ◌≤◌, List, length, get_or, set, sym, refl, ap, ◌∙◌, subst, inl, inr, ⊎_elim, arith, cases_eq, get_or-set_other, get_or-set_same, bit_or, HasBit, HasBit-or, HasBit-with_same, HasBit-zero, IsMarked, KeepsMarks, Marks}
+use Rattle.asg_hall_windows.proofs.Common.{◌≡◌, ℕ, ◌+◌, ◌*◌, ◌/◌, ◌%◌, ◌<◌, List, length, get_or, set, sym, refl, ap, ◌∙◌, subst, inl, inr, ⊎_elim, cases_eq, get_or-set_other, get_or-set_same, bit_or, HasBit, HasBit-or, HasBit-with_same, HasBit-zero, IsMarked, KeepsMarks, Marks}
 use Rattle.std.specs.Prelude.{◌^◌}
 
 pub keeps_all : (marks : Marks) → KeepsMarks marks marks

@@ -23,7 +23,7 @@ test-le x y e = omega (arith, ints, e)
 pub fits_in : (windows : List Window) (spread : ℤ) (width : ℕ) (stretches : List Stretch) → width ≡ word_count (length windows) → All (IsStretch windows spread) stretches → All (FitsIn width) stretches
 fits_in windows spread width stretches same all k d within =
     let stretch = all k d within in
-    record { some = stretch.some; within = omega (arith, stretch.some, stretch.within, same) }
+    record { some = stretch.some; within = omega (arith, stretch.some, stretch.within, same); words = stretch.words }
 
 -- a window that holds a stretch holds each of its costs
 holds : (spread a : ℤ) (stretch : Stretch) (window : Window) → LiesInStretch a stretch → IsHeldBy spread stretch window → holds_from spread a window ≡ true
@@ -33,7 +33,7 @@ holds spread a stretch window inside held =
     and_from (int_le window.lo a) (int_le ((a +ℤ spread) -ℤ pos 1) window.hi) (le-test window.lo a low) (le-test ((a +ℤ spread) -ℤ pos 1) window.hi high)
 
 some_stretch : Stretch
-some_stretch = record { least = pos 0; most = pos 0; from = 0; to = 0 }
+some_stretch = record { least = pos 0; most = pos 0; from = 0; to = 0; span = record { first = 0; last = 0; low = 0; high = 0 } }
 
 module _ (X : Problem) (spread : ℤ) (windows : List Window) (stretches : List Stretch) (named reached : Marks)
     (are : All (IsStretch windows spread) stretches)

@@ -1,13 +1,13 @@
 //! One pass over the cells: for each of them, the windows in which its row reaches its column.
 
-ghost use Rattle.std.specs.Prelude.{◌≡◌, ◌≢◌, ℕ, ◌+◌, ◌-◌, ◌*◌, ◌/◌, ◌<◌, ◌≤◌, All, IsTrue, length, slice_index, slice_index_or};
+ghost use Rattle.std.specs.Prelude.{◌≡◌, ◌≢◌, ℕ, ◌+◌, ◌*◌, ◌/◌, ◌<◌, ◌≤◌, All, IsTrue, length, slice_index, slice_index_or};
 ghost use Rattle.asg_bit_rows.specs.WordBits.{HasBit};
 ghost use Rattle.asg_model.specs.declared.parts.Column.{Column as C};
 ghost use Rattle.asg_model.specs.Limits.{most_columns};
 ghost use Rattle.asg_model.specs.Live.{is_active};
 ghost use Rattle.asg_model.specs.Table.{absent, IsEntry};
 ghost use Rattle.asg_hall_windows.specs.Cells.{IsPassed, IsRowPassed};
-ghost use Rattle.asg_hall_windows.specs.Marks.{HasLine, IsMarked, KeepsMarks, word_place};
+ghost use Rattle.asg_hall_windows.specs.Marks.{HasLine, IsMarked, KeepsMarks};
 ghost use Rattle.asg_hall_windows.specs.Stretches.{FitsIn};
 
 use crate::marks::Marks;
@@ -38,14 +38,6 @@ fn pass_word(
     reached.add(column, number, word & bits);
 }
 
-// All bits of a word but these.
-#[inline]
-fn other_bits(bits: u64) -> u64
-    ensures { (k : ℕ) → k < 64 → (HasBit bits k → ⊥) → HasBit result k }
-{
-    !bits
-}
-
 // Marks a column for those windows of some words, from one on and before another, for which the row
 // is marked.
 #[inline]
@@ -61,30 +53,6 @@ fn pass_words(named: &Marks, row: usize, reached: &mut Marks, column: usize, fro
     }
 }
 
-// Marks a column for those windows from one on and before another for which the row is marked.
-#[inline]
-fn pass_marks(named: &Marks, row: usize, reached: &mut Marks, column: usize, from: usize, to: usize)
-    requires some { from < to }
-    requires row_within { word_place named.now row (to - 1) < length named.now.words.items }
-    requires column_within { word_place reached.old column (to - 1)
-        < length reached.old.words.items }
-    ensures kept { KeepsMarks reached.old reached.new }
-    ensures marked { (w : ℕ) → from ≤ w → w < to
-        → IsMarked named.now row w → IsMarked reached.new column w }
-{
-    let first = from / 64;
-    let last = (to - 1) / 64;
-    let low = other_bits(first_bits(from % 64));
-    let high = first_bits((to - 1) % 64 + 1);
-    if first == last {
-        pass_word(named, row, reached, column, first, low & high);
-        return;
-    }
-    pass_word(named, row, reached, column, first, low);
-    pass_words(named, row, reached, column, first + 1, last);
-    pass_word(named, row, reached, column, last, high);
-}
-
 // Marks a column for those windows of a stretch for which the row is marked.
 #[inline]
 fn pass_stretch(named: &Marks, row: usize, reached: &mut Marks, column: usize, stretch: &Stretch)
@@ -96,14 +64,15 @@ fn pass_stretch(named: &Marks, row: usize, reached: &mut Marks, column: usize, s
     ensures marked { (w : ℕ) → stretch.now.from ≤ w → w < stretch.now.to
         → IsMarked named.now row w → IsMarked reached.new column w }
 {
-    pass_marks(
-        named,
-        row,
-        reached,
-        column,
-        stretch.from as usize,
-        stretch.to as usize,
-    );
+    let span = stretch.span;
+    let first = span.first as usize;
+    let last = span.last as usize;
+    pass_word(named, row, reached, column, first, span.low);
+    if first == last {
+        return;
+    }
+    pass_words(named, row, reached, column, first + 1, last);
+    pass_word(named, row, reached, column, last, span.high);
 }
 
 // Marks a column for those windows in which the cost of a row lies and for which the row is marked.

@@ -14,6 +14,7 @@ mod cells;
 mod marks;
 mod named;
 mod orders;
+mod spans;
 mod spreads;
 mod stretches;
 mod tables;

@@ -4,20 +4,23 @@ ghost use Rattle.std.specs.Prelude.{◌≡◌, ◌↔◌, ◌<◌, ◌≤◌, �
 ghost use Rattle.asg_model.specs.Limits.{most_cost};
 ghost use Rattle.asg_hall_windows.specs.Ascending.{AreAscending};
 ghost use Rattle.asg_hall_windows.specs.Limits.{most_windows};
-ghost use Rattle.asg_hall_windows.specs.Stretches.{IsStretch, IsHeldBy, EndsBefore, BeginsAfter};
+ghost use Rattle.asg_hall_windows.specs.Stretches.{IsStretch, IsHeldBy, EndsBefore, BeginsAfter, HasWords};
 
 use crate::NoMemory;
+use crate::spans::Span;
 use asg_proof::Window;
 use std::alloc::Global;
 
 /// Costs from one to another, both included, which no windows hold but those from one place on and
-/// before another, of which the last holds as many costs as the spread from each of them on.
+/// before another, of which the last holds as many costs as the spread from each of them on; and the
+/// words that hold these windows.
 #[derive(Clone, Copy)]
 pub(crate) struct Stretch {
     pub(crate) least: i64,
     pub(crate) most: i64,
     pub(crate) from: u32,
     pub(crate) to: u32,
+    pub(crate) span: Span,
 }
 
 // Whether the window holds as many costs as the spread from each cost of the stretch on.
@@ -47,6 +50,7 @@ fn ends_before(windows: &[Window], place: usize, stretch: &Stretch) -> bool
 // Whether this is a stretch of the windows.
 fn is_stretch(windows: &[Window], spread: i128, stretch: &Stretch) -> bool
     requires ascending { AreAscending windows.now }
+    requires words { HasWords stretch.now.span stretch.now.from stretch.now.to }
     requires some { pos 0 <ℤ spread }
     requires few { spread ≤ℤ pos (2 * most_cost) }
     ensures { IsTrue result → IsStretch windows.now spread stretch.now }
@@ -75,6 +79,7 @@ fn add_stretch(
     requires ascending { AreAscending windows.now }
     requires some { pos 0 <ℤ spread }
     requires few { spread ≤ℤ pos (2 * most_cost) }
+    requires words { HasWords stretch.span stretch.from stretch.to }
     requires before { All (IsStretch windows.now spread) stretches.old.items }
     ensures { IfOk result (λ _. All (IsStretch windows.now spread) stretches.new.items) }
 {
@@ -119,11 +124,13 @@ fn add_held(
     let mut from = first;
     'windows: while from <= place && least <= last {
         let most = last.min(windows[from].hi);
+        let to = place as u32 + 1;
         let stretch = Stretch {
             least,
             most,
             from: from as u32,
-            to: place as u32 + 1,
+            to,
+            span: Span::of(from as u32, to),
         };
         add_stretch(windows, spread, stretches, stretch)?;
         if windows[from].hi > last {

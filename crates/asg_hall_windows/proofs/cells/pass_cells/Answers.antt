@@ -1,4 +1,4 @@
-use Rattle.asg_hall_windows.proofs.Common.{◌≡◌, ℕ, ◌<◌, ◌≤◌, sym, subst, ⊎_elim, arith, cases_lt, IsRowPassed}
+use Rattle.asg_hall_windows.proofs.Common.{◌≡◌, ◌<◌, ◌≤◌, sym, subst, ⊎_elim, arith, cases_lt, IsRowPassed}
 use Rattle.asg_hall_windows.proofs.CellLemmas.{row_passed_on}
 use Rattle.asg_hall_windows.proofs.MarkLemmas.{keeps_both}
 use Rattle.asg_hall_windows.proofs.cells.pass_cells.Goals as goal

@@ -1,4 +1,4 @@
-use Rattle.asg_hall_windows.proofs.Common.{◌<◌, ◌≤◌, sym, get_or, subst, get_or_read, to_z-of_z, w64, IsIn, IsMarked, Stretch}
+use Rattle.asg_hall_windows.proofs.Common.{◌<◌, ◌≤◌, sym, get_or, subst, get_or_read, to_z-of_z, w64, IsIn, Stretch}
 use Rattle.asg_hall_windows.proofs.cells.pass_cost.Goals as goal
 
 pub returns-in-Some : goal.returns-in-Some

@@ -1,5 +1,5 @@
 use Rattle.std.proofs.Common.{of_z}
-use Rattle.asg_hall_windows.proofs.Common.{◌≡◌, ◌≢◌, ℕ, ◌<◌, ◌≤◌, IsTrue, get_or, ℤ, pos, sym, ◌∙◌, subst, ⊎_elim, arith, cases_lt, to_z, to_z-of_z, w64, get_or_default, absent, Column, IsPassed, no_column}
+use Rattle.asg_hall_windows.proofs.Common.{◌≡◌, ◌≢◌, ◌<◌, ◌≤◌, IsTrue, get_or, pos, sym, ◌∙◌, subst, ⊎_elim, arith, cases_lt, to_z, to_z-of_z, w64, get_or_default, absent, Column, IsPassed, no_column}
 use Rattle.asg_hall_windows.proofs.CellLemmas.{entry_fits, passed_on}
 use Rattle.asg_hall_windows.proofs.MarkLemmas.{keeps_both}
 use Rattle.asg_hall_windows.proofs.cells.pass_costs.Goals as goal

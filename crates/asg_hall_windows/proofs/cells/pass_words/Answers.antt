@@ -1,4 +1,4 @@
-use Rattle.asg_hall_windows.proofs.Common.{◌≡◌, ◌/◌, ◌%◌, ◌<◌, ◌≤◌, ⊎_elim, arith, cases_lt}
+use Rattle.asg_hall_windows.proofs.Common.{◌/◌, ◌%◌, ◌<◌, ◌≤◌, ⊎_elim, arith, cases_lt}
 use Rattle.asg_hall_windows.proofs.MarkLemmas.{keeps_both, marked_on, word_marked}
 use Rattle.asg_hall_windows.proofs.cells.pass_words.Goals as goal
 

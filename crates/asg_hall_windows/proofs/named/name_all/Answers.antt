@@ -1,4 +1,4 @@
-use Rattle.asg_hall_windows.proofs.Common.{◌≡◌, ℕ, ◌<◌, ◌≤◌, get_or, sym, subst, ⊎_elim, arith, cases_lt, get_or_default, AreNamed, Window}
+use Rattle.asg_hall_windows.proofs.Common.{◌≡◌, ◌<◌, ◌≤◌, get_or, sym, subst, ⊎_elim, arith, cases_lt, get_or_default, AreNamed, Window}
 use Rattle.asg_hall_windows.proofs.CellLemmas.{named_on}
 use Rattle.asg_hall_windows.proofs.MarkLemmas.{keeps_both}
 use Rattle.asg_hall_windows.proofs.named.name_all.Goals as goal

@@ -1,4 +1,4 @@
-use Rattle.asg_hall_windows.proofs.Common.{length, ◌≡◌, ◌≢◌, ℕ, ◌<◌, ◌≤◌, true, get_or, sym, ap, ◌∙◌, subst, ⊎_elim, arith, below_more, cases_lt, get_or_default, Some, is_counted_id, row_place_of}
+use Rattle.asg_hall_windows.proofs.Common.{length, ◌≡◌, ℕ, ◌<◌, ◌≤◌, true, get_or, sym, ap, ◌∙◌, subst, ⊎_elim, arith, below_more, cases_lt, get_or_default, Some, is_counted_id, row_place_of}
 use Rattle.asg_hall_windows.proofs.CellLemmas.{counted_there}
 use Rattle.asg_hall_windows.proofs.MarkLemmas.{keeps_both, marked_on}
 use Rattle.asg_hall_windows.proofs.named.name_rows.Goals as goal

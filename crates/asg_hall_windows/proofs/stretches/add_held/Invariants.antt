@@ -1,4 +1,4 @@
-use Rattle.asg_hall_windows.proofs.Common.{ℕ, ◌+◌, ◌-◌, All, IsStretch}
+use Rattle.asg_hall_windows.proofs.Common.{◌+◌, ◌-◌, All, IsStretch}
 use Rattle.asg_hall_windows.proofs.stretches.add_held.Given as goal
 
 abbrev pub invariant-windows : goal.invariant-windows

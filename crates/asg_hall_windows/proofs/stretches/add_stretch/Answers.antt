@@ -1,4 +1,4 @@
-use Rattle.asg_hall_windows.proofs.Common.{All, [], ◌∷◌, sym, subst, to_z-of_z, w128, IsStretch}
+use Rattle.asg_hall_windows.proofs.Common.{All, sym, subst, to_z-of_z, w128, IsStretch}
 use Rattle.asg_model.proofs.Kit.{All-push}
 use Rattle.asg_hall_windows.proofs.stretches.add_stretch.Goals as goal
 

@@ -1,4 +1,4 @@
-use Rattle.asg_hall_windows.proofs.Common.{◌-◌, length, get_or, subst, arith, get_or_read, to_z-of_z, w128, IsHeldBy}
+use Rattle.asg_hall_windows.proofs.Common.{◌-◌, get_or, subst, arith, get_or_read, to_z-of_z, w128, IsHeldBy}
 use Rattle.asg_hall_windows.proofs.StretchLemmas.{no_others}
 use Rattle.asg_hall_windows.proofs.stretches.is_stretch.Goals as goal
 
@@ -14,4 +14,5 @@ returns c held_all =
       within = omega arith;
       held = λ d. subst (λ w. IsHeldBy c.args.spread stretch w) (get_or_read windows (stretch.to - 1) last (omega arith) c.index-windows-to.is d) held;
       alone = no_others windows stretch c.requires.ascending (omega arith) (omega arith) (c.begins_after.ensures c.if-not-begins_after.false) (c.ends_before.ensures held_all);
+      words = c.requires.words;
     }

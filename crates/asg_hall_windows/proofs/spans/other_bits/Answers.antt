@@ -1,6 +1,6 @@
 use Rattle.asg_hall_windows.proofs.Common.{arith, w64}
 use Rattle.asg_model.proofs.Kit.{bit_at_not, bit_at-lt}
-use Rattle.asg_hall_windows.proofs.cells.other_bits.Goals as goal
+use Rattle.asg_hall_windows.proofs.spans.other_bits.Goals as goal
 
 pub returns : goal.returns
 returns c k within none =

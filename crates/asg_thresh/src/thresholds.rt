@@ -88,6 +88,16 @@ fn middle(low: u32, high: u32, step: u32) -> u32
     }
 }
 
+// The step after a failure: at first to the limit next to the lower bound, then a million more and
+// twice as many each time.
+fn wider(step: u32) -> u32 {
+    if step == 0 {
+        1
+    } else {
+        step.saturating_mul(2).max(1_000_000)
+    }
+}
+
 // Narrows a lower bound, under which the seeker's rows are deficient, and the grade of no cell down
 // to the least limit within which a perfect assignment exists. The seeker has the assignment then,
 // and rows that are deficient under the limit.
@@ -109,7 +119,7 @@ fn narrow(seeker: &mut Seeker, grades: &[u32], side: u32, bound: u32) -> Result<
             high = greatest_grade(grades, side, seeker.perm.as_slice());
         } else {
             low = next_grade(grades, side, seeker.rows.as_slice(), limit);
-            step = step.saturating_mul(2).max(1_000_000);
+            step = wider(step);
         }
     }
     Ok(high)
@@ -117,10 +127,10 @@ fn narrow(seeker: &mut Seeker, grades: &[u32], side: u32, bound: u32) -> Result<
 
 /// The least limit within which a perfect assignment exists (the threshold method, [Garfinkel
 /// 1971]). It begins at the greatest of the rows' and the columns' least grades; limits are tried
-/// by value, first up by steps that double, then half-way between the bounds. Each search begins
-/// with the matching that the last one left. After a failure the lower bound is the least grade
-/// above the limit in the deficient rows. The time grows with the cube of the side for each limit,
-/// and there are about as many limits as a grade has bits.
+/// by value, first next to the lower bound, then up by steps that double, then half-way between the
+/// bounds. Each search begins with the matching that the last one left. After a failure the lower
+/// bound is the least grade above the limit in the deficient rows. The time grows with the cube of
+/// the side for each limit, and there are about as many limits as a grade has bits.
 pub(crate) fn least_threshold(
     alloc: Global,
     grades: &[u32],

@@ -12,7 +12,7 @@ pub use Rattle.asg_model.specs.Retained.{AnswersAs, RetainsCells, retained}
 pub use Rattle.asg_model.specs.Shapes.{IsPlaceOutOfRange, is_range_of, shaped, with_capacity}
 pub use Rattle.asg_model.specs.Table.{AreTableParts, IsEntry, IsTable, RetainsFirsts, absent, table_cell, table_cells, table_cost}
 pub use Rattle.asg_model.specs.declared.cell_store.CellStore.{CellStore}
-pub use Rattle.asg_model.specs.declared.cell_store.CellStore.TheVariants.{Map, Table}
+pub use Rattle.asg_model.specs.declared.cell_store.CellStore.TheVariants.{Listed, Map, Table}
 pub use Rattle.asg_model.specs.declared.parts.Column.{Column}
 pub use Rattle.asg_model.specs.declared.parts.Cost.{Cost}
 pub use Rattle.asg_model.specs.declared.parts.Place.{Place}

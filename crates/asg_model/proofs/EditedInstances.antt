@@ -1,5 +1,5 @@
 -- Edited instances are instances.
-use Rattle.asg_model.proofs.Common.{◌≡◌, ℕ, zero, suc, ◌+◌, ◌^◌, ◌<◌, ◌≤◌, Bool, true, false, cond, eqb, ◌≢◌, List, [], ◌∷◌, map, length, get_or, IfSome, OnOk, OnErr, Some, None, Ok, Err, All, sum_by, count_by, Option, Result, AllPairs, sym, refl, ap, ◌∙◌, subst, ⊎_elim, arith, eqb-true, All-cons, All-head, All-map, All-tail, All-weaker, IsStrictlySortedBy, cases_Bool, cond-false, cond-true, get_or-map, is_at, keys_of, length-map, remove_entry, sum_by-cons, cells_in, IsStoreOf, stored_problem, IsStored, active_count, total_capacity, dropped, closed, with_cell, IsCostInRange, IsPlaceInRange, IsInstance, by_places, most_capacity, Problem, problem_of, CellStore, Map, Table, Column, Cost, Place, Row}
+use Rattle.asg_model.proofs.Common.{◌≡◌, ℕ, zero, suc, ◌+◌, ◌^◌, ◌<◌, ◌≤◌, Bool, true, false, cond, eqb, ◌≢◌, List, [], ◌∷◌, map, length, get_or, IfSome, OnOk, OnErr, Some, None, Ok, Err, All, sum_by, count_by, Option, Result, AllPairs, sym, refl, ap, ◌∙◌, subst, ⊎_elim, arith, eqb-true, All-cons, All-head, All-map, All-tail, All-weaker, IsStrictlySortedBy, cases_Bool, cond-false, cond-true, get_or-map, is_at, keys_of, length-map, remove_entry, sum_by-cons, cells_in, IsStoreOf, stored_problem, IsStored, active_count, total_capacity, dropped, closed, with_cell, IsCostInRange, IsPlaceInRange, IsInstance, by_places, most_capacity, Problem, problem_of, CellStore, Listed, Listed, Map, Table, Column, Cost, Place, Row}
 use Rattle.asg_model.proofs.CellMaps.{All-insert_entry}
 use Rattle.asg_model.specs.declared.parts.Place.TheVariants.{All as PlaceAll, Exactly}
 
@@ -142,6 +142,7 @@ IsInstance-dropped X id is more =
 
 store_rows : (rows others : List Row) (columns : ℕ) (store : CellStore) → length others ≡ length rows → IsStoreOf (length rows) columns store → IsStoreOf (length others) columns store
 store_rows rows others columns (Map map) e is = tt
+store_rows rows others columns (Listed cells) e is = tt
 store_rows rows others columns (Table firsts seconds) e is = subst (λ n. IsStoreOf n columns (Table firsts seconds)) (sym e) is
 
 pub IsStored-dropped : (rows others : List Row) (columns : List Column) (store : CellStore) (place : Place) (id : ℕ) → IsStored rows columns store place → active rows ≢ 1 → others ≡ map (dropped id) rows → IsStored others columns store place

@@ -6,20 +6,22 @@ use Rattle.asg_model.specs.declared.parts.Row.{Row}
 use Rattle.asg_model.specs.declared.parts.Column.{Column}
 use Rattle.asg_model.specs.declared.parts.Place.{Place}
 use Rattle.asg_model.specs.declared.cell_store.CellStore.{CellStore}
-use Rattle.asg_model.specs.declared.cell_store.CellStore.TheVariants.{Map, Table}
+use Rattle.asg_model.specs.declared.cell_store.CellStore.TheVariants.{Map, Listed, Table}
 use Rattle.asg_model.specs.Problem.{Problem, problem_of}
 use Rattle.asg_model.specs.Instances.{IsInstance, AreCellsOf, by_places}
 use Rattle.asg_model.specs.Table.{absent, table_cells, IsTable}
 use Rattle.asg_model.specs.ValueRange.{IsPartInRange}
 
--- the cells that stand in a map, or in a table with so many columns
+-- the cells that stand in a map, in a list, or in a table with so many columns
 abbrev pub cells_in : ℕ → CellStore → List ((ℕ × ℕ) × Cost)
 cells_in columns (Map map) = map.entries
+cells_in columns (Listed cells) = cells.items
 cells_in columns (Table firsts seconds) = table_cells columns firsts.items seconds.items
 
 -- a table has an entry for each of so many rows and columns
 abbrev pub IsStoreOf : ℕ → ℕ → CellStore → Type 0
 IsStoreOf rows columns (Map map) = Unit {0}
+IsStoreOf rows columns (Listed cells) = Unit {0}
 IsStoreOf rows columns (Table firsts seconds) = IsTable rows columns firsts.items seconds.items
 
 -- the problem of these parts, its cells in a store

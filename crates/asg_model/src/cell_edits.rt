@@ -3,13 +3,15 @@
 ghost use Rattle.std.specs.Prelude.{◌≡◌, ◌≢◌, ◌<◌, ◌≤◌, ℕ, pos, All, IfSome, OnOk, OnErr, length, slice_index_or};
 ghost use Rattle.std.specs.List.Sorted.{IsStrictlySortedBy};
 ghost use Rattle.std.specs.Map.{keys_of};
-ghost use Rattle.asg_model.specs.CellStores.{cells_in, IsStoreOf, PutsInTable};
+ghost use Rattle.asg_model.specs.CellStores.{cells_in, IsCellStore, IsStoreOf, PutsInTable};
 ghost use Rattle.asg_model.specs.Edits.{with_cell};
 ghost use Rattle.asg_model.specs.Instances.{IsCostInRange, by_places};
-ghost use Rattle.asg_model.specs.Limits.{most_columns};
+ghost use Rattle.asg_model.specs.Limits.{most_rows, most_columns};
+ghost use Rattle.asg_model.specs.Table.{table_cells, IsTable};
 ghost use Rattle.asg_model.specs.ValueRange.{IsPartInRange};
 
 use crate::NoMemory;
+use crate::cell_lists::table_of;
 use crate::cell_store::CellStore;
 use crate::parts::{ABSENT, Cost};
 use std::collections::BTreeMap;
@@ -28,7 +30,8 @@ impl CellStore {
         requires few { columns ≤ most_columns }
         requires row { row < rows }
         requires col { col < columns }
-        requires whole { IsStoreOf rows columns self.old }
+        requires few_rows { rows ≤ most_rows }
+        requires store { IsCellStore rows columns self.old }
         requires range { IfSome cell IsCostInRange }
         ensures put { OnOk result
             (cells_in columns self.new ≡ with_cell (cells_in columns self.old) (row, col) cell) }
@@ -39,9 +42,15 @@ impl CellStore {
     {
         match self {
             CellStore::Map(cells) => put_in_map(cells, row, col, cell),
+            CellStore::Listed(cells) => {
+                let alloc = *cells.allocator();
+                let (mut firsts, mut seconds) = table_of(alloc, rows, columns, cells.as_slice())?;
+                put_in_whole(&mut firsts, &mut seconds, rows, columns, (row, col), cell)?;
+                *self = CellStore::Table { firsts, seconds };
+                Ok(())
+            }
             CellStore::Table { firsts, seconds } => {
-                let index = row as usize * columns + col as usize;
-                put_in_table(firsts, seconds, index, cell)
+                put_in_whole(firsts, seconds, rows, columns, (row, col), cell)
             }
         }
     }
@@ -68,6 +77,30 @@ fn put_in_map(
         }
     }
     Ok(())
+}
+
+// Gives the cell at a place of a whole table of so many rows and columns this cost, or none.
+pub(crate) fn put_in_whole(
+    firsts: &mut Vec<i64>,
+    seconds: &mut Vec<i64>,
+    rows: usize,
+    columns: usize,
+    place: (u32, u32),
+    cell: Option<Cost>,
+) -> Result<(), NoMemory>
+    requires few { columns ≤ most_columns }
+    requires row { place.0 < rows }
+    requires col { place.1 < columns }
+    requires table { IsTable rows columns firsts.old.items seconds.old.items }
+    requires range { IfSome cell IsCostInRange }
+    ensures put { OnOk result (table_cells columns firsts.new.items seconds.new.items
+        ≡ with_cell (table_cells columns firsts.old.items seconds.old.items) place cell) }
+    ensures table { IsTable rows columns firsts.new.items seconds.new.items }
+    ensures kept { OnErr result (table_cells columns firsts.new.items seconds.new.items
+        ≡ table_cells columns firsts.old.items seconds.old.items) }
+{
+    let index = place.0 as usize * columns + place.1 as usize;
+    put_in_table(firsts, seconds, index, cell)
 }
 
 // Gives the cell at an index of a table this cost, or none. Memory is taken where a second part

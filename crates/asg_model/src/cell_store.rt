@@ -9,11 +9,12 @@ ghost use Rattle.asg_model.specs.Table.{absent, table_cost, table_cells, AreTabl
 use crate::parts::{ABSENT, Cost, RowParts};
 use std::collections::BTreeMap;
 
-// The costs of cells: in a map by their places, or in a table row by row, the first parts apart
-// from the second. Past the end of the second parts a second part is 0.
+// The costs of cells: in a map by their places, in a list by their places, or in a table row by row,
+// the first parts apart from the second. Past the end of the second parts a second part is 0.
 #[derive(Debug, Drop)]
 pub(crate) enum CellStore {
     Map(BTreeMap<(u32, u32), Cost>),
+    Listed(Vec<((u32, u32), Cost)>),
     Table { firsts: Vec<i64>, seconds: Vec<i64> },
 }
 

@@ -17,7 +17,7 @@ impl Instance {
     /// Edits the instance: a cell gets a cost or loses it, a row is dropped, or a column closed.
     /// Errors: the first refusal that applies, as [`Instance::refusal`] tells it, else want of
     /// memory. After an error the instance is as it was. Memory is taken by a cell that is new in a
-    /// map, and by the first second part other than 0 in a table; all other edits take none.
+    /// map, by the first cell put or taken in a list, and by a table's first second part but 0.
     pub fn edit(&mut self, objective: Objective, edit: Edit) -> Result<(), EditRefusal>
         ensures edited { OnOk result (self.new ≡ edited self.old edit) }
         ensures passes { OnOk result (refusal_of objective self.old edit ≡ None) }

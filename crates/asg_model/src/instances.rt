@@ -1,8 +1,11 @@
 //! Instances.
 
 ghost use Rattle.std.specs.Prelude.{◌≡◌, ◌<◌, ◌≤◌, ℕ, ◌^◌, [], None, length, All, IfSome, slice_index_or};
+ghost use Rattle.std.specs.List.Sorted.{IsStrictlySortedBy};
+ghost use Rattle.std.specs.Map.{keys_of};
 ghost use Rattle.asg_model.specs.Problem.{problem_of};
 
+use crate::cell_lists::{cells_of_row, listed_cell};
 use crate::cell_store::{CellStore, table_cell, table_parts};
 use crate::parts::{Column, Cost, Place, Row, RowParts};
 use crate::row_rooms::RowRoom;
@@ -32,7 +35,8 @@ impl Model for Instance {
 }
 
 impl Instance {
-    ghost use Rattle.asg_model.specs.Instances.{IsWellFormed, IsInstance, IsCostInRange};
+    ghost use Rattle.asg_model.specs.CellLists.{AreRowCells, IsRowOf};
+    ghost use Rattle.asg_model.specs.Instances.{IsWellFormed, IsInstance, IsCostInRange, by_places};
     ghost use Rattle.asg_model.specs.Live.{is_active, is_open, cost_at, live_at};
     ghost use Rattle.asg_model.specs.Counts.{active_count, placed, slack, is_counted};
     ghost use Rattle.asg_model.specs.Table.{absent, table_cost, table_cells, IsTable, AreRowParts};
@@ -84,6 +88,30 @@ impl Instance {
             rows,
             columns,
             store: CellStore::Table { firsts, seconds },
+            place,
+        }
+    }
+
+    /// The instance of these rows and columns and of a list of cells with their costs, each by the
+    /// places of its row and its column, in order by row and then by column, none twice. It takes
+    /// no memory.
+    pub fn of_cells(
+        rows: Vec<Row>,
+        columns: Vec<Column>,
+        cells: Vec<((u32, u32), Cost)>,
+        place: Place,
+    ) -> Instance
+        requires parts { IsWellFormed (problem_of rows.items columns.items cells.items place) }
+        requires ascend { IsStrictlySortedBy by_places (keys_of cells.items) }
+        ensures { result ≡ problem_of rows.items columns.items cells.items place }
+    {
+        // What the types give is told by reading.
+        read_row_ids(rows.as_slice());
+        read_column_ids(columns.as_slice());
+        Instance {
+            rows,
+            columns,
+            store: CellStore::Listed(cells),
             place,
         }
     }
@@ -193,6 +221,7 @@ impl Instance {
     {
         match &self.store {
             CellStore::Map(_) => self.map_parts(row, room),
+            CellStore::Listed(cells) => self.listed_parts(cells.as_slice(), row, room),
             CellStore::Table { firsts, seconds } => table_parts(
                 self.rows().len(),
                 self.columns().len(),
@@ -217,6 +246,53 @@ impl Instance {
         }
     }
 
+    /// The cells of a row, each once, by the places of the row and of their columns, live or not,
+    /// where the instance keeps its cells in a list; `None` past the last row, and where it keeps
+    /// them otherwise. A loop over them passes over no column without a cell.
+    pub fn row_cells(&self, row: u32) -> Option<&[((u32, u32), Cost)]>
+        ensures { IfSome result (λ cells. AreRowCells self.now row cells.now) }
+    {
+        match &self.store {
+            CellStore::Listed(cells) => self.listed_row(cells.as_slice(), row),
+            _ => None,
+        }
+    }
+
+    // The cells of a row among all cells of the instance; `None` exactly past the last row.
+    fn listed_row<'a>(
+        &self,
+        cells: &'a [((u32, u32), Cost)],
+        row: u32,
+    ) -> Option<&'a [((u32, u32), Cost)]>
+        requires { cells.now ≡ self.now.cells }
+        ensures cells { IfSome result (λ cells. AreRowCells self.now row cells.now) }
+        ensures past { result ≡ None → length self.now.rows ≤ row }
+    {
+        if (row as usize) < self.rows().len() {
+            Some(cells_of_row(cells, row))
+        } else {
+            None
+        }
+    }
+
+    // Both parts of the costs of a row, read into the room from all cells of the instance.
+    fn listed_parts<'a>(
+        &self,
+        cells: &[((u32, u32), Cost)],
+        row: u32,
+        room: &'a mut RowRoom,
+    ) -> Option<RowParts<'a>>
+        requires { cells.now ≡ self.now.cells }
+        ensures parts { IfSome result (λ parts.
+            AreRowParts self.now row parts.firsts.now parts.seconds.now) }
+        ensures past { result ≡ None → length self.now.rows ≤ row }
+    {
+        let cells = self.listed_row(cells, row)?;
+        let columns = self.columns().len();
+        room.read(cells);
+        Some(room.parts(columns))
+    }
+
     // Reads the costs of a row into the room, cell by cell.
     fn read_row(&self, row: u32, room: &mut RowRoom)
         ensures { (c : ℕ) → c < length self.now.columns → cost_at self.now.cells row c
@@ -234,6 +310,7 @@ impl Instance {
     {
         match &self.store {
             CellStore::Map(cells) => cells.get(&(row, col)).copied(),
+            CellStore::Listed(cells) => listed_cell(cells.as_slice(), row, col),
             CellStore::Table { firsts, seconds } => table_cell(
                 self.rows().len(),
                 self.columns().len(),

@@ -1,6 +1,7 @@
 //! Laws over the definitions: each is the contract of a function that does nothing.
 
-ghost use Rattle.std.specs.Prelude.{◌≡◌, ◌≢◌, ◌+◌, ◌*◌, ◌^◌, ◌<◌, ◌≤◌, ℕ, ℤ, true, List, [], length, slice_get, option_and_then, All, AllPairs, Contains};
+ghost use Rattle.std.specs.Prelude.{◌≡◌, ◌≢◌, ◌+◌, ◌*◌, ◌^◌, ◌<◌, ◌≤◌, ℕ, ℤ, pos, true, List, [], ◌∷◌, ◌++◌, length, slice_get, slice_index_or, option_and_then, All, AllPairs, Contains};
+ghost use Rattle.std.specs.List.{slice_set};
 ghost use Rattle.asg_model.specs.declared.parts.Row.{Row};
 ghost use Rattle.asg_model.specs.declared.parts.Column.{Column};
 ghost use Rattle.asg_model.specs.declared.parts.Place.{Place};
@@ -12,7 +13,8 @@ ghost use Rattle.asg_model.specs.Limits.{most_capacity};
 ghost use Rattle.asg_model.specs.Shapes.{shaped, is_range_of};
 ghost use Rattle.asg_model.specs.Live.{cost_at};
 ghost use Rattle.asg_model.specs.Counts.{total_capacity};
-ghost use Rattle.asg_model.specs.Table.{table_cost, table_cells, IsTable};
+ghost use Rattle.asg_model.specs.Table.{absent, table_cost, table_cells, IsTable};
+ghost use Rattle.asg_model.specs.ValueRange.{IsPartInRange};
 
 /// The pigeonhole principle: different numbers that all stand in a list are no more than it has.
 pub fn pigeonhole_law()
@@ -42,6 +44,18 @@ pub fn table_law()
         cost_at (table_cells columns firsts seconds) r c
         ≡ option_and_then (table_cost seconds (r * columns + c))
         (slice_get firsts (r * columns + c)) }
+{}
+
+/// The law of the last cell: a table without a cost has no cell; and where a table has no cost from
+/// the index of a place on, a cost in range that is put there is that of the cell that comes last.
+pub fn last_cell_law()
+    ensures none { (columns : ℕ) (firsts : List ℤ) →
+        ((k : ℕ) → slice_index_or firsts k absent ≡ absent) → table_cells columns firsts [] ≡ [] }
+    ensures last { (columns : ℕ) (firsts : List ℤ) (r c : ℕ) (a : ℤ) → c < columns →
+        r * columns + c < length firsts → IsPartInRange a →
+        ((k : ℕ) → r * columns + c ≤ k → slice_index_or firsts k absent ≡ absent) →
+        table_cells columns (slice_set firsts (r * columns + c) a) []
+        ≡ table_cells columns firsts [] ++ ((r, c), record { a = a; b = pos 0 }) ∷ [] }
 {}
 
 /// The law of whole tables: well-formed parts whose ids are below 2^32 are an instance with the

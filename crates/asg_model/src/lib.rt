@@ -1,7 +1,7 @@
 //! The assignment problem: instances and choices of cells.
 //!
 //! An instance has rows, columns with capacities, the costs of its cells and a place rule; it keeps
-//! the costs in a map or in a table. A choice gives each row one column or none. Contracts see an
+//! the costs in a map, a list or a table. A choice gives each row one column or none. Contracts see an
 //! instance as a `Problem`, which has its rows, its columns and its cells as lists however they are
 //! kept, and a choice as the list of what its rows choose. An edit changes one cell, row or column
 //! of an instance, or is refused. The definitions of the subject stand here: what a valid choice, a
@@ -11,6 +11,7 @@
 
 mod bands;
 mod cell_edits;
+mod cell_lists;
 mod cell_store;
 mod choices;
 mod editing;

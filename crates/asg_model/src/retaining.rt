@@ -1,6 +1,6 @@
 //! Cells of an instance that are kept, by their places, and all others taken out.
 
-ghost use Rattle.std.specs.Prelude.{◌≡◌, ◌<◌, ◌≤◌, ◌*◌, length, slice_set, All, if◌then◌else◌};
+ghost use Rattle.std.specs.Prelude.{◌≡◌, ◌+◌, ◌<◌, ◌≤◌, ◌*◌, length, slice_set, All, if◌then◌else◌};
 ghost use Rattle.std.specs.List.Sorted.{IsStrictlySortedBy};
 ghost use Rattle.std.specs.Map.{keys_of};
 ghost use Rattle.asg_model.specs.CellStores.{cells_in, IsCellStore};
@@ -46,6 +46,7 @@ fn retain_stored<F: Fn(u32, u32) -> bool>(
 {
     match store {
         CellStore::Map(cells) => retain_entries(cells, keep),
+        CellStore::Listed(cells) => retain_listed(cells, keep),
         CellStore::Table { firsts, .. } => retain_firsts(firsts, rows, columns, keep),
     }
 }
@@ -61,6 +62,41 @@ fn retain_entries<F: Fn(u32, u32) -> bool>(cells: &mut BTreeMap<(u32, u32), Cost
             requires { F.pre keep.now place.now.0 place.now.1 }
         { keep(place.0, place.1) },
     );
+}
+
+// Keeps cells of a list.
+fn retain_listed<F: Fn(u32, u32) -> bool>(cells: &mut Vec<((u32, u32), Cost)>, keep: &F)
+    requires { All (λ cell. F.pre keep.now cell.0.0 cell.0.1) cells.old.items }
+    ensures { RetainsCells (F.post keep.now) cells.old.items cells.new.items }
+{
+    let mut kept = 0;
+    for place in 0..cells.len() {
+        let cell = cells.as_slice()[place];
+        let is_kept = keep(cell.0.0, cell.0.1);
+        kept = keep_listed(cells, kept, cell, is_kept);
+    }
+    cells.truncate(kept);
+}
+
+// Puts a cell behind those that are kept, or takes it out. How many are kept then.
+#[inline]
+fn keep_listed(
+    cells: &mut Vec<((u32, u32), Cost)>,
+    kept: usize,
+    cell: ((u32, u32), Cost),
+    is_kept: bool,
+) -> usize
+    requires { kept < length cells.old.items }
+    ensures cells { cells.new.items
+        ≡ (if is_kept then slice_set cells.old.items kept cell else cells.old.items) }
+    ensures count { result ≡ (if is_kept then kept + 1 else kept) }
+{
+    if is_kept {
+        cells[kept] = cell;
+        kept + 1
+    } else {
+        kept
+    }
 }
 
 // Keeps cells of a table of so many rows and columns, by the first parts of their costs.

@@ -1,8 +1,9 @@
 //! Room for the costs of a row.
 
-ghost use Rattle.std.specs.Prelude.{◌≡◌, ◌≢◌, ℕ, ◌<◌, ◌≤◌, IfSome, length, slice_index_or};
+ghost use Rattle.std.specs.Prelude.{◌≡◌, ◌≢◌, ℕ, ◌<◌, ◌≤◌, All, IfSome, length, slice_index_or};
 ghost use Rattle.asg_model.specs.Instances.{IsCostInRange};
 ghost use Rattle.asg_model.specs.Limits.{most_columns};
+ghost use Rattle.asg_model.specs.Live.{cost_at};
 ghost use Rattle.asg_model.specs.Table.{absent, table_cost};
 
 use crate::limits::MOST_COLUMNS;
@@ -40,6 +41,29 @@ impl RowRoom {
         };
         self.firsts[col as usize] = a;
         self.seconds[col as usize] = b;
+    }
+
+    // Holds no cost.
+    fn clear(&mut self)
+        ensures { (c : ℕ) → slice_index_or self.new.firsts c absent ≡ absent }
+    {
+        self.firsts = [ABSENT; MOST_COLUMNS];
+    }
+
+    // Reads the costs of these cells of one row, where a column has several the first of them.
+    pub(crate) fn read(&mut self, cells: &[((u32, u32), Cost)])
+        requires within { All (λ cell. cell.0.1 < most_columns) cells.now }
+        requires in_range { All (λ cell. IsCostInRange cell.1) cells.now }
+        ensures { (r c : ℕ) → All (λ cell. cell.0.0 ≡ r) cells.now
+            → table_cost self.new.seconds c (slice_index_or self.new.firsts c absent)
+            ≡ cost_at cells.now r c }
+    {
+        self.clear();
+        let count = cells.len();
+        for done in 0..count {
+            let cell = cells[count - 1 - done];
+            self.put(cell.0.1, Some(cell.1));
+        }
     }
 
     // What stands in the first columns.

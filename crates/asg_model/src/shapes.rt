@@ -90,6 +90,10 @@ impl CellStore {
                 let cells = cells.clone()?;
                 Ok(CellStore::Map(cells))
             }
+            CellStore::Listed(cells) => {
+                let cells = Vec::from_slice(alloc, cells.as_slice())?;
+                Ok(CellStore::Listed(cells))
+            }
             CellStore::Table { firsts, seconds } => {
                 let firsts = Vec::from_slice(alloc, firsts.as_slice())?;
                 let seconds = Vec::from_slice(alloc, seconds.as_slice())?;

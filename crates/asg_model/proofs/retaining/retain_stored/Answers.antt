@@ -1,5 +1,6 @@
-use Rattle.asg_model.proofs.Common.{◌<◌, sym, subst, cells_in, IsCellStore, IsCostInRange, RetainsCells, Map, Table, All-retained}
+use Rattle.asg_model.proofs.Common.{◌<◌, sym, subst, cells_in, IsCellStore, IsCostInRange, RetainsCells, Listed, Map, Table, All-retained}
 use Rattle.asg_model.proofs.RetainedStores.{RetainsCells-table, IsCellStore-table}
+use Rattle.asg_model.proofs.RetainedLists.{ascend_kept}
 use Rattle.asg_model.proofs.retaining.retain_stored.Goals as goal
 
 pub returns-in-Map-clause-store : goal.returns-in-Map-clause-store
@@ -9,6 +10,16 @@ returns-in-Map-clause-store g c =
       whole = tt;
       cells = All-retained (goal.F-post g c.args.keep.now) (λ cell. ((cell.0.0 < c.args.rows) × (cell.0.1 < c.args.columns)) × IsCostInRange cell.1) c.in-Map.cells.entries c.retain_entries.new.cells.entries c.retain_entries.ensures.cells store.cells;
       ascend = c.retain_entries.ensures.ascend;
+    }
+
+pub returns-in-Listed-clause-store : goal.returns-in-Listed-clause-store
+returns-in-Listed-clause-store g c =
+    let answers = goal.F-post g c.args.keep.now in
+    let store : IsCellStore c.args.rows c.args.columns (Listed c.in-Listed.cells) = subst (IsCellStore c.args.rows c.args.columns) c.in-Listed.is c.requires.store in
+    record {
+      whole = tt;
+      cells = All-retained answers (λ cell. ((cell.0.0 < c.args.rows) × (cell.0.1 < c.args.columns)) × IsCostInRange cell.1) c.in-Listed.cells.items c.retain_listed.new.cells.items c.retain_listed.ensures store.cells;
+      ascend = ascend_kept answers c.in-Listed.cells.items c.retain_listed.new.cells.items c.retain_listed.ensures store.ascend;
     }
 
 pub returns-in-Table-clause-store : goal.returns-in-Table-clause-store

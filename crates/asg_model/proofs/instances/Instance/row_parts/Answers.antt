@@ -22,8 +22,8 @@ returns-in-Table-clause-parts c =
     let Are = AreTableParts (length X.columns) firsts.items seconds.items c.args.row in
     let are_n : Are parts.firsts.now parts.seconds.now =
     subst (λ n. AreTableParts n firsts.items seconds.items c.args.row parts.firsts.now parts.seconds.now) columns
-    (subst (λ list. AreTableParts (length c.columns.result.now) list seconds.items c.args.row parts.firsts.now parts.seconds.now) c.as_slice.ensures.value
-    (subst (λ list. AreTableParts (length c.columns.result.now) c.as_slice.result.now list c.args.row parts.firsts.now parts.seconds.now) c.as_slice-in-Table.ensures.value are)) in
+    (subst (λ list. AreTableParts (length c.columns.result.now) list seconds.items c.args.row parts.firsts.now parts.seconds.now) c.as_slice-in-Table.ensures.value
+    (subst (λ list. AreTableParts (length c.columns.result.now) c.as_slice-in-Table.result.now list c.args.row parts.firsts.now parts.seconds.now) c.as_slice-in-Table-2.ensures.value are)) in
     record {
       there = row;
       whole = are_n.whole;

@@ -7,6 +7,7 @@ mod HallRows
 mod Takers
 mod Decisions
 mod Slots
+mod MarkedRows
 mod HallLaw
 mod BottleneckLaw
 mod SpreadLaw

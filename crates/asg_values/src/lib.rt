@@ -12,6 +12,7 @@ mod descents;
 mod extremes;
 mod hall_sets;
 pub mod laws;
+mod marked_cells;
 mod negatives;
 mod reach;
 mod sums;

@@ -5,14 +5,16 @@ ghost use Rattle.std.specs.Prelude.{◌≡◌, ◌≤◌, ◌<◌, ℕ, ℤ, ◌
 ghost use Rattle.std.specs.Option.{option_map_or};
 ghost use Rattle.asg_model.specs.Limits.{most_cost, most_columns};
 ghost use Rattle.asg_model.specs.Bands.{in_band};
+ghost use Rattle.asg_model.specs.CellLists.{AreRowCells};
 ghost use Rattle.asg_model.specs.Live.{is_active};
 ghost use Rattle.asg_model.specs.HallSet.{is_live_within, reaches};
 ghost use Rattle.asg_model.specs.Table.{absent, IsEntry};
 ghost use Rattle.asg_model.specs.ValueRange.{IsPartInRange};
 ghost use Rattle.asg_values.specs.Marks.{lies_between, meets, AreMarked};
 
+use crate::marked_cells::mark_cells;
 use asg_model::limits::{MOST_COLUMNS, MOST_COST};
-use asg_model::{Band, Column, Instance, RowRoom};
+use asg_model::{Band, Column, Cost, Instance, RowRoom};
 
 // Marks the columns in which the row that has the id has a live cell of the band. The room is for
 // the costs of a row.
@@ -52,6 +54,43 @@ fn reach_row(
 
 // The same for an active row.
 fn reach_active(
+    inst: &Instance,
+    band: Band,
+    row: u32,
+    room: &mut RowRoom,
+    reached: &mut [bool; MOST_COLUMNS],
+)
+    requires { IsTrue (is_active inst.now row) }
+    ensures { (c : ℕ) → c < length inst.now.columns →
+        slice_index_or reached.new c false
+        ≡ (slice_index_or reached.old c false || is_live_within inst.now band row c) }
+{
+    match inst.row_cells(row) {
+        Some(cells) => reach_cells(inst, band, row, cells, reached),
+        None => reach_parts(inst, band, row, room, reached),
+    }
+}
+
+// The same for an active row, by the list of its cells.
+fn reach_cells(
+    inst: &Instance,
+    band: Band,
+    row: u32,
+    cells: &[((u32, u32), Cost)],
+    reached: &mut [bool; MOST_COLUMNS],
+)
+    requires active { IsTrue (is_active inst.now row) }
+    requires cells { AreRowCells inst.now row cells.now }
+    ensures { (c : ℕ) → c < length inst.now.columns →
+        slice_index_or reached.new c false
+        ≡ (slice_index_or reached.old c false || is_live_within inst.now band row c) }
+{
+    let (low, high) = ends(band);
+    mark_cells(inst.columns(), cells, low, high, reached);
+}
+
+// The same for an active row, by the costs of its table.
+fn reach_parts(
     inst: &Instance,
     band: Band,
     row: u32,
@@ -154,7 +193,7 @@ fn mark_piece(
 }
 
 // Whether the cost lies between two ends, both included.
-fn is_between(cost: i64, low: i64, high: i64) -> bool
+pub(crate) fn is_between(cost: i64, low: i64, high: i64) -> bool
     ensures { result ≡ (int_le low cost && int_le cost high) }
 {
     low <= cost && cost <= high

@@ -3,7 +3,7 @@ use Rattle.asg_values.proofs.Common.{false, ◌&&◌, ◌||◌, List, length, ge
 use Rattle.asg_model.specs.declared.parts.Column.{Column}
 use Rattle.asg_values.proofs.Slots.{live_between}
 use Rattle.asg_values.specs.laws.RowSlots.{entries}
-use Rattle.asg_values.proofs.reach.reach_active.Goals as goal
+use Rattle.asg_values.proofs.reach.reach_parts.Goals as goal
 
 pub reach_costs-requires : goal.reach_costs-requires
 reach_costs-requires c =

@@ -21,7 +21,7 @@ module _ (known : ℕ → ℕ → Option ℤ) where
 
   module _ (sources targets : List ℕ) where
     -- the first part at a cell
-    cell_is : (r c : ℕ) (d : ℤ) → r < length sources → c < length targets → get_or (firsts_between known sources targets) (r * length targets + c) d ≡ first_of (known (get_or sources r 0) (get_or targets c 0))
+    pub cell_is : (r c : ℕ) (d : ℤ) → r < length sources → c < length targets → get_or (firsts_between known sources targets) (r * length targets + c) d ≡ first_of (known (get_or sources r 0) (get_or targets c 0))
     unfolding firsts_between
     cell_is r c d row column =
         let f = λ (s : ℕ). map (λ t. first_of (known s t)) targets in
@@ -64,14 +64,14 @@ flip cost e =
     (cases_Bool (int_eq e cost))
 
 -- the ends of a cell at a place of a table
-record StandsAt (layout : Layout) (ends : ℕ × ℕ) (cell : ℕ) : Type 0 where
-  row : ℕ
-  column : ℕ
-  row_within : row < length layout.sources.now
-  column_within : column < length layout.targets.now
-  source_is : get_or layout.sources.now row 0 ≡ ends.0
-  target_is : get_or layout.targets.now column 0 ≡ ends.1
-  cell_is_at : row * length layout.targets.now + column ≡ cell
+pub record StandsAt (layout : Layout) (ends : ℕ × ℕ) (cell : ℕ) : Type 0 where
+  pub row : ℕ
+  pub column : ℕ
+  pub row_within : row < length layout.sources.now
+  pub column_within : column < length layout.targets.now
+  pub source_is : get_or layout.sources.now row 0 ≡ ends.0
+  pub target_is : get_or layout.targets.now column 0 ≡ ends.1
+  pub cell_is_at : row * length layout.targets.now + column ≡ cell
 
 module _ (layout : Layout) (is : IsLayout layout) (ends : ℕ × ℕ) where
   abbrev sources : List ℕ
@@ -80,7 +80,7 @@ module _ (layout : Layout) (is : IsLayout layout) (ends : ℕ × ℕ) where
   abbrev targets : List ℕ
   targets = layout.targets.now
 
-  stands_at : (cell : ℕ) → cell_between layout ends ≡ Some cell → StandsAt layout ends cell
+  pub stands_at : (cell : ℕ) → cell_between layout ends ≡ Some cell → StandsAt layout ends cell
   stands_at cell told = go (get_or layout.rows.items ends.0 None) (get_or layout.columns.items ends.1 None) (is.rows.only ends.0) (is.columns.only ends.1) told
     where
       go : (row column : Option ℕ) → IfSome row (λ k. (k < length sources) × (get_or sources k 0 ≡ ends.0)) → IfSome column (λ k. (k < length targets) × (get_or targets k 0 ≡ ends.1)) → option_and_then (λ row. option_map (λ column. row * length targets + column) column) row ≡ Some cell → StandsAt layout ends cell
@@ -103,7 +103,7 @@ module _ (layout : Layout) (is : IsLayout layout) (ends : ℕ × ℕ) where
       subst (λ k. k < length sources * length targets) at.cell_is_at (cell_below at.row at.column (length sources) (length targets) at.row_within at.column_within)
 
   -- the place of a cell is told for its ends
-  told_at : (r c : ℕ) → r < length sources → c < length targets → are_same_ends (get_or sources r 0, get_or targets c 0) ends ≡ true → cell_between layout ends ≡ Some (r * length targets + c)
+  pub told_at : (r c : ℕ) → r < length sources → c < length targets → are_same_ends (get_or sources r 0, get_or targets c 0) ends ≡ true → cell_between layout ends ≡ Some (r * length targets + c)
   told_at r c row column same =
       let parts = and_parts _ _ same in
       let source : get_or sources r 0 ≡ ends.0 = eqb-true _ _ parts.0 in

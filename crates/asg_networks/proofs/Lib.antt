@@ -12,4 +12,5 @@ pub mod FirstTwice
 pub mod NodeSetLemmas
 pub mod TableFills
 pub mod LayoutLemmas
+pub mod ListedCells
 pub mod PlaceLemmas

@@ -1,10 +1,11 @@
 //! Where the costs of arcs stand in a table.
 
-ghost use Rattle.std.specs.Prelude.{◌≡◌, ℕ, ℤ, ◌*◌, ◌^◌, ◌<◌, ◌≤◌, ◌||◌, [], Option, Some, None, All, length, not, pos, slice_index_or, IfOk, OnOk, IfErr, IfSome};
+ghost use Rattle.std.specs.Prelude.{◌≡◌, ℕ, ℤ, ◌+◌, ◌*◌, ◌^◌, ◌<◌, ◌≤◌, ◌||◌, [], Option, Some, None, All, length, not, pos, slice_index_or, IfOk, OnOk, IfErr, IfSome};
 ghost use Rattle.std.specs.List.{slice_set};
+ghost use Rattle.std.specs.Option.{option_map};
 ghost use Rattle.std.specs.Ordering.{int_eq};
 ghost use Rattle.asg_model.specs.Limits.{most_rows, most_columns};
-ghost use Rattle.asg_model.specs.Table.{absent};
+ghost use Rattle.asg_model.specs.Table.{absent, table_cells};
 ghost use Rattle.asg_model.specs.ValueRange.{IsPartInRange};
 ghost use Rattle.asg_networks.specs.AsnArcs.{are_unlike};
 ghost use Rattle.asg_networks.specs.Layouts.{AreNodeIds, TellsPlaces, IsLayout, HasCell, cell_between, with_cost};
@@ -12,7 +13,8 @@ ghost use Rattle.asg_networks.specs.Networks.{firsts_between, known_cost, twice_
 ghost use Rattle.asg_tokens.specs.Slots.{IsEarliest};
 
 use crate::links::Link;
-use asg_model::ABSENT;
+use asg_model::laws::last_cell_law;
+use asg_model::{ABSENT, Cost};
 use asg_tokens::TextRefusal;
 use std::alloc::{AllocError, Global};
 
@@ -82,6 +84,38 @@ impl<'a> Layout<'a> {
         Ok(())
     }
 
+    /// The cells of these arcs with their costs, in order, where the cell of each arc comes behind
+    /// that of the one before it; else `None`. It takes one step for each arc.
+    pub(crate) fn cells(
+        &self,
+        alloc: Global,
+        links: &[Link],
+    ) -> Result<Option<Vec<((u32, u32), Cost)>>, AllocError>
+        requires layout { IsLayout self.now }
+        requires cells { All (HasCell self.now) links.now }
+        ensures cells { IfOk result (λ found. IfSome found (λ cells.
+            cells.items ≡ table_cells (length self.now.targets.now) (firsts_between
+            (known_cost links.now) self.now.sources.now self.now.targets.now) [])) }
+        ensures once { IfOk result (λ found.
+            IfSome found (λ cells. twice_faults [] links.now ≡ [])) }
+    {
+        last_cell_law();
+        let mut cells = Vec::with_capacity(alloc, links.len())?;
+        // The first place in the table behind the cells so far.
+        let mut next = 0;
+        for link in links {
+            let Some((places, cell)) = self.placed_cell((link.source, link.target)) else {
+                return Ok(None);
+            };
+            if cell < next {
+                return Ok(None);
+            }
+            cells.push((places, Cost { a: link.cost, b: 0 }))?;
+            next = cell + 1;
+        }
+        Ok(Some(cells))
+    }
+
     // Puts the cost of an arc into its cell of a table. Whether no other cost was there.
     #[inline]
     fn put(&self, firsts: &mut Vec<i64>, link: &Link) -> bool
@@ -111,9 +145,24 @@ impl<'a> Layout<'a> {
         requires { IsLayout self.now }
         ensures { result ≡ cell_between self.now ends }
     {
+        let (_places, cell) = self.placed_cell(ends)?;
+        Some(cell)
+    }
+
+    // The places of the row and of the column from a source to a target, and that of their cell in
+    // the table, if there is one.
+    #[inline]
+    fn placed_cell(&self, ends: (u32, u32)) -> Option<((u32, u32), usize)>
+        requires { IsLayout self.now }
+        ensures cell { option_map (λ found. found.1) result ≡ cell_between self.now ends }
+        ensures place { IfSome result (λ found.
+            found.1 ≡ found.0.0 * length self.now.targets.now + found.0.1) }
+        ensures column { IfSome result (λ found. found.0.1 < length self.now.targets.now) }
+    {
         let row = place(self.rows.as_slice(), ends.0)?;
         let column = place(self.columns.as_slice(), ends.1)?;
-        Some(row * self.targets.len() + column)
+        let cell = row as usize * self.targets.len() + column as usize;
+        Some(((row, column), cell))
     }
 }
 
@@ -153,11 +202,11 @@ fn places_of(alloc: Global, ids: &[u32], nodes: u32) -> Result<Vec<Option<u32>>,
 
 // The place that is told for an id.
 #[inline]
-fn place(places: &[Option<u32>], id: u32) -> Option<usize>
+fn place(places: &[Option<u32>], id: u32) -> Option<u32>
     ensures { result ≡ slice_index_or places.now id None }
 {
     match places.get(id as usize) {
-        Some(Some(place)) => Some(*place as usize),
+        Some(Some(place)) => Some(*place),
         _ => None,
     }
 }

@@ -9,7 +9,7 @@ use asg_duals::entered;
 use asg_live_cells::Marks;
 use asg_match::{Pairing, perfect_or_hall};
 use asg_model::limits::{MOST_COLUMNS, MOST_ROWS};
-use asg_model::{ABSENT, Instance, Objective, Place, RowRoom};
+use asg_model::{ABSENT, Cost, Instance, Objective, Place, RowRoom};
 use std::alloc::Global;
 
 // Of so many cells at most one is live, for lists of them to serve.
@@ -83,6 +83,14 @@ impl SparseCells {
         Ok(())
     }
 
+    // The cells of a row.
+    fn push_cells(&mut self, row: u32, cells: &[((u32, u32), Cost)]) -> Result<(), NoMemory> {
+        for cell in cells {
+            self.push(row, cell.0.1, cell.1.a)?;
+        }
+        self.arcs.end_row()
+    }
+
     // The costs of a row that are there.
     fn push_row(&mut self, row: u32, costs: &[i64]) -> Result<(), NoMemory> {
         for number in 0..costs.len() / PIECE {
@@ -115,10 +123,13 @@ fn live_cells(
     };
     let mut room = RowRoom::new();
     for row in 0..rows as u32 {
-        let Some(parts) = inst.row_parts(row, &mut room) else {
+        if let Some(list) = inst.row_cells(row) {
+            cells.push_cells(row, list)?;
+        } else if let Some(parts) = inst.row_parts(row, &mut room) {
+            cells.push_row(row, parts.firsts)?;
+        } else {
             return Ok(None);
-        };
-        cells.push_row(row, parts.firsts)?;
+        }
         if cells.count > most {
             return Ok(None);
         }

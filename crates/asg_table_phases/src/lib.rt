@@ -12,6 +12,7 @@ mod column_tops;
 mod phase_proofs;
 mod phase_sizes;
 mod phase_sums;
+mod row_cells;
 mod row_pieces;
 mod table_fits;
 mod table_rows;

@@ -6,6 +6,7 @@ ghost use Rattle.asg_model.specs.Table.{absent};
 ghost use Rattle.asg_monoids.specs.BoundedSums.{narrow_top};
 ghost use Rattle.asg_table_phases.specs.TableRows.{AreLow, AreWithin, FitsCosts, FitsRow, FitsRows};
 
+use crate::row_cells::cells_fit;
 use crate::row_pieces::pieces_fit;
 use asg_model::limits::MOST_COST;
 use asg_model::{Instance, Objective, RowRoom};
@@ -169,13 +170,15 @@ fn row_fits(
     requires raise { raise ≤ narrow_top }
     ensures { IsTrue result → FitsRow objective inst.now columns.now raise row }
 {
-    let _rows = inst.rows();
+    if columns.len() < inst.columns().len() {
+        return false;
+    }
+    if let Some(cells) = inst.row_cells(row) {
+        return cells_fit(objective, cells, columns, raise);
+    }
     let Some(parts) = inst.row_parts(row, room) else {
         return false;
     };
-    if columns.len() < parts.firsts.len() {
-        return false;
-    }
     present_costs_fit(objective, parts.firsts, columns, raise, in_pieces)
 }
 

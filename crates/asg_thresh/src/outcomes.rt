@@ -15,6 +15,7 @@ ghost use Rattle.asg_thresh.specs.Thresholds.{IsLeast};
 use crate::NoMemory;
 use crate::cells_under::CellsUnder;
 use crate::grades::{FREE_GRADE, NO_GRADE, grade, grade_absent};
+use crate::guesses::guessed_outcome;
 use crate::thresholds::{Threshold, least_threshold};
 use asg_match::hall_list;
 use asg_model::{Cost, Instance, Objective};
@@ -126,17 +127,20 @@ fn graded_square(
 }
 
 /// A best choice for a bottleneck objective [Fulkerson, Glicksberg and Gross 1953], with the rows
-/// that prove it: a Hall set of the cells
-/// whose costs are strictly better than its value. Where no choice is valid, a Hall set of the
-/// whole instance. The objective is `Bottleneck` or `BottleneckMax`, and the side of the instance's
-/// square is at most 2,000. The error is want of memory. The time grows with the cube of the side
-/// for each of a few dozen limits at most (the threshold method, [Garfinkel 1971]).
+/// that prove it: a Hall set of the cells whose costs are strictly better than its value. Where no
+/// choice is valid, a Hall set of the whole instance. The objective is `Bottleneck` or
+/// `BottleneckMax`, and the side of the instance's square is at most 2,000. The error is want of
+/// memory. The time grows with the cube of the side for each of a few dozen limits at most (the
+/// threshold method, [Garfinkel 1971]).
 pub fn bottleneck(alloc: Global, objective: Objective, inst: &Instance) -> Result<Outcome, NoMemory>
     requires objective { IsBottleneck objective }
     requires side { square_side inst.now ≤ most_side }
     ensures outcome { IfOk result (IsOutcome objective inst.now) }
     ensures threshold { IfOk result HasThresholdProof }
 {
+    if let Some(found) = guessed_outcome(alloc, objective, inst)? {
+        return Ok(found);
+    }
     let square = graded_square(alloc, objective, inst)?;
     graded_outcome(alloc, objective, inst, &square)
 }

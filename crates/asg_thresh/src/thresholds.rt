@@ -74,9 +74,9 @@ fn next_grade(grades: &[u32], side: u32, rows: &[u32], limit: u32) -> u32
     least
 }
 
-// A limit between two bounds: a step above the lower one while no assignment is known, then
-// half-way.
-fn middle(low: u32, high: u32, step: u32) -> u32
+/// A limit between two bounds: a step above the lower one while no assignment is known, then
+/// half-way.
+pub(crate) fn middle(low: u32, high: u32, step: u32) -> u32
     requires { low < high }
     ensures low { low ≤ result }
     ensures high { result < high }
@@ -88,9 +88,9 @@ fn middle(low: u32, high: u32, step: u32) -> u32
     }
 }
 
-// The step after a failure: at first to the limit next to the lower bound, then a million more and
-// twice as many each time.
-fn wider(step: u32) -> u32 {
+/// The step after a failure: at first to the limit next to the lower bound, then a million more and
+/// twice as many each time.
+pub(crate) fn wider(step: u32) -> u32 {
     if step == 0 {
         1
     } else {

@@ -1,7 +1,7 @@
 //! Edits of the worked square of three rows, and those that are refused.
 
 use self::Change::{Column, Out, Put, Row};
-use crate::of_model::squares::{BOTH, Cells, PLAIN, square};
+use crate::of_model::squares::{Cells, EACH, PLAIN, square};
 use asg_model::EditRefusal::{
     ColumnDropped, CostRange, LastRow, NegativeCost, NoSuchColumn, NoSuchRow, RowDropped,
 };
@@ -146,6 +146,7 @@ fn is_edited(alloc: Global, cells: Cells, case: &Edited) -> Result<bool, Fault> 
 fn edits_the_square(rt: HostRuntime) -> Result<(), Fail> {
     for case in edits() {
         assert!(rt; is_edited(rt.alloc(), Cells::InMap, case)?);
+        assert!(rt; is_edited(rt.alloc(), Cells::InList, case)?);
         assert!(rt; is_edited(rt.alloc(), Cells::InTable, case)?);
     }
     Ok(())
@@ -175,7 +176,7 @@ fn widens(alloc: Global, cells: Cells) -> Result<bool, Fault> {
 
 #[test]
 fn gives_a_plain_table_a_second_part(rt: HostRuntime) -> Result<(), Fail> {
-    for cells in &BOTH {
+    for cells in &EACH {
         assert!(rt; widens(rt.alloc(), *cells)?);
     }
     Ok(())

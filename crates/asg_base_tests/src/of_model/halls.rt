@@ -1,6 +1,6 @@
 //! Hall sets of the worked square of three rows.
 
-use crate::of_model::squares::{BOTH, Cells, PLAIN, SMALLER, TWO, WIDE, square};
+use crate::of_model::squares::{Cells, EACH, PLAIN, SMALLER, TWO, WIDE, square};
 use asg_model::*;
 use asg_samples::{Fault, Sample};
 use asg_values::is_hall;
@@ -90,7 +90,7 @@ fn tells_all_halls(alloc: Global, cells: Cells) -> Result<bool, Fault> {
 
 #[test]
 fn tells_hall_sets(rt: HostRuntime) -> Result<(), Fail> {
-    for cells in &BOTH {
+    for cells in &EACH {
         assert!(rt; tells_all_halls(rt.alloc(), *cells)?);
     }
     Ok(())

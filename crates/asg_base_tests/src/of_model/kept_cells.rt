@@ -1,6 +1,6 @@
 //! Cells that are kept, and all others taken out.
 
-use crate::of_model::squares::{BOTH, Cells, PLAIN, square};
+use crate::of_model::squares::{Cells, EACH, PLAIN, square};
 use asg_model::*;
 use asg_samples::Fault;
 use std::alloc::Global;
@@ -34,7 +34,7 @@ fn keeps_off_diagonal(alloc: Global, cells: Cells) -> Result<bool, Fault> {
 
 #[test]
 fn keeps_cells_by_their_places(rt: HostRuntime) -> Result<(), Fail> {
-    for cells in &BOTH {
+    for cells in &EACH {
         assert!(rt; keeps_off_diagonal(rt.alloc(), *cells)?);
     }
     Ok(())

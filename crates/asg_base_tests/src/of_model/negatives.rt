@@ -65,6 +65,7 @@ fn refusals() -> &'static [(Sample<'static>, Refused)] {
 fn finds_the_first_negative(rt: HostRuntime) -> Result<(), Fail> {
     for (sample, cases) in refusals() {
         assert!(rt; refuses(rt.alloc(), Cells::InMap, sample, cases)?);
+        assert!(rt; refuses(rt.alloc(), Cells::InList, sample, cases)?);
         assert!(rt; refuses(rt.alloc(), Cells::InTable, sample, cases)?);
     }
     Ok(())

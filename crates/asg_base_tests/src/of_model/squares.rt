@@ -1,4 +1,4 @@
-//! Squares of three rows to test with, each in a map or in a table.
+//! Squares of three rows to test with, each in a map, a list or a table.
 
 ghost use Rattle.std.specs.Prelude.{◌≡◌, ◌<◌, length, IsTrue, IfOk, IfSome};
 ghost use Rattle.asg_model.specs.Instances.{IsCostInRange, AreCellsOf};
@@ -101,37 +101,60 @@ fn in_map(alloc: Global, sample: &Sample<'_>, table: &Instance) -> Result<Instan
     Ok(Instance::with(rows, columns, cells, table.place()))
 }
 
-// The same, where the table has three rows and three columns.
-fn of_three(alloc: Global, sample: &Sample<'_>, table: &Instance) -> Result<Instance, Fault> {
+// The same, with its cells in a list.
+fn in_list(alloc: Global, sample: &Sample<'_>, table: &Instance) -> Result<Instance, NoMemory>
+    requires rows { length table.now.rows ≡ 3 }
+    requires columns { length table.now.columns ≡ 3 }
+{
+    let cells = cells_of(alloc, sample)?;
+    let rows = Vec::from_slice(alloc, table.rows())?;
+    let columns = Vec::from_slice(alloc, table.columns())?;
+    well_formed_law();
+    let _ = cells.len();
+    let list = cells.into_iter().collect(alloc)?;
+    Ok(Instance::of_cells(rows, columns, list, table.place()))
+}
+
+// The same either way, where the table has three rows and three columns.
+fn of_three(
+    alloc: Global,
+    cells: Cells,
+    sample: &Sample<'_>,
+    table: &Instance,
+) -> Result<Instance, Fault> {
     if table.rows().len() != 3 || table.columns().len() != 3 {
         return Err(Fault::IllFormed);
     }
-    Ok(in_map(alloc, sample, table)?)
+    match cells {
+        Cells::InList => Ok(in_list(alloc, sample, table)?),
+        _ => Ok(in_map(alloc, sample, table)?),
+    }
 }
 
-// The instance of a sample of three rows and three columns, in a map.
-fn mapped(alloc: Global, sample: &Sample<'_>) -> Result<Instance, Fault> {
+// The instance of a sample of three rows and three columns, in a map or a list.
+fn placed(alloc: Global, cells: Cells, sample: &Sample<'_>) -> Result<Instance, Fault> {
     let table = sample.instance(alloc)?;
-    let mapped = of_three(alloc, sample, &table);
+    let placed = of_three(alloc, cells, sample, &table);
     drop(table);
-    mapped
+    placed
 }
 
 /// How an instance has its cells.
 #[derive(Clone, Copy, Debug)]
 pub(crate) enum Cells {
     InMap,
+    InList,
     InTable,
 }
 
-/// Both ways.
-pub(crate) const BOTH: [Cells; 2] = [Cells::InMap, Cells::InTable];
+/// Each way.
+pub(crate) const EACH: [Cells; 3] = [Cells::InMap, Cells::InList, Cells::InTable];
 
 /// The instance of a sample of three rows and three columns.
 pub(crate) fn square(alloc: Global, cells: Cells, sample: &Sample<'_>) -> Result<Instance, Fault> {
     match cells {
-        Cells::InMap => mapped(alloc, sample),
         Cells::InTable => sample.instance(alloc),
+        _ => placed(alloc, cells, sample),
     }
 }
 

@@ -1,6 +1,6 @@
 //! The worked square of three rows: its valid choices, and its parts.
 
-use crate::of_model::squares::{BOTH, Cells, PLAIN, SMALLER, TWO, WIDE, choice, square};
+use crate::of_model::squares::{Cells, EACH, PLAIN, SMALLER, TWO, WIDE, choice, square};
 use asg_model::*;
 use asg_samples::{Fault, Sample};
 use asg_values::is_valid;
@@ -77,7 +77,7 @@ fn tells_all_choices(alloc: Global, cells: Cells) -> Result<bool, Fault> {
 
 #[test]
 fn tells_valid_choices(rt: HostRuntime) -> Result<(), Fail> {
-    for cells in &BOTH {
+    for cells in &EACH {
         assert!(rt; tells_all_choices(rt.alloc(), *cells)?);
     }
     Ok(())
@@ -186,7 +186,7 @@ fn places_two(alloc: Global, cells: Cells) -> Result<bool, Fault> {
 
 #[test]
 fn reads_the_square(rt: HostRuntime) -> Result<(), Fail> {
-    for cells in &BOTH {
+    for cells in &EACH {
         assert!(rt; reads(rt.alloc(), *cells)?);
         assert!(rt; places_two(rt.alloc(), *cells)?);
     }
@@ -211,7 +211,7 @@ fn copies(alloc: Global, cells: Cells) -> Result<bool, Fault> {
 
 #[test]
 fn copies_the_square(rt: HostRuntime) -> Result<(), Fail> {
-    for cells in &BOTH {
+    for cells in &EACH {
         assert!(rt; copies(rt.alloc(), *cells)?);
     }
     Ok(())
@@ -256,7 +256,7 @@ fn reshapes(alloc: Global, cells: Cells) -> Result<bool, Fault> {
 
 #[test]
 fn reshapes_the_square(rt: HostRuntime) -> Result<(), Fail> {
-    for cells in &BOTH {
+    for cells in &EACH {
         assert!(rt; reshapes(rt.alloc(), *cells)?);
     }
     Ok(())

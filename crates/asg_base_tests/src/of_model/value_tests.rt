@@ -1,6 +1,6 @@
 //! The values that the nine objectives give, worked out by hand.
 
-use crate::of_model::squares::{BOTH, Cells, PLAIN, TWOFOLD, choice, square};
+use crate::of_model::squares::{Cells, EACH, PLAIN, TWOFOLD, choice, square};
 use asg_model::*;
 use asg_samples::{Fault, Sample};
 use asg_values::{better, is_valid, value};
@@ -204,7 +204,7 @@ fn gives_all_values(alloc: Global, cells: Cells) -> Result<bool, Fault> {
 
 #[test]
 fn values_by_hand(rt: HostRuntime) -> Result<(), Fail> {
-    for cells in &BOTH {
+    for cells in &EACH {
         assert!(rt; gives_all_values(rt.alloc(), *cells)?);
     }
     Ok(())

@@ -35,7 +35,17 @@ pub(crate) fn files() -> &'static [(Format, &'static [File])] {
     &FILES
 }
 
-const ASN: [File; 6] = [
+// The ids of the columns of two sparse files, and their rows.
+const SPARSE_COLUMNS: &[u32] = &[5, 6, 7, 8, 9, 10, 11, 12, 13, 14, 15, 16, 17, 18, 19, 20];
+
+const SPARSE_ROWS: &[RowOf] = &[
+    (1, &[3, X, X, X, X, X, X, X, X, X, X, X, X, X, X, X]),
+    (2, &[X, -1, X, X, X, X, X, X, X, X, X, X, X, X, X, 2]),
+    (3, &[X, X, X, X, X, X, X, X, X, X, X, X, X, X, X, X]),
+    (4, &[X, X, X, X, X, X, X, X, X, X, X, X, X, X, 9, X]),
+];
+
+const ASN: [File; 8] = [
     (
         b"p asn 4 2\nn 1\nn 2\na 1 3 5\na 2 3 6\n",
         &[3, 4],
@@ -70,6 +80,18 @@ const ASN: [File; 6] = [
         &[],
     ),
     (b"p asn 1 0\nn 1", &[], &[(1, &[])], &[]),
+    (
+        b"p asn 20 4\nn 1\nn 2\nn 3\nn 4\na 1 5 3\na 2 6 -1\na 2 20 2\na 4 19 9\n",
+        SPARSE_COLUMNS,
+        SPARSE_ROWS,
+        &[],
+    ),
+    (
+        b"p asn 20 4\nn 1\nn 2\nn 3\nn 4\na 2 20 2\na 1 5 3\na 4 19 9\na 2 6 -1\n",
+        SPARSE_COLUMNS,
+        SPARSE_ROWS,
+        &[],
+    ),
 ];
 
 const SQUARE: [File; 8] = [

@@ -24,7 +24,20 @@ fn untaken(error: &io::Error) -> Status {
     }
 }
 
+// The size of the largest block after whose release the C library keeps what is released for blocks
+// to come, and maps none by itself.
+const KEPT: usize = (32 << 20) - (1 << 16);
+
+// Takes such a block, and releases it untouched, so that memory that was released is used again:
+// a page that is new costs more than the cells that stand in it.
+fn keep_memory(rt: &impl AllocGlobal) {
+    if let Ok(block) = Vec::<u8>::with_capacity(rt.alloc(), KEPT) {
+        drop(block);
+    }
+}
+
 fn main(rt: HostRuntime) -> ExitCode {
+    keep_memory(&rt);
     let status = match words_after_name(&rt) {
         Ok(words) => {
             let mut shelf = RealShelf::new(rt.alloc(), &rt);

@@ -34,12 +34,12 @@ fn is_streamed(asked: &Asked) -> bool
 }
 
 // Makes the reply to what was asked, and puts it. All memory is taken before the put.
-fn answer_whole<K: Sink>(alloc: Global, asked: &Asked, out: &mut K) -> Status
-    requires within { IfSome asked.now.request IsRequest }
-    requires whole { is_streamed asked.now.request ≡ false }
+fn answer_whole<K: Sink>(alloc: Global, asked: &mut Asked, out: &mut K) -> Status
+    requires within { IfSome asked.old.request IsRequest }
+    requires whole { is_streamed asked.old.request ≡ false }
     ensures { Ends K.written K.faults out.old out.new false
-        (DueForAsked asked.now.request asked.now.sources)
-        (DueForAsked asked.now.request asked.now.sources) result }
+        (DueForAsked asked.old.request asked.old.sources)
+        (DueForAsked asked.old.request asked.old.sources) result }
 {
     answer_law();
     match reply_to(alloc, asked) {
@@ -49,25 +49,25 @@ fn answer_whole<K: Sink>(alloc: Global, asked: &Asked, out: &mut K) -> Status
 }
 
 // Answers a command that writes its documents as it makes them.
-fn answer_streamed<K: Sink>(alloc: Global, asked: &Asked, out: &mut K) -> Status
-    requires within { IfSome asked.now.request IsRequest }
-    requires streamed { is_streamed asked.now.request ≡ true }
+fn answer_streamed<K: Sink>(alloc: Global, asked: &mut Asked, out: &mut K) -> Status
+    requires within { IfSome asked.old.request IsRequest }
+    requires streamed { is_streamed asked.old.request ≡ true }
     ensures { Ends K.written K.faults out.old out.new true
-        (DueForAsked asked.now.request asked.now.sources)
-        (DueForPart asked.now.request asked.now.sources) result }
+        (DueForAsked asked.old.request asked.old.sources)
+        (DueForPart asked.old.request asked.old.sources) result }
 {
     match &asked.request {
-        Some(Request::Work(job)) => edit::answer(alloc, job, &asked.sources, out),
+        Some(Request::Work(job)) => edit::answer(alloc, job, &mut asked.sources, out),
         Some(Request::Make { .. }) | None => unreachable!(),
     }
 }
 
 // Answers what was asked.
-pub(crate) fn answer<K: Sink>(alloc: Global, asked: &Asked, out: &mut K) -> Status
-    requires { IfSome asked.now.request IsRequest }
-    ensures { Ends K.written K.faults out.old out.new (is_streamed asked.now.request)
-        (DueForAsked asked.now.request asked.now.sources)
-        (DueForPart asked.now.request asked.now.sources) result }
+pub(crate) fn answer<K: Sink>(alloc: Global, asked: &mut Asked, out: &mut K) -> Status
+    requires { IfSome asked.old.request IsRequest }
+    ensures { Ends K.written K.faults out.old out.new (is_streamed asked.old.request)
+        (DueForAsked asked.old.request asked.old.sources)
+        (DueForPart asked.old.request asked.old.sources) result }
 {
     if is_streamed(asked) {
         answer_streamed(alloc, asked, out)

@@ -77,7 +77,7 @@ pub fn run<F: Shelf, K: Sink>(alloc: Global, words: &[String], shelf: &mut F, ou
     due_law();
     answer_law();
     match fetch_asked(alloc, words, shelf) {
-        Ok(asked) => answer(alloc, &asked, out),
+        Ok(mut asked) => answer(alloc, &mut asked, out),
         Err(fault) => unread_status(fault),
     }
 }

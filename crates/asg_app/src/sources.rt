@@ -1,6 +1,6 @@
 //! The contents of the files of a job.
 
-ghost use Rattle.std.specs.Prelude.{◌≡◌, ◌≤◌, ◌++◌, ◌∷◌, [], IfOk, length};
+ghost use Rattle.std.specs.Prelude.{◌≡◌, ◌≢◌, ◌≤◌, ℕ, ◌++◌, ◌∷◌, [], IfOk, length};
 ghost use Rattle.asg_model.specs.Limits.{longest_file};
 ghost use Rattle.asg_promises.specs.Sources.{AreShort, content_at};
 
@@ -43,6 +43,22 @@ impl Sources {
     {
         self.files.push(file)?;
         Ok(())
+    }
+
+    // The contents of the file at a place, counted from 0, which the sources have no longer; no
+    // bytes where there is none. All other contents stay.
+    pub(crate) fn take(&mut self, alloc: Global, place: usize) -> Vec<u8>
+        ensures bytes { result.items ≡ content_at self.old place }
+        ensures within { length result.items ≤ longest_file }
+        ensures short { AreShort self.old }
+        ensures others { (k : ℕ) → k ≢ place → content_at self.new k ≡ content_at self.old k }
+    {
+        let _ = self.at(place);
+        if place < self.files.len() {
+            std::mem::replace(&mut self.files[place], Vec::new(alloc))
+        } else {
+            Vec::new(alloc)
+        }
     }
 
     // The contents of the file at a place, counted from 0; no bytes where there is none.

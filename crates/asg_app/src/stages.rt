@@ -57,27 +57,30 @@ fn task_reply(
 
 // The reply to a job that isn't to edit, whose instance stands in the first file. The error is want
 // of memory.
-fn job_reply(alloc: Global, job: &Job, sources: &Sources) -> Result<Reply, NoMemory>
+fn job_reply(alloc: Global, job: &Job, sources: &mut Sources) -> Result<Reply, NoMemory>
     requires within { IsJob job.now }
     requires whole { is_edit job.now.task ≡ false }
-    ensures { IfOk result (Answers (DueForJob job.now sources.now)) }
+    ensures { IfOk result (Answers (DueForJob job.now sources.old)) }
 {
     instance_law();
-    match instance(alloc, job, sources.at(0)) {
+    let bytes = sources.take(alloc, 0);
+    let found = instance(alloc, job, bytes.as_slice());
+    drop(bytes);
+    match found {
         Ok(inst) => task_reply(alloc, job, inst, sources),
         Err(stop) => stop_reply(stop),
     }
 }
 
 // The reply to what was asked, where that isn't to edit. The error is want of memory.
-pub(crate) fn reply_to(alloc: Global, asked: &Asked) -> Result<Reply, NoMemory>
-    requires within { IfSome asked.now.request IsRequest }
-    requires whole { is_streamed asked.now.request ≡ false }
-    ensures { IfOk result (Answers (DueForAsked asked.now.request asked.now.sources)) }
+pub(crate) fn reply_to(alloc: Global, asked: &mut Asked) -> Result<Reply, NoMemory>
+    requires within { IfSome asked.old.request IsRequest }
+    requires whole { is_streamed asked.old.request ≡ false }
+    ensures { IfOk result (Answers (DueForAsked asked.old.request asked.old.sources)) }
 {
     match &asked.request {
         None => Reply::line(alloc, Status::Usage, USAGE),
         Some(Request::Make { seed, side }) => make::reply(alloc, *seed, *side),
-        Some(Request::Work(job)) => job_reply(alloc, job, &asked.sources),
+        Some(Request::Work(job)) => job_reply(alloc, job, &mut asked.sources),
     }
 }

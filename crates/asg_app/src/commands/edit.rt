@@ -1,7 +1,7 @@
 //! Requests to edit: each document, or in brief each line, is written as soon as it is made.
 
-ghost use Rattle.std.specs.Prelude.{◌≡◌, ◌≤◌, ℕ, true, List, Some, IfErr, IfOk, IsTrue};
-ghost use Rattle.asg_model.specs.Limits.{most_side};
+ghost use Rattle.std.specs.Prelude.{◌≡◌, ◌≤◌, ℕ, true, List, Some, IfErr, IfOk, IsTrue, length};
+ghost use Rattle.asg_model.specs.Limits.{longest_file, most_side};
 ghost use Rattle.asg_model.specs.Objectives.{is_algebraic};
 ghost use Rattle.asg_model.specs.Refused.{PassesNegative};
 ghost use Rattle.asg_model.specs.Shapes.{square_side};
@@ -10,10 +10,10 @@ ghost use Rattle.asg_requests.specs.declared.requests.Request.TheVariants as req
 ghost use Rattle.asg_promises.specs.Due.{DueForJob, DueForPart};
 ghost use Rattle.asg_app.specs.Edits.{IsStarted, StopsJob};
 ghost use Rattle.asg_app.specs.Ends.{Ends};
+ghost use Rattle.asg_app.specs.Stops.{StopsScript};
+ghost use Rattle.asg_scripts.specs.Scripts.{HoldsLines, script_in};
 ghost use Rattle.asg_requests.specs.Bounds.{IsJob};
-ghost use Rattle.asg_promises.specs.InstanceFile.{Holds, instance_in};
 ghost use Rattle.asg_promises.specs.Requests.{is_edit};
-ghost use Rattle.asg_promises.specs.Sources.{content_at};
 
 use crate::instances::instance;
 use crate::replies::put;
@@ -67,30 +67,38 @@ fn opened(alloc: Global, job: &Job, inst: Instance, lines: Vec<(u32, Line)>) -> 
     }
 }
 
-// The script of the job is read for its instance, and an editor is opened.
-fn scripted(alloc: Global, job: &Job, inst: Instance, sources: &Sources) -> Result<Work, Stop>
+// A script is read for the instance of the job, and an editor is opened.
+fn scripted(alloc: Global, job: &Job, inst: Instance, script: &[u8]) -> Result<Work, Stop>
     requires within { IsJob job.now }
     requires edits { IsTrue (is_edit job.now.task) }
-    requires held { instance_in job.now (content_at sources.now 0) ≡ Holds inst }
-    ensures started { IfOk result (IsStarted job.now sources.now) }
-    ensures stop { IfErr result (StopsJob job.now sources.now) }
+    requires short { length script.now ≤ longest_file }
+    requires side { square_side inst ≤ most_side }
+    requires passes { PassesNegative job.now.objective inst }
+    ensures objective { IfOk result (λ work. work.editor.objective ≡ job.now.objective) }
+    ensures instance { IfOk result (λ work. work.editor.instance ≡ inst) }
+    ensures lines { IfOk result (λ work. script_in job.now.objective inst script.now
+        ≡ HoldsLines work.lines.items) }
+    ensures stop { IfErr result (StopsScript (script_in job.now.objective inst script.now)) }
 {
-    instance_law();
-    match script_lines(alloc, job, &inst, sources.at(1)) {
+    match script_lines(alloc, job, &inst, script) {
         Ok(lines) => opened(alloc, job, inst, lines),
         Err(stop) => Err(stop),
     }
 }
 
 // The files of a job to edit are read, and an editor is opened.
-fn started(alloc: Global, job: &Job, sources: &Sources) -> Result<Work, Stop>
+fn started(alloc: Global, job: &Job, sources: &mut Sources) -> Result<Work, Stop>
     requires within { IsJob job.now }
     requires edits { IsTrue (is_edit job.now.task) }
-    ensures started { IfOk result (IsStarted job.now sources.now) }
-    ensures stop { IfErr result (StopsJob job.now sources.now) }
+    ensures started { IfOk result (IsStarted job.now sources.old) }
+    ensures stop { IfErr result (StopsJob job.now sources.old) }
 {
-    match instance(alloc, job, sources.at(0)) {
-        Ok(inst) => scripted(alloc, job, inst, sources),
+    instance_law();
+    let bytes = sources.take(alloc, 0);
+    let found = instance(alloc, job, bytes.as_slice());
+    drop(bytes);
+    match found {
+        Ok(inst) => scripted(alloc, job, inst, sources.at(1)),
         Err(stop) => Err(stop),
     }
 }
@@ -135,12 +143,17 @@ fn put_stop<K: Sink>(stop: Stop, out: &mut K) -> Status
 
 // Answers a job to edit: its documents are written, or in brief their lines, one after the other,
 // or the refusal of one of its files.
-pub(crate) fn answer<K: Sink>(alloc: Global, job: &Job, sources: &Sources, out: &mut K) -> Status
+pub(crate) fn answer<K: Sink>(
+    alloc: Global,
+    job: &Job,
+    sources: &mut Sources,
+    out: &mut K,
+) -> Status
     requires within { IsJob job.now }
     requires edits { IsTrue (is_edit job.now.task) }
     ensures { Ends K.written K.faults out.old out.new true
-        (DueForJob job.now sources.now)
-        (DueForPart (Some (requests.Work job.now)) sources.now) result }
+        (DueForJob job.now sources.old)
+        (DueForPart (Some (requests.Work job.now)) sources.old) result }
 {
     match started(alloc, job, sources) {
         Ok(mut work) => {

@@ -1,6 +1,6 @@
 //! Lists of cells, by the places of their row and column.
 
-ghost use Rattle.std.specs.Prelude.{◌≡◌, ℕ, ◌<◌, ◌≤◌, true, false, nat_lt, IfOk, IfSome, OnSome, All, length};
+ghost use Rattle.std.specs.Prelude.{◌≡◌, ℕ, ◌<◌, ◌≤◌, true, false, nat_lt, IfOk, IfSome, OnSome, Some, All, length};
 ghost use Rattle.std.specs.List.Sorted.{IsNonDecreasingBy, IsPartitionPoint, IsStrictlySortedBy};
 ghost use Rattle.std.specs.Map.{keys_of};
 ghost use Rattle.asg_model.specs.CellLists.{IsRowOf, IsTableOf};
@@ -32,11 +32,37 @@ pub(crate) fn cells_of_row(cells: &[((u32, u32), Cost)], row: u32) -> &[((u32, u
     &rest[..cells_before(rest, row as usize + 1)]
 }
 
-// The cost of a cell in an ascending list.
+// The place of a cell before which the cells of an ascending list stand in earlier rows, or in this
+// one in earlier columns.
+fn place_for(cells: &[((u32, u32), Cost)], row: u32, col: u32) -> usize {
+    cells.partition_point(|cell: &((u32, u32), Cost)| -> bool {
+        cell.0.0 < row || (cell.0.0 == row && cell.0.1 < col)
+    })
+}
+
+// The cost of the cell at a place of an ascending list, where it is that of this row and column.
+fn cost_there(cells: &[((u32, u32), Cost)], place: usize, row: u32, col: u32) -> Option<Cost>
+    requires { IsStrictlySortedBy by_places (keys_of cells.now) }
+    ensures { IfSome result (λ cost. cost_at cells.now row col ≡ Some cost) }
+{
+    if place >= cells.len() {
+        return None;
+    }
+    let cell = cells[place];
+    if cell.0.0 != row || cell.0.1 != col {
+        return None;
+    }
+    Some(cell.1)
+}
+
+// The cost of a cell in an ascending list: a cell that is there is found by one search.
 pub(crate) fn listed_cell(cells: &[((u32, u32), Cost)], row: u32, col: u32) -> Option<Cost>
     requires { IsStrictlySortedBy by_places (keys_of cells.now) }
     ensures { result ≡ cost_at cells.now row col }
 {
+    if let Some(cost) = cost_there(cells, place_for(cells, row, col), row, col) {
+        return Some(cost);
+    }
     cost_in(cells_of_row(cells, row), row, col)
 }
 

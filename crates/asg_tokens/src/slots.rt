@@ -1,6 +1,6 @@
 //! The parts of costs as they stand in a table.
 
-ghost use Rattle.std.specs.Prelude.{◌≡◌, ℕ, ◌<◌, pos, All, OnOk, length, slice_index_or};
+ghost use Rattle.std.specs.Prelude.{◌≡◌, ℕ, ◌<◌, ◌≤◌, pos, All, OnOk, length, slice_index_or};
 ghost use Rattle.asg_model.specs.ValueRange.{IsPartInRange};
 ghost use Rattle.asg_tokens.specs.Slots.{first_part, second_part, AreSeconds, PutsSecond};
 
@@ -66,4 +66,16 @@ fn fill_seconds(alloc: Global, seconds: &mut Vec<i64>, room: usize) -> Result<()
         *seconds = vec![in alloc; 0; room]?;
     }
     Ok(())
+}
+
+/// Makes places, with parts that are 0, up to so many.
+pub(crate) fn more_seconds(seconds: &mut Vec<i64>, upto: usize) -> Result<(), AllocError>
+    requires few { length seconds.old.items ≤ upto }
+    requires in_range { All IsPartInRange seconds.old.items }
+    ensures whole { OnOk result (length seconds.new.items ≡ upto) }
+    ensures same { OnOk result ((k : ℕ) →
+        slice_index_or seconds.new.items k (pos 0) ≡ slice_index_or seconds.old.items k (pos 0)) }
+    ensures in_range { OnOk result (All IsPartInRange seconds.new.items) }
+{
+    seconds.resize(upto, 0)
 }

@@ -1,12 +1,12 @@
 //! Square and rect files.
 
-ghost use Rattle.std.specs.Prelude.{◌≡◌, ◌+◌, ◌*◌, ◌<◌, ◌≤◌, [], length, map, min, IfOk, IfErr, OnOk};
+ghost use Rattle.std.specs.Prelude.{◌≡◌, ◌+◌, ◌*◌, ◌<◌, ◌≤◌, ℕ, pos, slice_index_or, [], length, map, min, IfOk, IfErr, OnOk};
 ghost use Rattle.std.specs.List.{range_with_len};
 ghost use Rattle.asg_model.specs.Limits.{most_rows, most_columns};
 ghost use Rattle.asg_tokens.specs.Numbers.{size_of};
 ghost use Rattle.asg_tokens.specs.Pieces.{tokens};
 ghost use Rattle.asg_tokens.specs.Readings.{Spells, TellsOf, row_of, column_of};
-ghost use Rattle.asg_tokens.specs.Slots.{AreRead, IsEarliest};
+ghost use Rattle.asg_tokens.specs.Slots.{AreRead, AreSeconds, IsEarliest};
 ghost use Rattle.asg_tokens.specs.Tables.{size_faults, faults_of_cells, reading_of_square, reading_of_rect, reading_of_table};
 
 use crate::cell_blocks::{Progress, read_blocks};
@@ -15,13 +15,16 @@ use crate::numbers;
 use crate::pair_blocks::read_pair_blocks;
 use crate::pieces::{Separators, count_pieces, first_piece};
 use crate::refusals::TextRefusal;
-use crate::slots::{first_part, put_second, second_part};
+use crate::slots::{first_part, more_seconds, put_second, second_part};
 use asg_model::limits::{MOST_COLUMNS, MOST_ROWS};
 use asg_model::{Column, Instance, Place, Row};
 use std::alloc::{AllocError, Global};
 
 // How many cells are read one by one where neither plain numbers nor pairs are found.
 const SINGLE_CELLS: usize = 16;
+
+// For how many more cells places are made at once, so that these are near when they are written.
+const MORE_CELLS: usize = 4096;
 
 /// The header of a table: how many tokens it has, and the sizes that they spell.
 #[derive(Clone, Copy)]
@@ -144,14 +147,15 @@ fn read_costs<'a>(
         (tokens costs.rest.now) (length costs.firsts.items) costs.firsts.items costs.seconds.items) }
     ensures refused { IfErr result (IsEarliest (faults_of_cells header count (tokens text.now))) }
 {
-    let mut firsts = vec![in alloc; 0; count.min(text.len())]?;
+    let room = count.min(text.len());
+    let mut firsts = Vec::with_capacity(alloc, room)?;
     let mut seconds = Vec::new(alloc);
     let cells = CellText {
         header,
         count,
         text,
     };
-    let rest = fill_costs(alloc, cells, &mut firsts, &mut seconds)?;
+    let rest = fill_costs(alloc, cells, room, &mut firsts, &mut seconds)?;
     Ok(TableCosts {
         firsts,
         seconds,
@@ -159,30 +163,52 @@ fn read_costs<'a>(
     })
 }
 
-// Reads cells into all places of the first parts, and gives the text behind the last one.
+// Makes places, with parts that are 0, up to so many, for the first parts, and for the second ones
+// where these have places.
+fn make_places(firsts: &mut Vec<i64>, seconds: &mut Vec<i64>, upto: usize) -> Result<(), AllocError>
+    requires few { length firsts.old.items ≤ upto }
+    requires seconds { AreSeconds (length firsts.old.items) seconds.old.items }
+    ensures count { OnOk result (length firsts.new.items ≡ upto) }
+    ensures firsts { OnOk result ((k : ℕ) → k < length firsts.old.items →
+        slice_index_or firsts.new.items k (pos 0) ≡ slice_index_or firsts.old.items k (pos 0)) }
+    ensures same { OnOk result ((k : ℕ) →
+        slice_index_or seconds.new.items k (pos 0) ≡ slice_index_or seconds.old.items k (pos 0)) }
+    ensures seconds { OnOk result (AreSeconds upto seconds.new.items) }
+{
+    firsts.resize(upto, 0)?;
+    if !seconds.is_empty() {
+        more_seconds(seconds, upto)?;
+    }
+    Ok(())
+}
+
+// Reads so many cells, and gives the text behind the last one.
 fn fill_costs<'a>(
     alloc: Global,
     cells: CellText<'a>,
+    room: usize,
     firsts: &mut Vec<i64>,
     seconds: &mut Vec<i64>,
 ) -> Result<&'a [u8], TextRefusal>
     requires header { cells.header ≤ 2 }
     requires count { cells.count ≤ most_rows * most_columns }
-    requires room { length firsts.old.items ≤ cells.count }
+    requires room { room ≤ cells.count }
+    requires no_firsts { firsts.old.items ≡ [] }
     requires none { seconds.old.items ≡ [] }
-    ensures room { OnOk result (length firsts.new.items ≡ length firsts.old.items) }
+    ensures room { OnOk result (length firsts.new.items ≡ room) }
     ensures costs { IfOk result (λ rest. AreRead (cells.entry.header + 1) (tokens cells.entry.text.now)
         (tokens rest.now) (length firsts.new.items) firsts.new.items seconds.new.items) }
     ensures refused { IfErr result (IsEarliest (faults_of_cells cells.entry.header cells.entry.count
         (tokens cells.entry.text.now))) }
 {
-    let room = firsts.len();
     let mut place = 0;
     let mut rest = cells.text;
     'parts: while place < room {
+        let places = firsts.len().max(room.min(place + MORE_CELLS));
+        make_places(firsts, seconds, places)?;
         let numbers = read_blocks(rest, firsts, place);
         let pairs = read_pair_blocks(numbers, firsts, seconds);
-        let upto = room.min(pairs.place + SINGLE_CELLS);
+        let upto = places.min(pairs.place + SINGLE_CELLS);
         rest = fill_upto(alloc, cells, pairs, upto, firsts, seconds)?;
         place = upto;
     }

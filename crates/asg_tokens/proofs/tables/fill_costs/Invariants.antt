@@ -1,10 +1,10 @@
-use Rattle.asg_tokens.proofs.Common.{◌≡◌, ◌+◌, ◌-◌, ◌≤◌, length, tokens, AreRead}
+use Rattle.asg_tokens.proofs.Common.{◌+◌, ◌-◌, ◌≤◌, length, tokens, AreRead}
 use Rattle.asg_tokens.proofs.tables.fill_costs.Given as goal
 
 abbrev pub invariant-parts : goal.invariant-parts
 invariant-parts l = record {
-  within : l.place ≤ l.room;
-  room : length l.firsts.items ≡ length l.fn.firsts.items;
+  within : l.place ≤ length l.firsts.items;
+  few : length l.firsts.items ≤ l.room;
   read : AreRead (l.cells.header + 1) (tokens l.cells.text.now) (tokens l.rest) l.place l.firsts.items l.seconds.items;
 }
 

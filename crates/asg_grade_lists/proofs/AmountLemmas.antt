@@ -1,5 +1,5 @@
 -- Phases of amounts at a grade.
-use Rattle.asg_grade_lists.proofs.Common.{◌≡◌, ℕ, ◌<◌, ◌≤◌, List, [], ◌∷◌, ◌++◌, map, length, sym, refl, ap, ◌∙◌, subst, arith, All-cons, All-nil, All-push, length-map, map-append, AreAmountsAt, AreOfGrade, TakesIn, graded_word, Word, AreTotals, CountsRight, Totals, HasPositiveSteps, graded_phase, of_grade, PhaseOf, phase_of, worded, IsPhaseOver}
+use Rattle.asg_grade_lists.proofs.Common.{◌≡◌, ℕ, ◌<◌, ◌≤◌, List, [], ◌∷◌, ◌++◌, map, length, sym, refl, ap, ◌∙◌, subst, All-cons, All-nil, All-push, length-map, map-append, AreAmountsAt, AreOfGrade, TakesIn, graded_word, Word, AreTotals, CountsRight, Totals, HasPositiveSteps, graded_phase, of_grade, PhaseOf, phase_of, worded, IsPhaseOver}
 
 -- no steps
 pub amounts_none : (g : ℕ) (amounts : List ℕ) → amounts ≡ [] → AreAmountsAt g [] amounts

@@ -1,5 +1,5 @@
 -- Phases of one step to a grade.
-use Rattle.asg_grade_lists.proofs.Common.{◌≡◌, ℕ, zero, suc, ◌+◌, ◌<◌, ◌≤◌, Bool, true, false, List, [], ◌∷◌, length, get_or, drop, is_some, IfSome, IfOk, slice_index, Some, Option, Result, sym, ap, ◌∙◌, subst, ⊎_elim, arith, ltb-true, leb-true, IfOk-weaker, IfSome_then, cases_lt, drop_more, false≢true, BeginWithRise, NoneLower, NoneLowerIn, IsRiseTo, graded_word, Word, CountsRight, IsRisePhase, PhaseOf, entered_at, phase_of, staying_at}
+use Rattle.asg_grade_lists.proofs.Common.{◌≡◌, ℕ, zero, suc, ◌+◌, ◌<◌, ◌≤◌, Bool, false, List, [], ◌∷◌, length, get_or, drop, is_some, IfSome, IfOk, slice_index, Some, Option, Result, sym, ap, ◌∙◌, subst, ⊎_elim, arith, ltb-true, leb-true, IfOk-weaker, IfSome_then, cases_lt, drop_more, false≢true, BeginWithRise, NoneLower, NoneLowerIn, IsRiseTo, graded_word, Word, CountsRight, IsRisePhase, PhaseOf, entered_at, phase_of, staying_at}
 use Rattle.asg_proof.specs.Steps.{count_below}
 
 -- one more cell of a row

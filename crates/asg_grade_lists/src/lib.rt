@@ -9,10 +9,12 @@
 
 mod amounts;
 mod end_cells;
+mod graded_cells;
 mod lists;
 mod rises;
 
-pub use lists::grade_list_index;
+pub use graded_cells::GradedCells;
+pub use lists::{grade_list_index, graded_list_index};
 
 /// There was not enough memory.
 pub type NoMemory = std::alloc::AllocError;

@@ -10,6 +10,7 @@ ghost use Rattle.asg_proof.specs.Phases.{phase_of};
 ghost use Rattle.asg_square.specs.Grid.{cell_at};
 
 use crate::NoMemory;
+use crate::graded_cells::GradedCells;
 use asg_phase_totals::PhaseTotals;
 use asg_proof::WrittenPhase;
 use asg_square::Square;
@@ -99,8 +100,13 @@ fn row_rises(square: &Square<(u64, u128)>, r: u32, grade: u64, enter: u32, leave
     none_lower(square, r, grade, leaves)
 }
 
-// Whether this is so of each row that enters at once.
-fn rows_rise(square: &Square<(u64, u128)>, grade: u64, enters: &[u32], leaves: &[u32]) -> bool
+/// Whether this is so of each row that enters at once.
+pub(crate) fn rows_rise(
+    square: &Square<(u64, u128)>,
+    grade: u64,
+    enters: &[u32],
+    leaves: &[u32],
+) -> bool
     requires enters { length enters.now ≡ square.now.side }
     requires leaves { length leaves.now ≡ square.now.side }
     ensures { IsTrue result → NoneLowerIn grade square.now.side square.now.side enters.now leaves.now
@@ -116,24 +122,25 @@ fn rows_rise(square: &Square<(u64, u128)>, grade: u64, enters: &[u32], leaves: &
 
 // Whether a step to the grade is admitted on the rows that enter at once and the columns that don't
 // leave at once. The error is want of memory.
-fn rises(
+fn rises<C: GradedCells>(
     alloc: Global,
-    square: &Square<(u64, u128)>,
+    cells: &C,
     grade: u64,
     enters: &[u32],
     leaves: &[u32],
     room: &mut [u64],
 ) -> Result<bool, NoMemory>
-    requires { length room.old ≡ square.now.side + 1 }
+    requires side { C.side_of cells.now ≤ most_side }
+    requires room { length room.old ≡ C.side_of cells.now + 1 }
     ensures rises { IfOk result (λ is. IsTrue is
-        → IsRisePhase grade square.now.side enters.now leaves.now (cell_at square.now)) }
+        → IsRisePhase grade (C.side_of cells.now) enters.now leaves.now (C.cells_of cells.now)) }
     ensures room { length room.new ≡ length room.old }
 {
-    let counts = counts_right(alloc, square.side(), enters, leaves, room)?;
+    let counts = counts_right(alloc, cells.side(), enters, leaves, room)?;
     if !counts {
         return Ok(false);
     }
-    Ok(rows_rise(square, grade, enters, leaves))
+    Ok(cells.rows_rise(grade, enters, leaves))
 }
 
 // The grade of a phase of one step to it.
@@ -153,22 +160,23 @@ fn grade_of(phase: &WrittenPhase) -> Option<u64>
 }
 
 // The grade of a phase that is one step to it, where it is admitted. The error is want of memory.
-fn rise_grade(
+fn rise_grade<C: GradedCells>(
     alloc: Global,
-    square: &Square<(u64, u128)>,
+    cells: &C,
     phase: &WrittenPhase,
     room: &mut [u64],
 ) -> Result<Option<u64>, NoMemory>
-    requires { length room.old ≡ square.now.side + 1 }
+    requires side { C.side_of cells.now ≤ most_side }
+    requires room { length room.old ≡ C.side_of cells.now + 1 }
     ensures rises { IfOk result (λ found. IfSome found (λ g.
-        IsRiseTo g square.now.side (cell_at square.now) phase.now)) }
+        IsRiseTo g (C.side_of cells.now) (C.cells_of cells.now) phase.now)) }
     ensures small { IfOk result (λ found. IfSome found (λ g. g < 2 ^ 64)) }
     ensures room { length room.new ≡ length room.old }
 {
     let Some(grade) = grade_of(phase) else {
         return Ok(None);
     };
-    let is_rise = rises(alloc, square, grade, phase.enters(), phase.leaves(), room)?;
+    let is_rise = rises(alloc, cells, grade, phase.enters(), phase.leaves(), room)?;
     if !is_rise {
         return Ok(None);
     }
@@ -177,20 +185,21 @@ fn rise_grade(
 
 /// The grade of the first phase, where it is one step to it that is admitted. The error is want of
 /// memory.
-pub(crate) fn first_grade(
+pub(crate) fn first_grade<C: GradedCells>(
     alloc: Global,
-    square: &Square<(u64, u128)>,
+    cells: &C,
     phases: &[WrittenPhase],
     room: &mut [u64],
 ) -> Result<Option<u64>, NoMemory>
-    requires { length room.old ≡ square.now.side + 1 }
+    requires side { C.side_of cells.now ≤ most_side }
+    requires room { length room.old ≡ C.side_of cells.now + 1 }
     ensures rises { IfOk result (λ found. IfSome found (λ g.
-        BeginWithRise g square.now.side (cell_at square.now) phases.now)) }
+        BeginWithRise g (C.side_of cells.now) (C.cells_of cells.now) phases.now)) }
     ensures small { IfOk result (λ found. IfSome found (λ g. g < 2 ^ 64)) }
     ensures room { length room.new ≡ length room.old }
 {
     if phases.len() == 0 {
         return Ok(None);
     }
-    rise_grade(alloc, square, &phases[0], room)
+    rise_grade(alloc, cells, &phases[0], room)
 }

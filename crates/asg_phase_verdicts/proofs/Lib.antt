@@ -1,3 +1,3 @@
 pub mod Common
-pub mod NarrowSums
 pub mod PhaseTold
+pub mod SumBounds

@@ -7,10 +7,11 @@
 //! solver: the checker of documents stands on it.
 #![tactic(auto)]
 
+mod graded_indices;
 mod known_indices;
-mod narrow_indices;
 mod phase_verdicts;
 mod square_verdicts;
+mod sum_indices;
 
 pub use phase_verdicts::phases_verdict;
 

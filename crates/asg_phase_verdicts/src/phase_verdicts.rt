@@ -1,6 +1,7 @@
 //! What stands against phases for a choice of an instance.
 
 ghost use Rattle.std.specs.Prelude.{◌≡◌, ◌≢◌, ◌⊎◌, ◌≤◌, pos, IsTrue, IfOk};
+ghost use Rattle.asg_model.specs.declared.objectives.Objective.TheVariants.{TimeCost};
 ghost use Rattle.asg_model.specs.Instances.{IsInstance};
 ghost use Rattle.asg_model.specs.Limits.{most_side};
 ghost use Rattle.asg_model.specs.Objectives.{is_algebraic};
@@ -15,9 +16,10 @@ ghost use Rattle.asg_reasons.specs.Verdicts.{Tells, phase_reasons};
 ghost use Rattle.asg_phase_verdicts.specs.Replays.{StandsFor, StandsOver};
 
 use crate::NoMemory;
+use crate::graded_indices::{timed_fold_verdict, timed_index};
 use crate::known_indices::KnowsIndex;
-use crate::narrow_indices::narrow_index;
 use crate::square_verdicts::{index_verdict, square_verdict};
+use crate::sum_indices::sum_index;
 use asg_model::{Choice, Instance, Objective};
 use asg_monoids::{PeakKind, SumKind, TimeKind};
 use asg_order::Kind;
@@ -50,7 +52,7 @@ pub fn phases_verdict(
         Objective::Bottleneck | Objective::BottleneckMax => {
             replayed_verdict(alloc, &PeakKind::of(objective), inst, choice, phases)
         }
-        Objective::TimeCost => replayed_verdict(alloc, &TimeKind::new(), inst, choice, phases),
+        Objective::TimeCost => timed_verdict(alloc, inst, choice, phases),
         Objective::Balanced | Objective::Lex => unreachable!(),
     }
 }
@@ -70,14 +72,32 @@ fn summed_verdict(
     ensures { IfOk result (Tells
         (StandsFor objective inst.now choice.now phases.now) phase_reasons) }
 {
-    match narrow_index(alloc, objective, inst, phases)? {
+    match sum_index(alloc, objective, inst, phases)? {
         Some(index) => Ok(fold_verdict(objective, inst, choice, index)),
         None => replayed_verdict(alloc, &SumKind::of(objective), inst, choice, phases),
     }
 }
 
+// The same of `time-cost`.
+fn timed_verdict(
+    alloc: Global,
+    inst: &Instance,
+    choice: &Choice,
+    phases: &[WrittenPhase],
+) -> Result<Verdict, NoMemory>
+    requires instance { IsInstance inst.now }
+    requires side { square_side inst.now ≤ most_side }
+    requires passes { PassesNegative TimeCost inst.now }
+    ensures { IfOk result (Tells (StandsFor TimeCost inst.now choice.now phases.now) phase_reasons) }
+{
+    match timed_index(alloc, inst, phases)? {
+        Some(index) => Ok(timed_fold_verdict(inst, choice, index)),
+        None => replayed_verdict(alloc, &TimeKind::new(), inst, choice, phases),
+    }
+}
+
 // The verdict on an index that is to be the fold of the choice.
-fn fold_verdict(objective: Objective, inst: &Instance, choice: &Choice, index: u64) -> Verdict
+fn fold_verdict(objective: Objective, inst: &Instance, choice: &Choice, index: u128) -> Verdict
     requires sums { IsTrue (is_sum_objective objective) }
     requires instance { IsInstance inst.now }
     requires passes { PassesNegative objective inst.now }
@@ -89,7 +109,7 @@ fn fold_verdict(objective: Objective, inst: &Instance, choice: &Choice, index: u
 {
     let kind = SumKind::of(objective);
     let fold = chosen_fold(&kind, inst, choice);
-    index_verdict(kind.monoid(), index as u128, fold)
+    index_verdict(kind.monoid(), index, fold)
 }
 
 // The same over the monoid of a kind.

@@ -1,6 +1,8 @@
 -- Phases whose totals fit an instance are admitted from its square.
-use Rattle.asg_table_phases.proofs.Common.{◌≡◌, ℕ, ◌*◌, ◌<◌, ◌≤◌, List, length, unsigned_abs, Option, Some, ⊎_elim, subst, arith, IsInstance, most_cost, Problem, square_side, Objective, Cost, bounded_sums, bounded_difference, narrow_top, sum_entered, AreTotals, CountAndRaise, EndAtLeast0, StayBelow, Totals, sum_of_steps, PhaseOf, AreAdmittedPhases, square_cell, FitTotals}
-use Rattle.asg_values.specs.laws.LiveCells.{first_of_live}
+use Rattle.asg_table_phases.proofs.Common.{◌≡◌, ℕ, ◌<◌, ◌≤◌, List, length, Option, Some, ⊎_elim, subst, arith, IsInstance, Problem, square_side, Objective, bounded_sums, bounded_difference, sum_entered, AreTotals, CountAndRaise, EndAtLeast0, StayBelow, Totals, sum_of_steps, PhaseOf, AreAdmittedPhases, square_cell, FitTotals}
+use Rattle.asg_values.specs.laws.LiveCells.{range_of_live}
+use Rattle.asg_table_phases.specs.TableRows.{bound_of, most_entered}
+use Rattle.asg_table_phases.proofs.RowCosts.{entered_few}
 use Rattle.asg_table_phases.proofs.TableCells.{IsEntered, IsFree, cell_of}
 
 -- what the one-pass law says
@@ -13,20 +15,20 @@ OnePass =
     → CountAndRaise side phases
     → AreAdmittedPhases (bounded_sums top) bounded_difference side phases square
 
-module _ (objective : Objective) (few : (x : Cost) → unsigned_abs x.a ≤ most_cost → sum_entered objective x ≤ 2 * most_cost) (X : Problem) (instance : IsInstance X) where
+module _ (objective : Objective) (X : Problem) (instance : IsInstance X) where
   -- a present cell is at most the greatest entered cost
-  cell_few : (r k x : ℕ) → square_cell X 0 (sum_entered objective) r k ≡ Some x → x ≤ 2 * most_cost
+  cell_few : (r k x : ℕ) → square_cell X 0 (sum_entered objective) r k ≡ Some x → x ≤ most_entered objective
   cell_few r k x is =
       ⊎_elim
       (λ (cell : IsEntered X (sum_entered objective) r k x).
-      let small = few cell.cost (first_of_live X instance r cell.column cell.cost cell.live) in
+      let small = entered_few objective cell.cost (range_of_live X instance r cell.column cell.cost cell.live) in
       omega (arith, small, cell.is))
-      (λ (cell : IsFree X r k x). omega (arith, cell.is))
-      (cell_of X (sum_entered objective) r k x is)
+      (λ (cell : IsFree X 0 r k x). omega (arith, cell.is))
+      (cell_of X 0 (sum_entered objective) r k x is)
 
   module _ (totals : Totals) (count : length totals.rows ≡ square_side X) (fit : FitTotals objective X totals) where
     -- they are admitted
-    pub fit_admitted : OnePass → (top : ℕ) (phases : List (PhaseOf ℕ)) → narrow_top ≤ top → AreTotals phases totals → AreAdmittedPhases (bounded_sums top) bounded_difference (square_side X) phases (square_cell X 0 (sum_entered objective))
+    pub fit_admitted : OnePass → (top : ℕ) (phases : List (PhaseOf ℕ)) → bound_of objective ≤ top → AreTotals phases totals → AreAdmittedPhases (bounded_sums top) bounded_difference (square_side X) phases (square_cell X 0 (sum_entered objective))
     fit_admitted law top phases above are =
         law top (square_side X) phases (square_cell X 0 (sum_entered objective))
         (omega (arith, fit.few, are.sum, above))

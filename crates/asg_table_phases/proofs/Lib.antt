@@ -1,5 +1,6 @@
 pub mod Common
 mod TableCells
+mod GradedEnds
 mod ColumnCopies
 mod RefusedCosts
 mod RowCosts

@@ -1,11 +1,12 @@
 -- The costs of a row as they stand in its table, and what they enter as.
-use Rattle.asg_table_phases.specs.TableRows.{FitsCost, enters_low}
-use Rattle.asg_table_phases.proofs.Common.{◌≡◌, ℕ, ◌+◌, ◌*◌, ◌≤◌, true, List, length, ℤ, slice_index_or, unsigned_abs, Some, arith, ints, slice_index, IsInstance, most_cost, live_at, Problem, absent, AreRowParts, FitsCosts, FitsRow, Objective, Capped, Sum, SumMax, Cost, sum_entered}
-use Rattle.asg_values.specs.laws.LiveCells.{column_of_live, first_of_live}
+use Rattle.asg_table_phases.specs.TableRows.{FitsCost, FitsPairs, most_entered}
+use Rattle.asg_table_phases.proofs.Common.{◌≡◌, ℕ, ◌+◌, ◌≤◌, List, length, ℤ, slice_index_or, Some, arith, ints, slice_index, IsInstance, live_at, Problem, absent, AreRowParts, FitsCosts, FitsRow, Objective, Capped, Sum, SumMax, SumPair, Cost, sum_entered}
+use Rattle.asg_values.specs.laws.LiveCells.{column_of_live, first_of_live, live_cell, range_of_live}
 use Rattle.asg_values.specs.laws.RowCells.{live_cell_found}
 use Rattle.asg_values.specs.laws.RowSlots.{first-at_live, present-at_live}
 use Rattle.asg_model.specs.CellLists.{AreRowCells}
-use Rattle.std.proofs.Common.{All, subst}
+use Rattle.asg_model.specs.Instances.{IsCostInRange}
+use Rattle.std.proofs.Common.{All, subst, sym, ◌∙◌}
 
 module _ (X : Problem) (instance : IsInstance X) (r : ℕ) (firsts seconds : List ℤ) (parts : AreRowParts X r firsts seconds) (c : ℕ) (x : Cost) (live : live_at X r c ≡ Some x) where
   -- a cost that fits is as it enters, with so much more, at least the number
@@ -51,9 +52,17 @@ row_by_cells objective X instance r cells are columns raise fit c x live =
     entered_as X instance r c x live objective (slice_index columns c) raise
     (subst (λ (cell : (ℕ × ℕ) × Cost). FitsCost objective cell.1.a (slice_index columns cell.0.1) raise) (found.is ((r, c), x)) (fit found.at ((r, c), x) found.within))
 
--- a cost in range enters as at most twice the cost limit
-pub entered_few : (objective : Objective) (x : Cost) → enters_low objective ≡ true → unsigned_abs x.a ≤ most_cost → sum_entered objective x ≤ 2 * most_cost
-entered_few Sum x e within = omega (arith, ints, within)
-entered_few SumMax x e within = omega (arith, ints, within)
-entered_few (Capped cap) x e within = omega (arith, within)
-entered_few _ x e within = absurd (cc)
+-- a row all whose pairs fit does
+pub row_by_pairs : (X : Problem) → IsInstance X → (r : ℕ) (firsts seconds : List ℤ) → AreRowParts X r firsts seconds → (columns : List ℕ) (raise : ℕ)
+    → FitsPairs firsts seconds columns raise → FitsRow SumPair X columns raise r
+row_by_pairs X instance r firsts seconds parts columns raise fit c x live =
+    let there = column_of_live X r c x live in
+    fit c x (omega (arith, there, parts.whole)) (sym (parts.costs c there) ∙ (live_cell X r c x live).2) (range_of_live X instance r c x live)
+
+-- a cost in range enters as no more than that
+pub entered_few : (objective : Objective) (x : Cost) → IsCostInRange x → sum_entered objective x ≤ most_entered objective
+entered_few Sum x within = let a = within.a_in_range in omega (arith, ints, a)
+entered_few SumMax x within = let a = within.a_in_range in omega (arith, ints, a)
+entered_few (Capped cap) x within = let a = within.a_in_range in omega (arith, a)
+entered_few SumPair x within = let a = within.a_in_range in let b = within.b_in_range in omega (arith, ints, a, b)
+entered_few _ x within = omega arith

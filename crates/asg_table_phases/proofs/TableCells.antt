@@ -5,7 +5,7 @@ use Rattle.asg_model.specs.declared.parts.Place.TheVariants.{All as PlaceAll, Ex
 use Rattle.asg_square.specs.laws.Rows.{row-from_counted}
 
 -- a live cell of a row and a column of the instance, that enters as this
-pub record IsEntered (X : Problem) (enter : Cost → ℕ) (r k x : ℕ) : Type 0 where
+pub record IsEntered {V : Type 0} (X : Problem) (enter : Cost → V) (r k : ℕ) (x : V) : Type 0 where
   pub row : row_label X r ≡ Some r
   pub column : ℕ
   pub label : column_label X k ≡ Some column
@@ -13,15 +13,15 @@ pub record IsEntered (X : Problem) (enter : Cost → ℕ) (r k x : ℕ) : Type 0
   pub live : live_at X r column ≡ Some cost
   pub is : enter cost ≡ x
 
--- a free cell, which is 0
-pub record IsFree (X : Problem) (r k x : ℕ) : Type 0 where
+-- a free cell, which has the value of these
+pub record IsFree {V : Type 0} (X : Problem) (unit : V) (r k : ℕ) (x : V) : Type 0 where
   pub free : is_free_cell X.place (row_label X r) (column_label X k) ≡ true
-  pub is : x ≡ 0
+  pub is : x ≡ unit
 
-abbrev pub IsCell : Problem → (Cost → ℕ) → ℕ → ℕ → ℕ → Type 0
-IsCell X enter r k x = IsEntered X enter r k x ⊎ IsFree X r k x
+abbrev pub IsCell : {V : Type 0} → Problem → V → (Cost → V) → ℕ → ℕ → V → Type 0
+IsCell X unit enter r k x = IsEntered X enter r k x ⊎ IsFree X unit r k x
 
-inside : (b : Bool) (o : Option ℕ) (x : ℕ) → cond b o None ≡ Some x → o ≡ Some x
+inside : {V : Type 0} (b : Bool) (o : Option V) (x : V) → cond b o None ≡ Some x → o ≡ Some x
 inside true o x e = e
 inside false o x e = cc
 
@@ -30,22 +30,22 @@ own : (b : Bool) (r s : ℕ) → cond b (Some r) None ≡ Some s → s ≡ r
 own true r s e = same_Some s r (sym e)
 own false r s e = cc
 
-none_free : (place : Place) (x : ℕ) → extra_column_cell place 0 ≡ Some x → (is_free_cell place (Some 0) None ≡ true) × (x ≡ 0)
-none_free PlaceAll x e = cc
-none_free (Exactly k) x e = (refl, same_Some x 0 (sym e))
+none_free : {V : Type 0} (place : Place) (unit x : V) → extra_column_cell place unit ≡ Some x → (is_free_cell place (Some 0) None ≡ true) × (x ≡ unit)
+none_free PlaceAll unit x e = cc
+none_free (Exactly k) unit x e = (refl, same_Some x unit (sym e))
 
-corner_free : (place : Place) (x : ℕ) → corner_cell place 0 ≡ Some x → (is_free_cell place None None ≡ true) × (x ≡ 0)
-corner_free PlaceAll x e = (refl, same_Some x 0 (sym e))
-corner_free (Exactly k) x e = cc
+corner_free : {V : Type 0} (place : Place) (unit x : V) → corner_cell place unit ≡ Some x → (is_free_cell place None None ≡ true) × (x ≡ unit)
+corner_free PlaceAll unit x e = (refl, same_Some x unit (sym e))
+corner_free (Exactly k) unit x e = cc
 
-module _ (X : Problem) (enter : Cost → ℕ) (r k x : ℕ) where
+module _ {V : Type 0} (X : Problem) (unit : V) (enter : Cost → V) (r k : ℕ) (x : V) where
   -- a cell of what its row and its column stand for
-  by_labels : (row column : Option ℕ) → row_label X r ≡ row → column_label X k ≡ column → labelled_cell X 0 enter row column ≡ Some x → IsCell X enter r k x
+  by_labels : (row column : Option ℕ) → row_label X r ≡ row → column_label X k ≡ column → labelled_cell X unit enter row column ≡ Some x → IsCell X unit enter r k x
   by_labels (Some s) (Some d) row column is =
       let same : s ≡ r = own (is_counted X r) r s row in
       live (live_at X r d) refl (subst (λ n. option_map enter (live_at X n d) ≡ Some x) same is)
     where
-      live : (o : Option Cost) → live_at X r d ≡ o → option_map enter o ≡ Some x → IsCell X enter r k x
+      live : (o : Option Cost) → live_at X r d ≡ o → option_map enter o ≡ Some x → IsCell X unit enter r k x
       live None at e = absurd (cc)
       live (Some cost) at e = inl (record {
         row = row ∙ ap Some (own (is_counted X r) r s row);
@@ -56,22 +56,22 @@ module _ (X : Problem) (enter : Cost → ℕ) (r k x : ℕ) where
         is = same_Some (enter cost) x e;
       })
   by_labels (Some s) None row column is =
-      let found = none_free X.place x is in
+      let found = none_free X.place unit x is in
       inr (record { free = ap (λ o. is_free_cell X.place o (column_label X k)) row ∙ ap (is_free_cell X.place (Some s)) column ∙ found.0; is = found.1 })
   by_labels None (Some d) row column is =
-      inr (record { free = ap (λ o. is_free_cell X.place o (column_label X k)) row ∙ ap (is_free_cell X.place None) column; is = same_Some x 0 (sym is) })
+      inr (record { free = ap (λ o. is_free_cell X.place o (column_label X k)) row ∙ ap (is_free_cell X.place None) column; is = same_Some x unit (sym is) })
   by_labels None None row column is =
-      let found = corner_free X.place x is in
+      let found = corner_free X.place unit x is in
       inr (record { free = ap (λ o. is_free_cell X.place o (column_label X k)) row ∙ ap (is_free_cell X.place None) column ∙ found.0; is = found.1 })
 
   -- a present cell of the square is a live cell or a free one
-  pub cell_of : square_cell X 0 enter r k ≡ Some x → IsCell X enter r k x
+  pub cell_of : square_cell X unit enter r k ≡ Some x → IsCell X unit enter r k x
   cell_of is =
       by_labels (row_label X r) (column_label X k) refl refl
-      (inside (nat_lt r (square_side X) && nat_lt k (square_side X)) (labelled_cell X 0 enter (row_label X r) (column_label X k)) x is)
+      (inside (nat_lt r (square_side X) && nat_lt k (square_side X)) (labelled_cell X unit enter (row_label X r) (column_label X k)) x is)
 
 -- a row that stands for one of the instance is one
-row_there : (X : Problem) (r : ℕ) → row_label X r ≡ Some r → r < length X.rows
+pub row_there : (X : Problem) (r : ℕ) → row_label X r ≡ Some r → r < length X.rows
 row_there X r label = row-from_counted X X.place r (counted (is_counted X r) label)
   where
     counted : (b : Bool) → cond b (Some r) None ≡ Some r → b ≡ true
@@ -86,7 +86,7 @@ cells_fit objective X rows columns tops rows_count columns_count top live free r
     let fits = live r (row_there X r cell.row) cell.column cell.cost cell.live in
     let above = top k cell.column (omega (arith, hk, columns_count)) cell.label in
     omega (arith, fits, above, cell.is))
-    (λ (cell : IsFree X r k x).
+    (λ (cell : IsFree X 0 r k x).
     let fits = free r k (omega (arith, hr, rows_count)) (omega (arith, hk, columns_count)) cell.free in
     omega (arith, fits))
-    (cell_of X (sum_entered objective) r k x is)
+    (cell_of X 0 (sum_entered objective) r k x is)

@@ -8,7 +8,7 @@ use asg_model::limits::MOST_COLUMNS;
 use asg_model::{Instance, Place};
 
 // At least each number from one place on and before another.
-fn top_between(numbers: &[u64], from: usize, to: usize) -> u64
+fn top_between(numbers: &[u128], from: usize, to: usize) -> u128
     ensures { (k : ℕ) → from ≤ k → k < to → k < length numbers.now
         → slice_index numbers.now k ≤ result }
 {
@@ -21,7 +21,7 @@ fn top_between(numbers: &[u64], from: usize, to: usize) -> u64
 
 /// Writes for each column of an instance the greatest of the numbers of its copies, and tells how
 /// many copies there are.
-pub(crate) fn put_tops(inst: &Instance, numbers: &[u64], tops: &mut [u64; MOST_COLUMNS]) -> usize
+pub(crate) fn put_tops(inst: &Instance, numbers: &[u128], tops: &mut [u128; MOST_COLUMNS]) -> usize
     ensures tops { AreTops inst.now numbers.now tops.new }
     ensures copies { EndCopies inst.now result }
 {
@@ -36,7 +36,7 @@ pub(crate) fn put_tops(inst: &Instance, numbers: &[u64], tops: &mut [u64; MOST_C
 }
 
 // At least the number for each column in which a row has a free cell.
-fn free_top(inst: &Instance, row: u32, of_copies: u64, of_extras: u64) -> u64
+fn free_top(inst: &Instance, row: u32, of_copies: u128, of_extras: u128) -> u128
     ensures { (label : Option ℕ) → is_free_cell inst.now.place (row_label inst.now row) label ≡ true
         → top_for of_copies of_extras label ≤ result }
 {
@@ -60,7 +60,12 @@ fn free_top(inst: &Instance, row: u32, of_copies: u64, of_extras: u64) -> u64
 
 /// Whether the number of each row is at least that of each column in which it has a free cell. The
 /// time is that of the side.
-pub(crate) fn free_cells_fit(inst: &Instance, rows: &[u64], columns: &[u64], copies: usize) -> bool
+pub(crate) fn free_cells_fit(
+    inst: &Instance,
+    rows: &[u128],
+    columns: &[u128],
+    copies: usize,
+) -> bool
     requires few { length rows.now ≤ 1001000 }
     requires copies { EndCopies inst.now copies }
     ensures { IsTrue result → FitFree inst.now rows.now columns.now }

@@ -6,7 +6,7 @@ ghost use Rattle.asg_table_phases.specs.Sizes.{IsSized, AreSized};
 use asg_proof::Phase;
 
 // Whether a phase has 1 to side steps.
-fn is_sized(phase: &Phase<u64>, side: usize) -> bool
+fn is_sized(phase: &Phase<u128>, side: usize) -> bool
     ensures { IsTrue result ↔ IsSized side phase.now }
 {
     let steps = phase.steps().len();
@@ -14,14 +14,14 @@ fn is_sized(phase: &Phase<u64>, side: usize) -> bool
 }
 
 // Whether each phase has 1 to side steps.
-fn are_each_sized(phases: &[Phase<u64>], side: usize) -> bool
+fn are_each_sized(phases: &[Phase<u128>], side: usize) -> bool
     ensures { IsTrue result ↔ All (IsSized side) phases.now }
 {
     phases.iter().all(|phase| is_sized(phase, side))
 }
 
 /// Whether phases are at most as many as the side, and each has 1 to side steps.
-pub(crate) fn are_sized(phases: &[Phase<u64>], side: usize) -> bool
+pub(crate) fn are_sized(phases: &[Phase<u128>], side: usize) -> bool
     ensures { IsTrue result → AreSized side phases.now }
 {
     phases.len() <= side && are_each_sized(phases, side)

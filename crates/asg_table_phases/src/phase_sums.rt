@@ -12,7 +12,7 @@ use std::alloc::Global;
 
 // Takes in a phase before those that came to the totals, where it has fewer steps than the room has
 // places and can precede them, and tells whether it did.
-fn take_in(totals: &mut PhaseTotals<u64>, phase: &Phase<u64>, room: &mut [u64]) -> bool
+fn take_in(totals: &mut PhaseTotals<u128>, phase: &Phase<u128>, room: &mut [u128]) -> bool
     ensures taken { IsTrue result
         → (rest : List (PhaseOf ℕ)) → AreTotals rest totals.old
         → AreTotals (phase.now ∷ rest) totals.new }
@@ -27,7 +27,7 @@ fn take_in(totals: &mut PhaseTotals<u64>, phase: &Phase<u64>, room: &mut [u64]) 
 
 // Takes in all phases, from the last one back, up to the first that isn't taken in, and tells
 // whether there is none.
-fn take_all(totals: &mut PhaseTotals<u64>, phases: &[Phase<u64>], room: &mut [u64]) -> bool
+fn take_all(totals: &mut PhaseTotals<u128>, phases: &[Phase<u128>], room: &mut [u128]) -> bool
     requires { AreTotals [] totals.old }
     ensures taken { IsTrue result → AreTotals phases.now totals.new }
     ensures side { length totals.new.rows ≡ length totals.old.rows }
@@ -46,14 +46,14 @@ fn take_all(totals: &mut PhaseTotals<u64>, phases: &[Phase<u64>], room: &mut [u6
 pub(crate) fn totals_of(
     alloc: Global,
     side: u32,
-    phases: &[Phase<u64>],
-) -> Result<Option<PhaseTotals<u64>>, NoMemory>
+    phases: &[Phase<u128>],
+) -> Result<Option<PhaseTotals<u128>>, NoMemory>
     requires { side ≤ most_side }
     ensures totals { IfOk result (λ found. IfSome found (AreTotals phases.now)) }
     ensures side { IfOk result (λ found. IfSome found (λ totals. length totals.rows ≡ side)) }
 {
     let mut totals = PhaseTotals::none(alloc, side)?;
-    let mut room = vec![in alloc; 0; side as usize + 1]?;
+    let mut room = vec![in alloc; 0u128; side as usize + 1]?;
     if take_all(&mut totals, phases, room.as_mut_slice()) {
         Ok(Some(totals))
     } else {

@@ -63,8 +63,8 @@ fn are_below(costs: &[i64], columns: &[u64], raise: u64) -> bool
     are_below
 }
 
-/// Whether no number is greater.
-pub(crate) fn are_within(numbers: &[u64], most: u64) -> bool
+// Whether no number is greater.
+fn are_within(numbers: &[u64], most: u64) -> bool
     ensures { IsTrue result → AreWithin most numbers.now }
 {
     'numbers: for place in 0..numbers.len() {
@@ -184,7 +184,12 @@ fn row_fits(
 
 /// Whether each live cell of each row, as it enters, is with the number of its row at least that of
 /// its column of the instance.
-pub(crate) fn rows_fit(objective: Objective, inst: &Instance, rows: &[u64], columns: &[u64]) -> bool
+pub(crate) fn rows_fit(
+    objective: Objective,
+    inst: &Instance,
+    rows: &[u128],
+    columns: &[u64],
+) -> bool
     requires count { length inst.now.rows ≤ length rows.now }
     requires rows { AreLow rows.now }
     requires columns { AreLow columns.now }
@@ -194,7 +199,7 @@ pub(crate) fn rows_fit(objective: Objective, inst: &Instance, rows: &[u64], colu
     let mut room = RowRoom::new();
     let mut in_pieces = false;
     'rows: for row in 0..count {
-        let raise = rows[row as usize];
+        let raise = rows[row as usize] as u64;
         if !row_fits(
             objective,
             inst,

@@ -9,6 +9,7 @@ use asg_monoids::TimeKind;
 use asg_order::Word;
 use asg_proof::{StepWords, WrittenPhase};
 use asg_samples::Fault;
+use asg_table_phases::graded_index;
 use asg_values::negative;
 use std::alloc::Global;
 use std::test::Fail;
@@ -129,6 +130,42 @@ fn index_of(
     let index = index_on(alloc, &inst, enters, steps);
     drop(inst);
     Ok(index?)
+}
+
+// The index of phases on the table of costs of the instance, where its side isn't too great.
+fn table_index_on(
+    alloc: Global,
+    inst: &Instance,
+    enters: &[u32],
+    steps: &[(u64, u128)],
+) -> Result<Option<(u64, u128)>, NoMemory> {
+    if inst.side() > MOST_SIDE {
+        return Ok(None);
+    }
+    let phases = list_of(alloc, enters, steps)?;
+    let index = graded_index(alloc, inst, phases.as_slice());
+    drop(phases);
+    index
+}
+
+// The same on that of the sample.
+fn table_index_of(
+    alloc: Global,
+    enters: &[u32],
+    steps: &[(u64, u128)],
+) -> Result<Option<(u64, u128)>, Fault> {
+    let inst = PLAIN.instance(alloc)?;
+    let index = table_index_on(alloc, &inst, enters, steps);
+    drop(inst);
+    Ok(index?)
+}
+
+#[test]
+fn gives_the_same_index_over_the_table(rt: HostRuntime) -> Result<(), Fail> {
+    assert!(rt; table_index_of(rt.alloc(), &THIRD, &STEPS)? == Some((GRADE, 9)));
+    assert!(rt; table_index_of(rt.alloc(), &FIRST, &STEPS)?.is_none());
+    assert!(rt; table_index_of(rt.alloc(), &THIRD, &LONGER)?.is_none());
+    Ok(())
 }
 
 #[test]

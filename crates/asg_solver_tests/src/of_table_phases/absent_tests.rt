@@ -19,7 +19,7 @@ const HOLED: Sample<'static> = Sample {
 
 // The rows fall to their least costs, and then both and the first column by the last step, which is
 // 3 where the rest of the last cell is taken.
-fn holed_phases(alloc: Global, last: u64) -> Result<Vec<Phase<u64>>, NoMemory> {
+fn holed_phases(alloc: Global, last: u128) -> Result<Vec<Phase<u128>>, NoMemory> {
     let first = SHIFT.wrapping_add(1);
     let second = SHIFT.wrapping_add(2);
     let mut phases = Vec::new(alloc);

@@ -12,15 +12,15 @@ use asg_values::negative;
 use std::alloc::Global;
 
 // By how much each cost is shifted.
-pub(crate) const SHIFT: u64 = 1_000_000_000;
+pub(crate) const SHIFT: u128 = 1_000_000_000;
 
 // A phase of these lists.
 pub(crate) fn phase(
     alloc: Global,
-    steps: &[u64],
+    steps: &[u128],
     enters: &[u32],
     leaves: &[u32],
-) -> Result<Phase<u64>, NoMemory> {
+) -> Result<Phase<u128>, NoMemory> {
     let steps = Vec::from_slice(alloc, steps)?;
     let enters = Vec::from_slice(alloc, enters)?;
     let leaves = Vec::from_slice(alloc, leaves)?;
@@ -45,7 +45,7 @@ fn are_proved_for(
     objective: Objective,
     inst: &Instance,
     columns: (Option<u32>, Option<u32>),
-    phases: &[Phase<u64>],
+    phases: &[Phase<u128>],
 ) -> Result<bool, NoMemory>
     requires { IsTrue (is_sum_objective objective) }
 {
@@ -62,7 +62,7 @@ pub(crate) fn are_proved_by(
     objective: Objective,
     sample: &Sample<'_>,
     columns: (Option<u32>, Option<u32>),
-    phases: Vec<Phase<u64>>,
+    phases: Vec<Phase<u128>>,
 ) -> Result<bool, Fault>
     requires { IsTrue (is_sum_objective objective) }
 {

@@ -26,14 +26,14 @@ const SHARED: Sample<'static> = Sample {
 };
 
 // One phase: both rows fall to the least cost, and the column that is a copy of none rises by it.
-fn placed_phases(alloc: Global, step: u64) -> Result<Vec<Phase<u64>>, NoMemory> {
+fn placed_phases(alloc: Global, step: u128) -> Result<Vec<Phase<u128>>, NoMemory> {
     let mut phases = Vec::new(alloc);
     phases.push(phase(alloc, &[step], &[0, 0], &[1, 0])?)?;
     Ok(phases)
 }
 
 // The rows fall one after the other, to their least costs.
-fn shared_phases(alloc: Global) -> Result<Vec<Phase<u64>>, NoMemory> {
+fn shared_phases(alloc: Global) -> Result<Vec<Phase<u128>>, NoMemory> {
     let mut phases = Vec::new(alloc);
     phases.push(phase(alloc, &[SHIFT.wrapping_add(1)], &[0, 1], &[1, 1])?)?;
     phases.push(phase(alloc, &[SHIFT.wrapping_add(2)], &[1, 0], &[1, 1])?)?;
@@ -42,7 +42,7 @@ fn shared_phases(alloc: Global) -> Result<Vec<Phase<u64>>, NoMemory> {
 
 // The first row falls to its least cost, then both by 2, from which the second column rises, and at
 // last the second row falls.
-fn wide_phases(alloc: Global) -> Result<Vec<Phase<u64>>, NoMemory> {
+fn wide_phases(alloc: Global) -> Result<Vec<Phase<u128>>, NoMemory> {
     let first = SHIFT.wrapping_add(1);
     let mut phases = Vec::new(alloc);
     phases.push(phase(alloc, &[first, 2], &[0, 1, 2], &[2, 1, 2])?)?;
@@ -51,7 +51,7 @@ fn wide_phases(alloc: Global) -> Result<Vec<Phase<u64>>, NoMemory> {
 }
 
 // Both rows fall to their least costs, and the third row by 2.
-fn fallen_phases(alloc: Global) -> Result<Vec<Phase<u64>>, NoMemory> {
+fn fallen_phases(alloc: Global) -> Result<Vec<Phase<u128>>, NoMemory> {
     let first = SHIFT.wrapping_add(1);
     let mut phases = Vec::new(alloc);
     phases.push(phase(alloc, &[first], &[0, 1, 1], &[1, 1, 1])?)?;

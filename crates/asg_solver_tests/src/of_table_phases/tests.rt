@@ -28,23 +28,22 @@ const GREATEST: Sample<'static> = Sample {
     ..LEAST
 };
 
-// Appends two phases: the rows fall to their least costs, 1 and 2, and then the second column by
-// the last step, which is 2 where the rest of its first cell is taken.
+// Appends two phases: the rows fall to their least costs, by the first and the second step, and then
+// the second column by the last one, which takes the rest of its first cell.
 fn add_phases(
     alloc: Global,
-    phases: &mut Vec<Phase<u64>>,
-    shift: u64,
-    last: u64,
+    phases: &mut Vec<Phase<u128>>,
+    steps: (u128, u128, u128),
 ) -> Result<(), NoMemory> {
-    phases.push(phase(alloc, &[shift.wrapping_add(1)], &[0, 1], &[1, 1])?)?;
-    phases.push(phase(alloc, &[shift.wrapping_add(2), last], &[1, 0], &[1, 2])?)?;
+    phases.push(phase(alloc, &[steps.0], &[0, 1], &[1, 1])?)?;
+    phases.push(phase(alloc, &[steps.1, steps.2], &[1, 0], &[1, 2])?)?;
     Ok(())
 }
 
 // These phases.
-fn phases(alloc: Global, shift: u64, last: u64) -> Result<Vec<Phase<u64>>, NoMemory> {
+fn phases(alloc: Global, steps: (u128, u128, u128)) -> Result<Vec<Phase<u128>>, NoMemory> {
     let mut phases = Vec::new(alloc);
-    add_phases(alloc, &mut phases, shift, last)?;
+    add_phases(alloc, &mut phases, steps)?;
     Ok(phases)
 }
 
@@ -54,11 +53,11 @@ fn are_proved(
     objective: Objective,
     sample: &Sample<'_>,
     columns: (u32, u32),
-    last: u64,
+    last: u128,
 ) -> Result<bool, Fault>
     requires { IsTrue (is_sum_objective objective) }
 {
-    let phases = phases(alloc, SHIFT, last)?;
+    let phases = phases(alloc, (SHIFT + 1, SHIFT + 2, last))?;
     let columns = (Some(columns.0), Some(columns.1));
     are_proved_by(alloc, objective, sample, columns, phases)
 }
@@ -75,7 +74,7 @@ fn sums_are_proved(rt: HostRuntime) -> Result<(), Fail> {
 
 // Whether these phases, with no shift, prove the least choice where sums stop at a cap.
 fn is_capped_proved(alloc: Global, cap: u64) -> Result<bool, Fault> {
-    let phases = phases(alloc, 0, 2)?;
+    let phases = phases(alloc, (1, 2, 2))?;
     are_proved_by(
         alloc,
         Objective::Capped(cap),
@@ -94,6 +93,37 @@ fn capped_sum_is_proved_up_to_the_cap(rt: HostRuntime) -> Result<(), Fail> {
     Ok(())
 }
 
+// The square `1:4 3:0 / 2:7 5:1`, whose least sum is 5:7.
+const PAIRS: Sample<'static> = Sample {
+    seconds: &[4, 0, 7, 1],
+    ..LEAST
+};
+
+// What a first part is multiplied by.
+const UNIT: u128 = 1 << 42;
+
+// By how much each pair is shifted.
+const PAIR_SHIFT: u128 = SHIFT * UNIT + SHIFT;
+
+// Whether these phases, whose last step is so much below two units, prove the choice.
+fn are_pairs_proved(alloc: Global, columns: (u32, u32), less: u128) -> Result<bool, Fault> {
+    let last = (2 * UNIT).saturating_sub(less);
+    let steps = (PAIR_SHIFT + UNIT + 4, PAIR_SHIFT + 2 * UNIT + 7, last);
+    let phases = phases(alloc, steps)?;
+    let columns = (Some(columns.0), Some(columns.1));
+    are_proved_by(alloc, Objective::SumPair, &PAIRS, columns, phases)
+}
+
+// The least sum of pairs is proved, and neither another choice nor by a step past a cell.
+#[test]
+fn pairs_are_proved(rt: HostRuntime) -> Result<(), Fail> {
+    assert!(rt; are_pairs_proved(rt.alloc(), (1, 0), 4)?);
+    assert!(rt; !are_pairs_proved(rt.alloc(), (0, 1), 4)?);
+    assert!(rt; !are_pairs_proved(rt.alloc(), (1, 0), 3)?);
+    assert!(rt; !are_pairs_proved(rt.alloc(), (1, 0), 5)?);
+    Ok(())
+}
+
 // Whether no phases fit an instance.
 fn none_fit_on(alloc: Global, inst: &Instance) -> Result<bool, NoMemory> {
     let side = inst.side();
@@ -102,7 +132,8 @@ fn none_fit_on(alloc: Global, inst: &Instance) -> Result<bool, NoMemory> {
     }
     let totals = PhaseTotals::none(alloc, side)?;
     let none_fit = fits_table(Objective::Sum, inst, &totals)
-        && fits_table(Objective::Capped(9), inst, &totals);
+        && fits_table(Objective::Capped(9), inst, &totals)
+        && fits_table(Objective::SumPair, inst, &totals);
     drop(totals);
     Ok(none_fit)
 }

@@ -1,4 +1,4 @@
-use Rattle.asg_grade_lists.proofs.Common.{◌≡◌, ◌∷◌, length, sym, ap, ◌∙◌, subst, arith, AreTotals, CountsRight, phase_of}
+use Rattle.asg_grade_lists.proofs.Common.{◌≡◌, ◌∷◌, length, ap, ◌∙◌, subst, arith, AreTotals, CountsRight, phase_of}
 use Rattle.asg_grade_lists.proofs.AmountLemmas.{amounts_count, takes_in}
 use Rattle.asg_grade_lists.proofs.amounts.put_before.Goals as goal
 

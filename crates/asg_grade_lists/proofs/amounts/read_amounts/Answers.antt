@@ -1,4 +1,4 @@
-use Rattle.asg_grade_lists.proofs.Common.{◌≡◌, [], ◌∷◌, ◌++◌, take, sym, ap, ◌∙◌, subst, arith, take_all, take_more, AreAmountsAt}
+use Rattle.asg_grade_lists.proofs.Common.{[], ◌∷◌, ◌++◌, take, sym, ap, ◌∙◌, subst, arith, take_all, take_more, AreAmountsAt}
 use Rattle.asg_grade_lists.proofs.AmountLemmas.{amounts_more, amounts_none}
 use Rattle.asg_grade_lists.proofs.amounts.read_amounts.Goals as goal
 

@@ -1,5 +1,5 @@
 use Rattle.asg_phase_verdicts.proofs.Common.{arith, IfOk-weaker, cost_reach, lies_within}
-use Rattle.asg_phase_verdicts.proofs.PhaseTold.{told_peaks, told_times}
+use Rattle.asg_phase_verdicts.proofs.PhaseTold.{told_peaks}
 use Rattle.asg_phase_verdicts.proofs.phase_verdicts.phases_verdict.Goals as goal
 
 pub replayed_verdict-requires-clause-near : goal.replayed_verdict-requires-clause-near
@@ -11,13 +11,3 @@ returns-in-Bottleneck c =
     (λ verdict told.
     told_peaks c.args.inst.now c.args.choice.now c.args.phases.now verdict c.args.objective c.of.result.objective c.of.result.is_peak c.of.ensures told)
     c.replayed_verdict.ensures
-
-pub replayed_verdict-requires-in-TimeCost-clause-near : goal.replayed_verdict-requires-in-TimeCost-clause-near
-replayed_verdict-requires-in-TimeCost-clause-near c = lies_within cost_reach c.args.inst.now (omega arith) c.rows.ensures.instance
-
-pub returns-in-TimeCost : goal.returns-in-TimeCost
-returns-in-TimeCost c =
-    IfOk-weaker c.replayed_verdict-in-TimeCost.result _ _
-    (λ verdict told.
-    told_times c.args.inst.now c.args.choice.now c.args.phases.now verdict c.args.objective c.new.result.monoid.inner.top c.in-TimeCost.is c.new.ensures told)
-    c.replayed_verdict-in-TimeCost.ensures

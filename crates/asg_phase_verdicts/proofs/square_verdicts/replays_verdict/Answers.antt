@@ -1,4 +1,4 @@
-use Rattle.asg_phase_verdicts.proofs.Common.{◌≡◌, ◌≢◌, ◌⊎◌, pos, sym, ap, ◌∙◌, subst, IsValue, No, Yes, AreReplayed, IsFirstBad, cell_at}
+use Rattle.asg_phase_verdicts.proofs.Common.{◌≡◌, ◌≢◌, ◌⊎◌, pos, sym, subst, IsValue, No, Yes, AreReplayed, IsFirstBad, cell_at}
 use Rattle.asg_admit.specs.Reduced.{IsReduced}
 use Rattle.asg_phase_verdicts.proofs.PhaseTold.{bad_from, told_index}
 use Rattle.asg_phase_verdicts.proofs.square_verdicts.replays_verdict.Goals as goal

@@ -7,9 +7,9 @@ returns c = λ yes.
     let o = c.args.objective in
     let totals = c.args.totals.now in
     record {
-      few = omega (arith, c.if-sum-gt-MOST_SUM.false, c.sum.ensures);
+      few = omega (arith, c.if-sum-most_sum.false, c.sum.ensures, c.most_sum.ensures);
       ends =
-          subst (λ (xs : List ℕ). FitCells o X xs totals.columns) c.rows-rows.ensures.rows
-          (subst (λ (xs : List ℕ). FitCells o X c.rows-rows.result.now xs) c.columns.ensures.columns
+          subst (λ (xs : List ℕ). FitCells o X xs totals.columns) c.rows.ensures.rows
+          (subst (λ (xs : List ℕ). FitCells o X c.rows.result.now xs) c.columns.ensures.columns
           (c.cells_fit.ensures yes));
     }

@@ -1,11 +1,10 @@
 use Rattle.asg_table_phases.proofs.Common.{sym, ◌∙◌, arith}
 use Rattle.asg_table_phases.proofs.AdmittedTables.{fit_admitted}
-use Rattle.asg_table_phases.proofs.RowCosts.{entered_few}
 use Rattle.asg_table_phases.proofs.table_fits.fits_table.Goals as goal
 
 pub returns-clause-admitted : goal.returns-clause-admitted
 returns-clause-admitted c = λ yes.
-    fit_admitted c.args.objective (λ x within. entered_few c.args.objective x (sym c.enters_low.ensures ∙ c.if-not-enters_low.false) within) c.args.inst.now c.rows-rows.ensures.instance c.args.totals.now c.requires.side (c.fit_totals.ensures yes)
+    fit_admitted c.args.objective c.args.inst.now c.rows-rows.ensures.instance c.args.totals.now c.requires.side (c.fit_totals.ensures yes)
     c.one_pass_law.ensures.admitted
 
 pub returns-clause-index : goal.returns-clause-index

@@ -1,4 +1,4 @@
-//! The index of phases of sums, where one pass over the table of costs in 64 bits tells it.
+//! The index of phases of sums, where one pass over the table of costs tells it.
 
 ghost use Rattle.std.specs.Prelude.{◌≡◌, ◌≤◌, IsTrue, IfOk, IfSome};
 ghost use Rattle.asg_model.specs.Limits.{most_side};
@@ -10,7 +10,7 @@ ghost use Rattle.asg_replays.specs.WholeLists.{HaveIndex};
 
 use crate::NoMemory;
 use asg_model::{Instance, Objective};
-use asg_monoids::{NarrowSums, SumKind};
+use asg_monoids::{Bounded, SumKind};
 use asg_order::Kind;
 use asg_phase_totals::PhaseTotals;
 use asg_proof::WrittenPhase;
@@ -20,23 +20,23 @@ use asg_table_phases::fits_table;
 use std::alloc::Global;
 
 // Whether a sum isn't above where those of the objective stop.
-fn is_within(objective: Objective, sum: u64) -> bool
+fn is_within(objective: Objective, sum: u128) -> bool
     requires { IsTrue (is_sum_objective objective) }
     ensures { IsTrue result → sum ≤ top_of objective }
 {
     let kind = SumKind::of(objective);
-    u128::from(sum) <= kind.monoid().top
+    sum <= kind.monoid().top
 }
 
-// The index of phases of an objective of sums, where no phase is long, one pass over the costs in 64
-// bits tells that they are admitted in turn from the square of the instance, and for `capped` their
-// steps add up to its cap at most. Otherwise nothing is told. The error is want of memory.
-pub(crate) fn narrow_index(
+// The index of phases of an objective of sums, where no phase is long, one pass over the costs tells
+// that they are admitted in turn from the square of the instance, and for `capped` their steps add up
+// to its cap at most. Otherwise nothing is told. The error is want of memory.
+pub(crate) fn sum_index(
     alloc: Global,
     objective: Objective,
     inst: &Instance,
     phases: &[WrittenPhase],
-) -> Result<Option<u64>, NoMemory>
+) -> Result<Option<u128>, NoMemory>
     requires sums { IsTrue (is_sum_objective objective) }
     requires side { square_side inst.now ≤ most_side }
     ensures { IfOk result (λ found. IfSome found (λ index.
@@ -48,8 +48,9 @@ pub(crate) fn narrow_index(
     if has_long(phases, inst.side()) {
         return Ok(None);
     }
-    let mut totals = PhaseTotals::none(alloc, inst.side())?;
-    if !take_all(alloc, &NarrowSums, &mut totals, phases)? {
+    let sums = Bounded { top: 1 << 120 };
+    let mut totals: PhaseTotals<u128> = PhaseTotals::none(alloc, inst.side())?;
+    if !take_all(alloc, &sums, &mut totals, phases)? {
         return Ok(None);
     }
     if !fits_table(objective, inst, &totals) {

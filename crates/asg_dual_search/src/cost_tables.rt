@@ -221,8 +221,9 @@ impl CostTable {
         Ok(Some(lead))
     }
 
-    // Columns of their own for all rows.
-    fn apart(&self, alloc: Global) -> Result<Option<Lead>, NoMemory> {
+    /// Columns of their own for all rows, of least or greatest sum, and by how much columns may rise,
+    /// as [`CostTable::search`] finds them. The error is want of memory.
+    pub fn search_apart(&self, alloc: Global) -> Result<Option<Lead>, NoMemory> {
         if self.rows > self.table.side {
             return Ok(None);
         }
@@ -286,7 +287,7 @@ impl CostTable {
             return Ok(None);
         }
         if outside == 0 && are_single(rooms) {
-            self.apart(alloc)
+            self.search_apart(alloc)
         } else {
             self.together(alloc, rooms, outside)
         }

@@ -55,17 +55,17 @@ fn column_leasts(alloc: Global, numbers: &Numbers) -> Result<Vec<u64>, NoMemory>
     Ok(leasts)
 }
 
-// The greatest of the rows' least numbers and of the columns'. A row shows it by itself; a column
-// by all rows, which have no more than the other columns below it. The error is want of memory.
-pub(crate) fn first_bound(
+// The greatest of the rows' least numbers and of the columns', where there are as many. A row shows
+// it by itself; a column by all rows, which have no more than the other columns below it. The error
+// is want of memory.
+pub(crate) fn bound_of(
     alloc: Global,
-    numbers: &Numbers,
     row_leasts: &[u64],
+    column_leasts: &[u64],
 ) -> Result<Bound, NoMemory> {
-    let side = numbers.side as usize;
-    let columns = column_leasts(alloc, numbers)?;
+    let side = column_leasts.len();
     let row = greatest_of(row_leasts);
-    let column = greatest_of(columns.as_slice());
+    let column = greatest_of(column_leasts);
     let is_row = row.number >= column.number;
     let mark: u32 = if is_row { 1 } else { 0 };
     let mut enters = vec![in alloc; mark; side]?;
@@ -80,4 +80,14 @@ pub(crate) fn first_bound(
         enters,
         leaves,
     })
+}
+
+// The same of a square of numbers with these least numbers of its rows.
+pub(crate) fn first_bound(
+    alloc: Global,
+    numbers: &Numbers,
+    row_leasts: &[u64],
+) -> Result<Bound, NoMemory> {
+    let columns = column_leasts(alloc, numbers)?;
+    bound_of(alloc, row_leasts, columns.as_slice())
 }

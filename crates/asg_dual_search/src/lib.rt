@@ -12,6 +12,7 @@ mod cost_tables;
 mod extents;
 mod first_bounds;
 mod limit_paths;
+mod limit_tables;
 mod number_tables;
 mod paths;
 mod search;
@@ -23,6 +24,7 @@ mod widths;
 
 pub use cost_tables::{CostTable, Lead};
 pub use first_bounds::Bound;
+pub use limit_tables::LimitTable;
 pub use search::Search;
 pub use thresholds::{Threshold, threshold_of};
 

@@ -25,7 +25,7 @@ fn columns_on(
 }
 
 // The same by a bench of its own.
-fn columns_by(
+pub(crate) fn columns_by(
     alloc: Global,
     table: &mut Table<i32>,
     bound: &mut Bound,

@@ -29,6 +29,7 @@ pub use grade_guesses::{grade_guess, peak_guess};
 pub use guesses::Guess;
 pub use pair_guesses::pair_guess;
 pub use plain_guesses::sum_guess;
+pub use retold_phases::{wide_phases, with_marks_of};
 pub use sum_squares::{entered, sum_square};
 
 /// There was not enough memory.

@@ -4,8 +4,9 @@ use crate::NoMemory;
 use asg_proof::Phase;
 use std::alloc::Global;
 
-// The phase of these steps, in which rows enter and columns leave as in another.
-fn with_marks_of<V: Copy>(
+/// The phase of these steps, in which rows enter and columns leave as in another. The error is want
+/// of memory.
+pub fn with_marks_of<V: Copy>(
     alloc: Global,
     steps: Vec<V>,
     phase: &Phase<u64>,
@@ -52,6 +53,13 @@ pub(crate) fn append_multiplied(
         phases.push(greater)?;
     }
     Ok(())
+}
+
+/// Phases with each step as a number of 128 bits. The error is want of memory.
+pub fn wide_phases(alloc: Global, plain: &[Phase<u64>]) -> Result<Vec<Phase<u128>>, NoMemory> {
+    let mut phases = Vec::with_capacity(alloc, plain.len())?;
+    append_multiplied(alloc, &mut phases, plain, 1)?;
+    Ok(phases)
 }
 
 // Appends phases with each step at a grade. The error is want of memory.

@@ -8,3 +8,4 @@ mod MatchedColumns
 mod KeptPresence
 mod PresentWords
 mod ListedGrades
+mod TableGrades

@@ -1,7 +1,7 @@
 //! The outcome of an algebraic objective: a best choice with its phases, or a Hall set.
 
 ghost use Rattle.std.specs.Prelude.{◌≤◌, IsTrue, IfOk};
-ghost use Rattle.asg_model.specs.declared.objectives.Objective.TheVariants.{TimeCost};
+ghost use Rattle.asg_model.specs.declared.objectives.Objective.TheVariants.{SumPair, TimeCost};
 ghost use Rattle.asg_model.specs.Limits.{most_side};
 ghost use Rattle.asg_model.specs.Objectives.{is_algebraic, is_bottleneck};
 ghost use Rattle.asg_model.specs.Refused.{PassesNegative};
@@ -15,6 +15,8 @@ use crate::NoMemory;
 use crate::entered_squares::{algebraic, guessed_algebraic};
 use crate::listed_grades::listed_outcome;
 use crate::narrow_squares::by_narrow_sums;
+use crate::table_grades::outcome_by_grades;
+use crate::table_pairs::pair_outcome;
 use asg_algebra::entered_square;
 use asg_duals::{Guess, capped_guess, grade_guess, pair_guess, peak_guess};
 use asg_model::{Instance, Objective};
@@ -50,6 +52,20 @@ fn by_sums(alloc: Global, objective: Objective, inst: &Instance) -> Result<Outco
     let square = entered_square(alloc, &kind, inst)?;
     let guess = wide_guess(alloc, objective, &square)?;
     guessed_algebraic(alloc, &kind, inst, square, guess)
+}
+
+// The outcome of `pair`: by phases that are guessed over the costs as they stand, and else by sums in
+// 128 bits.
+fn by_pairs(alloc: Global, inst: &Instance) -> Result<Outcome, NoMemory>
+    requires side { square_side inst.now ≤ most_side }
+    requires passes { PassesNegative SumPair inst.now }
+    ensures outcome { IfOk result (IsOutcome SumPair inst.now) }
+    ensures phases { IfOk result (GivesFewPhases (square_side inst.now)) }
+{
+    if let Some(found) = pair_outcome(alloc, inst)? {
+        return Ok(found);
+    }
+    by_sums(alloc, Objective::SumPair, inst)
 }
 
 // The outcome of `sum` or `sum-max` by the engine, by sums in 64 bits, which stay far below their
@@ -98,8 +114,8 @@ fn by_maxima(alloc: Global, objective: Objective, inst: &Instance) -> Result<Out
     guessed_algebraic(alloc, &kind, inst, square, guess)
 }
 
-// The outcome of `time-cost`.
-fn by_grades(alloc: Global, inst: &Instance) -> Result<Outcome, NoMemory>
+// The outcome of `time-cost` by its square.
+fn by_graded_square(alloc: Global, inst: &Instance) -> Result<Outcome, NoMemory>
     requires side { square_side inst.now ≤ most_side }
     requires passes { PassesNegative TimeCost inst.now }
     ensures outcome { IfOk result (IsOutcome TimeCost inst.now) }
@@ -113,6 +129,19 @@ fn by_grades(alloc: Global, inst: &Instance) -> Result<Outcome, NoMemory>
         return Ok(outcome);
     }
     guessed_algebraic(alloc, &kind, inst, square, guess)
+}
+
+// The outcome of `time-cost`: by its table of costs where this serves.
+fn by_grades(alloc: Global, inst: &Instance) -> Result<Outcome, NoMemory>
+    requires side { square_side inst.now ≤ most_side }
+    requires passes { PassesNegative TimeCost inst.now }
+    ensures outcome { IfOk result (IsOutcome TimeCost inst.now) }
+    ensures phases { IfOk result (GivesFewPhases (square_side inst.now)) }
+{
+    if let Some(found) = outcome_by_grades(alloc, inst)? {
+        return Ok(found);
+    }
+    by_graded_square(alloc, inst)
 }
 
 /// A best choice for an algebraic objective, with phases that prove it: at most as many as the side
@@ -139,7 +168,7 @@ pub fn algebraic_assignment(
         Objective::Sum | Objective::SumMax | Objective::Capped(_) => {
             by_small_sums(alloc, objective, inst)
         }
-        Objective::SumPair => by_sums(alloc, objective, inst),
+        Objective::SumPair => by_pairs(alloc, inst),
         Objective::Bottleneck | Objective::BottleneckMax => by_maxima(alloc, objective, inst),
         Objective::TimeCost => by_grades(alloc, inst),
         Objective::Balanced | Objective::Lex => unreachable!(),

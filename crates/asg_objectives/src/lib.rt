@@ -11,6 +11,8 @@
 
 mod algebraic_objectives;
 mod entered_squares;
+mod grade_columns;
+mod grade_leads;
 mod guessed_squares;
 mod listed_grades;
 mod narrow_squares;
@@ -19,7 +21,9 @@ mod solved_squares;
 mod sparse_leads;
 mod sparse_outcomes;
 mod table_duals;
+mod table_grades;
 mod table_outcomes;
+mod table_pairs;
 mod trail_phases;
 mod workspaces;
 

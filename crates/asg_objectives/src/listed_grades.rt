@@ -90,8 +90,8 @@ fn all_written(alloc: Global, phases: &[Phase<(u64, u128)>]) -> Result<Phases, N
     Phases::from_vec(list)
 }
 
-// Whether two values are the same.
-fn are_same(a: (u64, u128), b: (u64, u128)) -> bool
+/// Whether two values are the same.
+pub(crate) fn are_same(a: (u64, u128), b: (u64, u128)) -> bool
     ensures grade { IsTrue result → a.0 ≡ b.0 }
     ensures amount { IsTrue result → a.1 ≡ b.1 }
 {

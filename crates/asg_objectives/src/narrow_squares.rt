@@ -13,7 +13,7 @@ use crate::listed_grades::choice_by_columns;
 use crate::solved_squares::shortage;
 use crate::sparse_outcomes::outcome_by_arcs;
 use crate::table_outcomes::{outcome_by_table, proved_outcome};
-use asg_duals::{Duals, short_phases, sum_square, tight_duals};
+use asg_duals::{Duals, short_phases, sum_square, tight_duals, wide_phases};
 use asg_model::{Instance, Objective};
 use asg_proof::Outcome;
 use asg_square::Square;
@@ -35,7 +35,8 @@ fn dual_outcome(
     ensures phases { IfOk result (λ found. IfSome found (GivesFewPhases (square_side inst.now))) }
 {
     let choice = choice_by_columns(alloc, square, duals.columns())?;
-    let phases = short_phases(alloc, duals)?;
+    let plain = short_phases(alloc, duals)?;
+    let phases = wide_phases(alloc, plain.as_slice())?;
     proved_outcome(alloc, objective, inst, choice, phases)
 }
 

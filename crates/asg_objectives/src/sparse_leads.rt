@@ -21,8 +21,8 @@ const PIECE: usize = 16;
 // And so many of these where one is there.
 const PART: usize = 4;
 
-// Whether all rows are placed and active, and each column is open and holds one row.
-fn is_plain(inst: &Instance) -> bool {
+/// Whether all rows are placed and active, and each column is open and holds one row.
+pub(crate) fn is_plain(inst: &Instance) -> bool {
     matches!(inst.place(), Place::All)
         && inst.rows().iter().all(|row| row.active)
         && inst

@@ -11,9 +11,9 @@ ghost use Rattle.asg_proof.specs.PromisedProofs.{GivesFewPhases};
 use crate::NoMemory;
 use crate::table_duals::duals_of;
 use crate::trail_phases::words_of;
-use asg_duals::short_phases;
+use asg_duals::{short_phases, wide_phases};
 use asg_model::{Choice, Instance, Objective};
-use asg_monoids::NarrowSums;
+use asg_monoids::Bounded;
 use asg_proof::{Outcome, Phase, Proof};
 use asg_table_phases::proves;
 use asg_table_sums::{choice_of, lead};
@@ -27,7 +27,7 @@ pub(crate) fn proved_outcome(
     objective: Objective,
     inst: &Instance,
     choice: Choice,
-    phases: Vec<Phase<u64>>,
+    phases: Vec<Phase<u128>>,
 ) -> Result<Option<Outcome>, NoMemory>
     requires objective { IsTrue (is_sum_objective objective) }
     requires side { square_side inst.now ≤ most_side }
@@ -41,7 +41,8 @@ pub(crate) fn proved_outcome(
     if !proves(alloc, objective, inst, &choice, phases.as_slice())? {
         return Ok(None);
     }
-    let words = words_of(alloc, &NarrowSums, phases)?;
+    let sums = Bounded { top: 1 << 120 };
+    let words = words_of(alloc, &sums, phases)?;
     let proof = Proof::Phases(words);
     Ok(Some(Outcome::Best { choice, proof }))
 }
@@ -64,7 +65,8 @@ pub(crate) fn led_outcome(
     let rows = inst.rows().len() as u32;
     let choice = choice_of(alloc, rows, columns, inst.columns().len())?;
     let duals = duals_of(alloc, objective, inst, columns, rises)?;
-    let phases = short_phases(alloc, &duals)?;
+    let plain = short_phases(alloc, &duals)?;
+    let phases = wide_phases(alloc, plain.as_slice())?;
     proved_outcome(alloc, objective, inst, choice, phases)
 }
 

@@ -12,6 +12,15 @@ fn are_all_open(inst: &Instance) -> bool {
     columns && inst.rows().iter().all(|row| row.active)
 }
 
+// Whether each row is placed in a column of its own, of which there are as many.
+pub(crate) fn is_plain(inst: &Instance) -> bool {
+    let rows = inst.rows().len();
+    if inst.placed() as usize != rows || inst.columns().len() != rows || rows < 2 {
+        return false;
+    }
+    are_all_open(inst) && inst.columns().iter().all(|column| column.cap == 1)
+}
+
 // The capacity of each column. The error is want of memory.
 fn rooms_of(alloc: Global, inst: &Instance) -> Result<Vec<u32>, NoMemory> {
     let columns = inst.columns();

@@ -15,9 +15,11 @@ pub mod laws;
 mod leads;
 mod level_choices;
 mod level_rows;
+mod pair_leads;
 
 pub use leads::{choice_of, lead};
 pub use level_choices::best_by_table;
+pub use pair_leads::{PairLead, PairRanges, pair_lead};
 
 /// There was not enough memory.
 pub type NoMemory = std::alloc::AllocError;

@@ -1,9 +1,10 @@
-use Rattle.asg_objectives.proofs.Common.{◌≡◌, ℕ, List, map, All, sym, ap, ◌∙◌, subst, square_side, bounded_sums, narrow_top, plain_word, IsValue, Word, ProvesPhases, PhaseOf, worded, AreFewPhases}
+use Rattle.std.specs.Prelude.{◌^◌}
+use Rattle.asg_objectives.proofs.Common.{◌≡◌, ℕ, List, map, All, sym, ap, ◌∙◌, subst, square_side, bounded_sums, plain_word, IsValue, Word, ProvesPhases, PhaseOf, worded, AreFewPhases}
 use Rattle.asg_objectives.proofs.table_outcomes.proved_outcome.Goals as goal
 
 pub words_of-requires : goal.words_of-requires
 words_of-requires c =
-    subst (λ (ps : List (PhaseOf ℕ)). All (λ phase. All (IsValue (bounded_sums narrow_top)) phase.steps) ps) c.as_slice.ensures.value
+    subst (λ (ps : List (PhaseOf ℕ)). All (λ phase. All (IsValue (bounded_sums (2 ^ 120))) phase.steps) ps) c.as_slice.ensures.value
     (c.in_ok-proves.ensures.values c.if-not-branch.false)
 
 pub returns-clause-outcome : goal.returns-clause-outcome

@@ -1,6 +1,6 @@
 use Rattle.asg_objectives.proofs.Common.{IfOk-weaker, TimeCost, bounded_sums, bounded_difference, time_entered, graded, graded_difference, graded_word, IsFoldOutcome, IsOutcome}
 use Rattle.asg_objectives.proofs.KindOutcomes.{IsOutcome-grades}
-use Rattle.asg_objectives.proofs.algebraic_objectives.by_grades.Goals as goal
+use Rattle.asg_objectives.proofs.algebraic_objectives.by_graded_square.Goals as goal
 
 pub returns-clause-outcome : goal.returns-clause-outcome
 returns-clause-outcome c =

@@ -1,23 +1,23 @@
 //! A bench on which children are grown.
 
 use crate::NoMemory;
-use crate::children::{Child, EMPTY};
+use crate::children::{Child, EMPTY, FLOOR, Move};
 use crate::gaps::measure_in;
 use crate::numbers::{RankNumber, amount_of};
 use crate::paths::{End, Errand, Reach, search};
 use crate::rooms::Room;
 use crate::shifts::shift_path;
 use crate::tables::Table;
-use asg_dual_numbers::{NONE, at, name, put};
+use asg_dual_numbers::{NONE, at, name};
 use std::alloc::Global;
 
 /// A part of all answers, with an answer in it and dual variables at which it is tight.
 #[derive(Clone, Copy)]
 pub struct Parent<'a> {
+    /// Its name, which no other part bears.
+    pub name: u32,
     /// The column of each row.
     pub columns: &'a [u32],
-    /// How much each row fell.
-    pub falls: &'a [u64],
     /// How much each column rose.
     pub rises: &'a [u64],
     /// How much those columns rose that no row has.
@@ -49,22 +49,26 @@ pub struct Bench<N: RankNumber> {
     gaps: Vec<u64>,
 }
 
-// Writes the dual variables of a child after a search, which was to come to a distance.
-fn raise<N: RankNumber>(child: &mut Child, room: &Room<N>, root: usize, reach: &Reach<N>, to: u64) {
-    child.fall(name(root), to);
+// Notes what a search went through, which was to come to a distance.
+fn note<N: RankNumber>(
+    child: &mut Child,
+    room: &Room<N>,
+    table: &Table<N>,
+    reach: &Reach<N>,
+    to: u64,
+) {
     let count = reach.count.min(room.done.len());
     for place in 0..count {
-        let column = room.done_at(place);
-        let more = to.saturating_sub(amount_of(room.reached_at(place)));
-        child.rise(column, more);
-        let row = room.row_at(column);
-        if row != NONE {
-            child.fall(row, more);
-        }
+        let row = room.left_at(place);
+        let reached = if row == NONE {
+            name(table.rows.saturating_add(room.done_at(place)))
+        } else {
+            row
+        };
+        child.note(reached, amount_of(room.reached_at(place)));
     }
     if reach.spare != NONE {
-        let more = to.saturating_sub(amount_of(reach.spare_distance));
-        child.floor = child.floor.wrapping_add(more);
+        child.note(FLOOR, amount_of(reach.spare_distance));
     }
     child.by = to;
 }
@@ -84,25 +88,20 @@ fn grow_in<N: RankNumber>(
     limit: u64,
 ) -> Growth {
     let reach = search(room, table, errand, limit);
-    let root = errand.root;
-    let parent = errand.parent;
-    child.begin(&parent);
-    child.fix(parent.columns, parent.row, root);
+    child.begin();
     match reach.end {
         End::Lost => Growth::Lost,
         End::Nothing => {
-            raise(child, room, root, &reach, EMPTY);
+            note(child, room, table, &reach, EMPTY);
             Growth::Nothing
         }
         End::Far => {
-            raise(child, room, root, &reach, limit);
+            note(child, room, table, &reach, limit);
             Growth::Beyond
         }
         End::Reached => {
-            raise(child, room, root, &reach, amount_of(reach.distance));
-            let columns = child.columns.as_mut_slice();
-            put(columns, table.rows, reach.spare);
-            let is_root = shift_path(columns, room, table, errand, &reach);
+            note(child, room, table, &reach, amount_of(reach.distance));
+            let is_root = shift_path(child, room, table, errand, &reach);
             if is_root && !is_lost(&reach) {
                 Growth::Reached
             } else {
@@ -171,35 +170,27 @@ impl<N: RankNumber> Bench<N> {
         grow_in(&mut self.child, &mut self.room, &self.table, &errand, limit)
     }
 
-    /// The column of each row in the child's answer.
-    pub fn columns(&self) -> &[u32] {
-        let columns = self.child.columns.as_slice();
-        &columns[..columns.len().saturating_sub(1)]
+    /// The rows that have other columns in the child's answer than in the part's.
+    pub fn moves(&self) -> &[Move] {
+        self.child.moves()
     }
 
-    /// How much each row fell.
-    pub fn falls(&self) -> &[u64] {
-        self.child.falls.as_slice()
+    /// What was reached on the way: a row, with its column in the part's answer; behind the rows a
+    /// column that no row has; or the floor.
+    ///
+    /// Where the child's row falls further by some amount, up to that by which the bound rose, each
+    /// of these rises or falls further by what its distance leaves of it.
+    pub fn places(&self) -> &[u32] {
+        self.child.places()
     }
 
-    /// How much each column rose.
-    pub fn rises(&self) -> &[u64] {
-        self.child.rises.as_slice()
-    }
-
-    /// How much those columns rose that no row has.
-    pub fn floor(&self) -> u64 {
-        self.child.floor
+    /// The distance of each of these.
+    pub fn distances(&self) -> &[u64] {
+        self.child.distances()
     }
 
     /// By how much the bound of the child is above that of the part.
     pub fn by(&self) -> u64 {
         self.child.by
-    }
-
-    /// The rows that fell further than in the part, those aside that the child fixes.
-    pub fn risen(&self) -> &[u32] {
-        let risen = self.child.risen.as_slice();
-        &risen[..self.child.count.min(risen.len())]
     }
 }

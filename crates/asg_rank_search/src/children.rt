@@ -1,97 +1,97 @@
-//! Children: an answer of a part with its dual variables.
-
-ghost use Rattle.std.specs.Prelude.{◌≡◌, length};
+//! Children: by what their answers and dual variables differ from those of their part.
 
 use crate::NoMemory;
-use crate::benches::Parent;
-use asg_dual_numbers::{NONE, put};
+use asg_dual_numbers::{NONE, put, put_amount};
 use std::alloc::Global;
 
 /// By how much a row that a child fixes falls further, and its column rises: by more than any other
 /// row falls.
 pub const FIXED: u64 = 1 << 44;
 
+/// In place of a row or a column: what those columns rose that no row has.
+pub const FLOOR: u32 = NONE;
+
 // By how much the bound of a part rises in which no answer is: above 2,000 numbers of 2^31.
 pub(crate) const EMPTY: u64 = 1 << 43;
+
+/// A row that has another column in the answer of a child than in that of its part.
+#[derive(Clone, Copy)]
+pub struct Move {
+    /// The row; that behind the last one stands for the columns that no row has.
+    pub row: u32,
+    /// Its column in the child's answer.
+    pub column: u32,
+}
 
 // What was found of a child.
 #[derive(Drop)]
 pub(crate) struct Child {
-    // The column of each row, and behind them the one that no row has any more.
-    pub columns: Vec<u32>,
-    pub falls: Vec<u64>,
-    pub rises: Vec<u64>,
-    pub floor: u64,
     // By how much the bound rose.
     pub by: u64,
-    // The rows whose falls rose, and how many there are.
-    pub risen: Vec<u32>,
-    pub count: usize,
-}
-
-// Adds to the amount at a place.
-#[inline]
-fn add(amounts: &mut [u64], place: usize, more: u64)
-    ensures { length amounts.new ≡ length amounts.old }
-{
-    if place < amounts.len() {
-        amounts[place] = amounts[place].wrapping_add(more);
-    }
-}
-
-// Writes the first entries of a list into another.
-fn copy<T: Copy>(from: &[T], to: &mut [T])
-    ensures { length to.new ≡ length to.old }
-{
-    let count = from.len().min(to.len());
-    for place in 0..count {
-        to[place] = from[place];
-    }
+    // What was reached on the way, and how far each is.
+    places: Vec<u32>,
+    distances: Vec<u64>,
+    count: usize,
+    // The rows that have other columns.
+    moves: Vec<Move>,
+    moved: usize,
 }
 
 impl Child {
     // Room for a child over so many rows and columns. The error is want of memory.
     pub(crate) fn make(alloc: Global, rows: usize, columns: usize) -> Result<Child, NoMemory> {
+        let most = columns.saturating_add(1);
+        let nowhere = Move {
+            row: NONE,
+            column: NONE,
+        };
         Ok(Child {
-            columns: vec![in alloc; NONE; rows.saturating_add(1)]?,
-            falls: vec![in alloc; 0; rows]?,
-            rises: vec![in alloc; 0; columns]?,
-            floor: 0,
             by: 0,
-            risen: vec![in alloc; NONE; rows]?,
+            places: vec![in alloc; NONE; most]?,
+            distances: vec![in alloc; 0; most]?,
             count: 0,
+            moves: vec![in alloc; nowhere; rows.saturating_add(1)]?,
+            moved: 0,
         })
     }
 
-    // Begins with what the parent has.
-    pub(crate) fn begin(&mut self, parent: &Parent<'_>) {
-        copy(parent.columns, self.columns.as_mut_slice());
-        copy(parent.falls, self.falls.as_mut_slice());
-        copy(parent.rises, self.rises.as_mut_slice());
-        self.floor = parent.floor;
+    // Begins with what the part has.
+    pub(crate) fn begin(&mut self) {
         self.by = 0;
         self.count = 0;
+        self.moved = 0;
     }
 
-    // Fixes the rows from one to before another.
-    pub(crate) fn fix(&mut self, columns: &[u32], from: usize, to: usize) {
-        let falls = self.falls.as_mut_slice();
-        let rises = self.rises.as_mut_slice();
-        for row in from..to.min(columns.len()) {
-            add(falls, row, FIXED);
-            add(rises, columns[row] as usize, FIXED);
-        }
-    }
-
-    // Lets a row fall further, and notes it.
-    pub(crate) fn fall(&mut self, row: u32, more: u64) {
-        add(self.falls.as_mut_slice(), row as usize, more);
-        put(self.risen.as_mut_slice(), self.count, row);
+    // Notes what was reached, and how far it is.
+    pub(crate) fn note(&mut self, place: u32, distance: u64) {
+        put(self.places.as_mut_slice(), self.count, place);
+        put_amount(self.distances.as_mut_slice(), self.count, distance);
         self.count = self.count.saturating_add(1);
     }
 
-    // Lets a column rise further.
-    pub(crate) fn rise(&mut self, column: usize, more: u64) {
-        add(self.rises.as_mut_slice(), column, more);
+    // Gives a row another column.
+    pub(crate) fn shift(&mut self, row: u32, column: u32) {
+        if self.moved < self.moves.len() {
+            self.moves[self.moved] = Move { row, column };
+            self.moved += 1;
+        }
+    }
+
+    // What was reached.
+    pub(crate) fn places(&self) -> &[u32] {
+        let places = self.places.as_slice();
+        &places[..self.count.min(places.len())]
+    }
+
+    // How far each of these is.
+    pub(crate) fn distances(&self) -> &[u64] {
+        let distances = self.distances.as_slice();
+        &distances[..self.count.min(distances.len())]
+    }
+
+    // The rows that have other columns.
+    pub(crate) fn moves(&self) -> &[Move] {
+        let moves = self.moves.as_slice();
+        &moves[..self.moved.min(moves.len())]
     }
 }

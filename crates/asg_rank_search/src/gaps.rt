@@ -3,7 +3,7 @@
 ghost use Rattle.std.specs.Prelude.{◌≡◌, length};
 
 use crate::benches::Parent;
-use crate::numbers::{RankNumber, amount_of, capped, load, open};
+use crate::numbers::{RankNumber, amount_of, capped, open};
 use crate::rooms::Room;
 use crate::tables::Table;
 use asg_dual_numbers::{set, value};
@@ -12,8 +12,7 @@ use asg_dual_numbers::{set, value};
 // of another.
 fn begin<N: RankNumber>(room: &mut Room<N>, table: &Table<N>, parent: &Parent<'_>) {
     let spare_fall = parent.floor.saturating_sub(table.floor);
-    let bases = table.bases.as_slice();
-    load(parent.rises, bases, room.raised.as_mut_slice());
+    room.take(table, parent);
     let numbers = table.row(table.rows);
     let keys = room.keys.as_mut_slice();
     open(numbers, room.raised.as_slice(), keys, capped(spare_fall));

@@ -17,7 +17,7 @@ mod shifts;
 mod tables;
 
 pub use benches::{Bench, Growth, Parent};
-pub use children::FIXED;
+pub use children::{FIXED, FLOOR, Move};
 pub use limits::Limit;
 pub use numbers::RankNumber;
 pub use queues::{Queue, Waiting};

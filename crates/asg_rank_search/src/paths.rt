@@ -1,7 +1,7 @@
 //! Shortest paths from a row that loses its column.
 
 use crate::benches::Parent;
-use crate::numbers::{RankNumber, capped, load, open};
+use crate::numbers::{RankNumber, capped, open};
 use crate::rooms::Room;
 use crate::tables::Table;
 use asg_dual_numbers::{NONE, name, value};
@@ -51,11 +51,7 @@ pub(crate) struct Errand<'a> {
 // Opens a search; how much its row fell since first.
 fn begin<N: RankNumber>(room: &mut Room<N>, table: &Table<N>, errand: &Errand<'_>) -> N {
     let columns = errand.parent.columns;
-    if table.rows < table.columns {
-        room.row_of.as_mut_slice().fill(NONE);
-    }
-    let bases = table.bases.as_slice();
-    load(errand.parent.rises, bases, room.raised.as_mut_slice());
+    room.take(table, &errand.parent);
     let numbers = table.row(errand.root);
     let fall = room.number(numbers, errand.target);
     open(
@@ -70,7 +66,6 @@ fn begin<N: RankNumber>(room: &mut Room<N>, table: &Table<N>, errand: &Errand<'_
         room.bar(errand.banned[place] as usize);
     }
     room.bar(errand.target);
-    room.list_rows(columns, errand.root);
     fall
 }
 

@@ -1,7 +1,8 @@
 //! Room for a search.
 
 use crate::NoMemory;
-use crate::numbers::RankNumber;
+use crate::benches::Parent;
+use crate::numbers::{RankNumber, load};
 use crate::tables::Table;
 use asg_dual_numbers::{NONE, at, name, put, set, value};
 use std::alloc::Global;
@@ -9,6 +10,8 @@ use std::alloc::Global;
 // The lists that a search goes by.
 #[derive(Drop)]
 pub(crate) struct Room<N: RankNumber> {
+    // The name of the part whose columns these are.
+    part: u32,
     // By how much each column rose since first, and the row that has it.
     pub raised: Vec<N>,
     pub row_of: Vec<u32>,
@@ -29,6 +32,7 @@ impl<N: RankNumber> Room<N> {
     pub(crate) fn make(alloc: Global, table: &Table<N>) -> Result<Room<N>, NoMemory> {
         let wide = table.wide;
         Ok(Room {
+            part: NONE,
             raised: vec![in alloc; N::zero(); wide]?,
             row_of: vec![in alloc; NONE; wide]?,
             keys: vec![in alloc; N::zero(); wide]?,
@@ -73,8 +77,23 @@ impl<N: RankNumber> Room<N> {
         set(self.less.as_mut_slice(), place, less);
     }
 
+    // Takes the columns of a part: by how much each rose since first, and which row has it. Those of
+    // the part whose columns were taken last stand.
+    pub(crate) fn take(&mut self, table: &Table<N>, parent: &Parent<'_>) {
+        if self.part == parent.name {
+            return;
+        }
+        self.part = parent.name;
+        let bases = table.bases.as_slice();
+        load(parent.rises, bases, self.raised.as_mut_slice());
+        if table.rows < table.columns {
+            self.row_of.as_mut_slice().fill(NONE);
+        }
+        self.list_rows(parent.columns, parent.row);
+    }
+
     // Notes of which columns the rows from one on have which.
-    pub(crate) fn list_rows(&mut self, columns: &[u32], from: usize) {
+    fn list_rows(&mut self, columns: &[u32], from: usize) {
         let row_of = self.row_of.as_mut_slice();
         for row in from..columns.len() {
             put(row_of, columns[row] as usize, name(row));

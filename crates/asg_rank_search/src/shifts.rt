@@ -1,12 +1,11 @@
 //! Shifts along the path that a search found, which is told by the distances alone.
 
-ghost use Rattle.std.specs.Prelude.{◌≡◌, length};
-
+use crate::children::Child;
 use crate::numbers::{RankNumber, capped};
 use crate::paths::{Errand, Reach};
 use crate::rooms::Room;
 use crate::tables::Table;
-use asg_dual_numbers::{NONE, name, put, value};
+use asg_dual_numbers::{NONE, name, value};
 
 // A column of a path: its distance, and how many columns were done before it.
 #[derive(Clone, Copy)]
@@ -91,29 +90,27 @@ fn stop_at<N: RankNumber>(room: &Room<N>, place: usize, before: usize) -> Stop<N
 // Gives each row of the path that ends in the column that the root lost the column that was reached
 // from it; whether the path begins in the root.
 pub(crate) fn shift_path<N: RankNumber>(
-    columns: &mut [u32],
+    child: &mut Child,
     room: &Room<N>,
     table: &Table<N>,
     errand: &Errand<'_>,
     reach: &Reach<N>,
-) -> bool
-    ensures { length columns.new ≡ length columns.old }
-{
+) -> bool {
     let mut stop = Stop {
         column: errand.target,
         distance: reach.distance,
         before: reach.count,
     };
-    for _ in 0..columns.len() {
+    for _ in 0..table.rows.saturating_add(1) {
         if is_from_root(room, table, errand, reach, stop) {
-            put(columns, errand.root, name(stop.column));
+            child.shift(name(errand.root), name(stop.column));
             return true;
         }
         let (row, next) = row_before(room, table, errand, reach, stop);
         if row == NONE {
             return false;
         }
-        put(columns, row as usize, name(stop.column));
+        child.shift(row, name(stop.column));
         stop = next;
     }
     false

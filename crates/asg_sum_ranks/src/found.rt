@@ -1,28 +1,17 @@
 //! What a search found: answers that were given, and children that were grown.
 
 use crate::NoMemory;
-use crate::settled::{Amounts, Settled};
+use crate::kept_children::Kept;
+use crate::settled::Settled;
 use asg_rank_search::{Bench, RankNumber};
 use std::alloc::Global;
 
-/// A child that was grown: its best answer and that one's sum; no columns where it has only a
-/// bound.
-#[derive(Drop)]
-pub(crate) struct Seed {
-    pub(crate) columns: Vec<u32>,
-    pub(crate) sum: u64,
-    pub(crate) parent: usize,
-    pub(crate) row: usize,
-}
-
-/// The answers that were given, each with its sum, and the children that were grown, with their
-/// amounts.
+/// The answers that were given, each with its sum, and the children that were grown.
 #[derive(Drop)]
 pub(crate) struct Found {
     pub(crate) branches: Vec<Settled>,
     pub(crate) sums: Vec<u64>,
-    pub(crate) seeds: Vec<Seed>,
-    pub(crate) kept: Vec<Option<Amounts>>,
+    pub(crate) kept: Kept,
 }
 
 impl Found {
@@ -31,8 +20,7 @@ impl Found {
         Found {
             branches: Vec::new(alloc),
             sums: Vec::new(alloc),
-            seeds: Vec::new(alloc),
-            kept: Vec::new(alloc),
+            kept: Kept::make(alloc),
         }
     }
 }
@@ -41,34 +29,23 @@ impl Found {
 pub(crate) fn begin_anew(found: &mut Found) {
     found.branches.truncate(1);
     found.sums.truncate(1);
-    found.seeds.clear();
     found.kept.clear();
     if let Some(root) = found.branches.get_mut(0) {
         root.forget();
     }
 }
 
-/// Keeps a child that a bench has grown from an answer by a row, with these columns. Gives its
-/// place. The error is want of memory.
+/// Keeps a child that a bench has grown from an answer by a row. Gives its place. The error is want
+/// of memory.
 pub(crate) fn keep<N: RankNumber>(
-    alloc: Global,
     found: &mut Found,
     bench: &Bench<N>,
-    columns: &[u32],
     sum: u64,
     parent: usize,
     row: usize,
 ) -> Result<usize, NoMemory> {
-    let seed = Seed {
-        columns: Vec::from_slice(alloc, columns)?,
-        sum,
-        parent,
-        row,
-    };
-    let amounts = Amounts::of(alloc, bench.falls(), bench.rises(), bench.floor())?;
-    let place = found.seeds.len();
-    found.seeds.push(seed)?;
-    found.kept.push(Some(amounts))?;
+    let place = found.kept.count();
+    found.kept.push(bench, sum, parent, row)?;
     if let Some(branch) = found.branches.get_mut(parent) {
         branch.note_shown(row, place.saturating_add(1));
     }
@@ -92,27 +69,24 @@ fn banned_of(alloc: Global, branch: &Settled, row: usize) -> Result<Vec<u32>, No
 pub(crate) fn give(
     alloc: Global,
     found: &mut Found,
-    seed: usize,
+    child: usize,
 ) -> Result<Option<usize>, NoMemory> {
     let place = found.branches.len();
-    let Some(grown) = found.seeds.get_mut(seed) else {
+    let Some(seed) = found.kept.get(child) else {
         return Ok(None);
     };
-    let columns = std::mem::replace(&mut grown.columns, Vec::new(alloc));
-    let (parent, row, sum) = (grown.parent, grown.row, grown.sum);
-    let Some(slot) = found.kept.get_mut(seed) else {
-        return Ok(None);
-    };
-    let Some(amounts) = slot.take() else {
-        return Ok(None);
-    };
+    let (parent, row) = (seed.parent as usize, seed.row as usize);
     let Some(before) = found.branches.get_mut(parent) else {
         return Ok(None);
     };
+    let mut columns = Vec::from_slice(alloc, before.columns())?;
+    found.kept.shift(child, columns.as_mut_slice());
+    let mut amounts = before.amounts().again(alloc)?;
+    found.kept.write(child, before, seed.bound, &mut amounts);
     let banned = banned_of(alloc, before, row)?;
     before.note_child(row, place);
     let settled = Settled::of(alloc, columns, parent, row, banned, amounts)?;
     found.branches.push(settled)?;
-    found.sums.push(sum)?;
+    found.sums.push(seed.bound)?;
     Ok(Some(place))
 }

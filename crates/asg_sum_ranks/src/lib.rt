@@ -10,6 +10,7 @@
 mod branch_tests;
 mod found;
 mod grounds;
+mod kept_children;
 mod part_tests;
 mod ranking_ends;
 mod ranking_tests;

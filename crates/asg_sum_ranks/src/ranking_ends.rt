@@ -79,14 +79,15 @@ fn tested(
     let mut leasts = vec![in alloc; 0; ground.table.columns()]?;
     let mut gaps = vec![in alloc; 0; ground.table.rows()]?;
     let branches = found.branches.as_slice();
-    let kept = found.kept.as_slice();
-    if branches.len() != count {
+    if branches.len() != count || count == 0 {
         return Ok(None);
     }
+    let mut room = at(branches, 0).amounts().again(alloc)?;
     if !is_ranking(
         ground,
         branches,
-        kept,
+        &found.kept,
+        &mut room,
         count,
         marks.as_mut_slice(),
         leasts.as_mut_slice(),

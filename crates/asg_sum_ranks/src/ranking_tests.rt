@@ -6,6 +6,7 @@ ghost use Rattle.asg_dual_bounds.specs.SumRankings.{IsSumRanking};
 ghost use Rattle.asg_sum_ranks.specs.Branches.{answer_at, answers_of, SumsTo};
 
 use crate::grounds::Ground;
+use crate::kept_children::Kept;
 use crate::settled::{Amounts, Settled, at};
 use crate::shut_tests::are_all_shut;
 use crate::tree_tests::are_branches;
@@ -42,7 +43,8 @@ fn last_sum(ground: &Ground<'_>, branches: &[Settled]) -> Option<u64>
 pub(crate) fn is_ranking(
     ground: &Ground<'_>,
     branches: &[Settled],
-    kept: &[Option<Amounts>],
+    kept: &Kept,
+    room: &mut Amounts,
     count: usize,
     marks: &mut [u32],
     leasts: &mut [u32],
@@ -63,5 +65,5 @@ pub(crate) fn is_ranking(
     let Some(least) = last_sum(ground, branches) else {
         return false;
     };
-    are_all_shut(ground, branches, kept, least, marks, leasts, gaps)
+    are_all_shut(ground, branches, kept, room, least, marks, leasts, gaps)
 }

@@ -5,6 +5,7 @@ use crate::found::{Found, begin_anew, give, keep};
 use crate::grounds::Ground;
 use crate::settled::Settled;
 use asg_dual_bounds::ABSENT;
+use asg_dual_numbers::name;
 use asg_rank_search::{Bench, Growth, Limit, Parent, Queue, RankNumber, Waiting};
 use std::alloc::Global;
 
@@ -70,10 +71,10 @@ fn tools_of<N: RankNumber>(
 }
 
 // An answer's part, as benches take it.
-fn parent_of(branch: &Settled) -> Parent<'_> {
+fn parent_of(branch: &Settled, place: usize) -> Parent<'_> {
     Parent {
+        name: name(place),
         columns: branch.columns(),
-        falls: branch.amounts().falls(),
         rises: branch.amounts().rises(),
         floor: branch.amounts().floor(),
         row: branch.row(),
@@ -94,7 +95,9 @@ fn wait_children<N: RankNumber>(
     if tools.limit.limit() <= sum {
         return Ok(());
     }
-    tools.bench.measure(parent_of(branch), branch.banned());
+    tools
+        .bench
+        .measure(parent_of(branch, place), branch.banned());
     let rows = branch.columns().len();
     let limit = tools.limit.limit();
     for row in branch.row()..rows {
@@ -112,8 +115,14 @@ fn wait_children<N: RankNumber>(
 }
 
 // Grows the child by a row of an answer's part.
-fn grow<N: RankNumber>(branch: &Settled, sum: u64, row: usize, tools: &mut Tools<N>) -> Growth {
-    let parent = parent_of(branch);
+fn grow<N: RankNumber>(
+    branch: &Settled,
+    place: usize,
+    sum: u64,
+    row: usize,
+    tools: &mut Tools<N>,
+) -> Growth {
+    let parent = parent_of(branch, place);
     let banned = if row == branch.row() {
         branch.banned()
     } else {
@@ -130,16 +139,14 @@ fn grow<N: RankNumber>(branch: &Settled, sum: u64, row: usize, tools: &mut Tools
 
 // Keeps a child that was grown to its best answer, and has it wait. The error is want of memory.
 fn keep_reached<N: RankNumber>(
-    alloc: Global,
     found: &mut Found,
     tools: &mut Tools<N>,
     sum: u64,
     place: usize,
     row: usize,
 ) -> Result<(), NoMemory> {
+    let seed = keep(found, &tools.bench, sum, place, row)?;
     let sum = sum.saturating_add(tools.bench.by());
-    let columns = tools.bench.columns();
-    let seed = keep(alloc, found, &tools.bench, columns, sum, place, row)?;
     tools.limit.put(sum);
     if seed < GROWN as usize {
         tools.queue.push(Waiting {
@@ -153,7 +160,6 @@ fn keep_reached<N: RankNumber>(
 // Grows the child by a row of the part of the answer at a place, and keeps it. Gives whether its
 // numbers did. The error is want of memory.
 fn visit<N: RankNumber>(
-    alloc: Global,
     found: &mut Found,
     tools: &mut Tools<N>,
     place: usize,
@@ -163,10 +169,10 @@ fn visit<N: RankNumber>(
     let Some(branch) = found.branches.get(place) else {
         return Ok(false);
     };
-    match grow(branch, sum, row, tools) {
-        Growth::Reached => keep_reached(alloc, found, tools, sum, place, row)?,
+    match grow(branch, place, sum, row, tools) {
+        Growth::Reached => keep_reached(found, tools, sum, place, row)?,
         Growth::Beyond | Growth::Nothing => {
-            keep(alloc, found, &tools.bench, &[], u64::MAX, place, row)?;
+            keep(found, &tools.bench, sum, place, row)?;
         }
         Growth::Lost => return Ok(false),
     }
@@ -210,7 +216,7 @@ fn run<N: RankNumber>(
             give_next(alloc, found, tools, (next.name - GROWN) as usize)?
         } else {
             let name = next.name as usize;
-            visit(alloc, found, tools, name / rows, name % rows)?
+            visit(found, tools, name / rows, name % rows)?
         };
         if !good {
             return Ok(End::Lost);

@@ -6,30 +6,28 @@ ghost use Rattle.asg_sum_ranks.specs.Branches.{branch_at};
 
 use crate::NoMemory;
 use asg_dual_bounds::Duals;
+use asg_rank_search::FIXED;
 use std::alloc::Global;
 use std::marker::Model;
 
-/// How much rows fall and columns rise: in one list the falls, and behind them the rises.
+/// How much rows fall and columns rise.
 #[derive(Drop)]
 pub(crate) struct Amounts {
-    all: Vec<u64>,
-    rows: usize,
+    falls: Vec<u64>,
+    rises: Vec<u64>,
     floor: u64,
 }
 
 impl Model for Amounts {
-    ghost use Rattle.std.specs.Prelude.{◌≤◌, drop, length, take};
     ghost use Rattle.asg_dual_bounds.specs.Bounds.{Duals};
 
     ghost Value = { Duals };
 
     ghost view = { λ a. record {
-      falls = take a.rows a.all.items;
-      rises = drop a.rows a.all.items;
+      falls = a.falls.items;
+      rises = a.rises.items;
       floor = a.floor;
     } };
-
-    ghost invariant = { λ a. a.rows ≤ length a.all.items };
 }
 
 impl Amounts {
@@ -40,11 +38,48 @@ impl Amounts {
         rises: &[u64],
         floor: u64,
     ) -> Result<Amounts, NoMemory> {
-        let rows = falls.len();
-        let mut all = Vec::with_capacity(alloc, rows.saturating_add(rises.len()))?;
-        all.extend_from_slice(falls)?;
-        all.extend_from_slice(rises)?;
-        Ok(Amounts { all, rows, floor })
+        Ok(Amounts {
+            falls: Vec::from_slice(alloc, falls)?,
+            rises: Vec::from_slice(alloc, rises)?,
+            floor,
+        })
+    }
+
+    /// The same amounts. The error is want of memory.
+    pub(crate) fn again(&self, alloc: Global) -> Result<Amounts, NoMemory> {
+        Amounts::of(alloc, self.falls(), self.rises(), self.floor)
+    }
+
+    /// Takes the amounts of another list of as many.
+    pub(crate) fn copy(&mut self, other: &Amounts) {
+        write_all(other.falls(), self.falls.as_mut_slice());
+        write_all(other.rises(), self.rises.as_mut_slice());
+        self.floor = other.floor;
+    }
+
+    /// Fixes the rows from one to before another.
+    pub(crate) fn fix(&mut self, columns: &[u32], from: usize, to: usize) {
+        let falls = self.falls.as_mut_slice();
+        let rises = self.rises.as_mut_slice();
+        for row in from..to.min(columns.len()) {
+            add(falls, row, FIXED);
+            add(rises, columns[row] as usize, FIXED);
+        }
+    }
+
+    /// Lets a row fall further.
+    pub(crate) fn fall(&mut self, row: usize, more: u64) {
+        add(self.falls.as_mut_slice(), row, more);
+    }
+
+    /// Lets a column rise further.
+    pub(crate) fn rise(&mut self, column: usize, more: u64) {
+        add(self.rises.as_mut_slice(), column, more);
+    }
+
+    /// Lets each column rise by so much more at least.
+    pub(crate) fn lift(&mut self, more: u64) {
+        self.floor = self.floor.wrapping_add(more);
     }
 
     /// How much each row falls.
@@ -52,7 +87,7 @@ impl Amounts {
     pub(crate) fn falls(&self) -> &[u64]
         ensures { result.now ≡ self.now.falls }
     {
-        &self.all[..self.rows]
+        self.falls.as_slice()
     }
 
     /// How much each column rises.
@@ -60,7 +95,7 @@ impl Amounts {
     pub(crate) fn rises(&self) -> &[u64]
         ensures { result.now ≡ self.now.rises }
     {
-        &self.all[self.rows..]
+        self.rises.as_slice()
     }
 
     /// All of them, lent.
@@ -81,6 +116,22 @@ impl Amounts {
         ensures { result ≡ self.now.floor }
     {
         self.floor
+    }
+}
+
+// Adds to the amount at a place, where there is one.
+#[inline]
+fn add(amounts: &mut [u64], place: usize, more: u64) {
+    if place < amounts.len() {
+        amounts[place] = amounts[place].wrapping_add(more);
+    }
+}
+
+// Writes the first entries of a list into another.
+fn write_all(from: &[u64], to: &mut [u64]) {
+    let count = from.len().min(to.len());
+    for place in 0..count {
+        to[place] = from[place];
     }
 }
 

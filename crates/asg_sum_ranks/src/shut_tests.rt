@@ -5,6 +5,7 @@ ghost use Rattle.asg_dual_bounds.specs.Bounds.{IsDualBound};
 ghost use Rattle.asg_sum_ranks.specs.Branches.{branch_at, child_at, AreBranches, AreShut, HaveGaps, IsAtLeast, IsGiven, IsShut, IsSound};
 
 use crate::grounds::Ground;
+use crate::kept_children::Kept;
 use crate::part_tests::{bound_of, is_above_at, measure};
 use crate::settled::{Amounts, Settled, at};
 use asg_dual_bounds::laws::{dual_bound_law, split_law};
@@ -48,7 +49,8 @@ fn is_shown(
 fn is_shown_at(
     ground: &Ground<'_>,
     branches: &[Settled],
-    kept: &[Option<Amounts>],
+    kept: &Kept,
+    room: &mut Amounts,
     place: usize,
     row: usize,
     least: u64,
@@ -62,13 +64,13 @@ fn is_shown_at(
         (child_at branches.now place row) least }
 {
     let shown = at(branches, place).shown(row);
-    if shown == 0 || kept.len() < shown {
+    if shown == 0 {
         return false;
     }
-    match &kept[shown - 1] {
-        Some(amounts) => is_shown(ground, branches, place, row, amounts, least, marks),
-        None => false,
+    if !kept.write(shown - 1, at(branches, place), least, room) {
+        return false;
     }
+    is_shown(ground, branches, place, row, room, least, marks)
 }
 
 // Whether a bound and a gap come to the least.
@@ -82,7 +84,8 @@ fn reaches(bound: u64, gap: u64, least: u64) -> bool
 fn is_shut(
     ground: &Ground<'_>,
     branches: &[Settled],
-    kept: &[Option<Amounts>],
+    kept: &Kept,
+    room: &mut Amounts,
     place: usize,
     row: usize,
     bound: u64,
@@ -104,7 +107,7 @@ fn is_shut(
         return is_part_of(branches, given, place, row);
     }
     if at(branches, place).shown(row) != 0 {
-        return is_shown_at(ground, branches, kept, place, row, least, marks);
+        return is_shown_at(ground, branches, kept, room, place, row, least, marks);
     }
     reaches(bound, gap, least)
 }
@@ -113,7 +116,8 @@ fn is_shut(
 fn are_shut_by(
     ground: &Ground<'_>,
     branches: &[Settled],
-    kept: &[Option<Amounts>],
+    kept: &Kept,
+    room: &mut Amounts,
     place: usize,
     bound: u64,
     gaps: &[u64],
@@ -135,7 +139,7 @@ fn are_shut_by(
     }
     'children: for row in first..rows {
         if !is_shut(
-            ground, branches, kept, place, row, bound, gaps[row], least, marks,
+            ground, branches, kept, room, place, row, bound, gaps[row], least, marks,
         ) {
             return false;
         }
@@ -147,7 +151,8 @@ fn are_shut_by(
 fn are_children_shut(
     ground: &Ground<'_>,
     branches: &[Settled],
-    kept: &[Option<Amounts>],
+    kept: &Kept,
+    room: &mut Amounts,
     place: usize,
     least: u64,
     marks: &mut [u32],
@@ -170,7 +175,9 @@ fn are_children_shut(
     if !measure(ground, branches, place, marks, leasts, gaps) {
         return false;
     }
-    are_shut_by(ground, branches, kept, place, bound, gaps, least, marks)
+    are_shut_by(
+        ground, branches, kept, room, place, bound, gaps, least, marks,
+    )
 }
 
 /// Whether each child of the parts of the answers that were given is the part of one of them, or
@@ -178,7 +185,8 @@ fn are_children_shut(
 pub(crate) fn are_all_shut(
     ground: &Ground<'_>,
     branches: &[Settled],
-    kept: &[Option<Amounts>],
+    kept: &Kept,
+    room: &mut Amounts,
     least: u64,
     marks: &mut [u32],
     leasts: &mut [u32],
@@ -190,7 +198,9 @@ pub(crate) fn are_all_shut(
         → AreShut ground.now.objective ground.now.inst.now branches.now least a }
 {
     'branches: for place in 0..branches.len() {
-        if !are_children_shut(ground, branches, kept, place, least, marks, leasts, gaps) {
+        if !are_children_shut(
+            ground, branches, kept, room, place, least, marks, leasts, gaps,
+        ) {
             return false;
         }
     }

@@ -5,8 +5,11 @@ ghost use Rattle.asg_model.specs.Limits.{most_side};
 ghost use Rattle.asg_model.specs.Shapes.{square_side};
 
 use crate::NoMemory;
+use crate::places::{name, number_at};
+use crate::row_tests::number;
 use asg_duals::{sum_square, tight_duals};
 use asg_model::{Instance, Objective};
+use asg_table_sums::lead;
 use std::alloc::Global;
 
 /// A column for each row, by how much each row may fall, and by how much each column may rise: a
@@ -40,9 +43,59 @@ fn sunk(alloc: Global, count: usize, numbers: &[u64], by: u64) -> Result<Vec<u64
     Ok(sunk)
 }
 
-/// A first guess, by the square of the instance; `None` where nothing was found. The error is want
-/// of memory.
-pub(crate) fn first_guess(
+// The fall of each row: the number of its cell, with what its column rises by. The error is want of
+// memory.
+fn falls_of(
+    alloc: Global,
+    objective: Objective,
+    inst: &Instance,
+    columns: &[u32],
+    rises: &[u64],
+) -> Result<Vec<u64>, NoMemory> {
+    let mut falls = Vec::with_capacity(alloc, columns.len())?;
+    for place in 0..columns.len() {
+        let column = columns[place];
+        let cell = match inst.live(name(place), column) {
+            Some(cost) => number(objective, cost),
+            None => 0,
+        };
+        falls.push(cell.saturating_add(number_at(rises, column as usize)))?;
+    }
+    Ok(falls)
+}
+
+// The numbers in 64 bits. The error is want of memory.
+fn widened(alloc: Global, numbers: &[u32]) -> Result<Vec<u64>, NoMemory> {
+    let mut widened = Vec::with_capacity(alloc, numbers.len())?;
+    for place in 0..numbers.len() {
+        widened.push(u64::from(numbers[place]))?;
+    }
+    Ok(widened)
+}
+
+// A first guess, by the costs as they stand; `None` where nothing was found. The error is want of
+// memory.
+fn guess_by_table(
+    alloc: Global,
+    objective: Objective,
+    inst: &Instance,
+) -> Result<Option<Guess>, NoMemory> {
+    let Some(found) = lead(alloc, objective, inst)? else {
+        return Ok(None);
+    };
+    let rises = widened(alloc, found.rises.as_slice())?;
+    let columns = Vec::from_slice(alloc, found.columns.as_slice())?;
+    let falls = falls_of(alloc, objective, inst, columns.as_slice(), rises.as_slice())?;
+    Ok(Some(Guess {
+        columns,
+        falls,
+        rises,
+    }))
+}
+
+// A first guess, by the square of the instance; `None` where nothing was found. The error is want of
+// memory.
+fn guess_by_square(
     alloc: Global,
     objective: Objective,
     inst: &Instance,
@@ -63,4 +116,19 @@ pub(crate) fn first_guess(
         falls,
         rises,
     }))
+}
+
+/// A first guess, by the costs as they stand where a choice is found by them, else by the square of
+/// the instance; `None` where nothing was found. The error is want of memory.
+pub(crate) fn first_guess(
+    alloc: Global,
+    objective: Objective,
+    inst: &Instance,
+) -> Result<Option<Guess>, NoMemory>
+    requires { square_side inst.now ≤ most_side }
+{
+    match guess_by_table(alloc, objective, inst)? {
+        Some(guess) => Ok(Some(guess)),
+        None => guess_by_square(alloc, objective, inst),
+    }
 }

@@ -1,6 +1,6 @@
 //! The test of a row, cell by cell.
 
-ghost use Rattle.std.specs.Prelude.{◌≡◌, ◌≤◌, ◌<◌, ◌+◌, ℕ, pos, ◌≤ℤ◌, Some, IsTrue, IfSome, length, slice_index, slice_index_or};
+ghost use Rattle.std.specs.Prelude.{◌≡◌, ◌≤◌, ◌<◌, ◌+◌, ℕ, Some, IsTrue, IfSome, length, slice_index, slice_index_or};
 ghost use Rattle.asg_model.specs.declared.parts.Cost.{Cost};
 ghost use Rattle.asg_model.specs.Limits.{most_columns};
 ghost use Rattle.asg_model.specs.Table.{absent, table_cost};
@@ -28,27 +28,19 @@ pub(crate) fn number(objective: Objective, cost: Cost) -> u64
     }
 }
 
-// At most the number as which a cost with this first part enters for `sum` or `sum-max`, and just
-// that where an instance has it.
-#[inline]
-fn first_number(objective: Objective, first: i64) -> i64
-    ensures { result ≤ℤ pos (first_entered objective first) }
-{
-    match objective {
-        Objective::Sum if first <= i64::MAX - MOST_COST => first + MOST_COST,
-        Objective::SumMax if first >= MOST_COST - i64::MAX => MOST_COST - first,
-        _ => i64::MIN,
-    }
-}
-
-// Whether a cost with this first part and its column's rise is at least the fall.
+// Whether a cost with this first part and its column's rise is at least the fall, for `sum` or
+// `sum-max`.
 #[inline]
 fn first_is_above(objective: Objective, first: i64, rise: u64, fall: u64) -> bool
     requires rise { rise ≤ most_amount }
     requires fall { fall ≤ most_amount }
     ensures { IsTrue result → fall ≤ first_entered objective first + rise }
 {
-    first_number(objective, first) >= fall as i64 - rise as i64
+    match objective {
+        Objective::Sum => first >= fall as i64 - MOST_COST - rise as i64,
+        Objective::SumMax => first <= MOST_COST - fall as i64 + rise as i64,
+        _ => false,
+    }
 }
 
 // Whether each cost with one of these first parts and its column's rise is at least the fall.

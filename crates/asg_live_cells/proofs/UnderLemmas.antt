@@ -1,5 +1,5 @@
 -- Words of the cells whose grades are under a limit.
-use Rattle.asg_live_cells.proofs.Common.{◌≡◌, ℕ, ◌+◌, ◌*◌, ◌%◌, ◌^◌, ◌<◌, ◌≤◌, Bool, true, false, cond, ◌&&◌, ltb, ◌↔◌, List, map, length, get_or, take, is_some, nat_lt, ◌==◌, bit_and, bit_or, Some, None, Option, sym, refl, ap, ◌∙◌, subst, ⊎_elim, zero-mul, arith, length-take, get_or-take, w64, ltb-true, le-ltb, lt-ltb, bit_at, bit_at-zero, bit_at_set_other, bit_at_set_same, bit_mask_l, bool_byte, cases_eq, cases_lt, false≢true, get_or-map, get_or_from_slice_get, mask_l, none-some, or_zero_r, AreWordsOf, is_bit_set, word_count, HasBit, bit_of, of_bit, same_bool, is_and, bit_in_row, is_under, AreBitsUnder, Grid, cell_at}
+use Rattle.asg_live_cells.proofs.Common.{◌≡◌, ℕ, ◌+◌, ◌*◌, ◌%◌, ◌/◌, ◌^◌, ◌<◌, ◌≤◌, Bool, true, false, cond, ◌&&◌, ltb, ◌↔◌, List, map, length, get_or, take, is_some, nat_lt, ◌==◌, bit_and, bit_or, Some, None, Option, sym, refl, ap, ◌∙◌, subst, ⊎_elim, zero-mul, arith, length-take, get_or-take, w64, ltb-true, le-ltb, lt-ltb, bit_at, bit_at_set_other, bit_at_set_same, bit_mask_l, bool_byte, cases_eq, cases_lt, false≢true, get_or-map, get_or_from_slice_get, mask_l, none-some, or_zero_r, AreWordsOf, is_bit_set, word_count, HasBit, bit_of, of_bit, same_bool, is_and, bit_in_row, is_under, AreBitsUnder, Grid, cell_at, div-div-eq-div-mul, pow-add}
 use Rattle.asg_cell_tables.specs.CellTable.{AreValuesOf}
 
 bit_if : (n : ℕ) (b : Bool) → n ≡ cond {A = ℕ} b 1 0 → (n == 1) ≡ b
@@ -64,12 +64,16 @@ mask_bits grades limit count word mask k h =
 pub past_none : (Q : Grid ℕ) (r c : ℕ) → Q.side ≤ c → cell_at Q r c ≡ None
 past_none Q r c h = ap (λ b. cond b (get_or Q.cells (r * Q.side + c) None) None) (le-ltb c Q.side h)
 
+-- the bits of a word without its lowest ones
+pub shifted_bits : (word s k : ℕ) → is_bit_set (word / 2 ^ s) k ≡ is_bit_set word (s + k)
+shifted_bits word s k = ap (λ m. m % 2 == 1) (div-div-eq-div-mul word (2 ^ s) (2 ^ k) ∙ ap (λ p. word / p) (sym (pow-add 2 s k)))
+
 -- the bits of a word of a row under a limit, by its values and its present cells
-pub under_bits : (row : ℕ → Option ℕ) (side limit number bits k : ℕ) (words values piece : List ℕ) → AreWordsOf (λ c. is_some (row c)) side words → AreValuesOf row side values → number < word_count side
-    → ((c : ℕ) → side ≤ c → row c ≡ None) → ((j : ℕ) → j < 64 → 64 * number + j < side → (j < length piece) × (get_or piece j 0 ≡ get_or values (64 * number + j) 0))
-    → AreBitsUnder piece (length piece) limit bits → k < 64
+pub under_bits : (row : ℕ → Option ℕ) (side limit number bits k : ℕ) (words values : List ℕ) → AreWordsOf (λ c. is_some (row c)) side words → AreValuesOf row side values → number < word_count side
+    → ((c : ℕ) → side ≤ c → row c ≡ None) → ((j : ℕ) → j < 64 → 64 * number + j < side → is_bit_set bits j ≡ nat_lt (get_or values (64 * number + j) 0) limit)
+    → k < 64
     → is_bit_set (bit_and (get_or words number 0) bits) k ≡ is_under limit (row (64 * number + k))
-under_bits row side limit number bits k words values piece are_words are_values below outside pieces are h =
+under_bits row side limit number bits k words values are_words are_values below outside each h =
     is_and (get_or words number 0) bits k
     ∙ ap (λ b. b && is_bit_set bits k) (bit_in_row (λ c. is_some (row c)) side words number k are_words below h)
     ∙ by_cell (row (64 * number + k)) refl
@@ -79,9 +83,8 @@ under_bits row side limit number bits k words values piece are_words are_values 
     by_cell (Some v) at =
         let inside : 64 * number + k < side =
         ⊎_elim (λ (less : 64 * number + k < side). less) (λ (more : side ≤ 64 * number + k). absurd (none-some v (sym (outside (64 * number + k) more) ∙ at))) (cases_lt (64 * number + k) side) in
-        let piece_at = pieces k h inside in
         let value = get_or_from_slice_get values (64 * number + k) v 0 (are_values.each (64 * number + k) (ap is_some at) ∙ at) in
         ap (λ o. is_some o && is_bit_set bits k) at
-        ∙ are k piece_at.0
-        ∙ ap (λ x. nat_lt x limit) (piece_at.1 ∙ value)
+        ∙ each k h inside
+        ∙ ap (λ x. nat_lt x limit) value
         ∙ sym (ap (is_under limit) at)

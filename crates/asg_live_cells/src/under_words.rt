@@ -1,6 +1,6 @@
 //! Words of the cells of a square whose grades are under a limit.
 
-ghost use Rattle.std.specs.Prelude.{◌≡◌, ◌+◌, ◌-◌, ◌*◌, ◌<◌, ◌≤◌, ℕ, min, length, slice_index};
+ghost use Rattle.std.specs.Prelude.{◌≡◌, ◌+◌, ◌-◌, ◌*◌, ◌<◌, ◌≤◌, ℕ, min, nat_lt, length, slice_index};
 ghost use Rattle.asg_model.specs.Limits.{most_side};
 ghost use Rattle.asg_bit_rows.specs.BitTable.{is_bit_set, word_count};
 ghost use Rattle.asg_square.specs.Grid.{cell_at};
@@ -51,6 +51,34 @@ fn piece_of(grades: &[u32], number: u32) -> &[u32]
     &grades[start as usize..(start + count) as usize]
 }
 
+// The bits of the last grades of a row, so many of at least 64: those of the last 64 without the
+// first ones.
+#[inline]
+fn last_bits(values: &[u32], count: u32, limit: u32) -> u64
+    requires some { 0 < count }
+    requires few { count ≤ 64 }
+    requires long { 64 ≤ length values.now }
+    ensures { (k : ℕ) → k < count → is_bit_set result k
+        ≡ nat_lt (slice_index values.now (length values.now - count + k)) limit }
+{
+    full_bits(&values[values.len() - 64..], limit) >> (64 - count)
+}
+
+// The bits of the grades of at most 64 columns of a row, from column `64 * number` on.
+#[inline]
+fn piece_bits(values: &[u32], number: u32, limit: u32) -> u64
+    requires number_below { number < word_count (length values.now) }
+    requires few { length values.now ≤ most_side }
+    ensures { (k : ℕ) → k < 64 → 64 * number + k < length values.now
+        → is_bit_set result k ≡ nat_lt (slice_index values.now (64 * number + k)) limit }
+{
+    let piece = piece_of(values, number);
+    if piece.len() == 64 || values.len() < 64 {
+        return bits_under(piece, limit);
+    }
+    last_bits(values, piece.len() as u32, limit)
+}
+
 /// Which of 64 cells of a row, from column `64 * number` on, are there with a grade under the
 /// limit: bit k says it of the column `64 * number + k`, and no bit past the last column is set.
 #[inline]
@@ -61,7 +89,6 @@ pub fn under_word(square: &Square<u32>, row: u32, number: u32, limit: u32) -> u6
     ensures { (k : ℕ) → k < 64 → is_bit_set result k
         ≡ is_under limit (cell_at square.now row (64 * number + k)) }
 {
-    let grades = piece_of(square.row_values(row), number);
     let word = square.row_words(row)[number as usize];
-    word & bits_under(grades, limit)
+    word & piece_bits(square.row_values(row), number, limit)
 }

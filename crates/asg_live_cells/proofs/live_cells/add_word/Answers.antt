@@ -1,4 +1,4 @@
-use Rattle.asg_live_cells.proofs.Common.{ℕ, ◌<◌, subst, arith, w64, Fits-lt-pow, trailing_zeros, bit_below, HasBit-trailing_zeros, without_bit-lt}
+use Rattle.asg_live_cells.proofs.Common.{arith, w64, Fits-lt-pow, trailing_zeros, bit_below, HasBit-trailing_zeros, without_bit-lt}
 use Rattle.asg_live_cells.proofs.EntryLemmas.{but_first, but_more, but_none}
 use Rattle.asg_live_cells.proofs.live_cells.add_word.Goals as goal
 

@@ -1,4 +1,3 @@
-use Rattle.asg_live_cells.proofs.Common.{ℕ}
 use Rattle.asg_live_cells.proofs.EntryLemmas.{AreEntriesBut}
 use Rattle.asg_live_cells.proofs.live_cells.add_word.Given as goal
 

@@ -1,4 +1,4 @@
-use Rattle.asg_live_cells.proofs.Common.{◌≡◌, ◌+◌, ◌-◌, ◌*◌, ◌<◌, min, length, get_or, sym, ap, ◌∙◌, subst, arith, cell_at}
+use Rattle.asg_live_cells.proofs.Common.{arith, cell_at}
 use Rattle.asg_live_cells.proofs.UnderLemmas.{past_none, under_bits}
 use Rattle.asg_live_cells.proofs.under_words.under_word.Goals as goal
 
@@ -6,10 +6,6 @@ pub returns : goal.returns
 returns c k h =
     let Q = c.args.square.now in
     let row = c.args.row in
-    let number = c.args.number in
-    let count = c.piece_of-grades.ensures.count in
     let over = c.row_values.ensures.count in
-    under_bits (cell_at Q row) Q.side c.args.limit number c.bits_under.result k c.row_words.result.now c.row_values.result.now c.piece_of-grades.result.now
-    c.row_words.ensures c.row_values.ensures c.requires.number_below (λ d past. past_none Q row d past)
-    (λ j low inside. let within : j < length c.piece_of-grades.result.now = omega (arith, count, over, low, inside) in (within, c.piece_of-grades.ensures.cells j within))
-    c.bits_under.ensures h
+    under_bits (cell_at Q row) Q.side c.args.limit c.args.number c.piece_bits.result k c.row_words.result.now c.row_values.result.now c.row_words.ensures c.row_values.ensures c.requires.number_below (λ d past. past_none Q row d past)
+    (λ j low inside. c.piece_bits.ensures j low (omega (arith, over, inside))) h

@@ -11,18 +11,17 @@ SIGNS = frozenset('0123456789:-xX\n')
 
 
 @lru_cache
-def plain_decimals(decimals, with_comma):
-    """A pattern of rows whose cells are plain, each with a line end behind it: no number of theirs is out of range."""
-    mark = '[.,]' if with_comma else '[.]'
-    number = rf'-?[0-9]{{1,{MOST_DIGITS - decimals}}}(?:{mark}[0-9]{{1,{decimals}}})?'
+def plain_decimals(decimals, mark):
+    """A pattern of rows whose cells are plain, each with a line end behind it: no number of theirs is out of range, and
+    all decimals stand behind this mark."""
+    number = rf'-?[0-9]{{1,{MOST_DIGITS - decimals}}}(?:[{mark}][0-9]{{1,{decimals}}})?'
     return re.compile(rf'(?:(?:{number}(?::{number})?|[-xX]?)\n)*')
 
 
 @lru_cache
-def even_decimals(decimals, with_comma):
+def even_decimals(decimals, mark):
     """A pattern of such rows without holes and pairs, all of whose numbers have just so many decimals."""
-    mark = '[.,]' if with_comma else '[.]'
-    return re.compile(rf'(?:-?[0-9]{{1,{MOST_DIGITS - decimals}}}{mark}[0-9]{{{decimals}}}\n)*')
+    return re.compile(rf'(?:-?[0-9]{{1,{MOST_DIGITS - decimals}}}[{mark}][0-9]{{{decimals}}}\n)*')
 
 
 def whole(text, decimals):
@@ -61,11 +60,11 @@ def parts_of(cells, joined):
     return parts[::2], parts[1::2]
 
 
-def is_plain(joined, scale, with_comma):
+def is_plain(joined, scale):
     """Whether the cells of a row, a line each, have no signs but those of plain ones."""
     if not scale.decimals:
         return SIGNS.issuperset(joined)
-    return scale.decimals < MOST_DIGITS and plain_decimals(scale.decimals, with_comma).fullmatch(joined)
+    return scale.decimals < MOST_DIGITS and plain_decimals(scale.decimals, scale.mark or '.').fullmatch(joined)
 
 
 def note_mark(joined, scale, with_comma):
@@ -76,12 +75,20 @@ def note_mark(joined, scale, with_comma):
 
 def read_plain(cells, scale, with_comma):
     """The first and the second costs of a row of plain cells, or None where some cell isn't plain."""
-    joined = '\n'.join(['', *cells, ''])
-    if scale.decimals and not scale.mark:
+    joined, mark = '\n'.join(['', *cells, '']), scale.mark
+    if scale.decimals and not mark:
         note_mark(joined, scale, with_comma)
-    if 0 < scale.decimals < MOST_DIGITS and even_decimals(scale.decimals, with_comma).fullmatch(joined, 1):
+    found = plain_numbers(cells, joined, scale)
+    if found is None:
+        scale.mark = mark
+    return found
+
+
+def plain_numbers(cells, joined, scale):
+    """The same, where the mark of decimals is known."""
+    if 0 < scale.decimals < MOST_DIGITS and even_decimals(scale.decimals, scale.mark or '.').fullmatch(joined, 1):
         return list(map(int, joined.replace('.', '').replace(',', '').split())), [0] * len(cells)
-    if not is_plain(joined[1:], scale, with_comma):
+    if not is_plain(joined[1:], scale):
         return None
     try:
         if ':' not in joined:

@@ -2,9 +2,10 @@
 from copy import copy
 from dataclasses import dataclass, field
 
+from .scale import Scale
 from .sheets import read_sheet
-from .tables import read_cell
-from .words import Wrong, at, named
+from .tables import NO_COMMENT, read_cell, two_costs
+from .words import Faults, Wrong, at, named
 
 FORMS = {
     'cost': 'cost,ROW,COLUMN,COST',
@@ -51,6 +52,8 @@ def read_new_cost(text, table, objective):
         raise Wrong('a cell that can\'t be chosen any more is changed by forbid')
     if objective.refuses(cost):
         raise Wrong(f'{objective.kind} takes no negative {"second " * (objective.kind == "time-cost")}cost')
+    if objective.leaves_aside(cost):
+        raise Wrong(two_costs(table.scale, cost, objective))
     return cost
 
 
@@ -60,7 +63,7 @@ def read_change(fields, table, objective):
     while rest and not rest[-1]:
         rest.pop()
     if word not in FORMS or word == 'solve' or len(rest) != FORMS[word].count(','):
-        raise Wrong('the line is none of: ' + '; '.join(FORMS.values()))
+        raise Wrong('the line is none of: ' + '; '.join(FORMS.values()) + NO_COMMENT * word.startswith('#'))
     change = Change(word)
     if word != 'drop-column':
         change.row = place_of(table.rows, table.dropped, rest[0], table.row_title, 'dropped')
@@ -73,16 +76,8 @@ def read_change(fields, table, objective):
     return change
 
 
-def copied(table):
-    """A table of its own, to be changed."""
-    made = copy(table)
-    made.first, made.second = list(map(list, table.first)), list(map(list, table.second))
-    made.dropped, made.closed = set(table.dropped), set(table.closed)
-    return made
-
-
 def apply(change, table):
-    """Changes the table."""
+    """Changes the table, in place."""
     if change.word == 'drop-row':
         table.dropped.add(change.row)
         table.first[change.row] = [None] * len(table.columns)
@@ -95,19 +90,28 @@ def apply(change, table):
         table.first[change.row][change.column], table.second[change.row][change.column] = a, b
 
 
+def taken_line(fields, after, objective, blocks, changes):
+    """Takes a line: the end of a block, or a change, which tells what is left for those behind it."""
+    if fields[0] == 'solve' and not any(fields[2:]):
+        name = fields[1] if len(fields) > 1 and fields[1] else f'block {len(blocks) + 1}'
+        blocks.append(Block(name, changes[:]))
+        changes.clear()
+        return
+    change = read_change(fields, after, objective)
+    after.dropped |= {change.row} if change.word == 'drop-row' else set()
+    after.closed |= {change.column} if change.word == 'drop-column' else set()
+    changes.append(change)
+
+
 def read_changes(path, table, objective):
     """The blocks of a file. Its end is the end of a block too, where changes stand before it."""
-    sheet, after = read_sheet(path), copied(table)
+    sheet, after, faults = read_sheet(path), copy(table), Faults()
+    after.dropped, after.closed, after.scale = set(), set(), Scale(table.scale.decimals)
     blocks, changes = [], []
     for number, fields in sheet.lines:
-        if fields[0] == 'solve' and not any(fields[2:]):
-            name = fields[1] if len(fields) > 1 and fields[1] else f'block {len(blocks) + 1}'
-            blocks.append(Block(name, changes))
-            changes = []
-        else:
-            change = at(f'{path}, line {number}', read_change, fields, after, objective)
-            apply(change, after)
-            changes.append(change)
+        faults.note(at, f'{path}, line {number}', taken_line, fields, after, objective, blocks, changes)
+    faults.tell(path)
+    table.scale.mark = table.scale.mark or after.scale.mark
     if changes:
         blocks.append(Block(f'block {len(blocks) + 1}', changes))
     if not blocks:

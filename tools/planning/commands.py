@@ -9,7 +9,7 @@ from .explaining import explain
 from .objectives import SAYS, read_objective
 from .program import Program, program_path
 from .scale import Scale
-from .tables import read_table
+from .tables import look_at_pairs, read_table
 from .words import Wrong
 
 SHOWN, NOTHING, WRONG = 0, 1, 2
@@ -51,6 +51,8 @@ def add_question(commands, name, says, with_place=True):
                              help='place exactly K rows instead of all')
     command.add_argument('--decimals', type=whole_number(0, 9), default=0, metavar='D',
                          help='numbers have up to D decimals')
+    command.add_argument('--first', action='store_true',
+                         help='of cells with two costs count the first, where the objective counts one')
     command.add_argument('--keep', metavar='DIR', help='keep the files that asg was given and that it gave')
     command.add_argument('--asg', metavar='PROGRAM', help='the program asg; without it the one that the variable ASG '
                                                           'names, or that was built in this clone')
@@ -81,12 +83,19 @@ def parser():
     return made
 
 
+def table_of(args):
+    """The table, and what is best."""
+    scale, scale_of_cap = Scale(args.decimals), Scale(args.decimals)
+    objective = read_objective(args.objective, scale_of_cap, args.first)
+    table = read_table(args.table, scale)
+    scale.mark = scale.mark or scale_of_cap.mark
+    look_at_pairs(table, objective)
+    return table, objective
+
+
 def question_of(args):
     """The table and what is asked of it."""
-    scale = Scale(args.decimals)
-    objective = read_objective(args.objective, scale)
-    table = read_table(args.table, scale)
-    return solving.Question(table, objective, getattr(args, 'place', 0))
+    return solving.Question(*table_of(args), args.place)
 
 
 def solve(args):
@@ -100,9 +109,9 @@ def solve(args):
 
 
 def rank(args):
-    question = question_of(args)
+    asked = ranking.Asked(*table_of(args), args.count)
     with Program(program_path(args.asg), args.keep) as program:
-        ranked = ranking.rank(program, question, args.count)
+        ranked = ranking.rank(program, asked)
     print('\n'.join(ranking.ranked_lines(ranked, args.keep)))
     return SHOWN if ranked.answers else NOTHING
 
@@ -112,8 +121,8 @@ def edit(args):
     blocks = read_changes(args.changes, question.table, question.objective)
     with Program(program_path(args.asg), args.keep) as program:
         steps, verdict = editing.edit(program, question, blocks, args.changes)
-    print('\n'.join(editing.edit_lines(steps, verdict, args.keep)))
-    return SHOWN if all(step.answer for step in steps) else NOTHING
+    print('\n'.join(editing.edit_lines(question, steps, verdict, args.keep)))
+    return SHOWN if all(step.roster for step in steps) else NOTHING
 
 
 def in_words(args):
@@ -130,7 +139,7 @@ COMMANDS = {'solve': solve, 'rank': rank, 'edit': edit, 'explain': in_words, 'ex
 
 
 def fault(text):
-    print(f'plan: {text}', file=sys.stderr)
+    print('\n'.join(f'plan: {line}' for line in str(text).split('\n')), file=sys.stderr)
     return WRONG
 
 

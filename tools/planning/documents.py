@@ -1,4 +1,5 @@
 """Documents of asg, as its formats page has them, read into places of the table."""
+import re
 from dataclasses import dataclass, field
 
 from .words import Wrong
@@ -74,25 +75,53 @@ def take_line(document, word, rest, rows, columns):
         document.windows.append((int(rest[0]), int(rest[1]), places_of(rest[2:], rows)))
     elif word == 'level':
         document.levels.append((int(rest[0]), int(rest[1])))
-    elif word == 'steps' and document.kind == 'phases':
-        document.phases.append(Phase(read_steps(rest), [], []))
-    elif word in ('enters', 'leaves') and document.kind == 'phases':
-        setattr(document.phases[-1], word, list(map(int, rest)))
+
+
+class PhaseLines:
+    """The numbers of the lines of phases. Many of a document are those of the one before, and aren't read again."""
+
+    def __init__(self):
+        self.before, self.now = {}, {}
+
+    def turn(self):
+        """Another document begins."""
+        self.before, self.now = self.now, {}
+
+    def take(self, document, word, line):
+        """Takes a line of a phase."""
+        found = self.now[line] = self.before.get(line) or read_steps(line.split()[1:])
+        if word == 'steps':
+            document.phases.append(Phase(found, [], []))
+        else:
+            setattr(document.phases[-1], word, found)
+
+
+def each_document(text, rows, columns):
+    """The documents of a text, one after the other. There are so many rows, and `columns` tells for each column of the
+    file which one of the table it is."""
+    document, lines = None, PhaseLines()
+    try:
+        for found in re.finditer('.+', text):
+            word = found[0].split(' ', 1)[0]
+            if word == 'status':
+                if document:
+                    yield document
+                document = Document(found[0].split()[1])
+                lines.turn()
+            elif document and word in ('steps', 'enters', 'leaves'):
+                if document.kind == 'phases':
+                    lines.take(document, word, found[0])
+            elif document:
+                take_line(document, word, found[0].split()[1:], rows, columns)
+    except (ValueError, IndexError):
+        raise Wrong(f'asg wrote a line that plan can\'t read: {found[0][:80]!r}') from None
+    if document:
+        yield document
 
 
 def read_documents(text, wanted, rows, columns):
-    """The documents of a text, so many as are wanted. There are so many rows, and `columns` tells for each column of
-    the file which one of the table it is."""
-    documents = []
-    try:
-        for line in text.splitlines():
-            word, *rest = line.split()
-            if word == 'status':
-                documents.append(Document(rest[0]))
-            elif documents:
-                take_line(documents[-1], word, rest, rows, columns)
-    except (ValueError, IndexError):
-        raise Wrong(f'asg wrote a line that plan can\'t read: {line[:80]!r}') from None
-    if len(documents) != wanted:
-        raise Wrong(f'asg answered with {len(documents)} documents, and {wanted} were due')
-    return documents
+    """The documents of a text, so many as are wanted."""
+    found = len(re.findall('^status ', text, re.MULTILINE))
+    if found != wanted:
+        raise Wrong(f'asg answered with {found} documents, and {wanted} were due')
+    return each_document(text, rows, columns)

@@ -1,10 +1,10 @@
 """A roster that is kept through changes: repaired after each block, with what is different."""
 from copy import copy
-from dataclasses import dataclass, replace
+from dataclasses import dataclass
 
 from . import looks, texts
-from .changes import apply, copied, script_of, told
-from .documents import Answer, Document, read_documents
+from .changes import apply, script_of, told
+from .documents import Answer, read_documents
 from .program import ending
 from .solving import Question, document_of, explained, refusal, worst_reason
 from .words import Wrong, counted, listed
@@ -14,29 +14,30 @@ SCRIPT, ANSWERS = 'changes.script', 'week.document'
 
 @dataclass
 class Step:
-    """A roster that was due: the question as it was by then, its document, and why nothing is better."""
+    """A roster that was due, by names; none where no choice is valid; and its value, and why nothing is better."""
 
     name: str
     changes: list
-    question: Question
-    document: object
+    roster: list
+    value: tuple
     why: list
 
-    @property
-    def answer(self):
-        return self.document.answers[0] if self.document.answers else None
+
+def step_of(question, name, words, answer, why):
+    """What is kept of a roster, whose table goes on to change."""
+    if answer is None:
+        return Step(name, words, None, None, why)
+    return Step(name, words, texts.roster(question, answer), answer.value, why)
 
 
-def questions(question, blocks):
-    """For each roster that is due its block's name, the changes in words, and the question as it is then."""
-    table = question.table
-    yield 'before any change', [], question
+def moments(question, blocks):
+    """For each roster that is due its block's name and the changes in words. The table is then as it is by then: there
+    is one for all blocks, which changes in place."""
+    yield 'before any change', []
     for block in blocks:
-        words = [told(change, table) for change in block.changes]
-        table = copied(table)
         for change in block.changes:
-            apply(change, table)
-        yield block.name, words, replace(question, table=table)
+            apply(change, question.table)
+        yield block.name, [told(change, question.table) for change in block.changes]
 
 
 def compacted(table):
@@ -82,10 +83,11 @@ def repaired(program, question, blocks, path):
     verdict = program.check('asg checks the answers', word, table, answers, '--script', script, *options)
     steps = []
     documents = read_documents(done.text, len(blocks) + 1, len(question.table.rows), question.instance.columns)
-    for number, ((name, words, asks), document) in enumerate(zip(questions(question, blocks), documents)):
+    for number, ((name, words), document) in enumerate(zip(moments(question, blocks), documents)):
         if document.answers:
-            looks.look_at_answer(asks.table, asks.objective, document.answers[0], asks.place)
-        steps.append(Step(name, words, asks, document, why_of(program, asks, document, number)))
+            looks.look_at_answer(question.table, question.objective, document.answers[0], question.place)
+        why = why_of(program, question, document, number)
+        steps.append(step_of(question, name, words, document.answers[0] if document.answers else None, why))
     return steps, verdict
 
 
@@ -101,16 +103,18 @@ def too_few(question):
 def solved_anew(program, question, blocks):
     """The rosters solved one by one, for objectives whose answers asg doesn't repair."""
     steps = []
-    for number, (name, words, asks) in enumerate(questions(question, blocks)):
-        if too_few(asks):
-            steps.append(Step(name, words, asks, Document('none'), [too_few(asks)]))
+    for number, (name, words) in enumerate(moments(question, blocks)):
+        if too_few(question):
+            steps.append(step_of(question, name, words, None, [too_few(question)]))
             continue
-        left, rows, columns = left_question(asks, number)
+        left, rows, columns = left_question(question, number)
         document, _ = document_of(program, left)
         why, _ = explained(program, left, document)
-        document.answers = [Answer(answer.value, [(rows[r], columns[c]) for r, c in answer.cells])
-                            for answer in document.answers]
-        steps.append(Step(name, words, asks, document, why))
+        answer = None
+        if document.answers:
+            value, cells = document.answers[0].value, document.answers[0].cells
+            answer = Answer(value, [(rows[r], columns[c]) for r, c in cells])
+        steps.append(step_of(question, name, words, answer, why))
     return steps, 'yes 1, for each roster'
 
 
@@ -121,37 +125,34 @@ def edit(program, question, blocks, path):
     return solved_anew(program, question, blocks)
 
 
-def changed_lines(step, before):
-    """The roster, with what each row had before where that was something else."""
-    table, lines = step.question.table, texts.roster(step.question, step.answer)
-    if before is None or before.answer is None:
-        return texts.table_lines([texts.heads(table), *lines], to_right=(2,)), None
-    had = dict(zip((name for name, _, _ in texts.roster(before.question, before.answer)),
-                   texts.roster(before.question, before.answer)))
-    marks = [f'was {had[line[0]][1]}' if had[line[0]][1] != line[1] else '' for line in lines]
-    parts = [[*line, mark] for line, mark in zip(lines, marks)]
+def changed_lines(table, step, before):
+    """The roster, with what each row had before where that was something else; and how many had."""
+    if before is None or before.roster is None:
+        return texts.table_lines([texts.heads(table), *step.roster], to_right=(2,)), None
+    had = {name: column for name, column, _ in before.roster}
+    marks = [f'was {had[name]}' if had[name] != column else '' for name, column, _ in step.roster]
+    parts = [[*line, mark] for line, mark in zip(step.roster, marks)]
     return texts.table_lines([[*texts.heads(table), 'before'], *parts], to_right=(2,)), sum(map(bool, marks))
 
 
-def step_lines(step, before):
+def step_lines(question, step, before):
     """All that is shown of a roster."""
-    scale, objective = step.question.table.scale, step.question.objective
+    scale, objective = question.table.scale, question.objective
     lines = [f'{step.name}: {listed(step.changes)}' if step.changes else step.name]
-    if step.answer is None:
+    if step.roster is None:
         return lines + ['No choice is valid.', '', 'Why', *(f'  {line}' for line in step.why), '']
-    roster, changed = changed_lines(step, before)
-    head = f'{texts.shown_objective(step.question)} {objective.show(scale, step.answer.value)}'
+    roster, changed = changed_lines(question.table, step, before)
+    head = f'{texts.shown_objective(question)} {objective.show(scale, step.value)}'
     if changed is not None:
-        head += f', {objective.show(scale, before.answer.value)} before; {counted(changed, "change")} in the roster'
+        head += f', {objective.show(scale, before.value)} before; {counted(changed, "change")} in the roster'
     return lines + [head, '', *roster, '', 'Why nothing is better', *(f'  {line}' for line in step.why), '']
 
 
-def edit_lines(steps, verdict, keep):
+def edit_lines(question, steps, verdict, keep):
     """All that is shown of a table and its changes."""
     lines = []
     for before, step in zip([None, *steps], steps):
-        lines += step_lines(step, before) + ['-' * 20, '']
-    question = steps[0].question
+        lines += step_lines(question, step, before) + ['-' * 20, '']
     if question.objective.is_ranked:
         return lines[:-2] + texts.checked(verdict, question, keep, ANSWERS, '--script', f'{keep}/{SCRIPT}')
     return lines[:-2] + texts.checked(verdict, question, '', '')

@@ -21,21 +21,35 @@ class Instance:
         each = ['--each', str(self.each)] if self.each != 1 else []
         return ['--format', 'rect', *each, *(['--place', str(self.place)] if self.place else [])]
 
+    def file_rows(self, table):
+        """How many rows the file has."""
+        return len(table.rows)
+
+    def text(self, table, _):
+        """The file."""
+        return text_of(table, self)
+
     def copies(self, column):
         """The file's columns, from 1, that stand for a column of the table."""
         return [place for place, found in enumerate(self.columns, 1) if found == column]
 
 
+def look_at_size(table):
+    """That asg takes so many rows and columns."""
+    rows, columns = len(table.rows), len(table.columns)
+    if max(rows, columns) > MOST:
+        raise Wrong(f'{table.path}: {rows:,} rows and {columns:,} columns; asg takes {MOST:,} of each')
+
+
 def instance_of(table, place):
     """The table's instance: a column that takes several rows stands several times, unless all take as many."""
+    look_at_size(table)
     most = [min(count, len(table.rows)) for count in table.capacity]
     if len(set(most)) == 1:
         made = Instance(list(range(len(table.columns))), most[0], place)
     else:
         made = Instance([c for c, count in enumerate(most) for _ in range(count)], 1, place)
     rows, columns, places = len(table.rows), len(made.columns), sum(table.capacity)
-    if rows > MOST or len(table.columns) > MOST:
-        raise Wrong(f'{table.path}: {rows:,} rows and {len(table.columns):,} columns; asg takes {MOST:,} of each')
     if columns > MOST:
         raise Wrong(f'{table.path}: columns with different capacities stand in the file for asg once for each place: '
                     f'{columns:,} here, and asg takes {MOST:,}')

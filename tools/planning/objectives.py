@@ -19,10 +19,11 @@ MOST_CAP = 10**12
 
 @dataclass(frozen=True)
 class Objective:
-    """An objective: its kind, as in SAYS, and the cap of `capped`."""
+    """An objective: its kind, as in SAYS, the cap of `capped`, and whether of two costs the first may count alone."""
 
     kind: str
     cap: int = 0
+    takes_first: bool = False
 
     @property
     def word(self):
@@ -62,7 +63,8 @@ class Objective:
         if self.kind == 'capped':
             return (min(sum(first), self.cap),)
         if self.kind == 'time-cost':
-            return (max(first), sum(b for a, b in costs if a == max(first)))
+            worst = max(first)
+            return (worst, sum(b for a, b in costs if a == worst))
         if self.kind == 'lex':
             return tuple(sorted(first, reverse=True))
         if self.kind == 'balanced':
@@ -73,6 +75,10 @@ class Objective:
         """Whether asg takes no such cost."""
         return self.kind == 'capped' and cost[0] < 0 or self.kind == 'time-cost' and cost[1] < 0
 
+    def leaves_aside(self, cost):
+        """Whether a second cost would not count, and nobody said that this is meant."""
+        return cost[1] != 0 and not self.is_paired and not self.takes_first
+
     def is_better(self, one, other):
         """Whether a value is strictly better than another."""
         return one > other if self.is_greater else one < other
@@ -82,16 +88,16 @@ class Objective:
         return ' '.join(map(scale.show, value)) if self.kind == 'lex' else scale.show_all(value)
 
 
-def read_objective(text, scale):
+def read_objective(text, scale, takes_first=False):
     """The objective of a word, as sum or capped=7.50."""
     kind, is_given, cap = text.partition('=')
     if kind not in SAYS or is_given and kind != 'capped':
         raise Wrong(f'{text!r} is no objective; they are {", ".join(SAYS)} (capped=C with its cap C)')
     if kind != 'capped':
-        return Objective(kind)
+        return Objective(kind, 0, takes_first)
     if not cap:
         raise Wrong('capped needs its cap, as capped=40')
     number = scale.read(cap, with_comma=True)
     if not 1 <= number <= MOST_CAP:
         raise Wrong(f'the cap of capped lies between {scale.show(1)} and {scale.show(MOST_CAP)}')
-    return Objective(kind, number)
+    return Objective(kind, number, takes_first)

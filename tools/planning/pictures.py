@@ -28,12 +28,13 @@ def room(names):
 
 
 class Plot:
-    """Where everything stands, and how costs are shaded."""
+    """Where everything stands, and the number of each cost's shade, from the palest on: by its place among the costs in
+    order, so that one that is far from all others leaves these their shades."""
 
     def __init__(self, table, is_paired):
         self.table, self.is_paired = table, is_paired
-        live = [cost for row in table.first for cost in row if cost is not None]
-        self.low, self.high = min(live, default=0), max(live, default=0)
+        live = sorted({cost for row in table.first for cost in row if cost is not None})
+        self.shade_of = {cost: (SHADES - 1) * place // max(1, len(live) - 1) for place, cost in enumerate(live)}
         told = max((len(self.told(r, c)) for r in range(len(table.rows)) for c in range(len(table.columns))), default=0)
         self.has_numbers = len(table.columns) <= 40 and len(table.rows) <= 60 and told <= 9
         self.side = max(HEIGHT, round(LETTER * told) + 8) if self.has_numbers else HEIGHT
@@ -47,10 +48,6 @@ class Plot:
         """A cell's cost, as it is written into it."""
         cost = self.table.cost(row, column)
         return '' if cost is None else self.table.show_cost(cost, self.is_paired)
-
-    def shade(self, cost):
-        """The number of a cost's shade, from the palest on."""
-        return (SHADES - 1) * (cost - self.low) // max(1, self.high - self.low)
 
     def x(self, column):
         return self.left + self.side * column
@@ -82,13 +79,13 @@ def row_name(plot, row, is_marked):
 def cell(plot, row, column, has_title):
     """A cell: its shade, its cost where there is room, and its names where they are shown on pointing."""
     cost, x, y = plot.table.first[row][column], plot.x(column), plot.y(row)
-    look = 'h' if cost is None else f's{plot.shade(cost)}'
+    look = 'h' if cost is None else f's{plot.shade_of[cost]}'
     title = (f'<title>{escape(plot.table.rows[row])}, {escape(plot.table.columns[column])}: '
              f'{plot.told(row, column) or "not allowed"}</title>') if has_title else ''
     drawn = f'<rect class="{look}" x="{x}" y="{y}" width="{plot.side - 1}" height="{HEIGHT - 1}"'
     drawn += f'>{title}</rect>' if title else '/>'
     if plot.has_numbers and cost is not None:
-        pale = ' l' if plot.shade(cost) > SHADES // 2 else ''
+        pale = ' l' if plot.shade_of[cost] > SHADES // 2 else ''
         drawn += f'<text class="t{pale}" x="{x + plot.side / 2:g}" y="{y + 15}">{plot.told(row, column)}</text>'
     return drawn
 

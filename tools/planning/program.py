@@ -13,6 +13,9 @@ from .words import Wrong
 TOP = os.path.dirname(os.path.dirname(os.path.dirname(os.path.realpath(__file__))))
 BUILT = os.path.join(TOP, 'crates', 'asg', 'out', 'asg')
 FIRST_TICK, NEXT_TICKS = 2, 5
+KEPT = 'kept-by-plan.txt'
+KEPT_SAYS = 'The files that tools/plan gave to asg, and what asg answered. They are written over where this folder is '
+KEPT_SAYS += 'kept again.\n'
 
 
 def program_path(named):
@@ -58,17 +61,33 @@ class Run:
     text: str
 
 
+def is_kept_name(path, keep):
+    """Whether a path is that of a file that may be kept in a folder."""
+    folder, name = os.path.split(os.path.realpath(path))
+    return folder == os.path.realpath(keep) and (name == KEPT or name.endswith(('.rect', '.document', '.script')))
+
+
+def made_folder(keep):
+    """The folder to be kept, made where it isn't there. One with other files in it is refused, so that none is written
+    over: one that files were kept in before has a note that says so."""
+    os.makedirs(keep, exist_ok=True)
+    found = os.listdir(keep)
+    if found and KEPT not in found:
+        raise Wrong(f'--keep {keep}: the folder has other files; name one that is new or empty')
+    with open(os.path.join(keep, KEPT), 'w', encoding='utf-8') as file:
+        file.write(KEPT_SAYS)
+    return keep
+
+
 class Program:
     """The program, and the folder in which the files lie that it is given and that it gives."""
 
     def __init__(self, path, keep):
         self.path, self.keep = path, keep
         try:
-            if keep:
-                os.makedirs(keep, exist_ok=True)
-            self.folder = keep or tempfile.mkdtemp(prefix='plan-')
+            self.folder = made_folder(keep) if keep else tempfile.mkdtemp(prefix='plan-')
         except OSError as error:
-            raise Wrong(f'{keep or tempfile.gettempdir()}: {error.strerror}') from None
+            raise Wrong(f'{error.filename or tempfile.gettempdir()}: {error.strerror}') from None
 
     def __enter__(self):
         return self

@@ -6,6 +6,8 @@ from .words import Wrong
 
 MOST = 10**9
 NUMBER = re.compile(r'([-+\u2212]?)([0-9]+)(?:([.,])([0-9]+))?')
+PARTED = re.compile(r'([-+\u2212]?[0-9]{1,3}(?:([.,\' \u2019_])[0-9]{3})(?:\2[0-9]{3})*)([.,][0-9]+)?')
+THOUSAND = 3
 
 
 @dataclass
@@ -19,15 +21,27 @@ class Scale:
         """The whole number that stands for a field's text."""
         found = NUMBER.fullmatch(text)
         if not found or found[3] == ',' and not with_comma:
-            raise Wrong(f'{text!r} is no number')
+            raise Wrong(f'{text!r} is no number{parted(text)}')
         sign, whole, mark, part = found.groups()
+        if mark:
+            self.look_at_mark(text, mark, part)
         part = (part or '').rstrip('0')
         if len(part) > self.decimals:
             raise Wrong(f'{text} has more than {self.decimals} decimals: say --decimals {len(part)}'
                         if self.decimals else f'{text} has decimals: say --decimals {len(part)}')
-        self.mark = self.mark or mark or ''
         value = int(whole + part.ljust(self.decimals, '0'))
         return -value if sign and sign != '+' else value
+
+    def look_at_mark(self, text, mark, part):
+        """Refuses what may part thousands: three digits behind a mark, and another mark than the table has first."""
+        if len(part) == THOUSAND > self.decimals:
+            is_part = re.match('[^0-9]?0', text)  # no thousands begin with 0
+            raise Wrong(f'{text} has three digits behind its mark: ' + ('say --decimals 3' if is_part else
+                        f'where that parts thousands, write {text.replace(mark, "")}, and else say --decimals 3'))
+        if self.mark and mark != self.mark:
+            raise Wrong(f'{text} has another mark than the numbers before it, which have {self.mark!r}: write all '
+                        'decimals behind one mark, and thousands without any')
+        self.mark = mark
 
     def read_cost(self, text, with_comma):
         """The same, within the range of costs."""
@@ -46,3 +60,11 @@ class Scale:
     def show_all(self, values):
         """The parts of a cost or a value, joined as they are written in a table."""
         return ':'.join(map(self.show, values))
+
+
+def parted(text):
+    """What to write in place of a number whose thousands are parted."""
+    found = PARTED.fullmatch(text)
+    if not found:
+        return ''
+    return f': thousands are not parted; write {found[1].replace(found[2], "")}{found[3] or ""}'

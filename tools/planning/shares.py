@@ -39,8 +39,11 @@ def sums_from(phases, side, marks):
     sums = [0] * side
     for phase in phases:
         before = [0, *accumulate(phase.steps)]
-        for place, mark in enumerate(marks(phase)):
-            sums[place] += before[-1] - before[min(mark, len(before) - 1)]
+        last, behind = len(phase.steps), [before[-1] - sum_before for sum_before in before]
+        found = marks(phase)
+        if max(found) > last:
+            found = [min(mark, last) for mark in found]
+        sums = list(map(add, sums, map(behind.__getitem__, found)))
     return sums
 
 

@@ -3,7 +3,7 @@ from dataclasses import dataclass, replace
 
 from . import looks, reasons, shares
 from .documents import read_documents
-from .instances import Instance, instance_of, text_of
+from .instances import Instance, instance_of
 from .objectives import Objective
 from .program import ending
 from .tables import Table
@@ -40,7 +40,7 @@ class Question:
 
     def file_text(self):
         """The table as asg reads it."""
-        return text_of(self.table, self.instance)
+        return self.instance.text(self.table, self.objective)
 
     @property
     def size(self):
@@ -101,8 +101,10 @@ def document_of(program, question, command='solve', *options):
     path = program.write(question.document_name, text)
     verdict = program.check('asg checks the answer', question.objective.word, table, path, *options,
                             *question.instance.options)
-    document = read_documents(text, 1, len(question.table.rows), question.instance.columns)[0]
+    rows = question.instance.file_rows(question.table)
+    document = next(read_documents(text, 1, rows, question.instance.columns))
     for answer in document.answers:
+        answer.cells = [cell for cell in answer.cells if cell[0] < len(question.table.rows)]
         looks.look_at_answer(question.table, question.objective, answer, question.place)
     return document, verdict
 

@@ -5,9 +5,11 @@ from dataclasses import dataclass, field
 from .cells import HOLES, read_plain
 from .scale import Scale
 from .sheets import read_sheet
-from .words import Wrong, at, counted
+from .words import Faults, Wrong, at, counted
 
 MOST_CAPACITY = 1000
+CAPACITY = re.compile('capacit(?:y|ies) ?:?', re.IGNORECASE)
+NO_COMMENT = ' (a line that begins with # is a comment only where no separator stands in it)'
 
 
 @dataclass
@@ -50,6 +52,8 @@ def read_cell(text, table):
     if text in HOLES:
         return None, 0
     first, is_pair, second = text.partition(':')
+    if not is_pair and not any(map(str.isdecimal, text)):
+        raise Wrong(f'{text!r} is no number; a cell that can\'t be chosen is empty, - or x')
     return (table.scale.read_cost(first.strip(), table.with_comma),
             table.scale.read_cost(second.strip(), table.with_comma) if is_pair else 0)
 
@@ -60,7 +64,16 @@ def read_capacity(text):
     return int(text)
 
 
-def take_header(table, where, fields):
+def read_name(where, place, name, seen):
+    """The name of a column."""
+    if not name:
+        raise Wrong(f'{where}: column {place} has no name')
+    if name in seen:
+        raise Wrong(f'{where}: two columns are named {name}')
+    seen.add(name)
+
+
+def take_header(table, where, fields, faults):
     """The line that names the columns; its first field may name both sides."""
     titles = re.split(r'\s*[/\\]\s*', fields[0] or 'row', maxsplit=1)
     table.row_title = titles[0] or 'row'
@@ -72,11 +85,7 @@ def take_header(table, where, fields):
         raise Wrong(f'{where}: no column is named (columns are separated by commas, semicolons or tabs)')
     seen = set()
     for place, name in enumerate(names, 1):
-        if not name:
-            raise Wrong(f'{where}: column {place} has no name')
-        if name in seen:
-            raise Wrong(f'{where}: two columns are named {name}')
-        seen.add(name)
+        faults.note(read_name, where, place, name, seen)
     table.columns = names
 
 
@@ -86,50 +95,66 @@ def cells_of(table, where, fields):
     while len(cells) > wanted and not cells[-1]:
         cells.pop()
     if len(cells) != wanted:
+        more = NO_COMMENT if '#' in (fields[0][:1], table.row_title[:1]) else ''
         raise Wrong(f'{where}: {fields[0] or "the line"} has {counted(len(cells), "cell")}, and there '
-                    f'{"is" if wanted == 1 else "are"} {counted(wanted, "column")}')
+                    f'{"is" if wanted == 1 else "are"} {counted(wanted, "column")}{more}')
     return cells
 
 
-def read_cells(table, where, cells):
+def read_cells(table, where, cells, faults):
     """The costs of a row: plain ones at once, others one by one."""
     plain = read_plain(cells, table.scale, table.with_comma)
     if plain:
         return plain
-    found = [at(f'{where}, column {name}', read_cell, text, table) for name, text in zip(table.columns, cells)]
+    found = [faults.note(at, f'{where}, column {name}', read_cell, text, table) or (None, 0)
+             for name, text in zip(table.columns, cells)]
     return [a for a, _ in found], [b for _, b in found]
 
 
-def take_row(table, where, fields, seen):
-    """A line behind the header: capacities, or a row with its costs."""
-    cells = cells_of(table, where, fields)
-    if fields[0].lower() == 'capacity':
-        if table.capacity is not None:
-            raise Wrong(f'{where}: a second line of capacities')
-        table.capacity = [at(f'{where}, column {name}', read_capacity, text)
-                          for name, text in zip(table.columns, cells)]
-        return
-    if not fields[0]:
+def take_capacities(table, where, cells, faults):
+    """The line of capacities."""
+    if table.capacity is not None:
+        raise Wrong(f'{where}: a second line of capacities')
+    table.capacity = [faults.note(at, f'{where}, column {name}', read_capacity, text)
+                      for name, text in zip(table.columns, cells)]
+
+
+def look_at_row(where, name, seen):
+    """That a row has a name of its own, which isn't almost the word of the line of capacities."""
+    if not name:
         raise Wrong(f'{where}: the row has no name')
-    if fields[0] in seen:
-        raise Wrong(f'{where}: two rows are named {fields[0]}')
-    seen.add(fields[0])
-    first, second = read_cells(table, f'{where}, row {fields[0]}', cells)
-    table.rows.append(fields[0])
+    if name in seen:
+        raise Wrong(f'{where}: two rows are named {name}')
+    if name.lower().startswith('capacit'):
+        raise Wrong(f'{where}: the row is named {name}: the line of capacities begins with the word capacity alone, '
+                    'and a row needs another name')
+    seen.add(name)
+
+
+def take_row(table, where, fields, seen, faults):
+    """A line behind the header: capacities, or a row with its costs."""
+    cells, name = cells_of(table, where, fields), fields[0]
+    if CAPACITY.fullmatch(name):
+        take_capacities(table, where, cells, faults)
+        return
+    faults.note(look_at_row, where, name, seen)
+    first, second = read_cells(table, f'{where}, row {name}' if name else where, cells, faults)
+    table.rows.append(name)
     table.first.append(first)
     table.second.append(second)
 
 
 def read_table(path, scale):
     """The table of a file."""
-    sheet = read_sheet(path)
-    table, seen = Table(path, sheet.delimiter, sheet.has_mark, scale), set()
+    sheet, faults, seen = read_sheet(path), Faults(), set()
+    table = Table(path, sheet.delimiter, sheet.has_mark, scale)
     for number, fields in sheet.lines:
         where = f'{path}, line {number}'
         if table.columns:
-            take_row(table, where, fields, seen)
+            faults.note(take_row, table, where, fields, seen, faults)
         else:
-            take_header(table, where, fields)
+            take_header(table, where, fields, faults)
+    faults.tell(path)
     if not table.columns:
         raise Wrong(f'{path}: the table is empty')
     if not table.rows:
@@ -137,3 +162,20 @@ def read_table(path, scale):
     if table.capacity is None:
         table.capacity = [1] * len(table.columns)
     return table
+
+
+def two_costs(scale, cost, objective):
+    """What is wrong with a pair where one cost counts: a time of day may be meant."""
+    return (f'{scale.show_all(cost)} is two costs, and {objective.kind} counts one: write hours and minutes as minutes, '
+            'or say --first to leave second costs aside')
+
+
+def look_at_pairs(table, objective):
+    """That no second cost is left aside where nobody said so."""
+    for row, second in enumerate(table.second):
+        if any(second):
+            column = next(place for place, part in enumerate(second) if part)
+            cost = table.cost(row, column)
+            if objective.leaves_aside(cost):
+                raise Wrong(f'{table.path}, row {table.rows[row]}, column {table.columns[column]}: '
+                            + two_costs(table.scale, cost, objective))

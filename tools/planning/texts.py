@@ -9,6 +9,8 @@ OUT = '(stays out)'
 
 def width(text):
     """How many places of a terminal a text takes."""
+    if text.isascii():
+        return len(text)
     return sum(0 if unicodedata.combining(sign) or unicodedata.category(sign) in ('Cf', 'Mn', 'Me')
                else 2 if unicodedata.east_asian_width(sign) in 'WF' else 1 for sign in text)
 
@@ -20,11 +22,19 @@ def padded(text, wide, to_right=False):
     return blanks + text if to_right else text + blanks
 
 
+def aligned(parts, to_right):
+    """The parts of a column, all as wide as the widest."""
+    if all(map(str.isascii, parts)):
+        wide = max(map(len, parts))
+        return [part.rjust(wide) if to_right else part.ljust(wide) for part in parts]
+    wide = max(map(width, parts))
+    return [padded(part, wide, to_right) for part in parts]
+
+
 def table_lines(lines, to_right=()):
     """Lines of parts in columns; those numbered in `to_right` end in line."""
-    wide = [max(width(line[place]) for line in lines) for place in range(len(lines[0]))]
-    return ['  '.join(padded(part, wide[place], place in to_right) for place, part in enumerate(line)).rstrip()
-            for line in lines]
+    columns = [aligned(parts, place in to_right) for place, parts in enumerate(zip(*lines))]
+    return ['  '.join(parts).rstrip() for parts in zip(*columns)]
 
 
 def headline(solved):

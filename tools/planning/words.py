@@ -1,6 +1,8 @@
 """Sentences: what is wrong, and things that are named, listed or counted."""
 import unicodedata
 
+MOST_TOLD = 20
+
 
 class Wrong(Exception):
     """What is wrong with the words, the table or an answer, in words."""
@@ -8,6 +10,28 @@ class Wrong(Exception):
 
 class TooMany(Wrong):
     """So many choices that asg doesn't rank them."""
+
+
+class Faults:
+    """What is wrong with a file: all of it, to be told at once."""
+
+    def __init__(self):
+        self.told = []
+
+    def note(self, call, *given):
+        """Calls, and notes what is wrong in place of an answer."""
+        try:
+            return call(*given)
+        except Wrong as wrong:
+            self.told.append(str(wrong))
+            return None
+
+    def tell(self, path):
+        """Ends with what was noted, the first ones of many."""
+        if len(self.told) > MOST_TOLD:
+            self.told[MOST_TOLD - 1:] = [f'{path}: and {len(self.told) - MOST_TOLD + 1:,} more faults']
+        if self.told:
+            raise Wrong('\n'.join(self.told))
 
 
 def listed(names, most=12, last='and'):

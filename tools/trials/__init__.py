@@ -1,1 +1,1 @@
-"""Trials of tools/plan: tools/test runs them."""
+"""Trials of the program and of tools/plan: tools/test runs them."""

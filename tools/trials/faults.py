@@ -1,4 +1,7 @@
-"""Planted faults: each is put into a copy of plan, or of its pages, and the trials must fail there."""
+"""Planted faults: each is put into a copy of plan, or of its pages, and the trials must fail there.
+
+And programs that give what asg gives but for one thing: each of the runs that are tabled must fail there.
+"""
 import os
 import shutil
 import subprocess
@@ -28,13 +31,28 @@ FAULTS = (
     ('decimals that are not moved', 'tools/planning/scale.py', "part.ljust(self.decimals, '0')", 'part', 'rosters'),
     ('decimals that are not moved, in plain rows', 'tools/planning/cells.py', "after.ljust(decimals, '0')", 'after',
      'rosters'),
-    ('numbers with too few decimals, read at once', 'tools/planning/cells.py', '{mark}[0-9]{{{decimals}}}',
-     '{mark}[0-9]{{1,{decimals}}}', 'rosters'),
+    ('numbers with too few decimals, read at once', 'tools/planning/cells.py', '[{mark}][0-9]{{{decimals}}}',
+     '[{mark}][0-9]{{1,{decimals}}}', 'rosters'),
     ('a decimal comma for nothing', 'tools/planning/scale.py', "found[3] == ',' and not with_comma", 'False', 'errors'),
     ('capacities left aside', 'tools/planning/instances.py', 'for _ in range(count)]', 'for _ in range(1)]', 'rosters'),
-    ('rows placed, whatever is said', 'tools/planning/commands.py', "getattr(args, 'place', 0)", '0', 'rosters'),
-    ('rosters ranked twice', 'tools/planning/ranking.py', 'if len(set(columns)) == len(columns):', 'if columns:',
+    ('rows placed, whatever is said', 'tools/planning/commands.py', 'args.place)', '0)', 'rosters'),
+    ('rosters ranked twice', 'tools/planning/ranking.py', 'or len(set(columns)) == len(columns):', 'or columns:',
      'rankings'),
+    ('a place that is lacking taken for one', 'tools/planning/distinct.py', '(each - most)', '(each - most - 1)',
+     'rankings'),
+    ('a row that is to fill a place and counts', 'tools/planning/distinct.py', 'else min(live)', 'else max(live)',
+     'rankings'),
+    ('columns in one, each row with its worst cell of them', 'tools/planning/merging.py',
+     '-1 if objective.is_greater else 1', '1 if objective.is_greater else -1', 'rankings'),
+    ('rosters that come twice from those of fewer columns', 'tools/planning/merging.py', 'cells[last:]', 'cells',
+     'rankings'),
+    ('two marks of decimals', 'tools/planning/scale.py', 'if self.mark and mark != self.mark:', 'if False:', 'errors'),
+    ('thousands as decimals', 'tools/planning/scale.py', 'if len(part) == THOUSAND > self.decimals:', 'if False:',
+     'errors'),
+    ('rows that begin with # left out', 'tools/planning/sheets.py', ' or any(fields[1:]):', ':', 'sheets'),
+    ('a table copied for each block', 'tools/planning/editing.py', "    yield 'before any change', []\n",
+     "    yield 'before any change', []\n    kept = []\n"
+     '    blocks = [kept.append([row[:] for row in question.table.first * 2]) or block for block in blocks]\n', 'weeks'),
     ('a change of the first copy alone', 'tools/planning/changes.py', 'in instance.copies(change.column)]',
      'in instance.copies(change.column)[:1]]', 'weeks'),
     ('a closed column that stays open', 'tools/planning/changes.py', 'row[change.column] = None', 'pass', 'weeks'),
@@ -46,6 +64,27 @@ FAULTS = (
 )
 # how many random tables of each objective find a fault; of weeks there are a sixth as many
 COUNT, WEEKS = 12, 72
+
+PROGRAM = """import os, sys
+read, write = os.pipe()
+child = os.fork()
+if not child:
+    os.dup2(write, 1)
+    os.execv({asg!r}, ['asg', *sys.argv[1:]])
+os.close(write)
+with open(read, 'rb') as file:
+    wrote = file.read()
+status = os.waitstatus_to_exitcode(os.waitpid(child, 0)[1])
+{change}
+with open(1, 'wb') as file:
+    file.write(wrote)
+sys.exit(status)
+"""
+PROGRAMS = (
+    ('a status that is one more', 'status += 1'),
+    ('another first byte', "wrote = bytes([wrote[0] ^ 1]) + wrote[1:] if wrote else b'1'"),
+    ('another last byte', "wrote = wrote[:-1] + b'1'"),
+)
 
 
 def copied(folder):
@@ -66,7 +105,22 @@ def planted(path, old, new):
     return True
 
 
+def tried(words, tools=os.path.join(TOP, 'tools')):
+    """Runs the trials with these words."""
+    return subprocess.run([sys.executable, os.path.join(tools, 'test'), *words], capture_output=True, text=True, check=False)
+
+
+def wrong_programs(bench):
+    """Each of the runs that are tabled must fail over a program that does one thing wrongly."""
+    for name, change in PROGRAMS:
+        program = bench.script('wrong-asg', PROGRAM.format(asg=bench.asg, change=change), by=f'{sys.executable} -SE')
+        done = tried(['--asg', program, 'runs'])
+        is_caught = done.returncode == 1 and done.stdout.splitlines()[-1].startswith('0 passed, ')
+        bench.holds(is_caught, f'wrong program: {name}', done.stdout[-2000:], done.stderr[-2000:])
+
+
 def trials(bench):
+    wrong_programs(bench)
     for number, (name, file, old, new, part) in enumerate(FAULTS):
         folder = os.path.join(bench.folder, f'fault-{number}')
         copied(folder)
@@ -74,8 +128,7 @@ def trials(bench):
             bench.holds(False, f'planted fault: {name}', f'{file} does not have it just once: {old!r}')
             continue
         count = str(WEEKS if part == 'weeks' else COUNT)
-        words = [sys.executable, os.path.join(folder, 'tools', 'test'), '--asg', bench.asg, '--count', count, part]
-        done = subprocess.run(words, capture_output=True, text=True, check=False)
+        done = tried(['--asg', bench.asg, '--count', count, part], os.path.join(folder, 'tools'))
         is_caught = done.returncode == 1 and 'FAILED: ' in done.stdout and 'Traceback' not in done.stderr
         bench.holds(is_caught, f'planted fault: {name}', done.stdout[-2000:], done.stderr[-2000:])
         shutil.rmtree(folder)

@@ -4,6 +4,7 @@ import re
 import subprocess
 
 from planning import objectives, refusals
+from planning.commands import COMMANDS, parser
 from planning.program import TOP
 
 FORMATS, MANUAL, COMPLETION = (os.path.join(TOP, *path) for path in
@@ -83,8 +84,10 @@ def synopses(manual):
 
 def completed(*words):
     """What bash completes."""
-    script = ('source "$0"; COMP_WORDS=("$@"); COMP_CWORD=$(($# - 1)); COMPREPLY=(); _asg; printf "%s\\n" "${COMPREPLY[@]}"')
-    done = subprocess.run(['bash', '-c', script, COMPLETION, *words], capture_output=True, text=True, check=False)
+    script = ('source "$0"; COMP_WORDS=("$@"); COMP_CWORD=$(($# - 1)); COMPREPLY=(); "_$1"; '
+              'printf "%s\\n" "${COMPREPLY[@]}"')
+    done = subprocess.run(['bash', '-c', script, COMPLETION, *words], capture_output=True, text=True, check=False,
+                          cwd=os.path.join(TOP, 'examples'))
     return set(done.stdout.split())
 
 
@@ -101,11 +104,39 @@ def requests(bench, formats, manual):
         bench.holds(completed('asg', command, '--') == options, f'options of {command} in the completion')
         right = set() if command == 'make' else every if command in ('solve', 'check') else every - {'balanced', 'lex'}
         bench.holds(completed('asg', command, '') == right, f'objectives of {command} in the completion')
-    bench.holds(completed('asg', 'solve', '--format', '') == set(re.findall(
-        r'`--format (\S+)`', formats)[0].split('|')), 'formats of the completion')
+    forms = set(re.findall(r'`--format (\S+)`', formats)[0].split('|'))
+    bench.holds(completed('asg', 'solve', '--format', '') == forms, 'formats of the completion')
+    places(bench, commands, every, forms)
+
+
+def places(bench, commands, every, forms):
+    """The completion tells by its place what a word is, whatever options stand before it; an equals sign is a word."""
+    files = {'week.csv', 'week-changes.csv', 'week.script', 'week.document'}
+    for words, right in ((['--format', 'rect', ''], set(commands)), (['--brief', 'solve', ''], every),
+                         (['solve', '--format', 'rect', ''], every), (['--format', '=', 'rect', 'solve', ''], every),
+                         (['--format=rect', 'solve', ''], every), (['solve', '--format', '='], forms),
+                         (['solve', '--format', '=', 're'], {'rect'}), (['solve', '--format=re'], {'--format=rect'}),
+                         (['solve', 'sum', '--each', '3', 'week'], files), (['solve', 'capped', '=', '5'], set()),
+                         (['solve', 'capped', '=', '5', 'week'], files), (['--place', ''], set()),
+                         (['check', 'sum', '--script', 'week.s'], {'week.script'})):
+        bench.holds(completed('asg', *words) == right, f'completion of {words}', completed('asg', *words), right)
+
+
+def words_of_plan(bench):
+    """The completion of plan: its commands, their options, and what stands where."""
+    bench.holds(completed('plan', '') == set(COMMANDS), 'commands of plan in the completion')
+    kinds = {kind + '=' * (kind == 'capped') for kind in objectives.SAYS}
+    for command, made in parser()._subparsers._group_actions[0].choices.items():
+        options = {name for name in made._option_string_actions if name.startswith('--')}
+        bench.holds(completed('plan', command, '--') == options, f'options of plan {command} in the completion', options)
+        right = set() if command in ('explain', 'example') else \
+            kinds - {'balanced', 'lex'} if command == 'rank' else kinds
+        bench.holds(completed('plan', command, '--decimals', '2', '') == right, f'objectives of plan {command}')
+    bench.holds(completed('plan', 'solve', 'sum', 'week.c') == {'week.csv'}, 'tables in the completion')
 
 
 def trials(bench):
     formats, manual = read(FORMATS), read(MANUAL)
     numbers(bench, formats, manual)
     requests(bench, formats, manual)
+    words_of_plan(bench)

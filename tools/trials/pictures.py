@@ -30,7 +30,19 @@ def one(bench, made, name):
     bench.holds(is_so and shown.status in (0, 1), name, made.text(), shown, cells, rings)
 
 
+def outlier(bench):
+    """A cost that is far from all others leaves these their shades, and the dearer ones the darker."""
+    table = bench.file('table.csv', 'r,a,b,c,d,e,f,g,h,i\nx,1,2,3,4,5,6,7,8,1000000\ny,8,7,6,5,4,3,2,1,1\n')
+    svg = f'{bench.folder}/out.svg'
+    shown = bench.plan('solve', 'sum', table, '--svg', svg)
+    looks = [found.get('class') or '' for found in tree.parse(svg).getroot().iter(f'{SVG}rect')]
+    shades = [int(look[1:]) for look in looks if re.fullmatch(r's\d+', look)]
+    bench.holds(shown.status == 0 and shades[:9] == sorted(set(shades[:9])) and shades[9:17] == shades[7::-1]
+                and shades[0] == 0 and shades[8] == 15, 'picture with an outlier', shades)
+
+
 def trials(bench):
+    outlier(bench)
     chance = random.Random(f'{bench.seed} pictures')
     for number in range(60):
         one(bench, sample(chance.choice(KINDS), chance), f'picture {number}')

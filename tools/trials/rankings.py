@@ -2,6 +2,8 @@
 import random
 import re
 
+from planning import distinct, program, ranking
+
 from . import search
 from .rosters import told_value
 from .tables import sample
@@ -31,16 +33,69 @@ def one(bench, made, count, name):
                 shown)
 
 
+def rosters_of(text):
+    """The rosters that are shown in one block, each as its columns' names."""
+    block = [*text.split('\n\n'), ''][1].splitlines()
+    lines = [re.split('  +', line.replace(' *', '').strip()) for line in block[1:-1]]
+    return list(zip(*(line[1:] for line in lines)))
+
+
 def crowded(bench):
     """A table whose rosters come so often that asg ranks no second one: that is told, and the first one is shown."""
-    text = 'r,a,b\ncapacity,20,19\n' + ''.join(f'r{row},1,2\n' for row in range(20))
-    shown = bench.plan('rank', 'sum', bench.file('table.csv', text), '--count', '2')
-    bench.holds(shown.status == 0 and shown.out.startswith('sum: 1 best roster, in order') and not shown.err
+    head = ','.join(f'c{column}' for column in range(110))
+    text = f'r,{head}\ncapacity,20{",1" * 109}\n' + ''.join(f'r{row},1{",2" * 109}\n' for row in range(21))
+    shown = bench.plan('rank', 'sum', bench.file('table.csv', text), '--count', '60')
+    found = re.match(r'sum: (\d+) best rosters?, in order', shown.out)
+    bench.holds(shown.status == 0 and found and 1 <= int(found[1]) < 60 and not shown.err
                 and 'asg ranks no more of this table' in shown.out, 'rank: a crowded table', shown)
+
+
+def different(bench, objective):
+    """Columns of 6, 5 and 4 places: five rosters of twelve people, asked of asg but once, and none twice."""
+    chance, asked, true = random.Random(f'{bench.seed} different'), [], program.Program.run
+    text = 'p,a,b,c\ncapacity,6,5,4\nfirst,1,30,30\n' + ''.join(
+        f'p{row},' + ','.join(str(chance.randint(1, 20)) for _ in range(3)) + '\n' for row in range(11))
+    program.Program.run = lambda self, told, *words: asked.append(words[0]) or true(self, told, *words)
+    try:
+        shown = bench.plan('rank', objective, bench.file('table.csv', text), '--count', '5')
+    finally:
+        program.Program.run = true
+    rosters = rosters_of(shown.out)
+    bench.holds(shown.status == 0 and len(rosters) == len(set(rosters)) == 5 and asked == ['rank', 'check'],
+                f'rank {objective}: different capacities', text, shown, asked)
+
+
+def large(bench):
+    """900 people on 20 columns, of which three take all."""
+    chance = random.Random(f'{bench.seed} large')
+    most = ','.join('900' if column in (3, 7, 15) else '1' for column in range(20))
+    text = 'p,' + ','.join(f'c{column}' for column in range(20)) + f'\ncapacity,{most}\n' + ''.join(
+        f'p{row},' + ','.join(str(chance.randint(1, 1000)) for _ in range(20)) + '\n' for row in range(900))
+    shown = bench.plan('rank', 'sum', bench.file('table.csv', text), '--count', '3')
+    rosters = rosters_of(shown.out)
+    bench.holds(shown.status == 0 and len(rosters) == len(set(rosters)) == 3 and len(rosters[0]) == 900
+                and 'each of c3, c7 and c15 takes all who can take it' in shown.out, 'rank: a large table', shown)
+
+
+def merged(bench):
+    """Small tables that are ranked as large ones are: with the columns that take all as one."""
+    most = distinct.MOST_SIDE, ranking.MOST_SIDE
+    try:
+        for kind in RANKED:
+            chance = random.Random(f'{bench.seed} merged {kind}')
+            for number in range(max(3, bench.count // (3 * SHARE))):
+                distinct.MOST_SIDE = ranking.MOST_SIDE = chance.randint(3, 8)
+                one(bench, sample(kind, chance, is_whole=True), chance.randint(1, 9), f'rank {kind}, merged {number}')
+    finally:
+        distinct.MOST_SIDE, ranking.MOST_SIDE = most
 
 
 def trials(bench):
     crowded(bench)
+    for kind in RANKED:
+        different(bench, 'capped=90' if kind == 'capped' else kind)
+    large(bench)
+    merged(bench)
     for kind in RANKED:
         chance = random.Random(f'{bench.seed} rank {kind}')
         for number in range(bench.count // SHARE):

@@ -1,9 +1,5 @@
-//! Tests of `asg_app`: requests to solve, refusals and statuses.
+//! Tests of `asg_app`: what only a shelf and a sink in memory can show, and statuses.
 
-mod algebraic_runs;
-mod balanced_tests;
-mod bottleneck_runs;
-mod lex_tests;
-mod refused_tests;
-mod solve_tests;
+mod fault_tests;
+mod runs;
 mod status_tests;

@@ -1,4 +1,4 @@
-//! Statuses in words.
+//! Statuses by their numbers and in words.
 
 use asg_app::Status;
 use std::alloc::{AllocError, Global};
@@ -13,5 +13,6 @@ fn is_told(alloc: Global, status: Status, words: &str) -> Result<bool, AllocErro
 #[test]
 fn a_status_in_words(rt: HostRuntime) -> Result<(), Fail> {
     assert!(rt; is_told(rt.alloc(), Status::No, "a document doesn't certify")?);
+    assert!(rt; Status::TooLong.code() == 10);
     Ok(())
 }

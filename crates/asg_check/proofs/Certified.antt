@@ -5,15 +5,15 @@ use Rattle.asg_proof.specs.declared.levels.Level.{Level}
 use Rattle.asg_proof.specs.Threshold.{ProvesBelow}
 use Rattle.asg_doc.specs.declared.documents.Claim.{Claim}
 use Rattle.asg_doc.specs.declared.documents.Document.{Document}
-use Rattle.asg_reasons.specs.declared.verdicts.Reason.{Reason}
+use Rattle.asg_verdicts.specs.declared.verdicts.Reason.{Reason}
 use Rattle.asg_check.specs.Certifies.{Certifies, CertifiesClaim}
-use Rattle.asg_phase_verdicts.specs.PhaseReasons.{AreAdmittedFor, HaveOtherIndexFor, IsBadAt}
+use Rattle.asg_verdicts.specs.PhaseReasons.{AreAdmittedFor, HaveOtherIndexFor, IsBadAt}
 use Rattle.asg_check.proofs.AnswersTold.{dec_no_choice_at, dec_none, dec_out_of_order_at, dec_repeated_at, dec_value, dec_written, dec_wrong, dec_wrong_at, is_read, read_choice, unwritten}
 use Rattle.asg_check.proofs.Decisions.{same_objective}
 use Rattle.asg_check.proofs.RankingTold.{all_valued, all_written, choices_once, none_out_of_order, none_repeated, read_choices, read_listed, read_values, read_written}
 use Rattle.asg_check.proofs.TreesByObjective.{proof_bad_nowhere, proof_left_nowhere, proved_by_nodes, tested_left, tested_nodes}
 use Rattle.asg_check.proofs.Reading.{written-once}
-use Rattle.asg_level_verdicts.specs.laws.LevelTold.{levels_nowhere, levels_prove, ranks_prove, tested_levels}
+use Rattle.asg_verdicts.specs.laws.LevelTold.{levels_nowhere, levels_prove, ranks_prove, tested_levels}
 use Rattle.asg_check.proofs.WindowTold.{halls_from_nowhere, halls_nowhere, proved_halls, proved_nowhere, tested_gap, tested_halls, windows_prove}
 use Rattle.asg_check.specs.declared.document_forms.Form.TheVariants as forms
 

@@ -11,7 +11,7 @@ pub use Rattle.asg_check.specs.declared.window_gaps.Span.{Span}
 pub use Rattle.asg_doc.specs.ChosenCells.{cell_by_id, cells_by_id, column_id}
 pub use Rattle.asg_doc.specs.declared.documents.Answer.{Answer}
 pub use Rattle.asg_doc.specs.declared.documents.Claim.TheVariants.{Best, Nothing, Ranked}
-pub use Rattle.asg_level_verdicts.specs.LevelReasons.{AreBadLevelsAt, LevelsStand}
+pub use Rattle.asg_verdicts.specs.LevelReasons.{AreBadLevelsAt, LevelsStand}
 pub use Rattle.asg_model.specs.Better.{IsBetter, IsBetterNumber, IsLessList}
 pub use Rattle.asg_model.specs.DifferentCosts.{IsLiveCost}
 pub use Rattle.asg_model.specs.HallSet.{IsHall, column_place_of}
@@ -33,8 +33,8 @@ pub use Rattle.asg_monoids.specs.Entered.{cost_reach, top_of}
 pub use Rattle.asg_monoids.specs.ObjectiveMonoids.{Fact, InMonoidOf}
 pub use Rattle.asg_order.specs.Monoid.{IsLe, Monoid}
 pub use Rattle.asg_order.specs.declared.words.Word.{Word}
-pub use Rattle.asg_phase_verdicts.specs.Replays.{StandsFor}
-pub use Rattle.asg_phase_verdicts.specs.laws.ByObjective.{AreSpelled, admitted_for, both, dec_admitted_for, dec_admitted_over, dec_by, dec_other_for, mapped, none_admitted, nothing, one_index_for, peaks_spelled, proves_for, sums_spelled, take_for, times_spelled}
+pub use Rattle.asg_verdicts.specs.Replays.{StandsFor}
+pub use Rattle.asg_verdicts.specs.laws.ByObjective.{AreSpelled, admitted_for, both, dec_admitted_for, dec_admitted_over, dec_by, dec_other_for, mapped, none_admitted, nothing, one_index_for, peaks_spelled, proves_for, sums_spelled, take_for, times_spelled}
 pub use Rattle.asg_proof.specs.Phases.{PhaseOf, index_of}
 pub use Rattle.asg_proof.specs.Proves.{Proves, is_spread_objective, takes}
 pub use Rattle.asg_proof.specs.Windows.{IsHallWindow, ProvesWindows, holds_from, is_held}
@@ -44,12 +44,12 @@ pub use Rattle.asg_rankings.specs.Nodes.{IsNumber, answer_at, answer_number, nod
 pub use Rattle.asg_rankings.specs.SearchTrees.{AreAdmittedWords, HasAnswer, HasPlace, HasTrail, IsBelowParent, IsGiven, IsMarked, IsSearchTree, IsSoundNode, MayStayOpen, child_count, is_answered, last_answer}
 pub use Rattle.asg_rankings.specs.TreeFaults.{IsAtFault, IsLeftOpen, LacksNode}
 pub use Rattle.asg_rankings.specs.declared.nodes.Node.{Node}
-pub use Rattle.asg_reasons.specs.Spots.{At, AtParts, ForWhole, IsFirstPart, IsNoLater, Overall, Spot}
-pub use Rattle.asg_reasons.specs.Verdicts.{IsToldOf, Tells, claim_reasons, level_reasons, node_reasons, order_reasons, phase_reasons, proof_reasons, reasons_in_order, window_reasons}
-pub use Rattle.asg_reasons.specs.declared.verdicts.Reason.TheVariants.{BadLevel, BadNode, BadPhase, BetterLeft, IndexDiffers, NotHall, NotValid, OtherObjective, OutOfOrder, Repeated, WindowGap, WrongForm, WrongValue}
-pub use Rattle.asg_reasons.specs.declared.verdicts.Verdict.{Verdict}
-pub use Rattle.asg_reasons.specs.declared.verdicts.Verdict.TheVariants.{No, Yes}
-pub use Rattle.asg_reasons.specs.laws.Parts.{dec_implies, dec_le, dec_some_below, dec_there, first_told, goes_on, no_part, none_at_all, none_at_part, none_more, none_there, stops_at, tested_for, tested_part, tested_parts, told_for, whole_told}
-pub use Rattle.asg_reasons.specs.laws.ToldReasons.{NoneOf, Nowhere, Tested, least_below, none_stands, nowhere, one_verdict, overall, some_verdict, tested, told_same, yes_told}
+pub use Rattle.asg_verdicts.specs.Spots.{At, AtParts, ForWhole, IsFirstPart, IsNoLater, Overall, Spot}
+pub use Rattle.asg_verdicts.specs.Verdicts.{IsToldOf, Tells, claim_reasons, level_reasons, node_reasons, order_reasons, phase_reasons, proof_reasons, reasons_in_order, window_reasons}
+pub use Rattle.asg_verdicts.specs.declared.verdicts.Reason.TheVariants.{BadLevel, BadNode, BadPhase, BetterLeft, IndexDiffers, NotHall, NotValid, OtherObjective, OutOfOrder, Repeated, WindowGap, WrongForm, WrongValue}
+pub use Rattle.asg_verdicts.specs.declared.verdicts.Verdict.{Verdict}
+pub use Rattle.asg_verdicts.specs.declared.verdicts.Verdict.TheVariants.{No, Yes}
+pub use Rattle.asg_verdicts.specs.laws.Parts.{dec_implies, dec_le, dec_some_below, dec_there, first_told, goes_on, no_part, none_at_all, none_at_part, none_more, none_there, stops_at, tested_for, tested_part, tested_parts, told_for, whole_told}
+pub use Rattle.asg_verdicts.specs.laws.ToldReasons.{NoneOf, Nowhere, Tested, least_below, none_stands, nowhere, one_verdict, overall, some_verdict, tested, told_same, yes_told}
 pub use Rattle.std.specs.Int.{w64}
 pub use mathlib.Core.Logic.Dec.{not}

@@ -8,9 +8,9 @@ use Rattle.asg_monoids.specs.ObjectiveMonoids.{InMonoidOf}
 use Rattle.asg_rankings.specs.declared.nodes.Node.{Node}
 use Rattle.asg_rankings.specs.TreeFaults.{IsAtFault, IsLeftOpen, LacksNode}
 use Rattle.asg_doc.specs.declared.documents.Answer.{Answer}
-use Rattle.asg_reasons.specs.declared.verdicts.Reason.{Reason}
-use Rattle.asg_reasons.specs.declared.verdicts.Reason.TheVariants.{BadNode, BetterLeft}
-use Rattle.asg_reasons.specs.Spots.{Spot, At, Overall}
+use Rattle.asg_verdicts.specs.declared.verdicts.Reason.{Reason}
+use Rattle.asg_verdicts.specs.declared.verdicts.Reason.TheVariants.{BadNode, BetterLeft}
+use Rattle.asg_verdicts.specs.Spots.{Spot, At, Overall}
 use Rattle.asg_check.specs.Written.{HasWrongValue, SpellNone}
 
 -- the answer at this place of the list is there, and no valid choice has its cells

@@ -11,16 +11,16 @@ use Rattle.asg_doc.specs.declared.documents.Claim.{Claim}
 use Rattle.asg_doc.specs.declared.documents.Claim.TheVariants.{Best, Nothing, Ranked}
 use Rattle.asg_doc.specs.declared.documents.Document.{Document}
 use Rattle.asg_check.specs.declared.document_forms.Form.{Form}
-use Rattle.asg_reasons.specs.declared.verdicts.Reason.{Reason}
-use Rattle.asg_reasons.specs.declared.verdicts.Reason.TheVariants.{OtherObjective, WrongForm, NotValid, WrongValue, Repeated, OutOfOrder, NotHall, WindowGap, BadPhase, IndexDiffers, BadLevel, BadNode, BetterLeft}
-use Rattle.asg_reasons.specs.declared.verdicts.Verdict.TheVariants.{No}
-use Rattle.asg_reasons.specs.Verdicts.{Tells, reasons_in_order}
+use Rattle.asg_verdicts.specs.declared.verdicts.Reason.{Reason}
+use Rattle.asg_verdicts.specs.declared.verdicts.Reason.TheVariants.{OtherObjective, WrongForm, NotValid, WrongValue, Repeated, OutOfOrder, NotHall, WindowGap, BadPhase, IndexDiffers, BadLevel, BadNode, BetterLeft}
+use Rattle.asg_verdicts.specs.declared.verdicts.Verdict.TheVariants.{No}
+use Rattle.asg_verdicts.specs.Verdicts.{Tells, reasons_in_order}
 use Rattle.asg_check.specs.DocumentForm.{has_form}
-use Rattle.asg_phase_verdicts.specs.PhaseReasons.{AreAdmittedFor, HaveOtherIndexFor, IsBadAt}
+use Rattle.asg_verdicts.specs.PhaseReasons.{AreAdmittedFor, HaveOtherIndexFor, IsBadAt}
 use Rattle.asg_check.specs.RankingReasons.{AreBadNodesAt, IsNoChoiceAt, IsOutOfOrderAt, IsRepeatedAt, IsWrongValueAt, LeaveBetterAt}
 use Rattle.asg_check.specs.WindowReasons.{IsNoHallAt, LeaveGapAt}
-use Rattle.asg_level_verdicts.specs.LevelReasons.{AreBadLevelsAt}
-use Rattle.asg_reasons.specs.Spots.{AtParts, ForWhole, Spot}
+use Rattle.asg_verdicts.specs.LevelReasons.{AreBadLevelsAt}
+use Rattle.asg_verdicts.specs.Spots.{AtParts, ForWhole, Spot}
 use Rattle.asg_check.specs.Written.{AreWrittenAs, HasWrongValue, IsWrittenAs, SpellNone}
 
 -- where no valid choice has an answer's cells, in the order of the rows

@@ -6,9 +6,9 @@ use Rattle.asg_model.specs.DifferentCosts.{IsLiveCost}
 use Rattle.asg_model.specs.Problem.{Problem}
 use Rattle.asg_proof.specs.declared.windows.Window.{Window}
 use Rattle.asg_proof.specs.Windows.{IsHallWindow, is_held}
-use Rattle.asg_reasons.specs.declared.verdicts.Reason.{Reason}
-use Rattle.asg_reasons.specs.declared.verdicts.Reason.TheVariants.{NotHall, WindowGap}
-use Rattle.asg_reasons.specs.Spots.{Spot, At, AtParts}
+use Rattle.asg_verdicts.specs.declared.verdicts.Reason.{Reason}
+use Rattle.asg_verdicts.specs.declared.verdicts.Reason.TheVariants.{NotHall, WindowGap}
+use Rattle.asg_verdicts.specs.Spots.{Spot, At, AtParts}
 
 -- the window at this place of the list is there, and its rows aren't a Hall set of its band
 pub record IsNoHallAt (X : Problem) (windows : List Window) (n : ℕ) : Type 0 where

@@ -6,7 +6,7 @@ ghost use Rattle.asg_model.specs.Refused.{PassesNegative};
 ghost use Rattle.asg_model.specs.Shapes.{square_side};
 ghost use Rattle.asg_check.specs.Certifies.{Certifies};
 ghost use Rattle.asg_check.specs.DocumentForm.{MayBeAsked};
-ghost use Rattle.asg_reasons.specs.Verdicts.{Tells, reasons_in_order};
+ghost use Rattle.asg_verdicts.specs.Verdicts.{Tells, reasons_in_order};
 ghost use Rattle.asg_check.specs.Reasons.{IsFirstReason, Stands};
 ghost use Rattle.asg_check.specs.TrueClaim.{ClaimsTruly};
 
@@ -16,8 +16,8 @@ use crate::document_forms::{Form, has_form};
 use crate::laws::soundness_law;
 use asg_doc::Document;
 use asg_model::{Instance, Objective};
-use asg_reasons::{Reason, Verdict};
 use asg_values::laws::decision_law;
+use asg_verdicts::{Reason, Verdict};
 use std::alloc::Global;
 
 /// Whether the document certifies for the objective, the instance and the form: `Yes` exactly where

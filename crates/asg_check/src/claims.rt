@@ -9,7 +9,7 @@ ghost use Rattle.asg_model.specs.ValueRange.{IsValueInRange};
 ghost use Rattle.asg_proof.specs.Proves.{takes};
 ghost use Rattle.asg_proof.specs.Threshold.{ProvesBelow};
 ghost use Rattle.asg_check.specs.DocumentForm.{MayBeAsked, answers_form, takes_claim};
-ghost use Rattle.asg_reasons.specs.Verdicts.{Tells, claim_reasons, proof_reasons};
+ghost use Rattle.asg_verdicts.specs.Verdicts.{Tells, claim_reasons, proof_reasons};
 ghost use Rattle.asg_check.specs.Reasons.{StandsAgainst};
 ghost use Rattle.asg_check.specs.Written.{IsWrittenAs};
 
@@ -20,12 +20,10 @@ use crate::window_verdicts::windows_verdict;
 use crate::written_choices::written_choice;
 use crate::written_values::is_same_value;
 use asg_doc::{Answer, Claim};
-use asg_level_verdicts::levels_verdict;
 use asg_model::{Band, Choice, Instance, Objective, Value};
-use asg_phase_verdicts::phases_verdict;
 use asg_proof::Proof;
-use asg_reasons::{Reason, Verdict};
 use asg_values::{is_hall, value};
+use asg_verdicts::{Reason, Verdict, levels_verdict, phases_verdict};
 use std::alloc::Global;
 
 // The verdict on a claim that answers what was asked, by its reasons in order. The error is want of

@@ -7,11 +7,11 @@ ghost use Rattle.asg_model.specs.Problem.{Problem};
 ghost use Rattle.asg_model.specs.Refused.{PassesNegative};
 ghost use Rattle.asg_doc.specs.declared.documents.Document.{Document};
 ghost use Rattle.asg_check.specs.declared.document_forms.Form.{Form};
-ghost use Rattle.asg_reasons.specs.declared.verdicts.Reason.{Reason};
+ghost use Rattle.asg_verdicts.specs.declared.verdicts.Reason.{Reason};
 ghost use Rattle.asg_check.specs.Certifies.{Certifies};
 ghost use Rattle.asg_check.specs.DocumentForm.{MayBeAsked};
 ghost use Rattle.asg_check.specs.Reasons.{IsFirstReason, Stands};
-ghost use Rattle.asg_reasons.specs.Spots.{Spot};
+ghost use Rattle.asg_verdicts.specs.Spots.{Spot};
 ghost use Rattle.asg_check.specs.TrueClaim.{ClaimsTruly};
 
 use asg_proof::laws::best_law;

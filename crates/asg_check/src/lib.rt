@@ -4,7 +4,7 @@
 //! It trusts nothing that the document says: it reads the cells as a choice, tests that the choice
 //! is valid and has the written value, and tests the proof by the definition of its kind: the rows
 //! of windows as Hall sets, and the windows for gaps; phases, levels and the nodes of rankings by
-//! judges of their own (`asg_phase_verdicts`, `asg_level_verdicts`, `asg_trees`). Contracts see a
+//! judges of their own (`asg_verdicts`, `asg_verdicts`, `asg_trees`). Contracts see a
 //! document by what it claims, and an instance by its rows, columns and costs; a law says that what
 //! certifies is true. It stands on no solver: a user can trust an answer without one (certifying
 //! algorithms, [McConnell et al. 2011]).

@@ -8,7 +8,7 @@ ghost use Rattle.asg_model.specs.ValidChoice.{IsValid};
 ghost use Rattle.asg_model.specs.Values.{choice_value};
 ghost use Rattle.asg_check.specs.RankingReasons.{IsAmissAt, IsNoChoiceAt, IsOutOfOrderAt};
 ghost use Rattle.asg_check.specs.RankingReasons.{IsRepeatedAt};
-ghost use Rattle.asg_reasons.specs.Spots.{IsFirstPart};
+ghost use Rattle.asg_verdicts.specs.Spots.{IsFirstPart};
 ghost use Rattle.asg_check.specs.Written.{AreWrittenAs, EachSpells, HasItsValue, HasWrongValue};
 ghost use Rattle.asg_check.specs.Written.{SpellChoice, SpellNone};
 

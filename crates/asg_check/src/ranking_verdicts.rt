@@ -9,11 +9,11 @@ ghost use Rattle.asg_model.specs.Refused.{PassesNegative};
 ghost use Rattle.asg_model.specs.Shapes.{square_side};
 ghost use Rattle.asg_model.specs.ValidChoice.{IsValid};
 ghost use Rattle.asg_doc.specs.declared.documents.Claim.TheVariants.{Ranked};
-ghost use Rattle.asg_reasons.specs.declared.verdicts.Reason.TheVariants.{OutOfOrder};
+ghost use Rattle.asg_verdicts.specs.declared.verdicts.Reason.TheVariants.{OutOfOrder};
 ghost use Rattle.asg_check.specs.RankingReasons.{NodesStand};
-ghost use Rattle.asg_reasons.specs.Verdicts.{Tells, claim_reasons, node_reasons};
+ghost use Rattle.asg_verdicts.specs.Verdicts.{Tells, claim_reasons, node_reasons};
 ghost use Rattle.asg_check.specs.Reasons.{StandsAgainst};
-ghost use Rattle.asg_reasons.specs.Verdicts.{order_reasons, proof_reasons, reason_number};
+ghost use Rattle.asg_verdicts.specs.Verdicts.{order_reasons, proof_reasons, reason_number};
 ghost use Rattle.asg_check.specs.Written.{EachSpells};
 
 use crate::NoMemory;
@@ -23,8 +23,8 @@ use crate::ranked_answers::{
 use asg_doc::Answer;
 use asg_model::{Instance, Objective};
 use asg_rankings::Node;
-use asg_reasons::{Reason, Verdict};
 use asg_trees::{Choices, TreeVerdict, judge};
+use asg_verdicts::{Reason, Verdict};
 use std::alloc::Global;
 
 // The verdict on a ranking with an answer, by its reasons in order. The error is want of memory.

@@ -6,9 +6,9 @@ ghost use Rattle.asg_model.specs.declared.objectives.Objective.TheVariants.{Bala
 ghost use Rattle.asg_model.specs.Instances.{IsInstance};
 ghost use Rattle.asg_model.specs.ValueRange.{IsValueInRange};
 ghost use Rattle.asg_proof.specs.Windows.{IsHallWindow, ProvesWindows};
-ghost use Rattle.asg_reasons.specs.declared.verdicts.Reason.TheVariants.{WindowGap};
-ghost use Rattle.asg_reasons.specs.Spots.{IsFirstPart};
-ghost use Rattle.asg_reasons.specs.Verdicts.{Tells, window_reasons};
+ghost use Rattle.asg_verdicts.specs.declared.verdicts.Reason.TheVariants.{WindowGap};
+ghost use Rattle.asg_verdicts.specs.Spots.{IsFirstPart};
+ghost use Rattle.asg_verdicts.specs.Verdicts.{Tells, window_reasons};
 ghost use Rattle.asg_check.specs.WindowReasons.{IsNoHallAt, StandsOn};
 
 use crate::NoMemory;
@@ -16,8 +16,8 @@ use crate::window_gaps::first_gap;
 use asg_hall_windows::proves_spread;
 use asg_model::{Band, Instance, Value};
 use asg_proof::Window;
-use asg_reasons::{Reason, Verdict};
 use asg_values::is_hall;
+use asg_verdicts::{Reason, Verdict};
 use std::alloc::Global;
 
 // Whether it is shown at once that windows prove the value of `balanced`; false leaves it open. The

@@ -6,8 +6,8 @@ pub use Rattle.asg_doc.specs.Words.{form_of, has_grades}
 pub use Rattle.asg_doc.specs.declared.documents.Claim.TheVariants.{Best, Nothing, Ranked}
 pub use Rattle.asg_model.specs.declared.objectives.Value.TheVariants.{Many, One}
 pub use Rattle.asg_order.specs.declared.words.Word.{Word}
-pub use Rattle.asg_page.specs.Flow.{Wrote}
-pub use Rattle.asg_page.specs.laws.Flows.{Wrote-append, Wrote-as, Wrote-broken, Wrote-last, Wrote-lines, Wrote-nothing, Wrote-whole}
+pub use Rattle.asg_doc.specs.Flow.{Wrote}
+pub use Rattle.asg_doc.specs.laws.Flows.{Wrote-append, Wrote-as, Wrote-broken, Wrote-last, Wrote-lines, Wrote-nothing, Wrote-whole}
 pub use Rattle.asg_proof.specs.declared.outcomes.Proof.TheVariants.{Below, Levels, Phases}
 pub use Rattle.asg_rankings.specs.declared.nodes.Mark.TheVariants.{Answered, Empty, Open}
 pub use Rattle.std.specs.Int.{w64}

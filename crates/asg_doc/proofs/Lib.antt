@@ -1,3 +1,4 @@
 pub mod Common
 pub mod ListTexts
 pub mod WorkedDocuments
+pub mod PageTexts

@@ -4,14 +4,14 @@ ghost use Rattle.std.specs.Prelude.{All, codes};
 ghost use Rattle.std.specs.List.{flat_map};
 ghost use Rattle.asg_model.specs.declared.objectives.Objective.{Objective as O};
 ghost use Rattle.asg_grammar.specs.Lines.{ended};
-ghost use Rattle.asg_page.specs.Flow.{Wrote};
+ghost use Rattle.asg_doc.specs.Flow.{Wrote};
 ghost use Rattle.asg_doc.specs.HasText.{HasAnswerText, HaveAnswerText};
 ghost use Rattle.asg_doc.specs.Text.{answer_lines_behind, listed_lines};
 
 use crate::documents::Answer;
 use crate::line_writer::{emit_cells, emit_value};
+use crate::{Page, emit_number_line};
 use asg_io::Sink;
-use asg_page::{Page, emit_number_line};
 
 // Appends the lines of an answer, its value behind a word.
 pub(crate) fn emit_answer<K: Sink>(word: &[u8], answer: &Answer, page: &mut Page, out: &mut K)

@@ -4,14 +4,14 @@ ghost use Rattle.std.specs.Prelude.{◌∷◌, ◌++◌, ◌<◌, [], All, codes
 ghost use Rattle.std.specs.Fmt.{decimal};
 ghost use Rattle.std.specs.List.{flat_map};
 ghost use Rattle.asg_grammar.specs.Lines.{ended};
-ghost use Rattle.asg_page.specs.Flow.{Wrote};
+ghost use Rattle.asg_doc.specs.Flow.{Wrote};
 ghost use Rattle.asg_doc.specs.HasText.{HasColumnText, HasLevelText, HaveLevelText};
 ghost use Rattle.asg_doc.specs.Text.{spaced_columns, perm_line, level_head_text, level_lines};
 
 use crate::line_writer::emit_pair;
 use crate::phase_writer::emit_phases;
+use crate::{Page, emit, emit_bound, emit_next, emit_number_line};
 use asg_io::Sink;
-use asg_page::{Page, emit, emit_bound, emit_next, emit_number_line};
 use asg_proof::Level;
 
 // Appends columns from 1 on, each after a space.

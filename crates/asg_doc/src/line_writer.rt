@@ -4,13 +4,13 @@ ghost use Rattle.std.specs.Prelude.{◌∷◌, ◌++◌, [], map, All, FitsSigne
 ghost use Rattle.std.specs.Int.{w64};
 ghost use Rattle.asg_grammar.specs.Lines.{ended};
 ghost use Rattle.asg_doc.specs.declared.documents.ValueForm.{ValueForm};
-ghost use Rattle.asg_page.specs.Flow.{Wrote};
+ghost use Rattle.asg_doc.specs.Flow.{Wrote};
 ghost use Rattle.asg_doc.specs.HasText.{IsWrittenValue};
 ghost use Rattle.asg_doc.specs.Text.{cell_line, spaced_costs, value_text};
 
+use crate::{Page, emit, emit_bound, emit_number, emit_signed};
 use asg_io::Sink;
 use asg_model::{Costs, Value};
-use asg_page::{Page, emit, emit_bound, emit_number, emit_signed};
 
 // Appends one number, behind a space.
 fn emit_one<K: Sink>(number: i128, page: &mut Page, out: &mut K)

@@ -3,13 +3,13 @@
 ghost use Rattle.std.specs.Prelude.{ℕ, ◌∷◌, ◌++◌, [], All, codes, length};
 ghost use Rattle.std.specs.List.{flat_map};
 ghost use Rattle.asg_grammar.specs.Lines.{ended};
-ghost use Rattle.asg_page.specs.Flow.{Wrote};
+ghost use Rattle.asg_doc.specs.Flow.{Wrote};
 ghost use Rattle.asg_doc.specs.HasText.{HasNodeText, HasTreeText};
 ghost use Rattle.asg_doc.specs.Text.{mark_text, node_head_text, node_lines, tree_lines};
 
 use crate::phase_writer::emit_phases;
+use crate::{Page, emit, emit_next, emit_number_line, emit_spaced};
 use asg_io::Sink;
-use asg_page::{Page, emit, emit_next, emit_number_line, emit_spaced};
 use asg_rankings::{Mark, Node};
 
 // Appends the mark of a node with an answer, and the number of its phases.

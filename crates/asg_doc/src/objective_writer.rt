@@ -2,12 +2,12 @@
 
 ghost use Rattle.std.specs.Prelude.{◌∷◌, ◌++◌, [], codes};
 ghost use Rattle.std.specs.Fmt.{decimal};
-ghost use Rattle.asg_page.specs.Flow.{Wrote};
+ghost use Rattle.asg_doc.specs.Flow.{Wrote};
 ghost use Rattle.asg_model.specs.Objectives.{objective_word};
 
+use crate::{Page, emit_words};
 use asg_io::Sink;
 use asg_model::{Objective, word_front};
-use asg_page::{Page, emit_words};
 use itoa::Buffer;
 
 // Appends the line of sums that stop at a cap.

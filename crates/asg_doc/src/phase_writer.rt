@@ -4,12 +4,12 @@ ghost use Rattle.std.specs.Prelude.{◌∷◌, ◌++◌, [], codes};
 ghost use Rattle.std.specs.Fmt.{decimal};
 ghost use Rattle.std.specs.List.{flat_map};
 ghost use Rattle.asg_grammar.specs.Lines.{ended};
-ghost use Rattle.asg_page.specs.Flow.{Wrote};
+ghost use Rattle.asg_doc.specs.Flow.{Wrote};
 ghost use Rattle.asg_doc.specs.Text.{step_text, spaced_steps, phase_lines};
 
+use crate::{Page, emit, emit_list};
 use asg_io::Sink;
 use asg_order::Word;
-use asg_page::{Page, emit, emit_list};
 use asg_proof::{Steps, WrittenPhase};
 use itoa::Buffer;
 

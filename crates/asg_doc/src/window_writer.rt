@@ -3,12 +3,12 @@
 ghost use Rattle.std.specs.Prelude.{◌∷◌, ◌++◌, [], map, All};
 ghost use Rattle.std.specs.Fmt.{signed_decimal};
 ghost use Rattle.asg_grammar.specs.Lines.{ended};
-ghost use Rattle.asg_page.specs.Flow.{Wrote};
+ghost use Rattle.asg_doc.specs.Flow.{Wrote};
 ghost use Rattle.asg_doc.specs.HasText.{HasWindowText};
 ghost use Rattle.asg_doc.specs.Text.{window_line};
 
+use crate::{Page, emit, emit_bound, emit_spaced};
 use asg_io::Sink;
-use asg_page::{Page, emit, emit_bound, emit_spaced};
 use asg_proof::Window;
 
 // Appends the bounds of a window, with a space between them.

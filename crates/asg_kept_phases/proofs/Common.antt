@@ -8,7 +8,7 @@ pub use Rattle.asg_admit.specs.declared.reduced.Reduced.{Reduced}
 pub use Rattle.asg_admit.specs.laws.KeptLabels.{HasLabelsOf-kept, chained_labels, same_labels}
 pub use Rattle.asg_admit.specs.laws.KeptPhases.{after_phases-cell, all_taken, fewer_admitted, kept_so_many, phases_allowed}
 pub use Rattle.asg_admit.specs.laws.PhaseValues.{admitted_values, words_over}
-pub use Rattle.asg_edited.specs.laws.EditedShapes.{edited_side}
+pub use Rattle.asg_values.specs.laws.EditedShapes.{edited_side}
 pub use Rattle.asg_kept_phases.specs.EditedCells.{closed_cell, dropped_cell}
 pub use Rattle.asg_kept_phases.specs.Leads.{LeadsTo}
 pub use Rattle.asg_kept_phases.specs.LeftPhases.{AllowsOrStaysAt, AreLeft, IsLeftAt}

@@ -13,8 +13,8 @@ use Rattle.asg_model.specs.laws.Rows.{no_row, no_column}
 use Rattle.asg_cell_tables.specs.LabelledCells.{labelled_cell}
 use Rattle.asg_kept_phases.specs.Edited.{Touches}
 use Rattle.asg_kept_phases.specs.laws.EditedLabels.{edited_label}
-use Rattle.asg_edited.specs.laws.Passed.{none_applies}
-use Rattle.asg_edited.specs.laws.WrittenCells.{written_cell}
+use Rattle.asg_values.specs.laws.Passed.{none_applies}
+use Rattle.asg_values.specs.laws.WrittenCells.{written_cell}
 use Rattle.asg_model.specs.declared.edits.Edit.TheVariants.{Cost as SetCost, Forbid, DropRow, DropColumn}
 use Rattle.asg_model.specs.declared.parts.Place.TheVariants.{All as PlaceAll, Exactly}
 

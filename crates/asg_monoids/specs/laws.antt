@@ -6,3 +6,5 @@ pub mod SumFolds
 pub mod SumOrders
 pub mod PeakOrders
 pub mod TimeOrders
+pub mod NarrowOrders
+pub mod NarrowObjectives

@@ -48,12 +48,12 @@ pub use Rattle.asg_promises.specs.Sources.{AreShort, MayHold, MayHoldAll, conten
 pub use Rattle.asg_proof.specs.declared.outcomes.Proof.{Proof}
 pub use Rattle.asg_proof.specs.declared.outcomes.Proof.TheVariants.{Below, Levels, Phases, Windows}
 pub use Rattle.asg_rank.specs.Rankings.{ranking_work}
-pub use Rattle.asg_requests.specs.Requests.{files_of_task}
-pub use Rattle.asg_requests.specs.declared.requests.Job.{Job}
-pub use Rattle.asg_requests.specs.declared.requests.Request.{Request}
-pub use Rattle.asg_requests.specs.declared.requests.Request.TheVariants.{Make, Work}
-pub use Rattle.asg_requests.specs.declared.requests.Task.{Task}
-pub use Rattle.asg_requests.specs.declared.requests.Task.TheVariants.{Check, Edit, Rank, Solve}
-pub use Rattle.asg_scripts.specs.Scripts.{HoldsLines, RefusesLines, ScriptFile, script_in, solved_instances}
+pub use Rattle.asg_words.specs.FoundRequests.{files_of_task}
+pub use Rattle.asg_words.specs.declared.requests.Job.{Job}
+pub use Rattle.asg_words.specs.declared.requests.Request.{Request}
+pub use Rattle.asg_words.specs.declared.requests.Request.TheVariants.{Make, Work}
+pub use Rattle.asg_words.specs.declared.requests.Task.{Task}
+pub use Rattle.asg_words.specs.declared.requests.Task.TheVariants.{Check, Edit, Rank, Solve}
+pub use Rattle.asg_text.specs.TriedScripts.{HoldsLines, RefusesLines, ScriptFile, script_in, solved_instances}
 pub use Rattle.asg_text.specs.Texts.{reading_of}
 pub use Rattle.asg_text.specs.declared.script_lines.Line.{Line}

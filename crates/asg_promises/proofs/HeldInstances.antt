@@ -2,7 +2,7 @@
 use Rattle.asg_promises.proofs.Common.{◌≡◌, ℕ, ◌≤◌, Bool, true, false, cond, List, [], ◌∷◌, length, nat_lt, Some, None, Option, refl, subst, ltb-false, total_capacity, IsInstance, IsPlaceInRange, most_capacity, most_side, Problem, PassesNegative, is_range_of, shaped, square_side, Objective, Holds, Refuses, fitted, held_by, instance_in, passed, passed_by, rows_asked, sided, first_refused, AsksFor, Job, Request, Work, reading_of}
 use Rattle.asg_model.specs.declared.parts.Place.{Place}
 use Rattle.asg_text.specs.declared.formats.Format.{Format}
-use Rattle.asg_requests.specs.Bounds.{IsJob, IsRequest}
+use Rattle.asg_words.specs.Bounds.{IsJob, IsRequest}
 use Rattle.asg_words.specs.Requests.{request_of}
 use Rattle.asg_promises.proofs.RefusedCosts.{passes_none}
 use Rattle.asg_tokens.specs.Readings.{Reading, Spells, Refuses as RefusesText}

@@ -3,15 +3,15 @@
 use Rattle.std.specs.Prelude.{◌≡◌, ◌⊎◌, ◌<◌, ◌≤◌, ℕ, ◌++◌, List, [], ◌∷◌, Option, Some, None, length, All, IsSome}
 use Rattle.asg_model.specs.Limits.{longest_file}
 use Rattle.asg_model.specs.Problem.{Problem}
-use Rattle.asg_requests.specs.declared.requests.Job.{Job}
-use Rattle.asg_requests.specs.declared.requests.Request.{Request}
-use Rattle.asg_requests.specs.declared.requests.Request.TheVariants.{Work, Make}
-use Rattle.asg_requests.specs.declared.requests.Task.{Task}
-use Rattle.asg_requests.specs.declared.requests.Task.TheVariants.{Solve, Rank, Edit, Check}
+use Rattle.asg_words.specs.declared.requests.Job.{Job}
+use Rattle.asg_words.specs.declared.requests.Request.{Request}
+use Rattle.asg_words.specs.declared.requests.Request.TheVariants.{Work, Make}
+use Rattle.asg_words.specs.declared.requests.Task.{Task}
+use Rattle.asg_words.specs.declared.requests.Task.TheVariants.{Solve, Rank, Edit, Check}
 use Rattle.asg_check.specs.declared.document_forms.Form.TheVariants as forms
 use Rattle.asg_answers.specs.declared.status.Status.{Status}
 use Rattle.asg_answers.specs.declared.status.Status.TheVariants.{Usage, Instance, TooLong}
-use Rattle.asg_scripts.specs.Scripts.{HoldsLines, script_in, solved_instances}
+use Rattle.asg_text.specs.TriedScripts.{HoldsLines, script_in, solved_instances}
 use Rattle.asg_text.specs.declared.script_lines.Line.{Line}
 use Rattle.asg_promises.specs.DueToCheck.{DueToCheck, form_asked}
 use Rattle.asg_promises.specs.DueToEdit.{DueToEdit}

@@ -1,7 +1,7 @@
 -- What is due for a request to edit.
 use Rattle.std.specs.Prelude.{◌≡◌, ℕ, List}
 use Rattle.asg_model.specs.Problem.{Problem}
-use Rattle.asg_requests.specs.declared.requests.Job.{Job}
+use Rattle.asg_words.specs.declared.requests.Job.{Job}
 use Rattle.asg_text.specs.declared.script_lines.Line.{Line}
 use Rattle.asg_answers.specs.declared.status.Status.{Status}
 use Rattle.asg_answers.specs.declared.status.Status.TheVariants.{Done}

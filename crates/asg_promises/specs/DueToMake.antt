@@ -2,7 +2,7 @@
 use Rattle.std.specs.Prelude.{◌≡◌, ℕ, List}
 use Rattle.asg_answers.specs.declared.status.Status.{Status}
 use Rattle.asg_answers.specs.declared.status.Status.TheVariants.{Done}
-use Rattle.asg_make.specs.Formula.{generated_problem}
+use Rattle.asg_text.specs.Formula.{generated_problem}
 use Rattle.asg_text.specs.RectTexts.{rect_text}
 
 -- how a request to make the instance of a seed and a side ends: its rect text is written

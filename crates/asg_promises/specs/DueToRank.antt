@@ -4,7 +4,7 @@ use Rattle.asg_model.specs.Problem.{Problem}
 use Rattle.asg_check.specs.declared.document_forms.Form.TheVariants.{Rank}
 use Rattle.asg_rank.specs.Rankings.{ranking_work}
 use Rattle.asg_rank.specs.Rooms.{most_work}
-use Rattle.asg_requests.specs.declared.requests.Job.{Job}
+use Rattle.asg_words.specs.declared.requests.Job.{Job}
 use Rattle.asg_answers.specs.declared.status.Status.{Status}
 use Rattle.asg_answers.specs.declared.status.Status.TheVariants.{Done, Instance, Nothing}
 use Rattle.asg_answers.specs.Tellings.{TellsNone, TellsRanking}

@@ -2,7 +2,7 @@
 use Rattle.std.specs.Prelude.{◌≡◌, ℕ, List, [], ◌∷◌}
 use Rattle.asg_model.specs.Problem.{Problem}
 use Rattle.asg_check.specs.declared.document_forms.Form.TheVariants.{Solve}
-use Rattle.asg_requests.specs.declared.requests.Job.{Job}
+use Rattle.asg_words.specs.declared.requests.Job.{Job}
 use Rattle.asg_answers.specs.declared.status.Status.{Status}
 use Rattle.asg_answers.specs.declared.status.Status.TheVariants.{Done, Instance, Nothing}
 use Rattle.asg_answers.specs.SolverLimits.{SolverRefuses, SolverTakes, limit_number}

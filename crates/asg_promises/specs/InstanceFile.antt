@@ -11,7 +11,7 @@ use Rattle.asg_model.specs.Shapes.{is_range_of, shaped, square_side}
 use Rattle.asg_tokens.specs.Faults.{refusal_numbers}
 use Rattle.asg_tokens.specs.Readings.{Reading, Spells, Refuses as RefusesText}
 use Rattle.asg_text.specs.Texts.{reading_of}
-use Rattle.asg_requests.specs.declared.requests.Job.{Job}
+use Rattle.asg_words.specs.declared.requests.Job.{Job}
 use Rattle.asg_promises.specs.RefusedCosts.{first_refused}
 
 -- an instance, or the numbers with which the file is refused

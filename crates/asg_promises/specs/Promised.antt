@@ -10,7 +10,7 @@ use Rattle.asg_doc_reader.specs.RefusedLine.{AllHaveText, IsNoText, IsRefusedLin
 use Rattle.asg_doc.specs.Text.{text_of, texts_of}
 use Rattle.asg_check.specs.declared.document_forms.Form.{Form}
 use Rattle.asg_check.specs.declared.document_forms.Form.TheVariants.{Solve, Edit}
-use Rattle.asg_scripts.specs.Scripts.{HoldsLines, script_in, solved_instances}
+use Rattle.asg_text.specs.TriedScripts.{HoldsLines, script_in, solved_instances}
 use Rattle.asg_text.specs.declared.script_lines.Line.{Line}
 use Rattle.asg_answers.specs.EditDocuments.{AreEditDocuments, at_first}
 use Rattle.asg_brief.specs.BriefLines.{AreBriefLines}
@@ -18,10 +18,10 @@ use Rattle.asg_check.specs.Certifies.{Certifies}
 use Rattle.asg_check.specs.Reasons.{IsFirstReason}
 use Rattle.asg_check.specs.TrueClaim.{ClaimsTruly}
 use Rattle.asg_model.specs.Objectives.{IsBottleneck}
-use Rattle.asg_requests.specs.declared.requests.Job.{Job}
+use Rattle.asg_words.specs.declared.requests.Job.{Job}
 use Rattle.asg_rank.specs.Rankings.{ranking_work}
 use Rattle.asg_rank.specs.Rooms.{most_work}
-use Rattle.asg_requests.specs.declared.requests.Task.TheVariants.{Solve as Solving, Rank as Ranking}
+use Rattle.asg_words.specs.declared.requests.Task.TheVariants.{Solve as Solving, Rank as Ranking}
 use Rattle.asg_answers.specs.declared.status.Status.{Status}
 use Rattle.asg_answers.specs.declared.status.Status.TheVariants.{Done, No, Nothing}
 use Rattle.asg_answers.specs.SolverLimits.{SolverRefuses, limit_number}

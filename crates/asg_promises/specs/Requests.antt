@@ -1,11 +1,11 @@
 -- What the words ask for, and what that names.
 use Rattle.std.specs.Prelude.{◌≡◌, ℕ, Bool, true, false, List, [], Option, Some, None}
-use Rattle.asg_requests.specs.declared.requests.Job.{Job}
-use Rattle.asg_requests.specs.declared.requests.Request.{Request}
-use Rattle.asg_requests.specs.declared.requests.Request.TheVariants.{Work}
-use Rattle.asg_requests.specs.declared.requests.Task.{Task}
-use Rattle.asg_requests.specs.declared.requests.Task.TheVariants.{Edit}
-use Rattle.asg_requests.specs.Requests.{files_of as files_of_request}
+use Rattle.asg_words.specs.declared.requests.Job.{Job}
+use Rattle.asg_words.specs.declared.requests.Request.{Request}
+use Rattle.asg_words.specs.declared.requests.Request.TheVariants.{Work}
+use Rattle.asg_words.specs.declared.requests.Task.{Task}
+use Rattle.asg_words.specs.declared.requests.Task.TheVariants.{Edit}
+use Rattle.asg_words.specs.FoundRequests.{files_of as files_of_request}
 use Rattle.asg_words.specs.Requests.{request_of}
 
 -- what the words after the program's name ask for; none where they are no request

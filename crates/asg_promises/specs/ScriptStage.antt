@@ -1,6 +1,6 @@
 -- The stage of the script: what its file holds.
 use Rattle.std.specs.Prelude.{◌≡◌, ℕ, List}
-use Rattle.asg_scripts.specs.Scripts.{ScriptFile, HoldsLines, RefusesLines}
+use Rattle.asg_text.specs.TriedScripts.{ScriptFile, HoldsLines, RefusesLines}
 use Rattle.asg_text.specs.declared.script_lines.Line.{Line}
 use Rattle.asg_answers.specs.declared.status.Status.{Status}
 use Rattle.asg_answers.specs.declared.status.Status.TheVariants.{Script}

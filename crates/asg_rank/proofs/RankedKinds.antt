@@ -2,7 +2,7 @@
 use Rattle.asg_rank.proofs.Common.{◌≡◌, ℕ, ◌-◌, ◌^◌, ◌≤◌, true, List, [], length, IsTrue, All, Option, subst, arith, IsInstance, Problem, PassesNegative, IsValid, Objective, Sum, SumMax, SumPair, Capped, Bottleneck, BottleneckMax, TimeCost, Cost, bounded_sums, bounded_difference, narrow_top, plain_word, cost_reach, is_sum_objective, peak_entered, sum_entered, time_entered, top_of, graded, graded_difference, graded_word, maxima, maxima_difference, Monoid, Word, lies_within, IsOutcomeIn, IsRankOutcome, IsSearchTree, last_answer, Node}
 use Rattle.asg_model.specs.Objectives.{is_bottleneck}
 use Rattle.asg_monoids.specs.NarrowObjectives.{is_narrow_objective}
-use Rattle.asg_narrow_kinds.specs.laws.NarrowOrders.{narrow_product}
+use Rattle.asg_monoids.specs.laws.NarrowOrders.{narrow_product}
 use Rattle.asg_rankings.specs.TreeProofs.{IsPeakTree, IsSumTree, ProvesRanking}
 use Rattle.asg_rank.specs.declared.rankings.RankOutcome.{RankOutcome}
 use Rattle.asg_rank.specs.declared.rankings.RankOutcome.TheVariants.{Listed, Nothing}

@@ -1,3 +1,3 @@
-//! Tests of `asg_scripts`.
+//! Tests of `asg_text`.
 
 mod tests;

@@ -7,7 +7,7 @@ use Rattle.asg_model.specs.Limits.{most_side}
 use Rattle.asg_model.specs.Shapes.{square_side}
 use Rattle.asg_sum_edits.specs.declared.founds.Found.{Found}
 use Rattle.asg_sum_edits.proofs.LeastLaw.{least_is_best}
-use Rattle.asg_edited.specs.laws.WrittenCells.{other_cell, put_here}
+use Rattle.asg_values.specs.laws.WrittenCells.{other_cell, put_here}
 use Rattle.asg_model.specs.declared.edits.Edit.TheVariants.{Cost as SetCost}
 use Rattle.asg_values.specs.laws.Options.{there_where}
 use Rattle.asg_model.proofs.Kit.{same_Some}

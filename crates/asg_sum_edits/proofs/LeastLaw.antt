@@ -7,7 +7,7 @@ use Rattle.asg_model.specs.Sums.{count_below, one, sum_below}
 use Rattle.asg_monoids.specs.BoundedSums.{bounded_sums}
 use Rattle.asg_order.specs.Bridge.{choice_fold}
 use Rattle.asg_order.specs.Monoid.{IsLess}
-use Rattle.asg_narrow_kinds.specs.laws.NarrowObjectives.{PassesNegative-narrow, is_sum-narrow}
+use Rattle.asg_monoids.specs.laws.NarrowObjectives.{PassesNegative-narrow, is_sum-narrow}
 use Rattle.asg_model.proofs.Kit.{get_or_past}
 
 -- where all of a list are there, each is

@@ -1,6 +1,6 @@
 -- What the tests of a guess show.
 use Rattle.asg_sum_edits.proofs.Common.{◌≡◌, ℕ, ◌+◌, ◌*◌, ◌<◌, ◌≤◌, List, length, ℤ, pos, ◌+ℤ◌, ◌-ℤ◌, ◌≤ℤ◌, IsTrue, slice_index, slice_index_or, Some, sum, Option, int_eq, sym, ap, ◌∙◌, subst, arith, ints, IsInstance, Problem, AreRowParts, absent, table_cost, IsValid, choice_value, costs_of, first_parts, total, Objective, Sum, SumMax, One, Cost, cost_reach, sum_entered, is_narrow_objective, sum_shifted, sum_turned, near_a, costs_may_enter, length-costs_of, lies_within, AreFirstsAbove, IsOneToOne, IsRowAbove, chosen_sum, first_entered, number_of}
-use Rattle.asg_narrow_kinds.specs.laws.NarrowObjectives.{PassesNegative-narrow}
+use Rattle.asg_monoids.specs.laws.NarrowObjectives.{PassesNegative-narrow}
 use Rattle.asg_values.specs.laws.LiveCells.{column_of_live, live_cell}
 use Rattle.asg_values.specs.laws.Options.{there_unless}
 use Rattle.asg_model.proofs.Kit.{same_Some}

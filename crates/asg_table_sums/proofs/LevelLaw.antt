@@ -11,7 +11,7 @@ use Rattle.asg_order.specs.Monoid.{IsLess}
 use Rattle.asg_order.specs.laws.ChosenCosts.{Bridges-from_KeepsOrder}
 use Rattle.asg_table_sums.proofs.TakenSums.{taken, taken-le}
 use Rattle.asg_table_sums.proofs.RowSums.{Chosen, Out, row_of, entered, level_of_out, out_sum, row_sums, column_sums}
-use Rattle.asg_narrow_kinds.specs.laws.NarrowObjectives.{PassesNegative-narrow, is_sum-narrow}
+use Rattle.asg_monoids.specs.laws.NarrowObjectives.{PassesNegative-narrow, is_sum-narrow}
 
 module _ (objective : Objective) (X : Problem) (f : List (Option ℕ)) (rises : List ℕ) (level : ℕ) (is_level : IsLevel objective X f rises level) (g : List (Option ℕ)) (valid : IsValid X g) where
   abbrev enter : Cost → ℕ

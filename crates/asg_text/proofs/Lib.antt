@@ -13,3 +13,6 @@ pub mod RectLines
 pub mod RectLengths
 pub mod RectLaw
 pub mod PlainLaw
+pub mod FormulaCommon
+mod FormulaTables
+pub mod Counted

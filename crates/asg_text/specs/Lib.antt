@@ -7,3 +7,9 @@ pub mod ScriptLines
 pub mod Scripts
 pub mod ScriptSteps
 pub mod ScriptRanges
+pub mod Formula
+pub mod Places
+pub mod ScriptRefusals
+pub mod TriedScripts
+pub mod SolveLines
+pub mod SpelledLines

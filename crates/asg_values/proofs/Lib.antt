@@ -13,3 +13,4 @@ mod BottleneckLaw
 mod SpreadLaw
 mod ValueRanges
 mod RefusedParts
+mod ClosedColumns

@@ -2,7 +2,7 @@
 use Rattle.asg_words.proofs.Common.{◌≡◌, true, false, List, [], ◌∷◌, IfOk, Some, None, Ok, Err, Option, Result, IsErrOf, refl, arith, nat_tests, Answers, request_found, Usage, NoMemory, found_in, fault_of, is_simple_and_free, IsAmong, Kinds, matches_of, is_simple, Row, Text, is_empty}
 use Rattle.clap.specs.declared.error.kind.ErrorKind.{ErrorKind}
 use Rattle.clap.proofs.OnLiterals.{clap_on_literals}
-use Rattle.asg_requests.specs.declared.requests.WordsRefusal.{WordsRefusal}
+use Rattle.asg_words.specs.declared.requests.WordsRefusal.{WordsRefusal}
 use Rattle.asg_words.specs.CommandLine.{command_line}
 use Rattle.asg_words.specs.Requests.{request_of}
 

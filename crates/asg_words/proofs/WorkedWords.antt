@@ -4,8 +4,8 @@ use Rattle.clap.proofs.OnLiterals.{clap_on_literals}
 use Rattle.asg_model.specs.declared.objectives.Objective.TheVariants.{Sum, Capped}
 use Rattle.asg_model.specs.declared.parts.Place.TheVariants.{All, Exactly}
 use Rattle.asg_text.specs.declared.formats.Format.TheVariants.{Asn, Square}
-use Rattle.asg_requests.specs.declared.requests.Task.TheVariants.{Solve, Check}
-use Rattle.asg_requests.specs.declared.requests.Request.TheVariants.{Work, Make}
+use Rattle.asg_words.specs.declared.requests.Task.TheVariants.{Solve, Check}
+use Rattle.asg_words.specs.declared.requests.Request.TheVariants.{Work, Make}
 use Rattle.asg_words.specs.CommandLine.{command_line}
 use Rattle.asg_words.specs.Requests.{request_of}
 

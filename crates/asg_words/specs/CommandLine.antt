@@ -6,7 +6,7 @@ use Rattle.clap.specs.Walk.{Row, Rule, Text, all_of, first_of}
 use Rattle.clap.specs.Simple.{App, new_app, new_rule, on_top, with_rule}
 use Rattle.clap.specs.declared.builder.action.ArgAction.{ArgAction}
 use Rattle.clap.specs.declared.builder.action.ArgAction.TheVariants.{Set, Append, SetTrue}
-use Rattle.asg_requests.specs.Found.{Found}
+use Rattle.asg_words.specs.Found.{Found}
 
 -- a word in its place, and every further one
 abbrev pub positional : Text → ArgAction → Rule

@@ -5,7 +5,7 @@ ghost use Rattle.clap.specs.Matches.{found_of};
 ghost use Rattle.clap.specs.Walk.{first_of, rows_of};
 ghost use Rattle.asg_words.specs.CommandLine.{found_in, is_flag_set};
 
-use asg_requests::FoundWords;
+use crate::FoundWords;
 use clap::ArgMatches;
 
 // What stands in the matches.

@@ -1,8 +1,8 @@
 //! Laws of the requests that words make: each is the contract of a function that does nothing.
 
 ghost use Rattle.std.specs.Prelude.{◌≡◌, ℕ, List, Some};
-ghost use Rattle.asg_requests.specs.declared.requests.Request.{Request};
-ghost use Rattle.asg_requests.specs.Bounds.{IsRequest};
+ghost use Rattle.asg_words.specs.declared.requests.Request.{Request};
+ghost use Rattle.asg_words.specs.Bounds.{IsRequest};
 ghost use Rattle.asg_words.specs.Requests.{request_of};
 
 /// The numbers of a request that words make are within their bounds, and its options go together.

@@ -2,12 +2,12 @@
 
 ghost use Rattle.std.specs.Prelude.{◌≡◌, ◌≢◌, IfOk, IsErrOf, None, Some, map, string_bytes};
 ghost use Rattle.clap.specs.Values.{kind_of};
-ghost use Rattle.asg_requests.specs.Bounds.{IsRequest};
+ghost use Rattle.asg_words.specs.Bounds.{IsRequest};
 ghost use Rattle.asg_words.specs.Requests.{request_of};
 
 use crate::command_line::command_line;
 use crate::found_words::found_in;
-use asg_requests::{Request, WordsRefusal, request};
+use crate::{Request, WordsRefusal, request};
 use clap::Error;
 use clap::error::ErrorKind;
 use std::alloc::Global;

@@ -1,7 +1,7 @@
 //! Tests of generated instances.
 
-use asg_make::generated;
 use asg_model::Cost;
+use asg_text::generated;
 use std::alloc::Global;
 
 // A row, a column, and the cost of their cell.

@@ -11,8 +11,8 @@ use asg_model::Objective::SumPair;
 use asg_model::{Instance, Objective, Place, Value};
 use asg_order::Word;
 use asg_proof::{Phases, Proof, StepWords, WrittenPhase};
-use asg_reasons::Verdict;
 use asg_samples::{Fault, Sample};
+use asg_verdicts::Verdict;
 use std::alloc::Global;
 use std::test::Fail;
 

@@ -14,9 +14,9 @@ use asg_doc_reader::{DocRefusal, read};
 use asg_model::Objective::Sum;
 use asg_model::limits::MOST_SIDE;
 use asg_model::{Instance, Place};
-use asg_reasons::Verdict;
 use asg_samples::Sample;
 use asg_values::negative;
+use asg_verdicts::Verdict;
 use std::alloc::Global;
 use std::test::Fail;
 

@@ -6,9 +6,9 @@ use asg_model::Objective::{Balanced, Bottleneck, BottleneckMax, Capped, Lex, Sum
 use asg_model::limits::MOST_SIDE;
 use asg_model::{Instance, Objective, Place, Value};
 use asg_proof::{Ids, Proof};
-use asg_reasons::Verdict;
 use asg_samples::{Fault, Sample};
 use asg_values::negative;
+use asg_verdicts::Verdict;
 use std::alloc::Global;
 use std::test::Fail;
 

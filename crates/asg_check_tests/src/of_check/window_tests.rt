@@ -7,8 +7,8 @@ use asg_doc::Document;
 use asg_doc_reader::{DocRefusal, read};
 use asg_model::Objective::{Balanced, Bottleneck, Sum};
 use asg_model::{Instance, Objective};
-use asg_reasons::Verdict;
 use asg_samples::Fault;
+use asg_verdicts::Verdict;
 use std::alloc::Global;
 use std::test::Fail;
 

@@ -2,10 +2,9 @@
 
 ghost use Rattle.asg_doc_reader.specs.RefusedLine.{AllHaveText};
 
-use asg_doc::*;
+use asg_doc::{Page, finish, *};
 use asg_doc_reader::{DocRefusal, read};
 use asg_io::MemorySink;
-use asg_page::{Page, finish};
 use std::alloc::{AllocError, Global};
 use std::test::Fail;
 

@@ -2,14 +2,13 @@
 
 ghost use Rattle.std.specs.Prelude.{◌≡◌, ◌<◌, length, IfOk};
 ghost use Rattle.asg_doc.specs.HasText.{HasText, AreCells};
-ghost use Rattle.asg_page.specs.PageState.{blank};
+ghost use Rattle.asg_doc.specs.PageState.{blank};
 ghost use Rattle.asg_doc.specs.declared.documents.ValueForm.TheVariants.{One};
 ghost use Rattle.asg_doc.specs.Words.{HasWord, form_of};
 
-use asg_doc::*;
+use asg_doc::{*, *};
 use asg_io::{MemorySink, PutFault};
 use asg_model::{Objective, Value};
-use asg_page::*;
 use asg_proof::{Ids, Proof};
 use std::alloc::{AllocError, Global};
 use std::test::Fail;

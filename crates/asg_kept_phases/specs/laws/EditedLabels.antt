@@ -2,7 +2,7 @@
 use Rattle.std.proofs.Common.{◌≡◌, ℕ, ◌+◌, List, [], ◌∷◌, ◌++◌, map, Option, refl, sym, ap, ◌∙◌}
 use Rattle.std.specs.Prelude.{replicate, slice_get}
 use Rattle.std.specs.List.{enumerate_from, flat_map, range_with_len}
-use Rattle.asg_edited.specs.laws.EditedShapes.{closed_cap, edited_side}
+use Rattle.asg_values.specs.laws.EditedShapes.{closed_cap, edited_side}
 use Rattle.asg_model.specs.declared.edits.Edit.{Edit}
 use Rattle.asg_model.specs.declared.edits.Edit.TheVariants.{Cost as SetCost, Forbid, DropRow, DropColumn}
 use Rattle.asg_model.specs.declared.parts.Column.{Column}

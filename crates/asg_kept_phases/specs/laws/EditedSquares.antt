@@ -22,9 +22,9 @@ use Rattle.asg_cell_tables.specs.LabelledCells.{labelled_cell}
 use Rattle.asg_square.specs.Labels.{row_label, column_label}
 use Rattle.asg_model.specs.Edits.{dropped, closed, with_cell, place_of, with_cell_of}
 use Rattle.asg_model.specs.laws.Rows.{no_row, no_column}
-use Rattle.asg_edited.specs.laws.EditedShapes.{edited_side}
+use Rattle.asg_values.specs.laws.EditedShapes.{edited_side}
 use Rattle.asg_kept_phases.specs.laws.EditedLabels.{edited_label}
-use Rattle.asg_edited.specs.laws.WrittenCells.{other_cell}
+use Rattle.asg_values.specs.laws.WrittenCells.{other_cell}
 
 abbrev Cells : Type 0
 Cells = List ((ℕ × ℕ) × Cost)

@@ -28,7 +28,7 @@ use Rattle.asg_kept_phases.specs.Edited.{NamesPlaces}
 use Rattle.asg_kept_phases.specs.Mended.{IsLedBut}
 use Rattle.asg_kept_phases.specs.NamedPlaces.{places_of, IsAtColumn, IsAtRow}
 use Rattle.asg_kept_phases.specs.Led.{IsLed}
-use Rattle.asg_edited.specs.laws.EditedShapes.{edited_rows, edited_side}
+use Rattle.asg_values.specs.laws.EditedShapes.{edited_rows, edited_side}
 use Rattle.asg_kept_phases.specs.laws.EditedLabels.{HasColumnsOf-edited, edited_label}
 use Rattle.asg_kept_phases.specs.laws.NamedCells.{named_touched, untouched_same}
 

@@ -2,7 +2,7 @@
 use Rattle.std.proofs.Common.{◌≡◌, ℕ, false, Option, Some, None, refl, sym, arith}
 use Rattle.std.specs.Prelude.{All, is_none}
 use Rattle.std.proofs.lemmas.Bool.{false≢true}
-use Rattle.asg_edited.specs.laws.Passed.{none_applies}
+use Rattle.asg_values.specs.laws.Passed.{none_applies}
 use Rattle.asg_model.specs.declared.edits.Edit.{Edit}
 use Rattle.asg_model.specs.declared.edits.Edit.TheVariants.{Cost as SetCost, Forbid, DropRow, DropColumn}
 use Rattle.asg_model.specs.declared.edits.EditRefusal.TheVariants.{NoSuchRow, NoSuchColumn, NoMemory}

@@ -2,7 +2,7 @@
 use Rattle.std.proofs.Common.{ℕ, map, refl, sym, ap}
 use Rattle.std.specs.List.{range_with_len}
 use Rattle.std.proofs.lemmas.List.FromFn.{length-map-range_with_len}
-use Rattle.asg_make.specs.Formula.{generated_problem, row_of, column_of}
+use Rattle.asg_text.specs.Formula.{generated_problem, row_of, column_of}
 use Rattle.asg_text.specs.RectTexts.{IsPlain}
 
 -- the instance of the formula is plain

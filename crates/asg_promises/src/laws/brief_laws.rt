@@ -2,8 +2,8 @@
 
 ghost use Rattle.std.specs.Prelude.{◌≡◌, ℕ, List, Option, true};
 ghost use Rattle.asg_brief.specs.BriefLines.{IsBestLine, IsNoneLine, IsRankedLine};
-ghost use Rattle.asg_requests.specs.declared.requests.Job.{Job};
-ghost use Rattle.asg_requests.specs.declared.requests.Task.TheVariants.{Solve, Rank, Edit};
+ghost use Rattle.asg_words.specs.declared.requests.Job.{Job};
+ghost use Rattle.asg_words.specs.declared.requests.Task.TheVariants.{Solve, Rank, Edit};
 ghost use Rattle.asg_answers.specs.declared.status.Status.TheVariants as statuses;
 ghost use Rattle.asg_promises.specs.Due.{Due};
 ghost use Rattle.asg_promises.specs.Sources.{MayHold};

@@ -7,8 +7,8 @@ ghost use Rattle.asg_doc.specs.declared.documents.Document.{Document as Answered
 ghost use Rattle.asg_doc.specs.HasText.{HasText};
 ghost use Rattle.asg_doc.specs.Text.{text_of};
 ghost use Rattle.asg_check.specs.declared.document_forms.Form.TheVariants as forms;
-ghost use Rattle.asg_requests.specs.declared.requests.Job.{Job};
-ghost use Rattle.asg_requests.specs.declared.requests.Task.TheVariants.{Solve, Check};
+ghost use Rattle.asg_words.specs.declared.requests.Job.{Job};
+ghost use Rattle.asg_words.specs.declared.requests.Task.TheVariants.{Solve, Check};
 ghost use Rattle.asg_answers.specs.declared.status.Status.{Status as Ended};
 ghost use Rattle.asg_answers.specs.declared.status.Status.TheVariants as statuses;
 ghost use Rattle.asg_promises.specs.Due.{Due, TellsShort};

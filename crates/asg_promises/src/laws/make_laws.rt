@@ -5,14 +5,14 @@ ghost use Rattle.asg_answers.specs.declared.status.Status.{Status as Ended};
 ghost use Rattle.asg_answers.specs.declared.status.Status.TheVariants as statuses;
 ghost use Rattle.asg_promises.specs.Due.{Due};
 ghost use Rattle.asg_promises.specs.Requests.{asked_of};
-ghost use Rattle.asg_make.specs.Formula.{generated_problem};
-ghost use Rattle.asg_requests.specs.declared.requests.Request.TheVariants.{Make};
+ghost use Rattle.asg_text.specs.Formula.{generated_problem};
+ghost use Rattle.asg_words.specs.declared.requests.Request.TheVariants.{Make};
 ghost use Rattle.asg_text.specs.declared.formats.Format.TheVariants.{Rect};
 ghost use Rattle.asg_tokens.specs.Readings.{Spells};
 ghost use Rattle.asg_text.specs.RectTexts.{rect_text};
 ghost use Rattle.asg_text.specs.Texts.{reading_of};
 
-use asg_make::laws::generated_law;
+use asg_text::formula_laws::generated_law;
 use asg_text::laws::rect_law;
 use asg_words::laws::request_law;
 

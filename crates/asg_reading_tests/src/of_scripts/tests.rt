@@ -4,8 +4,7 @@ use asg_model::Objective::{Capped, Sum, SumMax, TimeCost};
 use asg_model::limits::LONGEST_FILE;
 use asg_model::{Cost, Edit, Instance, Objective, Place};
 use asg_samples::{Fault, Sample};
-use asg_scripts::{NoMemory, ScriptRefused, script};
-use asg_text::Line;
+use asg_text::{Line, NoMemory, ScriptRefused, script};
 use std::alloc::Global;
 use std::test::Fail;
 

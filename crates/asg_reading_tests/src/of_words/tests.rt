@@ -1,8 +1,7 @@
 //! Command lines, and what they ask for.
 
 use crate::of_words::lines::{plain, refused, requests, spelled};
-use asg_requests::{FileName, Job, Request, Task, WordsRefusal};
-use asg_words::parse;
+use asg_words::{FileName, Job, Request, Task, WordsRefusal, parse};
 use std::alloc::{AllocError, Global};
 use std::test::Fail;
 

@@ -1,8 +1,8 @@
 -- What the command takes is what it finds in the words.
 use Rattle.asg_words.proofs.Common.{◌≡◌, Bool, true, false, List, if◌then◌else◌, Some, None, is_request, request_found, command_line, found_in, fault_of, matches_of, Text, is_empty}
-use Rattle.asg_requests.specs.declared.requests.Request.{Request}
-use Rattle.asg_requests.specs.Bounds.{IsRequest}
-use Rattle.asg_requests.specs.Found.{Found}
+use Rattle.asg_words.specs.declared.requests.Request.{Request}
+use Rattle.asg_words.specs.Bounds.{IsRequest}
+use Rattle.asg_words.specs.Found.{Found}
 use Rattle.asg_words.specs.Requests.{request_of}
 use Rattle.asg_words.proofs.laws.request_law.Goals as goal
 

@@ -1,6 +1,6 @@
 use Rattle.asg_promises.proofs.Common.{subst, DueForAsked, Make}
 use Rattle.asg_promises.specs.laws.MadeInstances.{generated_is_plain}
-use Rattle.asg_make.specs.Formula.{generated_problem}
+use Rattle.asg_text.specs.Formula.{generated_problem}
 use Rattle.asg_promises.proofs.laws.make_laws.made_law.Goals as goal
 
 pub returns-clause-due : goal.returns-clause-due

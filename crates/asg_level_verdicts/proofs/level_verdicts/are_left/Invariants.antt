@@ -1,9 +1,0 @@
-use Rattle.asg_level_verdicts.proofs.Common.{ℕ, ◌<◌, get_or, IsTrue, has_bit}
-use Rattle.asg_level_verdicts.proofs.level_verdicts.are_left.Given as goal
-
--- the cells of the rows so far are left
-abbrev pub invariant-loop-row : goal.invariant-loop-row
-invariant-loop-row l =
-    record {
-      left : (r : ℕ) → r < l.row → IsTrue (has_bit l.walk.left r (get_or l.perm r 0));
-    }

@@ -1,4 +1,0 @@
-pub mod LevelReasons
-pub mod LevelWalks
-pub mod LevelBits
-pub mod laws

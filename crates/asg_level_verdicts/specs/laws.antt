@@ -1,2 +1,0 @@
--- Laws that upper crates cite: what verdicts tell of levels.
-pub mod LevelTold

@@ -1,5 +1,0 @@
-use Rattle.asg_make.proofs.FormulaTables.{generated_is_instance}
-use Rattle.asg_make.proofs.laws.generated_law.Goals as goal
-
-pub returns : goal.returns
-returns c = generated_is_instance c.whole_table_law.ensures

@@ -1,2 +1,0 @@
-pub mod Formula
-pub mod Places

@@ -1,3 +1,0 @@
-pub mod PageState
-pub mod Flow
-pub mod laws

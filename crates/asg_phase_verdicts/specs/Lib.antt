@@ -1,3 +1,0 @@
-pub mod PhaseReasons
-pub mod Replays
-pub mod laws

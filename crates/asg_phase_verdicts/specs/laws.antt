@@ -1,2 +1,0 @@
--- Laws that upper crates cite: facts of phases by the monoid of the objective.
-pub mod ByObjective

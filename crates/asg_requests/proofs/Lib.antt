@@ -1,2 +1,0 @@
-pub mod RequestBounds
-pub mod Conjunctions

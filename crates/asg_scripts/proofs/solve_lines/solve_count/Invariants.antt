@@ -1,7 +1,0 @@
-use Rattle.std.proofs.Common.{◌≡◌, ◌+◌, drop}
-use Rattle.asg_scripts.specs.SolveLines.{solve_count}
-use Rattle.asg_scripts.proofs.solve_lines.solve_count.Given as goal
-
--- those so far, and those from here on, are all
-abbrev pub invariant-lines : goal.invariant-lines
-invariant-lines l = l.count + solve_count (drop l.place l.lines) ≡ solve_count l.lines

@@ -1,4 +1,0 @@
-pub mod Laws
-pub mod ScriptRefusals
-pub mod Scripts
-pub mod SolveLines

@@ -1,0 +1,12 @@
+pub mod Common
+pub mod PhaseTold
+pub mod SumBounds
+pub mod LevelCommon
+pub mod LevelCells
+pub mod LevelColumns
+pub mod LevelStarts
+pub mod BitSquares
+pub mod UnitLevels
+pub mod LevelSums
+pub mod LevelTaken
+pub mod LevelWhole

@@ -3,7 +3,7 @@
 use crate::NoMemory;
 use crate::arcs::Arcs;
 use crate::heaps::Heap;
-use asg_dual_numbers::{NONE, put, set};
+use asg_dual_numbers::{Lists, NONE, put, set};
 use std::alloc::Global;
 
 // The columns of rows so far, and room for searches.
@@ -34,118 +34,31 @@ pub(crate) struct ArcBench {
     pub later: Vec<u32>,
 }
 
-// The lists of a bench that are as long as there are rows.
-#[derive(Drop)]
-struct OfRows {
-    column_of: Vec<u32>,
-    cell_of: Vec<i64>,
-    waiting: Vec<u32>,
-    later: Vec<u32>,
-}
-
-impl OfRows {
-    // Those of so many rows, none of which has a column. The error is want of memory.
-    fn make(alloc: Global, rows: usize) -> Result<OfRows, NoMemory> {
-        Ok(OfRows {
-            column_of: vec![in alloc; NONE; rows]?,
-            cell_of: vec![in alloc; 0; rows]?,
-            waiting: vec![in alloc; 0; rows]?,
-            later: vec![in alloc; 0; rows]?,
-        })
-    }
-}
-
-// The lists of a bench that tell of each column how it was reached.
-#[derive(Drop)]
-struct Ways {
-    duals: Vec<i64>,
-    keys: Vec<i64>,
-    came: Vec<u32>,
-    came_by: Vec<i64>,
-}
-
-impl Ways {
-    // Those of so many columns, none of which was reached. The error is want of memory.
-    fn make(alloc: Global, side: usize) -> Result<Ways, NoMemory> {
-        Ok(Ways {
-            duals: vec![in alloc; 0; side]?,
-            keys: vec![in alloc; i64::MAX; side]?,
-            came: vec![in alloc; NONE; side]?,
-            came_by: vec![in alloc; 0; side]?,
-        })
-    }
-}
-
-// The lists of a bench that tell which columns were reached, and their rows.
-#[derive(Drop)]
-struct Reached {
-    row_of: Vec<u32>,
-    touched: Vec<u32>,
-    done: Vec<u32>,
-    reached: Vec<i64>,
-}
-
-impl Reached {
-    // Those of so many columns, none of which was reached. The error is want of memory.
-    fn make(alloc: Global, side: usize) -> Result<Reached, NoMemory> {
-        Ok(Reached {
-            row_of: vec![in alloc; NONE; side]?,
-            touched: vec![in alloc; NONE; side]?,
-            done: vec![in alloc; NONE; side]?,
-            reached: vec![in alloc; 0; side]?,
-        })
-    }
-}
-
 impl ArcBench {
     // A bench over so many columns; no row has one. The error is want of memory.
     pub(crate) fn make(alloc: Global, arcs: &Arcs, side: usize) -> Result<ArcBench, NoMemory> {
-        let of_rows = OfRows::make(alloc, arcs.rows())?;
-        let ways = Ways::make(alloc, side)?;
-        let reached = Reached::make(alloc, side)?;
-        let heap = Heap::make(alloc, arcs.count())?;
-        Ok(ArcBench::of(of_rows, ways, reached, heap))
-    }
-
-    // The bench of these parts.
-    fn of(of_rows: OfRows, ways: Ways, columns: Reached, heap: Heap) -> ArcBench {
-        let OfRows {
-            column_of,
-            cell_of,
-            waiting,
-            later,
-        } = of_rows;
-        let Ways {
-            duals,
-            keys,
-            came,
-            came_by,
-        } = ways;
-        let Reached {
-            row_of,
-            touched,
-            done,
-            reached,
-        } = columns;
-        ArcBench {
-            duals,
-            column_of,
-            cell_of,
-            row_of,
-            keys,
-            came,
-            came_by,
+        let rows = arcs.rows();
+        let mut lists = Lists::new(alloc);
+        let bench = ArcBench {
+            duals: lists.of(0, side),
+            column_of: lists.of(NONE, rows),
+            cell_of: lists.of(0, rows),
+            row_of: lists.of(NONE, side),
+            keys: lists.of(i64::MAX, side),
+            came: lists.of(NONE, side),
+            came_by: lists.of(0, side),
             end: NONE,
             bound: i64::MAX,
-            touched,
+            touched: lists.of(NONE, side),
             touches: 0,
-            done,
-            reached,
+            done: lists.of(NONE, side),
+            reached: lists.of(0, side),
             dones: 0,
-            heap,
-            waiting,
-            later,
-        }
+            heap: Heap::make(&mut lists, arcs.count()),
+            waiting: lists.of(0, rows),
+            later: lists.of(0, rows),
+        };
+        lists.whole(bench)
     }
 
     // Gives a row a column, in which it has this cell.

@@ -5,15 +5,15 @@ use crate::arc_bench::ArcBench;
 use crate::arc_paths::solve_arcs;
 use crate::arcs::Arcs;
 use crate::classes::Classes;
-use crate::placings::{Placing, found_by};
-use asg_dual_numbers::{Found, NONE, at, name};
+use crate::placings::{Placing, found_by, next_free};
+use asg_dual_numbers::{Found, at, name, put};
 use std::alloc::Global;
 
 // The cells of rows in their columns.
-fn cells_of(alloc: Global, bench: &ArcBench) -> Result<Vec<u64>, NoMemory> {
-    let mut cells = Vec::with_capacity(alloc, bench.cell_of.len())?;
-    for row in 0..bench.cell_of.len() {
-        cells.push(bench.cell_of[row].max(0) as u64)?;
+fn cells_of(alloc: Global, numbers: &[i64]) -> Result<Vec<u64>, NoMemory> {
+    let mut cells = Vec::with_capacity(alloc, numbers.len())?;
+    for number in numbers {
+        cells.push((*number).max(0) as u64)?;
     }
     Ok(cells)
 }
@@ -30,7 +30,7 @@ fn found_on_bench(
     if !solve_arcs(bench, arcs) {
         return Ok(None);
     }
-    let cells = cells_of(alloc, bench)?;
+    let cells = cells_of(alloc, bench.cell_of.as_slice())?;
     let placing = Placing {
         class_of: bench.column_of.as_slice(),
         cells: cells.as_slice(),
@@ -38,7 +38,7 @@ fn found_on_bench(
         greatest: 0,
         outside: 0,
     };
-    let found = found_by(alloc, side, classes, placing)?;
+    let found = found_by(alloc, side, classes, &placing)?;
     Ok(Some(found))
 }
 
@@ -71,16 +71,16 @@ pub enum ArcLead {
 
 // The first row that has no column, and the rows whose columns the last search reached.
 fn short_rows(alloc: Global, bench: &ArcBench) -> Result<Vec<u32>, NoMemory> {
-    let mut rows = Vec::with_capacity(alloc, bench.dones.saturating_add(1))?;
-    for row in 0..bench.column_of.len() {
-        if bench.column_of[row] == NONE {
-            rows.push(name(row))?;
-            break;
-        }
-    }
+    let row_of = bench.row_of.as_slice();
+    let first = name(next_free(bench.column_of.as_slice(), 0));
+    let mut rows = vec![in alloc; first; bench.dones.saturating_add(1)]?;
     for place in 0..bench.dones {
         let column = at(bench.done.as_slice(), place) as usize;
-        rows.push(at(bench.row_of.as_slice(), column))?;
+        put(
+            rows.as_mut_slice(),
+            place.saturating_add(1),
+            at(row_of, column),
+        );
     }
     Ok(rows)
 }

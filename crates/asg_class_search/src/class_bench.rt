@@ -3,7 +3,7 @@
 ghost use Rattle.std.specs.Prelude.{◌≡◌, length};
 
 use crate::NoMemory;
-use asg_dual_numbers::{NONE, Number, Table, at, mark, padded, put};
+use asg_dual_numbers::{Lists, NONE, Number, Table, at, mark, padded, put};
 use std::alloc::Global;
 
 /// The classes of rows so far, the dual variables of classes, and room for searches.
@@ -36,80 +36,6 @@ pub struct ClassBench<N: Number> {
     pub level: N,
 }
 
-// The lists of a bench that tell the rows of each class.
-#[derive(Drop)]
-struct Members {
-    class_of: Vec<u32>,
-    first_rows: Vec<u32>,
-    earlier: Vec<u32>,
-    later: Vec<u32>,
-}
-
-impl Members {
-    // Those of so many rows, none of which has one of so many classes. The error is want of memory.
-    fn make(alloc: Global, rows: usize, wide: usize) -> Result<Members, NoMemory> {
-        Ok(Members {
-            class_of: vec![in alloc; NONE; rows]?,
-            first_rows: vec![in alloc; NONE; wide]?,
-            earlier: vec![in alloc; NONE; rows]?,
-            later: vec![in alloc; NONE; rows]?,
-        })
-    }
-}
-
-// The lists of a bench that a search goes by.
-#[derive(Drop)]
-struct Distances<N: Number> {
-    keys: Vec<N>,
-    limits: Vec<N>,
-    blocks: Vec<N>,
-    reached: Vec<N>,
-}
-
-impl<N: Number> Distances<N> {
-    // Those of so many classes. The error is want of memory.
-    fn make(alloc: Global, wide: usize) -> Result<Distances<N>, NoMemory> {
-        Ok(Distances {
-            keys: vec![in alloc; N::zero(); wide]?,
-            limits: vec![in alloc; N::zero(); wide]?,
-            blocks: vec![in alloc; N::greatest(); padded(wide / 16)]?,
-            reached: vec![in alloc; N::zero(); wide]?,
-        })
-    }
-}
-
-// What a bench has of each class beside its rows and its distance.
-#[derive(Drop)]
-struct Standing<N: Number> {
-    duals: Vec<N>,
-    came: Vec<u32>,
-    done: Vec<u32>,
-    leasts: Vec<N>,
-    least_rows: Vec<u32>,
-}
-
-impl<N: Number> Standing<N> {
-    // That of so many classes. The error is want of memory.
-    fn make(alloc: Global, wide: usize) -> Result<Standing<N>, NoMemory> {
-        Ok(Standing {
-            duals: vec![in alloc; N::zero(); wide]?,
-            came: vec![in alloc; 0; wide]?,
-            done: vec![in alloc; 0; wide]?,
-            leasts: vec![in alloc; N::greatest(); wide]?,
-            least_rows: vec![in alloc; NONE; wide]?,
-        })
-    }
-}
-
-// A bit for each of the classes of a table. The error is want of memory.
-fn all_free<N: Number>(alloc: Global, table: &Table<N>) -> Result<Vec<u64>, NoMemory> {
-    let mut free = vec![in alloc; 0; table.wide / 64 + 1]?;
-    for class in 0..table.side {
-        mark(free.as_mut_slice(), class, true);
-    }
-    Ok(free)
-}
-
 impl<N: Number> ClassBench<N> {
     /// A bench over a table of so many rows, whose classes have room for so many of them each; no
     /// row has a class. The error is want of memory.
@@ -120,58 +46,33 @@ impl<N: Number> ClassBench<N> {
         rooms: &[u32],
     ) -> Result<ClassBench<N>, NoMemory> {
         let wide = table.wide;
-        let free = all_free(alloc, table)?;
-        let rooms = Vec::from_slice(alloc, rooms)?;
-        let members = Members::make(alloc, rows, wide)?;
-        let distances = Distances::make(alloc, wide)?;
-        let standing = Standing::make(alloc, wide)?;
-        Ok(ClassBench::of(free, rooms, members, distances, standing))
+        let mut lists = Lists::new(alloc);
+        let mut bench = ClassBench {
+            duals: lists.of(N::zero(), wide),
+            class_of: lists.of(NONE, rows),
+            first_rows: lists.of(NONE, wide),
+            earlier: lists.of(NONE, rows),
+            later: lists.of(NONE, rows),
+            rooms: lists.copy_of(rooms),
+            free: lists.of(0, wide / 64 + 1),
+            keys: lists.of(N::zero(), wide),
+            limits: lists.of(N::zero(), wide),
+            blocks: lists.of(N::greatest(), padded(wide / 16)),
+            came: lists.of(0, wide),
+            done: lists.of(0, wide),
+            reached: lists.of(N::zero(), wide),
+            leasts: lists.of(N::greatest(), wide),
+            least_rows: lists.of(NONE, wide),
+            level: N::zero(),
+        };
+        bench.free_all(table.side);
+        lists.whole(bench)
     }
 
-    // The bench of these parts.
-    fn of(
-        free: Vec<u64>,
-        rooms: Vec<u32>,
-        members: Members,
-        distances: Distances<N>,
-        standing: Standing<N>,
-    ) -> ClassBench<N> {
-        let Members {
-            class_of,
-            first_rows,
-            earlier,
-            later,
-        } = members;
-        let Distances {
-            keys,
-            limits,
-            blocks,
-            reached,
-        } = distances;
-        let Standing {
-            duals,
-            came,
-            done,
-            leasts,
-            least_rows,
-        } = standing;
-        ClassBench {
-            duals,
-            class_of,
-            first_rows,
-            earlier,
-            later,
-            rooms,
-            free,
-            keys,
-            limits,
-            blocks,
-            came,
-            done,
-            reached,
-            leasts,
-            least_rows,
-            level: N::zero(),
+    // Sets the bits of so many classes.
+    fn free_all(&mut self, count: usize) {
+        for class in 0..count {
+            mark(self.free.as_mut_slice(), class, true);
         }
     }
 

@@ -5,7 +5,7 @@ use asg_dual_numbers::{NONE, Number, Table, at, name, put, set, value};
 
 // How a search ended: the class with room and its distance, and how many classes were done before
 // it.
-#[derive(Clone, Copy)]
+#[derive(Drop)]
 struct Reach<N: Number> {
     end: u32,
     distance: N,

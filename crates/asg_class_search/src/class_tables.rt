@@ -5,7 +5,7 @@ use crate::NoMemory;
 use crate::classes::Classes;
 use crate::near_cells::{are_present, put_near};
 use crate::ranges::{Ranges, Spread, put_word, ranges_by, row_range};
-use asg_dual_numbers::{Number, Sums, Table, amount, at, padded, put_amount};
+use asg_dual_numbers::{Lists, Number, Sums, Table, amount, at, padded, put_amount};
 use std::alloc::Global;
 
 /// Room for the cells of a row at the first columns of classes, with a bit for each that is present.
@@ -42,10 +42,12 @@ impl ClassRow {
     /// Room for the cells of a row. The error is want of memory.
     pub fn make(alloc: Global, classes: &Classes) -> Result<ClassRow, NoMemory> {
         let count = classes.firsts.len();
-        Ok(ClassRow {
-            values: vec![in alloc; 0; count]?,
-            words: vec![in alloc; 0; count / 64 + 1]?,
-        })
+        let mut lists = Lists::new(alloc);
+        let row = ClassRow {
+            values: lists.of(0, count),
+            words: lists.of(0, count / 64 + 1),
+        };
+        lists.whole(row)
     }
 
     // Reads a row, where its cells don't stand in their places.
@@ -136,8 +138,9 @@ pub fn class_table<N: Number>(
     let side = classes.firsts.len();
     let wide = padded(side);
     let count = classes.rows.len();
-    let mut cells = Vec::with_capacity(alloc, count.saturating_mul(wide))?;
-    let mut numbers = vec![in alloc; N::greatest(); wide]?;
+    let mut lists = Lists::new(alloc);
+    let mut cells = lists.room(count.saturating_mul(wide));
+    let mut numbers = lists.of(N::greatest(), wide);
     for place in 0..count {
         let row = at(classes.rows.as_slice(), place);
         room.read(sums, classes, row);
@@ -148,9 +151,10 @@ pub fn class_table<N: Number>(
             amount(leasts, place),
             absent,
         );
-        cells.extend_from_slice(numbers.as_slice())?;
+        lists.append(&mut cells, numbers.as_slice());
     }
-    Ok(Table { side, wide, cells })
+    drop(numbers);
+    lists.whole(Table { side, wide, cells })
 }
 
 /// The table of the rows with so much less; `None` where a cell is absent, or not near. The error is
@@ -165,19 +169,22 @@ pub fn near_class_table<N: Number>(
     let side = classes.firsts.len();
     let wide = padded(side);
     let count = classes.rows.len();
-    let mut cells = Vec::with_capacity(alloc, count.saturating_mul(wide))?;
-    let mut numbers = vec![in alloc; N::greatest(); wide]?;
+    let mut lists = Lists::new(alloc);
+    let mut cells = lists.room(count.saturating_mul(wide));
+    let mut numbers = lists.of(N::greatest(), wide);
+    let mut are_near = true;
     for place in 0..count {
         let row = at(classes.rows.as_slice(), place);
-        if !are_present(sums.row_words(row), classes.room) {
-            return Ok(None);
-        }
         room.read(sums, classes, row);
         let values = room.values(&*sums, classes, row);
-        if !put_near(numbers.as_mut_slice(), values, side, base) {
-            return Ok(None);
+        are_near = are_present(sums.row_words(row), classes.room)
+            && put_near(numbers.as_mut_slice(), values, side, base);
+        if !are_near {
+            break;
         }
-        cells.extend_from_slice(numbers.as_slice())?;
+        lists.append(&mut cells, numbers.as_slice());
     }
-    Ok(Some(Table { side, wide, cells }))
+    drop(numbers);
+    let table = lists.whole(Table { side, wide, cells })?;
+    Ok(if are_near { Some(table) } else { None })
 }

@@ -2,8 +2,7 @@
 
 ghost use Rattle.std.specs.Prelude.{◌≡◌, length};
 
-use crate::NoMemory;
-use std::alloc::Global;
+use asg_dual_numbers::Lists;
 
 // A column at a distance.
 #[derive(Clone, Copy)]
@@ -93,12 +92,12 @@ fn sink(entries: &mut [Entry], count: usize, entry: Entry) {
 }
 
 impl Heap {
-    // A heap with room for so many entries. The error is want of memory.
-    pub(crate) fn make(alloc: Global, room: usize) -> Result<Heap, NoMemory> {
-        Ok(Heap {
-            entries: vec![in alloc; nowhere(); room]?,
+    // A heap with room for so many entries.
+    pub(crate) fn make(lists: &mut Lists, room: usize) -> Heap {
+        Heap {
+            entries: lists.of(nowhere(), room),
             count: 0,
-        })
+        }
     }
 
     // Takes all entries out.

@@ -10,8 +10,8 @@ use Rattle.asg_monoids.specs.BoundedSums.{bounded_sums}
 use Rattle.asg_monoids.specs.laws.SumFolds.{bounded_fold}
 use Rattle.asg_dual_bounds.proofs.Answers.{answer_cost}
 use Rattle.asg_dual_bounds.proofs.PlainChoices.{chooses-from_columns}
-use Rattle.asg_narrow_kinds.specs.laws.NarrowObjectives.{PassesNegative-narrow}
-use Rattle.asg_narrow_kinds.specs.laws.NarrowOrders.{wide_order}
+use Rattle.asg_monoids.specs.laws.NarrowObjectives.{PassesNegative-narrow}
+use Rattle.asg_monoids.specs.laws.NarrowOrders.{wide_order}
 
 abbrev top : ℕ
 top = 2 ^ 120

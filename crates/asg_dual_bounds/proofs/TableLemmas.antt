@@ -1,5 +1,6 @@
 -- What stands at the places of a table.
 use Rattle.asg_dual_bounds.proofs.Common.{◌≡◌, ℕ, ◌+◌, ◌*◌, ◌<◌, ◌≤◌, Bool, true, false, cond, ◌≢◌, List, length, get_or, nat_lt, ◌==◌, slice_index, Some, None, Option, option_map, sym, refl, ap, ◌∙◌, subst, ⊎_elim, mul-le-mul_right, arith, ltb-true, le-ltb, lt-ltb, and_left, and_right, cases_eq, cases_lt, eqb-false, get_or_default, get_or_past, none-some, option_map_or, row_fits, same_Some, slice_get_past, number_at, Table, absent, number_of, number_in, IsTable, IsTableOf, is_active, is_open, cost_at, Problem, Objective, sum_entered}
+use Rattle.asg_dual_bounds.specs.Tables.{IsRowOf}
 
 inside_is : (b : Bool) (o : Option ℕ) (x : ℕ) → cond b o None ≡ Some x → (b ≡ true) × (o ≡ Some x)
 inside_is true o x e = (refl, e)
@@ -14,6 +15,14 @@ pub number_of-some : (slot x : ℕ) → number_of slot ≡ Some x → (slot ≢ 
 number_of-some slot x e =
     let h = slot_is (slot == absent) slot x e in
     (eqb-false slot absent h.0, h.1)
+
+-- a number of a row is what stands in its column
+pub stands_in_row : (table : Table) (r c x : ℕ) (slots : List ℕ) → IsRowOf table r slots → number_in table r c ≡ Some x → (c < table.columns) × (slice_index slots c ≢ absent) × (slice_index slots c ≡ x)
+stands_in_row table r c x slots row is =
+    let inside = inside_is (nat_lt c table.columns) (number_of (get_or table.slots (r * table.columns + c) absent)) x is in
+    let column : c < table.columns = ltb-true c table.columns inside.0 in
+    let here = number_of-some (slice_index slots c) x (sym (row.each c column) ∙ is) in
+    (column, here.0, here.1)
 
 -- a number stands within the table
 pub number_in-within : (table : Table) (r c x : ℕ) → IsTable table → number_in table r c ≡ Some x → (r < table.rows) × (c < table.columns)

@@ -9,6 +9,7 @@
 mod cell_numbers;
 mod found;
 mod lanes;
+mod lists;
 mod numbers;
 mod places;
 mod served;
@@ -18,7 +19,8 @@ mod wide_numbers;
 
 pub use cell_numbers::{NO_NUMBER, Numbers};
 pub use found::Found;
-pub use numbers::{Number, Two, set, value};
+pub use lists::Lists;
+pub use numbers::{Number, Two, fill, set, value};
 pub use places::{NONE, amount, at, mark, name, put, put_amount};
 pub use served::Served;
 pub use sums::Sums;

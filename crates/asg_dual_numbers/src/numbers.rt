@@ -3,7 +3,7 @@
 ghost use Rattle.std.specs.Prelude.{◌≡◌, length};
 
 /// The least of a row's numbers and the next one, with the place of the first.
-#[derive(Clone, Copy)]
+#[derive(Drop)]
 pub struct Two<N: Number> {
     /// The least number.
     pub least: N,
@@ -128,6 +128,16 @@ pub fn set<N: Number>(numbers: &mut [N], place: usize, number: N)
     ensures { length numbers.new ≡ length numbers.old }
 {
     if place < numbers.len() {
+        numbers[place] = number;
+    }
+}
+
+/// Writes a number at each place.
+#[inline]
+pub fn fill<N: Number>(numbers: &mut [N], number: N)
+    ensures { length numbers.new ≡ length numbers.old }
+{
+    for place in 0..numbers.len() {
         numbers[place] = number;
     }
 }

@@ -4,7 +4,7 @@
 use crate::NoMemory;
 use crate::bench::Bench;
 use crate::paths::augment;
-use asg_dual_numbers::{Number, Table, at, name, put, set, value};
+use asg_dual_numbers::{Lists, Number, Table, at, fill, name, put, set, value};
 use std::alloc::Global;
 
 // The most rows that enter first.
@@ -72,9 +72,7 @@ fn ordered<N: Number>(
 // Gives columns that enter the greatest dual variables under which no cell of the rows that have
 // columns is below 0; the least of each column where there are none.
 fn enter_columns<N: Number>(bench: &mut Bench<N>, table: &Table<N>, before: usize, after: usize) {
-    for column in 0..table.wide {
-        set(bench.keys.as_mut_slice(), column, N::greatest());
-    }
+    fill(bench.keys.as_mut_slice(), N::greatest());
     for row in 0..if before == 0 { after } else { before } {
         let numbers = table.row(name(row));
         let mut base = N::zero();
@@ -98,21 +96,28 @@ fn enter_columns<N: Number>(bench: &mut Bench<N>, table: &Table<N>, before: usiz
 }
 
 // Puts columns and dual variables back where the rows and columns stood before they were ordered.
-fn restore<N: Number>(alloc: Global, bench: &mut Bench<N>, order: &[u32]) -> Result<(), NoMemory> {
-    let column_of = Vec::from_slice(alloc, bench.column_of.as_slice())?;
-    let duals = Vec::from_slice(alloc, bench.duals.as_slice())?;
+fn restore<N: Number>(bench: &mut Bench<N>, order: &[u32], column_of: &[u32], duals: &[N]) {
     for place in 0..order.len() {
         let own = order[place] as usize;
-        let column = at(column_of.as_slice(), place);
-        let former = at(order, column as usize);
+        let former = at(order, at(column_of, place) as usize);
         put(bench.column_of.as_mut_slice(), own, former);
         put(bench.row_of.as_mut_slice(), former as usize, name(own));
-        set(
-            bench.duals.as_mut_slice(),
-            own,
-            value(duals.as_slice(), place),
-        );
+        set(bench.duals.as_mut_slice(), own, value(duals, place));
     }
+}
+
+// The same by copies of both.
+fn restore_all<N: Number>(
+    alloc: Global,
+    bench: &mut Bench<N>,
+    order: &[u32],
+) -> Result<(), NoMemory> {
+    let mut lists = Lists::new(alloc);
+    let column_of = lists.copy_of(bench.column_of.as_slice());
+    let duals = lists.copy_of(bench.duals.as_slice());
+    restore(bench, order, column_of.as_slice(), duals.as_slice());
+    drop(column_of);
+    lists.whole(duals)?;
     Ok(())
 }
 
@@ -145,7 +150,7 @@ fn refine_by<N: Number>(
     let is_whole = enter_all(bench, &own, levels.ends.as_slice());
     drop(own);
     if is_whole {
-        restore(alloc, bench, order)?;
+        restore_all(alloc, bench, order)?;
     }
     Ok(is_whole)
 }

@@ -6,7 +6,7 @@ use crate::NoMemory;
 use crate::bench::Bench;
 use crate::solving::{solve, solve_few};
 use asg_class_search::{ClassBench, place_rows};
-use asg_dual_numbers::{Number, Table, at, padded, put, value};
+use asg_dual_numbers::{Lists, Number, Table, padded, value};
 use std::alloc::Global;
 
 // How far costs may lie from the first one of the table to count as near.
@@ -88,20 +88,13 @@ fn greatest_dual(duals: &[i32], side: usize) -> i64 {
     greatest
 }
 
-// By how much each column may rise: as much as its dual variable is below the greatest.
-fn rises_of(
-    alloc: Global,
-    duals: &[i32],
-    side: usize,
-    greatest: i64,
-) -> Result<Vec<u32>, NoMemory> {
-    let mut rises = vec![in alloc; 0; side]?;
-    for column in 0..side {
+// Lets each column rise by as much as its dual variable is below the greatest.
+fn raise(rises: &mut [u32], duals: &[i32], greatest: i64) {
+    for column in 0..rises.len() {
         let dual = value(duals, column).to_wide();
         let rise = greatest.wrapping_sub(dual).max(0) as u64 % (1 << 32);
-        put(rises.as_mut_slice(), column, rise as u32);
+        rises[column] = rise as u32;
     }
-    Ok(rises)
 }
 
 // Whether each column has room for one row.
@@ -114,13 +107,24 @@ fn are_single(rooms: &[u32]) -> bool {
     true
 }
 
-// The first names of a list.
-fn first_names(alloc: Global, names: &[u32], count: usize) -> Result<Vec<u32>, NoMemory> {
-    let mut first = Vec::with_capacity(alloc, count)?;
-    for place in 0..count {
-        first.push(at(names, place))?;
-    }
-    Ok(first)
+// The first names of a list, all where there are fewer.
+fn first_names(names: &[u32], count: usize) -> &[u32] {
+    &names[..count.min(names.len())]
+}
+
+// The lead of these columns of rows, with as much as each column may rise by.
+fn lead_by(
+    alloc: Global,
+    columns: &[u32],
+    duals: &[i32],
+    side: usize,
+    greatest: i64,
+) -> Result<Lead, NoMemory> {
+    let mut lists = Lists::new(alloc);
+    let columns = lists.copy_of(columns);
+    let mut rises = lists.of(0, side);
+    raise(&mut rises, duals, greatest);
+    lists.whole(Lead { columns, rises })
 }
 
 impl CostTable {
@@ -134,9 +138,10 @@ impl CostTable {
     ) -> Result<CostTable, NoMemory> {
         let side = columns as usize;
         let wide = padded(side);
-        let cells = Vec::with_capacity(alloc, (rows as usize).saturating_mul(wide))?;
-        let line = vec![in alloc; i32::greatest(); wide]?;
-        Ok(CostTable {
+        let mut lists = Lists::new(alloc);
+        let cells = lists.room((rows as usize).saturating_mul(wide));
+        let line = lists.of(i32::greatest(), wide);
+        lists.whole(CostTable {
             rows: 0,
             table: Table { side, wide, cells },
             line,
@@ -197,10 +202,8 @@ impl CostTable {
         } else {
             0
         };
-        Ok(Lead {
-            columns: first_names(alloc, bench.column_of.as_slice(), self.rows)?,
-            rises: rises_of(alloc, duals, side, greatest)?,
-        })
+        let columns = first_names(bench.column_of.as_slice(), self.rows);
+        lead_by(alloc, columns, duals, side, greatest)
     }
 
     // Gives each row a column of its own. Whether each has one.
@@ -235,9 +238,8 @@ impl CostTable {
 
     // What a bench of classes came to.
     fn class_lead_of(&self, alloc: Global, bench: &ClassBench<i32>) -> Result<Lead, NoMemory> {
-        let columns = first_names(alloc, bench.class_of.as_slice(), self.rows)?;
-        let rises = rises_of(alloc, bench.duals.as_slice(), self.table.side, 0)?;
-        Ok(Lead { columns, rises })
+        let columns = first_names(bench.class_of.as_slice(), self.rows);
+        lead_by(alloc, columns, bench.duals.as_slice(), self.table.side, 0)
     }
 
     // Columns for all rows but so many, by a bench on which no row has a class.

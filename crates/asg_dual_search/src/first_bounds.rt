@@ -1,7 +1,7 @@
 //! Lower bounds of the greatest number of an assignment, from rows and from columns.
 
 use crate::NoMemory;
-use asg_dual_numbers::{NO_NUMBER, Numbers, put};
+use asg_dual_numbers::{Lists, NO_NUMBER, Numbers, put};
 use std::alloc::Global;
 
 /// A limit below which there is no assignment, with the marks that show it. The rows that enter at
@@ -68,14 +68,15 @@ pub(crate) fn bound_of(
     let column = greatest_of(column_leasts);
     let is_row = row.number >= column.number;
     let mark: u32 = if is_row { 1 } else { 0 };
-    let mut enters = vec![in alloc; mark; side]?;
-    let mut leaves = vec![in alloc; mark; side]?;
+    let mut lists = Lists::new(alloc);
+    let mut enters = lists.of(mark, side);
+    let mut leaves = lists.of(mark, side);
     if is_row {
         put(enters.as_mut_slice(), row.place, 0);
     } else {
         put(leaves.as_mut_slice(), column.place, 1);
     }
-    Ok(Bound {
+    lists.whole(Bound {
         limit: row.number.max(column.number),
         enters,
         leaves,

@@ -96,10 +96,8 @@ fn search(bench: &mut Bench<i32>, table: &Table<i32>, root: u32, limit: i32) -> 
 // Marks the tree of a search as it was when the limit rose: its root, and the columns that were
 // done by then with their rows.
 fn mark_tree(bench: &Bench<i32>, bound: &mut Bound, root: u32, count: usize) {
-    for place in 0..bound.enters.len() {
-        put(bound.enters.as_mut_slice(), place, 1);
-        put(bound.leaves.as_mut_slice(), place, 1);
-    }
+    bound.enters.as_mut_slice().fill(1);
+    bound.leaves.as_mut_slice().fill(1);
     put(bound.enters.as_mut_slice(), root as usize, 0);
     for place in 0..count {
         let column = at(bench.done.as_slice(), place) as usize;

@@ -4,7 +4,7 @@ use crate::NoMemory;
 use crate::first_bounds::{Bound, bound_of};
 use crate::limit_paths::MISSING;
 use crate::thresholds::{Threshold, columns_by};
-use asg_dual_numbers::{Number, Table, padded, put_amount};
+use asg_dual_numbers::{Lists, Number, Table, padded, put_amount};
 use std::alloc::Global;
 
 /// A square table of costs, row by row, as numbers of 32 bits from a base on, with the least of
@@ -60,14 +60,16 @@ impl LimitTable {
     pub fn make(alloc: Global, side: u32, base: i64) -> Result<LimitTable, NoMemory> {
         let side = side as usize;
         let wide = padded(side);
-        let cells = Vec::with_capacity(alloc, side.saturating_mul(wide))?;
-        Ok(LimitTable {
+        let mut lists = Lists::new(alloc);
+        let cells = lists.room(side.saturating_mul(wide));
+        let table = LimitTable {
             table: Table { side, wide, cells },
-            line: vec![in alloc; i32::greatest(); wide]?,
+            line: lists.of(i32::greatest(), wide),
             base,
-            row_leasts: Vec::with_capacity(alloc, side)?,
-            column_leasts: vec![in alloc; i32::MAX; side]?,
-        })
+            row_leasts: lists.room(side),
+            column_leasts: lists.of(i32::MAX, side),
+        };
+        lists.whole(table)
     }
 
     /// Takes a further row of costs. Whether it could: there is one for each column, none is below

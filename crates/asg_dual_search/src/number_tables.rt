@@ -1,7 +1,7 @@
 //! Tables of the numbers of squares.
 
 use crate::NoMemory;
-use asg_dual_numbers::{NO_NUMBER, Number, Numbers, Table, padded};
+use asg_dual_numbers::{Lists, NO_NUMBER, Number, Numbers, Table, padded};
 use std::alloc::Global;
 
 // Writes numbers, and for each that is missing what stands for it.
@@ -23,11 +23,13 @@ pub(crate) fn table_by<N: Number>(
 ) -> Result<Table<N>, NoMemory> {
     let side = numbers.side as usize;
     let wide = padded(side);
-    let mut cells = Vec::with_capacity(alloc, side.saturating_mul(wide))?;
-    let mut line = vec![in alloc; N::greatest(); wide]?;
+    let mut lists = Lists::new(alloc);
+    let mut cells = lists.room(side.saturating_mul(wide));
+    let mut line = lists.of(N::greatest(), wide);
     for row in 0..numbers.side {
         write_row(line.as_mut_slice(), numbers.row(row), missing);
-        cells.extend_from_slice(line.as_slice())?;
+        lists.append(&mut cells, line.as_slice());
     }
-    Ok(Table { side, wide, cells })
+    drop(line);
+    lists.whole(Table { side, wide, cells })
 }

@@ -4,7 +4,7 @@ use crate::bench::Bench;
 use asg_dual_numbers::{NONE, Number, Table, at, name, padded, put, set, value};
 
 // How a search ended: the free column with its distance, and how many columns were done before it.
-#[derive(Clone, Copy)]
+#[derive(Drop)]
 struct Reach<N: Number> {
     end: u32,
     distance: N,

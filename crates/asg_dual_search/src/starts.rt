@@ -2,7 +2,7 @@
 //! transfer and two passes of augmenting row reduction.
 
 use crate::bench::Bench;
-use asg_dual_numbers::{NONE, Number, Served, Table, at, name, put, set, value};
+use asg_dual_numbers::{NONE, Number, Served, Table, at, fill, name, put, set, value};
 
 // The most row scans of a pass for each row.
 const MOST_SCANS: u64 = 4;
@@ -13,10 +13,8 @@ const MOST_SCANS: u64 = 4;
 fn reduce_columns<N: Number>(bench: &mut Bench<N>, table: &Table<N>) {
     let side = table.side;
     let wide = table.wide;
-    for column in 0..wide {
-        set(bench.duals.as_mut_slice(), column, N::greatest());
-        put(bench.done.as_mut_slice(), column, 0);
-    }
+    fill(bench.duals.as_mut_slice(), N::greatest());
+    bench.done.as_mut_slice().fill(0);
     for row in 0..side {
         let row = name(row);
         N::lessen(

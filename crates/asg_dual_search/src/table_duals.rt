@@ -76,7 +76,7 @@ fn found_on_bench<N: Number>(
         greatest,
         outside: 0,
     };
-    Ok(Some(found_by(alloc, side, classes, placing)?))
+    Ok(Some(found_by(alloc, side, classes, &placing)?))
 }
 
 // Solves a square where each class has one column and each row is to have one, by a bench on which
@@ -134,7 +134,7 @@ fn found_on_class_bench<N: Number>(
         greatest: 0,
         outside,
     };
-    Ok(Some(found_by(alloc, side, classes, placing)?))
+    Ok(Some(found_by(alloc, side, classes, &placing)?))
 }
 
 // Solves a square where rows may take columns that are copies of none, or classes have several

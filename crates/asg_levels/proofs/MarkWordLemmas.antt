@@ -1,5 +1,9 @@
 -- Words of marks, one after the other.
-use Rattle.asg_levels.proofs.Common.{◌≡◌, ℕ, ◌+◌, ◌-◌, ◌*◌, ◌/◌, ◌%◌, ◌<◌, ◌≤◌, List, [], ◌∷◌, ◌++◌, length, get_or, ◌==◌, ap, ◌∙◌, ⊎_elim, arith, cases_lt, div-mul-add, get_or_append_left, get_or_push, length_push, mod-mul-add, mul-add-lt, is_bit_set, words_each, AreMarkWords}
+use Rattle.asg_levels.proofs.Common.{◌≡◌, ℕ, ◌+◌, ◌-◌, ◌*◌, ◌/◌, ◌%◌, ◌<◌, ◌≤◌, List, [], ◌∷◌, ◌++◌, length, get_or, ◌==◌, ap, ◌∙◌, ⊎_elim, arith, cases_lt, div-mul-add, get_or_append_left, get_or_push, length_push, mod-mul-add, mul-add-lt, is_bit_set, word_count, words_each, AreMarkWords}
+
+-- a square with a row has words of marks
+pub some_words : (side length_is : ℕ) → 0 < side → length_is ≡ 64 * word_count side → 0 < length_is / 64
+some_words side length_is some is = omega (arith, some, is)
 
 -- no words yet
 pub words_none : (outs : List ℕ) → AreMarkWords outs []

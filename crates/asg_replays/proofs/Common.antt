@@ -1,5 +1,5 @@
 -- The names that proofs of this crate cite most, passed on from one place. Declares nothing.
-pub use Rattle.asg_model.proofs.Kit.{All, All-push, [], ap, arith, drop, drop_all, drop_more, false≢true, filter_map, get_or, length, map, map_more, range_with_len, refl, subst, sym, take, take_all, ℕ, ◌++◌, ◌+◌, ◌-◌, ◌<◌, ◌∙◌, ◌∷◌, ◌≡◌, ◌≤◌}
+pub use Rattle.asg_model.proofs.Kit.{All, All-push, IfSome, None, Option, Some, [], ap, arith, drop, drop_all, drop_more, false≢true, filter_map, get_or, length, map, map_more, range_with_len, refl, subst, sym, take, take_all, ℕ, ◌++◌, ◌+◌, ◌-◌, ◌<◌, ◌∙◌, ◌∷◌, ◌≡◌, ◌≤◌}
 pub use Rattle.asg_model.specs.Values.{chosen_cost}
 pub use Rattle.asg_monoids.specs.BoundedSums.{bounded_difference, bounded_sums, narrow_top, plain_word}
 pub use Rattle.asg_order.specs.Monoid.{IsValue, fold_of}

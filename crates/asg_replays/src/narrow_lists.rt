@@ -1,6 +1,6 @@
 //! Whole lists of phases of sums in 64 bits.
 
-ghost use Rattle.std.specs.Prelude.{IfOk, IfSome};
+ghost use Rattle.std.specs.Prelude.{◌≡◌, None, IfOk, IfSome};
 ghost use Rattle.asg_admit.specs.Reduced.{IsReduced};
 ghost use Rattle.asg_monoids.specs.BoundedSums.{bounded_sums, bounded_difference, plain_word};
 ghost use Rattle.asg_monoids.specs.BoundedSums.{narrow_top};
@@ -9,7 +9,7 @@ ghost use Rattle.asg_replays.specs.Replays.{AreReplayed};
 use crate::NoMemory;
 use crate::replays::first_bad;
 use asg_admit::Reduced;
-use asg_kept::{Keeps, KeptSquare};
+use asg_kept::{DualSquare, Keeps, KeptSquare};
 use asg_monoids::NarrowSums;
 use asg_proof::WrittenPhase;
 use std::alloc::Global;
@@ -33,8 +33,24 @@ pub fn narrow_led(
         index: start.index,
     };
     let mut square = NarrowSums.keep(alloc, reduced)?;
-    match first_bad(alloc, &NarrowSums, &mut square, phases)? {
-        Some(_) => Ok(None),
-        None => Ok(Some(square.into_reduced())),
+    match first_bad(alloc, &NarrowSums, &mut square, phases) {
+        Ok(bad) => Ok(led_by(square, bad)),
+        Err(error) => {
+            drop(square);
+            Err(error)
+        }
+    }
+}
+
+// What a kept square comes to, where no phase is bad.
+fn led_by(square: DualSquare<u64>, bad: Option<usize>) -> Option<Reduced<u64>>
+    ensures { IfSome result (λ led. (led ≡ square) × (bad ≡ None)) }
+{
+    match bad {
+        Some(_) => {
+            drop(square);
+            None
+        }
+        None => Some(square.into_reduced()),
     }
 }

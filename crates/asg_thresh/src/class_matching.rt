@@ -5,6 +5,7 @@ use crate::NoMemory;
 use crate::limit_marks::words_of;
 use crate::places::{NONE, at, column_of, put, put_bit};
 use asg_bit_rows::BitRows;
+use asg_dual_numbers::Lists;
 use asg_model::Instance;
 use std::alloc::Global;
 
@@ -33,6 +34,14 @@ fn has(bits: &BitRows, row: u32, column: u32) -> bool {
     row < bits.rows() && column < bits.columns() && bits.has(row, column)
 }
 
+// Writes how many rows each column holds.
+fn put_rooms(rooms: &mut [u32], inst: &Instance) {
+    let columns = inst.columns();
+    for place in 0..rooms.len().min(columns.len()) {
+        rooms[place] = columns[place].cap;
+    }
+}
+
 impl ClassMatching {
     /// No row has a column; these columns are open. The error is want of memory.
     pub(crate) fn make(
@@ -41,22 +50,21 @@ impl ClassMatching {
         open: &[u64],
     ) -> Result<ClassMatching, NoMemory> {
         let rows = inst.rows().len();
-        let columns = inst.columns();
-        let mut rooms = Vec::with_capacity(alloc, columns.len())?;
-        for column in columns {
-            rooms.push(column.cap)?;
-        }
-        Ok(ClassMatching {
-            columns: vec![in alloc; NONE; rows]?,
-            first_of: vec![in alloc; NONE; columns.len()]?,
-            next_of: vec![in alloc; NONE; rows]?,
-            rooms,
-            open: Vec::from_slice(alloc, open)?,
-            tree: vec![in alloc; NONE; rows]?,
+        let columns = inst.columns().len();
+        let mut lists = Lists::new(alloc);
+        let mut matching = ClassMatching {
+            columns: lists.of(NONE, rows),
+            first_of: lists.of(NONE, columns),
+            next_of: lists.of(NONE, rows),
+            rooms: lists.of(0, columns),
+            open: lists.copy_of(open),
+            tree: lists.of(NONE, rows),
             reached: 0,
-            parents: vec![in alloc; NONE; columns.len()]?,
-            unseen: vec![in alloc; 0; open.len()]?,
-        })
+            parents: lists.of(NONE, columns),
+            unseen: lists.of(0, open.len()),
+        };
+        put_rooms(&mut matching.rooms, inst);
+        lists.whole(matching)
     }
 
     // Lets a column hold so many more rows.

@@ -6,7 +6,6 @@ use crate::bounds::Bound;
 use crate::class_matching::ClassMatching;
 use crate::grades::{NO_GRADE, grade};
 use crate::limit_marks::LimitMarks;
-use crate::places::NONE;
 use crate::table_rows::TableRows;
 use crate::thresholds::{middle, wider};
 use asg_model::limits::MOST_ROWS;
@@ -39,51 +38,94 @@ fn greatest_grade(objective: Objective, inst: &Instance, columns: &[u32]) -> u32
     greatest
 }
 
-// Looks for columns of all active rows within one limit after another, and keeps what it found.
-#[derive(Drop)]
-struct TableSeeker {
-    marks: LimitMarks,
-    matching: ClassMatching,
-    lead: Lead,
+// Looks for columns of all active rows by cells of at most the limit, and keeps them, or rows that
+// have too few. The error is want of memory.
+fn seek(
+    marks: &mut LimitMarks,
+    matching: &mut ClassMatching,
+    lead: &mut Lead,
+    inst: &Instance,
+    table: &TableRows,
+    limit: u32,
+) -> Result<bool, NoMemory> {
+    marks.mark(inst, table, limit);
+    let rows = table.active.as_slice();
+    if matching.complete(&marks.bits, rows) {
+        marks.keep_greater();
+        lead.is_found = true;
+        lead.columns.clear();
+        lead.columns.extend_from_slice(matching.columns.as_slice())?;
+        return Ok(true);
+    }
+    marks.keep_lesser();
+    lead.rows.clear();
+    lead.rows.extend_from_slice(matching.tree())?;
+    Ok(false)
 }
 
-impl TableSeeker {
-    // Nothing found yet but rows that show a bound. The error is want of memory.
-    fn make(
-        alloc: Global,
-        inst: &Instance,
-        table: &TableRows,
-        rows: Vec<u32>,
-    ) -> Result<TableSeeker, NoMemory> {
-        Ok(TableSeeker {
-            marks: LimitMarks::make(alloc, inst)?,
-            matching: ClassMatching::make(alloc, inst, table.open.as_slice())?,
-            lead: Lead {
-                columns: vec![in alloc; NONE; inst.rows().len()]?,
-                rows,
-                is_found: false,
-            },
-        })
-    }
-
-    // Looks for columns of all active rows by cells of at most the limit, and keeps them, or rows
-    // that have too few. The error is want of memory.
-    fn seek(&mut self, inst: &Instance, table: &TableRows, limit: u32) -> Result<bool, NoMemory> {
-        self.marks.mark(inst, table, limit);
-        let rows = table.active.as_slice();
-        if self.matching.complete(&self.marks.bits, rows) {
-            self.marks.keep_greater();
-            self.lead.is_found = true;
-            self.lead.columns.clear();
-            let columns = self.matching.columns.as_slice();
-            self.lead.columns.extend_from_slice(columns)?;
+// Narrows the limits between which the least one is at which all active rows have columns, from a
+// bound that no such limit is below. Whether it found that one, before too many limits were tried.
+// The error is want of memory.
+fn narrow_to(
+    alloc: Global,
+    objective: Objective,
+    inst: &Instance,
+    table: &TableRows,
+    marks: &mut LimitMarks,
+    matching: &mut ClassMatching,
+    lead: &mut Lead,
+    bound: u32,
+) -> Result<bool, NoMemory> {
+    let mut low = bound;
+    let mut high = NO_GRADE;
+    let mut step = 0;
+    for _ in 0..MOST_LIMITS {
+        if low >= high {
             return Ok(true);
         }
-        self.marks.keep_lesser();
-        self.lead.rows.clear();
-        self.lead.rows.extend_from_slice(self.matching.tree())?;
-        Ok(false)
+        let limit = middle(low, high, step);
+        if seek(marks, matching, lead, inst, table, limit)? {
+            high = greatest_grade(objective, inst, lead.columns.as_slice());
+        } else {
+            let rows = lead.rows.as_slice();
+            low = table.next_grade(alloc, inst, rows, matching.unseen.as_slice())?;
+            step = wider(step);
+        }
     }
+    Ok(false)
+}
+
+// The same with marks of its own.
+fn narrow_by(
+    alloc: Global,
+    objective: Objective,
+    inst: &Instance,
+    table: &TableRows,
+    matching: &mut ClassMatching,
+    lead: &mut Lead,
+    bound: u32,
+) -> Result<bool, NoMemory> {
+    let mut marks = LimitMarks::make(alloc, inst)?;
+    let is_found = narrow_to(
+        alloc, objective, inst, table, &mut marks, matching, lead, bound,
+    );
+    drop(marks);
+    is_found
+}
+
+// The same with a matching of its own.
+fn narrow_lead(
+    alloc: Global,
+    objective: Objective,
+    inst: &Instance,
+    table: &TableRows,
+    lead: &mut Lead,
+    bound: u32,
+) -> Result<bool, NoMemory> {
+    let mut matching = ClassMatching::make(alloc, inst, table.open.as_slice())?;
+    let is_found = narrow_by(alloc, objective, inst, table, &mut matching, lead, bound);
+    drop(matching);
+    is_found
 }
 
 // Looks for the least limit within which all active rows have columns, from a bound that no such
@@ -95,24 +137,17 @@ fn narrow(
     table: &TableRows,
     bound: Bound,
 ) -> Result<Option<Lead>, NoMemory> {
-    let mut low = bound.grade;
-    let mut seeker = TableSeeker::make(alloc, inst, table, bound.rows)?;
-    let mut high = NO_GRADE;
-    let mut step = 0;
-    for _ in 0..MOST_LIMITS {
-        if low >= high {
-            return Ok(Some(seeker.lead));
-        }
-        let limit = middle(low, high, step);
-        if seeker.seek(inst, table, limit)? {
-            high = greatest_grade(objective, inst, seeker.lead.columns.as_slice());
-        } else {
-            let rows = seeker.lead.rows.as_slice();
-            low = table.next_grade(alloc, inst, rows, seeker.matching.unseen.as_slice())?;
-            step = wider(step);
-        }
+    let Bound { grade, rows } = bound;
+    let mut lead = Lead {
+        columns: Vec::new(alloc),
+        rows,
+        is_found: false,
+    };
+    if narrow_lead(alloc, objective, inst, table, &mut lead, grade)? {
+        Ok(Some(lead))
+    } else {
+        Ok(None)
     }
-    Ok(None)
 }
 
 /// Columns for all active rows, none of a greater grade than is needed, and rows that show it; or

@@ -5,6 +5,7 @@ use crate::bounds::Bound;
 use crate::grades::NO_GRADE;
 use crate::places::put_bit;
 use crate::row_keys::{Keys, grade_of};
+use asg_dual_numbers::Lists;
 use asg_model::{Instance, Objective, RowRoom};
 use std::alloc::Global;
 
@@ -34,15 +35,35 @@ fn active_rows(alloc: Global, inst: &Instance) -> Result<Vec<u32>, NoMemory> {
     Ok(active)
 }
 
-// The least of all keys for each column whose bit is set, else that of no cell.
-fn floors_of(alloc: Global, words: &[u64], columns: usize) -> Result<Vec<i64>, NoMemory> {
-    let mut floors = vec![in alloc; i64::MAX; columns]?;
-    for column in 0..columns.min(words.len().saturating_mul(64)) {
-        if words[column / 64] >> (column % 64) & 1 == 1 {
+// Puts the least of all keys at each column whose bit is set in both lists.
+fn put_floors(floors: &mut [i64], words: &[u64], others: &[u64]) {
+    let count = words.len().min(others.len()).saturating_mul(64);
+    for column in 0..floors.len().min(count) {
+        if (words[column / 64] & others[column / 64]) >> (column % 64) & 1 == 1 {
             floors[column] = i64::MIN;
         }
     }
-    Ok(floors)
+}
+
+// Sets the bits of the open columns, and tells how many rows they hold.
+fn put_open(open: &mut [u64], inst: &Instance) -> u64 {
+    let columns = inst.columns();
+    let mut room = 0u64;
+    for place in 0..columns.len() as u32 {
+        let column = columns[place as usize];
+        if column.usable {
+            put_bit(open, place, true);
+            room = room.saturating_add(u64::from(column.cap));
+        }
+    }
+    room
+}
+
+// An active row, and its least grade.
+#[derive(Clone, Copy)]
+struct Dearest {
+    row: u32,
+    grade: u32,
 }
 
 // The grade of the greatest of the keys of columns with the lowest floor.
@@ -56,6 +77,24 @@ fn greatest_grade(leasts: &[i64], floors: &[i64]) -> u32 {
     grade_of(greatest)
 }
 
+// These rows with a grade. The error is want of memory.
+fn bound_by(alloc: Global, grade: u32, rows: &[u32]) -> Result<Bound, NoMemory> {
+    let rows = Vec::from_slice(alloc, rows)?;
+    Ok(Bound { grade, rows })
+}
+
+// The least grade of the cells of some rows, whose keys are no less than the columns' floors.
+fn least_grade(keys: Keys, inst: &Instance, rows: &[u32], floors: &[i64]) -> u32 {
+    let mut room = RowRoom::new();
+    let mut least = NO_GRADE;
+    for row in rows {
+        if let Some(parts) = inst.row_parts(*row, &mut room) {
+            least = least.min(keys.least_grade(parts.firsts, floors));
+        }
+    }
+    least
+}
+
 impl TableRows {
     /// Of this instance, for this objective. The error is want of memory.
     pub(crate) fn of(
@@ -63,50 +102,39 @@ impl TableRows {
         objective: Objective,
         inst: &Instance,
     ) -> Result<TableRows, NoMemory> {
-        let columns = inst.columns();
-        let mut open = vec![in alloc; 0; columns.len().div_ceil(64)]?;
-        let mut room = 0u64;
-        for place in 0..columns.len() as u32 {
-            let column = columns[place as usize];
-            if column.usable {
-                put_bit(&mut open, place, true);
-                room = room.saturating_add(u64::from(column.cap));
-            }
-        }
-        Ok(TableRows {
+        let columns = inst.columns().len();
+        let active = active_rows(alloc, inst)?;
+        let mut lists = Lists::new(alloc);
+        let mut open = lists.of(0, columns.div_ceil(64));
+        let room = put_open(&mut open, inst);
+        let mut floors = lists.of(i64::MAX, columns);
+        put_floors(&mut floors, open.as_slice(), open.as_slice());
+        lists.whole(TableRows {
             keys: Keys::of(objective),
-            active: active_rows(alloc, inst)?,
-            floors: floors_of(alloc, open.as_slice(), columns.len())?,
+            active,
             open,
+            floors,
             room,
         })
     }
 
     // The active row whose least grade is the greatest, with that; lowers the keys of columns to
     // those of their costs.
-    fn row_bound(
-        &self,
-        alloc: Global,
-        inst: &Instance,
-        leasts: &mut Vec<i64>,
-    ) -> Result<Bound, NoMemory> {
+    fn dearest_row(&self, inst: &Instance, leasts: &mut [i64]) -> Dearest {
         let mut room = RowRoom::new();
-        let mut bound = 0;
-        let mut dearest = 0;
+        let mut dearest = Dearest { row: 0, grade: 0 };
         for place in 0..self.active.len() {
             let row = self.active[place];
             let Some(parts) = inst.row_parts(row, &mut room) else {
                 continue;
             };
-            self.keys.lower(leasts.as_mut_slice(), parts.firsts);
+            self.keys.lower(leasts, parts.firsts);
             let grade = self.keys.least_grade(parts.firsts, self.floors.as_slice());
-            if grade > bound {
-                bound = grade;
-                dearest = row;
+            if grade > dearest.grade {
+                dearest = Dearest { row, grade };
             }
         }
-        let rows = vec![in alloc; dearest]?;
-        Ok(Bound { grade: bound, rows })
+        dearest
     }
 
     /// A grade that no assignment of all active rows can do without, and rows that show it: the
@@ -116,13 +144,13 @@ impl TableRows {
         let are_needed = self.active.len() as u64 == self.room;
         let count = if are_needed { self.floors.len() } else { 0 };
         let mut leasts = vec![in alloc; i64::MAX; count]?;
-        let bound = self.row_bound(alloc, inst, &mut leasts)?;
+        let dearest = self.dearest_row(inst, &mut leasts);
         let grade = greatest_grade(leasts.as_slice(), self.floors.as_slice());
-        if !are_needed || grade <= bound.grade {
-            return Ok(bound);
+        drop(leasts);
+        if !are_needed || grade <= dearest.grade {
+            return bound_by(alloc, dearest.grade, &[dearest.row]);
         }
-        let rows = Vec::from_slice(alloc, self.active.as_slice())?;
-        Ok(Bound { grade, rows })
+        bound_by(alloc, grade, self.active.as_slice())
     }
 
     /// The least grade of the cells of some rows in the open columns whose bit is set, that of no
@@ -134,18 +162,10 @@ impl TableRows {
         rows: &[u32],
         words: &[u64],
     ) -> Result<u32, NoMemory> {
-        let mut open = Vec::from_slice(alloc, words)?;
-        for number in 0..open.len().min(self.open.len()) {
-            open[number] &= self.open[number];
-        }
-        let floors = floors_of(alloc, open.as_slice(), self.floors.len())?;
-        let mut room = RowRoom::new();
-        let mut least = NO_GRADE;
-        for row in rows {
-            if let Some(parts) = inst.row_parts(*row, &mut room) {
-                least = least.min(self.keys.least_grade(parts.firsts, floors.as_slice()));
-            }
-        }
+        let mut floors = vec![in alloc; i64::MAX; self.floors.len()]?;
+        put_floors(&mut floors, words, self.open.as_slice());
+        let least = least_grade(self.keys, inst, rows, floors.as_slice());
+        drop(floors);
         Ok(least)
     }
 }

@@ -4,7 +4,7 @@ use Rattle.asg_model.specs.declared.objectives.Objective.{Objective}
 use Rattle.asg_model.specs.declared.objectives.Objective.TheVariants.{Sum, SumMax}
 use Rattle.asg_model.specs.Refused.{PassesNegative}
 use Rattle.asg_monoids.specs.NarrowObjectives.{is_narrow_objective}
-use Rattle.asg_narrow_kinds.specs.laws.NarrowOrders.{narrow_product}
+use Rattle.asg_monoids.specs.laws.NarrowOrders.{narrow_product}
 use Rattle.asg_rankings.proofs.TreeTops.{IsSearchTree-by_top}
 
 -- the product of the last answer is the same by both tops

@@ -1,14 +1,10 @@
 use Rattle.asg_levels.proofs.Common.{◌≡◌, ℕ, ◌+◌, ◌*◌, ◌/◌, ◌<◌, length, sym, ap, ◌∙◌, arith, word_count, words_each}
-use Rattle.asg_levels.proofs.MarkWordLemmas.{words_reach}
+use Rattle.asg_levels.proofs.MarkWordLemmas.{some_words, words_reach}
 use Rattle.asg_levels.proofs.TightWords.{rows_more}
 use Rattle.asg_levels.proofs.tight.tighten.Goals as goal
 
 pub overflow_cast-row-end : goal.overflow_cast-row-end
 overflow_cast-row-end c = omega (arith, c.requires.ins, c.requires.few)
-
--- a square with a row has words of marks
-some_words : (side length_is : ℕ) → 0 < side → length_is ≡ 64 * word_count side → 0 < length_is / 64
-some_words side length_is some is = omega (arith, some, is)
 
 pub mark_words-requires-clause-some : goal.mark_words-requires-clause-some
 mark_words-requires-clause-some c = some_words c.args.marks.now.columns _ (omega (arith, c.requires.some, c.requires.square)) c.requires.outs

@@ -1,4 +1,4 @@
-use Rattle.asg_phase_totals.proofs.Common.{ℕ, ◌<◌, ◌≤◌, List, slice_index, sym, refl, ap, subst, inl, inr, true≢false, arith, false≢true, not_both, EndsSegment, IsLoweredBy, cell_at}
+use Rattle.asg_phase_totals.proofs.Common.{ℕ, ◌<◌, ◌≤◌, List, length, slice_index, sym, refl, ap, ◌∙◌, subst, inl, inr, true≢false, arith, false≢true, not_both, EndsSegment, IsLoweredBy, count_is, cell_at}
 use Rattle.asg_phase_totals.proofs.segments.close_segment.Goals as goal
 
 pub returns-then-is_ordered-clause-closed : goal.returns-then-is_ordered-clause-closed
@@ -63,3 +63,25 @@ pub lower_by-requires-2-clause-part : goal.lower_by-requires-2-clause-part
 lower_by-requires-2-clause-part g c = λ i h.
     let same = ap (λ (xs : List ℕ). slice_index xs i) c.columns.ensures.columns in
     omega (arith, same, c.requires.columns i (omega (arith, h, c.requires.column_count)))
+
+pub segment_ends_well-requires-clause-row_count : goal.segment_ends_well-requires-clause-row_count
+segment_ends_well-requires-clause-row_count g c = ap length c.as_slice.ensures.value ∙ c.requires.row_count
+
+pub segment_ends_well-requires-clause-column_count : goal.segment_ends_well-requires-clause-column_count
+segment_ends_well-requires-clause-column_count g c = ap length c.as_slice-2.ensures.value ∙ c.requires.column_count
+
+pub segment_ends_well-requires-clause-few_cells : goal.segment_ends_well-requires-clause-few_cells
+segment_ends_well-requires-clause-few_cells g c = c.requires.few_cells
+
+pub returns-clause-row_count : goal.returns-clause-row_count
+returns-clause-row_count g c =
+    let law = g.met.N.SumNumber.numbers_law in
+    sym (count_is law c.lower_by.new.numbers.items) ∙ c.lower_by.ensures.count ∙ count_is law c.args.rows.now.items
+
+pub returns-clause-column_count : goal.returns-clause-column_count
+returns-clause-column_count g c =
+    let law = g.met.N.SumNumber.numbers_law in
+    sym (count_is law c.lower_by-2.new.numbers.items) ∙ c.lower_by-2.ensures.count ∙ count_is law c.args.columns.now.items
+
+pub returns-clause-side : goal.returns-clause-side
+returns-clause-side g c = c.clear.ensures.side

@@ -72,3 +72,18 @@ loop-column-preserved g c =
       rest = λ k h. w.others row k (inr (λ e. omega (arith, e, h, after.onward))) ∙ inv.rest k (omega (arith, h, after.onward));
       others = λ r k n. w.others r k (inl n) ∙ inv.others r k n;
     }
+
+pub settle_cell-requires-clause-values : goal.settle_cell-requires-clause-values
+settle_cell-requires-clause-values g c = c.requires.values
+
+pub settle_cell-requires-clause-row : goal.settle_cell-requires-clause-row
+settle_cell-requires-clause-row g c = omega (arith, c.requires.row, c.loop-column.invariant.labels.side)
+
+pub settle_cell-requires-clause-column : goal.settle_cell-requires-clause-column
+settle_cell-requires-clause-column g c = omega (arith, c.loop-column-test.true, c.side-side.ensures.side, c.loop-column.invariant.labels.side)
+
+pub settle_cell-requires-clause-enter : goal.settle_cell-requires-clause-enter
+settle_cell-requires-clause-enter g c = omega arith
+
+pub settle_cell-requires-clause-leave : goal.settle_cell-requires-clause-leave
+settle_cell-requires-clause-leave g c = omega (arith, c.cut-leave.ensures)

@@ -1,6 +1,6 @@
 use Rattle.asg_trees.proofs.Common.{subst, bounded_sums, bounded_difference, plain_word, narrow_top, sum_entered, TellsTree}
 use Rattle.asg_trees.proofs.NarrowTrees.{told_narrow}
-use Rattle.asg_narrow_kinds.specs.laws.NarrowObjectives.{is_sum-narrow}
+use Rattle.asg_monoids.specs.laws.NarrowObjectives.{is_sum-narrow}
 use Rattle.asg_trees.proofs.objectives.judge_narrow.Goals as goal
 
 pub returns-in-Tree : goal.returns-in-Tree

@@ -1,12 +1,15 @@
 //! One tree on a square that isn't touched: a branch of a square that was solved.
 
-ghost use Rattle.std.specs.Prelude.{◌≡◌, ◌<◌, ◌≤◌, None, IsTrue, vec_len, slice_index, IfSome};
+ghost use Rattle.std.specs.Prelude.{◌≡◌, ◌∷◌, [], ◌<◌, ◌≤◌, Some, None, IsTrue, vec_len, slice_index, IfSome};
 ghost use Rattle.asg_model.specs.Limits.{most_side};
 ghost use Rattle.asg_match.specs.Matching.{column_at};
 ghost use Rattle.asg_order.specs.Monoid.{IsValue};
 ghost use Rattle.asg_pool.specs.Forest.{IsLive};
 ghost use Rattle.asg_algebra.specs.Benches.{IsBench};
 ghost use Rattle.asg_algebra.specs.Branches.{IsAtLimit, Probes, Branches};
+ghost use Rattle.asg_algebra.specs.LineSteps.{steps_in};
+ghost use Rattle.asg_proof.specs.Phases.{IsAdmittedPhase};
+ghost use Rattle.asg_square.specs.Grid.{cell_at};
 ghost use Rattle.asg_growth.specs.Growths.{IsRoomy, Searches, phase_in};
 ghost use Rattle.asg_kept.specs.Masked.{masked_reduced};
 ghost use Rattle.asg_growth.specs.Rest.{IsRestOf};
@@ -15,6 +18,7 @@ ghost use Rattle.asg_algebra.specs.Solved.{ArePushed};
 ghost use Rattle.asg_algebra.specs.Stages.{stage_of};
 
 use crate::bench::Bench;
+use crate::line_steps::{line_phase, push_line};
 use crate::phases::cut_marks;
 use asg_admit::Reduced;
 use asg_growth::{Growth, Round, advance_round, plant};
@@ -159,13 +163,125 @@ fn serve_branch<M: DMonoid, S: RowSquare<M>>(
     }
 }
 
+// Whether a step takes the index to the limit and lowers the root's row or a column that no row has;
+// its phase is written then.
+fn comes_by_line<M: DMonoid, S: RowSquare<M>>(
+    m: &M,
+    reduced: &S,
+    matching: &Matching,
+    growth: &mut Growth<M::Value>,
+    root: u32,
+    limit: M::Value,
+    index: M::Value,
+    step: M::Value,
+) -> bool
+    requires rest { IsRestOf (M.monoid_of m.now) (S.as_reduced reduced.now) matching.now }
+    requires bench { IsBench (S.as_reduced reduced.now).now.side growth.old }
+    requires root { root < (S.as_reduced reduced.now).now.side }
+    requires limit { IsValue (M.monoid_of m.now) limit }
+    requires index { IsValue (M.monoid_of m.now) index }
+    requires step { IsValue (M.monoid_of m.now) step }
+    ensures far { IsTrue result → IsAtLimit (M.monoid_of m.now) (Some limit)
+        ((M.monoid_of m.now).product index step) }
+    ensures admitted { let now = (S.as_reduced reduced.now).now in
+        IsTrue result → IsAdmittedPhase (M.monoid_of m.now) (M.difference m.now) now.side
+        (steps_in growth.new) (cell_at now) }
+    ensures steps { IsTrue result → growth.new.steps.items ≡ step ∷ [] }
+    ensures bench { IsBench (S.as_reduced reduced.now).now.side growth.new }
+{
+    if !is_at_limit(m, index, step, Some(limit)) {
+        return false;
+    }
+    line_phase(m, reduced, matching, growth, step, root)
+}
+
+// Gives a row that has no column one on a square that isn't touched, up to a limit: the branch is
+// left by one step where that can be, and else one tree grows.
+fn leave_or_grow<M: DMonoid, S: RowSquare<M>>(
+    m: &M,
+    reduced: &S,
+    matching: &mut Matching,
+    growth: &mut Growth<M::Value>,
+    region: &mut Region<M::Value>,
+    trail: Option<Trail>,
+    root: u32,
+    limit: M::Value,
+) -> Branch<M::Value>
+    requires rest { IsRestOf (M.monoid_of m.now) (S.as_reduced reduced.now) matching.old }
+    requires small { (S.as_reduced reduced.now).now.side ≤ most_side }
+    requires bench { IsBench (S.as_reduced reduced.now).now.side growth.old }
+    requires root { root < (S.as_reduced reduced.now).now.side }
+    requires root_free { column_at matching.old root ≡ None }
+    requires limit { IsValue (M.monoid_of m.now) limit }
+    requires spare { 1 ≤ region.old.spare }
+    requires live { IfSome trail (IsLive region.old) }
+    requires region_side { region.old.side ≡ (S.as_reduced reduced.now).now.side }
+    ensures branches { Branches (M.monoid_of m.now) (M.difference m.now)
+        (stage_of (S.as_reduced reduced.now) matching.old region.old)
+        (stage_of (S.as_reduced reduced.now) matching.new region.new) (Some limit) trail root
+        growth.new.tree.rows.items result }
+    ensures bench { IsBench (S.as_reduced reduced.now).now.side growth.new }
+{
+    let index = reduced.index();
+    let step = m.diff(limit, index);
+    if comes_by_line(m, reduced, matching, growth, root, limit, index, step) {
+        let last = push_line(growth, region, trail);
+        return Branch::Left(m.op(index, step), Some(last));
+    }
+    serve_branch(
+        m,
+        reduced,
+        matching,
+        growth,
+        region,
+        trail,
+        root,
+        Some(limit),
+    )
+}
+
+// Gives a row that has no column one on a square that isn't touched, up to a limit where there is
+// one.
+fn leave_or_serve<M: DMonoid, S: RowSquare<M>>(
+    m: &M,
+    reduced: &S,
+    matching: &mut Matching,
+    growth: &mut Growth<M::Value>,
+    region: &mut Region<M::Value>,
+    trail: Option<Trail>,
+    root: u32,
+    limit: Option<M::Value>,
+) -> Branch<M::Value>
+    requires rest { IsRestOf (M.monoid_of m.now) (S.as_reduced reduced.now) matching.old }
+    requires small { (S.as_reduced reduced.now).now.side ≤ most_side }
+    requires bench { IsBench (S.as_reduced reduced.now).now.side growth.old }
+    requires root { root < (S.as_reduced reduced.now).now.side }
+    requires root_free { column_at matching.old root ≡ None }
+    requires limit { IfSome limit (IsValue (M.monoid_of m.now)) }
+    requires spare { 1 ≤ region.old.spare }
+    requires live { IfSome trail (IsLive region.old) }
+    requires region_side { region.old.side ≡ (S.as_reduced reduced.now).now.side }
+    ensures branches { Branches (M.monoid_of m.now) (M.difference m.now)
+        (stage_of (S.as_reduced reduced.now) matching.old region.old)
+        (stage_of (S.as_reduced reduced.now) matching.new region.new) limit trail root
+        growth.new.tree.rows.items result }
+    ensures bench { IsBench (S.as_reduced reduced.now).now.side growth.new }
+{
+    match limit {
+        Some(far) => leave_or_grow(m, reduced, matching, growth, region, trail, root, far),
+        None => serve_branch(m, reduced, matching, growth, region, trail, root, None),
+    }
+}
+
 /// Gives a row that has no column one on a square of which some cells are left out; the square
 /// isn't touched. `words` has for each row as many words of 64 bits as its columns need: the cells
 /// whose bit is set count.
 ///
 /// Each of these cells and the index are values, and each matched cell is one of them that the
-/// index absorbs. One tree grows, up to a column that no row has (`Reached`) or until the index
-/// times its steps comes to the limit, if there is one (`Left`); its phase, which is admitted from
+/// index absorbs. Where there is a limit, and one step that takes the index to it is at most each
+/// of these cells in the root's row, or in the first column that no row has, the phase of this step
+/// is pushed on the trail (`Left`). Else one tree grows, up to a column that no row has (`Reached`)
+/// or until the index times its steps comes to the limit (`Left`); its phase, which is admitted from
 /// these cells, is pushed on the trail, if it has a step. After `Reached` the root and each row
 /// that had a column have one, by cells that are absorbed after the phase. `Left` and `Short` leave
 /// the matching, `Short` leaves the region, and then the bench's violator has rows with fewer
@@ -202,7 +318,7 @@ pub fn branch_from<M: DMonoid>(
         square: reduced,
         words,
     };
-    serve_branch(
+    leave_or_serve(
         m,
         &square,
         matching,

@@ -195,6 +195,15 @@ fn give_next<N: RankNumber>(
     Ok(true)
 }
 
+// How often a search for so many answers over so many rows takes something that waits: each answer
+// has a child wait for each row, a child that was grown waits once more, and once nothing waits.
+fn most_turns(count: usize, rows: usize) -> usize {
+    count
+        .saturating_mul(rows)
+        .saturating_mul(2)
+        .saturating_add(1)
+}
+
 // Takes what waits with the least bound, until as many answers were given as were asked for. The
 // error is want of memory.
 fn run<N: RankNumber>(
@@ -205,7 +214,7 @@ fn run<N: RankNumber>(
 ) -> Result<End, NoMemory> {
     let rows = found.branches.get(0).map_or(1, |root| root.columns().len());
     let rows = rows.max(1);
-    'turns: for _ in 0..u64::MAX {
+    'turns: for _ in 0..most_turns(count, rows) {
         if count <= found.branches.len() {
             return Ok(End::Full);
         }

@@ -102,14 +102,16 @@ fn branch_of<M: DMonoid>(
 // The kept cells of each row, the root, the limit, and how the branch ends.
 type Case = (&'static [u64], u32, Option<u64>, Ended<u64>);
 
-// With all cells the root takes its least one, without that the next; without any it has none; a
-// column that is free is taken at the limit too.
-static OF_SUMS: [Case; 5] = [
+// With all cells the root takes its least one, without that the next; without any it has none. It is
+// left without a column where its row comes to the limit, or the first column that is free; else it
+// takes one below the limit.
+static OF_SUMS: [Case; 6] = [
     (&[7, 7, 7], 0, None, (Some(1_001), Some(1))),
     (&[5, 7, 7], 0, None, (Some(1_003), Some(2))),
     (&[0, 7, 7], 0, None, (None, None)),
-    (&[7, 7, 7], 1, Some(1_000), (Some(1_000), Some(1))),
-    (&[7, 7, 7], 1, Some(1_001), (Some(1_000), Some(1))),
+    (&[7, 7, 7], 1, Some(1_000), (Some(1_000), None)),
+    (&[7, 7, 7], 1, Some(1_001), (Some(1_001), None)),
+    (&[7, 7, 7], 0, Some(1_003), (Some(1_001), Some(1))),
 ];
 
 // These, for a caller that needn't know them.

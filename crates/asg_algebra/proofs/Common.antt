@@ -1,5 +1,5 @@
 -- The names that proofs of this crate cite most, passed on from one place. Declares nothing.
-pub use Rattle.asg_model.proofs.Kit.{All, All-append, All-cons, All-head, All-nil, All-tail, All-weaker, AllPairs, Bool, Contains, IfOk-weaker, IfSome, IsSome, IsTrue, List, None, Option, Some, [], ap, append-nil, append_assoc, arith, cases_eq, cases_lt, common_steps, cond, count_by-le-length, drop, drop-cons, eqb-false, eqb-true, false, false≢true, get_or, get_or-map, get_or-replicate, get_or-set_at, get_or-set_other, get_or_default, get_or_past, is_none, is_some, le-leb, le-ltb, length, length-map, length-replicate, length-set, length-take, lt-leb, lt-ltb, map_over_more, min, nil_from_length, none-some, range_with_len, refl, replicate, same_Some, set, slice_index, subst, suc, sum_by-append, sym, take, take-append-drop, take_all, take_more, true, unwrap_or, vec_capacity, vec_len, ℕ, ⊎_elim, ◌%◌, ◌*◌, ◌++◌, ◌+◌, ◌/◌, ◌<◌, ◌∙◌, ◌∷◌, ◌≡◌, ◌≢◌, ◌≤◌}
+pub use Rattle.asg_model.proofs.Kit.{All, All-append, All-cons, All-head, All-nil, All-tail, All-weaker, AllPairs, Bool, Contains, IfOk-weaker, IfSome, IsSome, IsTrue, List, None, Option, Some, [], ap, append-nil, append_assoc, arith, cases_eq, cases_lt, common_steps, cond, count_by-le-length, drop, drop-cons, eqb-false, eqb-true, false, false≢true, get_or, get_or-map, get_or-replicate, get_or-set_at, get_or-set_other, get_or_default, get_or_past, is_none, is_some, le-leb, le-ltb, leb-true, length, length-map, length-replicate, length-set, length-take, lt-leb, lt-ltb, ltb-true, map_over_more, min, nil_from_length, none-some, range_with_len, refl, replicate, same_Some, set, slice_index, subst, suc, sum_by-append, sym, take, take-append-drop, take_all, take_more, true, unwrap_or, vec_capacity, vec_len, zero, ℕ, ⊎_elim, ◌%◌, ◌*◌, ◌++◌, ◌+◌, ◌/◌, ◌<◌, ◌∙◌, ◌∷◌, ◌≡◌, ◌≢◌, ◌≤◌}
 pub use Rattle.asg_admit.specs.Reduced.{IsPhaseTo, IsReduced}
 pub use Rattle.asg_admit.specs.declared.reduced.Reduced.{Reduced}
 pub use Rattle.asg_algebra.specs.Benches.{IsBench}

@@ -7,3 +7,5 @@ pub mod BranchStarts
 pub mod SolvingLaws
 pub mod FoldLaws
 mod TakenLaws
+mod ContinuedLaws
+pub mod LinePhases

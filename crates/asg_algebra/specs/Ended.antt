@@ -1,5 +1,5 @@
 -- How a solver ends.
-use Rattle.std.specs.Prelude.{◌≡◌, ℕ, List, Option}
+use Rattle.std.specs.Prelude.{ℕ, List, Option}
 use Rattle.asg_admit.specs.declared.reduced.Reduced.{Reduced}
 use Rattle.asg_match.specs.Deficient.{IsDeficient}
 use Rattle.asg_match.specs.Matching.{IsPerfect}
@@ -22,3 +22,8 @@ EndsIn M reduced matching rows (Perfect last) =
     IsPerfect (IsAbsorbed M reduced.index (cell_at reduced.now)) reduced.now.side matching
 EndsIn M reduced matching rows (Short last) =
     IsDeficient (IsPresent (cell_at reduced.now)) reduced.now.side rows
+
+-- every row has a column
+abbrev pub IsPerfectEnd : Solved → Type 0
+IsPerfectEnd (Perfect last) = Unit {0}
+IsPerfectEnd (Short last) = ⊥

@@ -3,5 +3,7 @@ pub mod Solved
 pub mod Served
 pub mod Benches
 pub mod Ended
+pub mod Continued
 pub mod Assigned
 pub mod Branches
+pub mod LineSteps

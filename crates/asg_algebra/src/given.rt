@@ -3,10 +3,11 @@
 ghost use Rattle.std.specs.Prelude.{◌≡◌, ℕ, ◌<◌, ◌≤◌, List, None, length, IfOk, IfSome, IsTrue, OnErr};
 ghost use Rattle.asg_admit.specs.Reduced.{IsReduced};
 ghost use Rattle.asg_match.specs.Matching.{IsMatched, Matches};
+ghost use Rattle.asg_pool.specs.Forest.{phases_to};
 ghost use Rattle.asg_proof.specs.Phases.{AreAdmittedPhases};
 ghost use Rattle.asg_square.specs.Grid.{cell_at};
 ghost use Rattle.asg_algebra.specs.Assigned.{IsAssigned};
-ghost use Rattle.asg_algebra.specs.Ended.{last_of, EndsIn};
+ghost use Rattle.asg_algebra.specs.Ended.{last_of, EndsIn, IsPerfectEnd};
 ghost use Rattle.asg_algebra.specs.Solved.{HasSolved, unmatched};
 
 use crate::NoMemory;
@@ -62,6 +63,8 @@ fn end_by<M: DMonoid, S: KeptSquare<M>>(
         region.new None (last_of ended)) }
     ensures ends { (rows : List ℕ) → IfSome result (λ ended. EndsIn (M.monoid_of m.now)
         (S.as_reduced square.new) matching.new rows ended) }
+    ensures list { IfSome result (λ ended. phases_to region.new (last_of ended) ≡ given.now) }
+    ensures perfect { IfSome result IsPerfectEnd }
 {
     let mut last = None;
     if !take_phases(m, square, region, &mut last, given, room, are_known) {
@@ -100,6 +103,8 @@ fn solve_in_room<M: DMonoid, S: KeptSquare<M> + Drop>(
         (last_of s.ended)) }
     ensures ends { (rows : List ℕ) → IfSome result (λ s. EndsIn (M.monoid_of m.now) s.reduced
         matching.new rows s.ended) }
+    ensures list { IfSome result (λ s. phases_to region.new (last_of s.ended) ≡ given.now) }
+    ensures perfect { IfSome result (λ s. IsPerfectEnd s.ended) }
 {
     let mut square = square;
     let ended = end_by(
@@ -164,7 +169,7 @@ fn assign_in_room<M: DMonoid, S: KeptSquare<M> + Drop>(
 /// Each phase is tested before it is applied and pushed, unless few looks at the cells tell that all
 /// are admitted; the first that isn't admitted, or that hasn't 1 to side steps, ends it. Then each
 /// row gets its column of the list where no row before has it and the cell is absorbed, and where
-/// every row gets one the square is solved.
+/// every row gets one the square is solved: the phases that led there are those that are given.
 ///
 /// The matching is empty, no trail leads to the square, and the phases are at most as many as the
 /// rows and as the records spare. After `None` phases may have been pushed, and rows may have
@@ -191,6 +196,9 @@ pub fn solve_given<M: Keeps>(
         (last_of s.ended))) }
     ensures ends { (rows : List ℕ) → IfOk result (λ found. IfSome found (λ s.
         EndsIn (M.monoid_of m.now) s.reduced matching.new rows s.ended)) }
+    ensures list { IfOk result (λ found. IfSome found (λ s.
+        phases_to region.new (last_of s.ended) ≡ given.now)) }
+    ensures perfect { IfOk result (λ found. IfSome found (λ s. IsPerfectEnd s.ended)) }
     ensures kept_matching { OnErr result (matching.new ≡ matching.old) }
     ensures kept_region { OnErr result (region.new ≡ region.old) }
 {

@@ -12,9 +12,11 @@
 mod absorbed_cells;
 mod bench;
 mod branching;
+mod continued;
 mod entered_squares;
 mod given;
 pub mod laws;
+mod line_steps;
 mod phases;
 mod solving;
 mod square_solvers;
@@ -22,6 +24,7 @@ mod taken;
 
 pub use bench::Bench;
 pub use branching::{Branch, branch_from};
+pub use continued::{Taken, take_given, take_over};
 pub use entered_squares::entered_square;
 pub use given::{assign_given, solve_given};
 pub use solving::{Solved, solve};

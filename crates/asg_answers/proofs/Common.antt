@@ -54,4 +54,4 @@ pub use Rattle.asg_proof.specs.declared.outcomes.Proof.TheVariants.{Below, Level
 pub use Rattle.asg_rank.specs.RankOutcomes.{IsProvedRanking}
 pub use Rattle.asg_rankings.specs.NodeLists.{AreNodeParts, IsMarkPart, IsNodePart}
 pub use Rattle.asg_rankings.specs.declared.nodes.Node.{Node}
-pub use Rattle.asg_scripts.specs.Scripts.{after_line, first_refused, line_refusal, solved_instances}
+pub use Rattle.asg_text.specs.TriedScripts.{after_line, first_refused, line_refusal, solved_instances}

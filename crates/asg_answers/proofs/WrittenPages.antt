@@ -1,8 +1,8 @@
 -- Bytes that were written over a blank page, which was then emptied.
 use Rattle.asg_answers.proofs.Common.{◌≡◌, ℕ, true, false, List, ◌++◌, Option, sym, ap, ◌∙◌, subst, inl, inr, both_ways, cases_Bool, Puts-append, PutsPrefix-append, Rose, Puts, PutsPrefix}
-use Rattle.asg_page.specs.Flow.{Wrote, Emptied}
-use Rattle.asg_page.specs.PageState.{PageState, blank}
-use Rattle.asg_page.specs.laws.Flows.{Rose-later}
+use Rattle.asg_doc.specs.Flow.{Wrote, Emptied}
+use Rattle.asg_doc.specs.PageState.{PageState, blank}
+use Rattle.asg_doc.specs.laws.Flows.{Rose-later}
 
 module _ {S : Type 0} {written : S → Option (List ℕ)} {faults : S → ℕ} {before between after : S} {old middle new : PageState} {bytes : List ℕ} (start : old ≡ blank) (wrote : Wrote written faults before between old middle bytes) (emptied : Emptied written faults between after middle new) where
   whole : old.broken ≡ false

@@ -8,7 +8,7 @@ use Rattle.asg_check.specs.declared.document_forms.Form.TheVariants.{Solve}
 use Rattle.asg_doc.specs.declared.documents.Document.{Document}
 use Rattle.asg_doc.specs.Text.{text_of, texts_of}
 use Rattle.asg_proof.specs.KeptWords.{Standing}
-use Rattle.asg_scripts.specs.Scripts.{solved_instances}
+use Rattle.asg_text.specs.TriedScripts.{solved_instances}
 use Rattle.asg_text.specs.declared.script_lines.Line.{Line}
 use Rattle.asg_answers.specs.EditDocuments.{AreEditDocuments, at_first}
 use Rattle.asg_answers.specs.WrittenDocument.{IsBestDocument, IsNoneDocument, IsRankedDocument}

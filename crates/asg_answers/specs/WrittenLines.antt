@@ -5,7 +5,7 @@ use Rattle.asg_model.specs.Problem.{Problem}
 use Rattle.asg_edits.specs.Editors.{EditorOf}
 use Rattle.asg_io.specs.Sink.{Puts, PutsPrefix}
 use Rattle.asg_proof.specs.KeptWords.{Standing}
-use Rattle.asg_scripts.specs.Scripts.{after_line}
+use Rattle.asg_text.specs.TriedScripts.{after_line}
 use Rattle.asg_text.specs.declared.script_lines.Line.{Line}
 use Rattle.asg_answers.specs.declared.edited.Halt.{Halt}
 use Rattle.asg_answers.specs.declared.edited.Halt.TheVariants.{WriteFault, NoMemory}

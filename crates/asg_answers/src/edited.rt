@@ -14,7 +14,7 @@ ghost use Rattle.asg_model.specs.Refused.{PassesNegative};
 ghost use Rattle.asg_model.specs.Shapes.{square_side};
 ghost use Rattle.asg_proof.specs.KeptWords.{Standing};
 ghost use Rattle.asg_sum_edits.specs.SumDuals.{IsBestSum};
-ghost use Rattle.asg_scripts.specs.Scripts.{after_line, first_refused, line_refusal};
+ghost use Rattle.asg_text.specs.TriedScripts.{after_line, first_refused, line_refusal};
 ghost use Rattle.asg_answers.specs.Replies.{bytes_of};
 ghost use Rattle.asg_answers.specs.Standings.{IsTold, Stands};
 ghost use Rattle.asg_answers.specs.WrittenLines.{HaltsIn, WritesAll, WritesFront, WritesLine};
@@ -26,11 +26,11 @@ use crate::sheets::Sheet;
 use crate::tellings::choice_line;
 use asg_brief::laws::best_value_law;
 use asg_brief::sum_line;
-use asg_edited::laws::edited_law;
 use asg_edits::Editor;
 use asg_io::{PutFault, Sink};
 use asg_model::{Edit, NoMemory, Objective};
 use asg_text::Line;
+use asg_values::edits::edited_law;
 use std::alloc::Global;
 
 /// What halts the writing for a script.

@@ -1,13 +1,13 @@
 //! Bytes with the page over which they are written.
 
 ghost use Rattle.std.specs.Prelude.{◌≡◌, ◌≤◌, IfOk, OnOk, OnErr};
-ghost use Rattle.asg_page.specs.PageState.{blank};
+ghost use Rattle.asg_doc.specs.PageState.{blank};
 ghost use Rattle.asg_io.specs.Shelf.{Rose};
 ghost use Rattle.asg_io.specs.Sink.{Puts, PutsPrefix};
 
+use asg_doc::{Page, finish, line};
 use asg_io::{PutFault, Sink};
 use asg_model::NoMemory;
-use asg_page::{Page, finish, line};
 use std::alloc::Global;
 use std::marker::Model;
 
@@ -20,7 +20,7 @@ pub struct Pages {
 
 impl Model for Pages {
     ghost use Rattle.std.specs.Prelude.{◌≡◌, ℕ, List};
-    ghost use Rattle.asg_page.specs.PageState.{blank};
+    ghost use Rattle.asg_doc.specs.PageState.{blank};
 
     ghost Value = { List ℕ };
 

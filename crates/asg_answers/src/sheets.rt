@@ -6,10 +6,9 @@ ghost use Rattle.asg_doc.specs.Text.{text_of};
 ghost use Rattle.asg_io.specs.Shelf.{Rose};
 ghost use Rattle.asg_io.specs.Sink.{Puts, PutsPrefix};
 
-use asg_doc::{Document, send};
+use asg_doc::{Document, Page, send};
 use asg_io::{PutFault, Sink};
 use asg_model::NoMemory;
-use asg_page::Page;
 use std::alloc::Global;
 use std::marker::Model;
 
@@ -24,7 +23,7 @@ impl Model for Sheet {
     ghost use Rattle.std.specs.Prelude.{◌≡◌};
     ghost use Rattle.asg_doc.specs.declared.documents.Document.{Document};
     ghost use Rattle.asg_doc.specs.HasText.{HasText};
-    ghost use Rattle.asg_page.specs.PageState.{blank};
+    ghost use Rattle.asg_doc.specs.PageState.{blank};
 
     ghost Value = { Document };
 

@@ -4,7 +4,7 @@ use Rattle.std.proofs.lemmas.List.{append_assoc, length-append}
 use Rattle.asg_monoids.specs.NarrowObjectives.{is_narrow_objective}
 use Rattle.asg_sum_edits.specs.Sessions.{SumsOf}
 use Rattle.asg_edits.proofs.MonoidFacts.{sum_fact}
-use Rattle.asg_narrow_kinds.specs.laws.NarrowObjectives.{is_sum-narrow}
+use Rattle.asg_monoids.specs.laws.NarrowObjectives.{is_sum-narrow}
 
 -- where there are no phases, none are kept
 keeps_none : (objective : Objective) (Y : Problem) → IsTrue (is_narrow_objective objective) → KeepsPhases objective Y [] []

@@ -1,5 +1,6 @@
 -- What a session promises, by words.
-use Rattle.asg_edits.proofs.Common.{◌≡◌, ℕ, ◌^◌, ◌<◌, ◌≤◌, List, ◌++◌, map, length, take, Some, None, All, Option, sym, refl, ap, ◌∙◌, subst, arith, length-map, map-append, take-map, unmatched, IsBestIn, IsChoiceIn, KeepsIn, Touches, column_at, edited, refusal_of, Problem, Edit, Objective, Cost, Monoid, Word, KeepsFold, PhaseOf, worded, Phases, IsBestBy}
+use Rattle.asg_edits.proofs.Common.{◌≡◌, ℕ, ◌+◌, ◌^◌, ◌<◌, ◌≤◌, List, ◌++◌, map, length, take, Some, None, All, Option, sym, refl, ap, ◌∙◌, subst, arith, length-map, map-append, take-map, unmatched, IsBestIn, IsChoiceIn, KeepsIn, Touches, column_at, edited, refusal_of, Problem, Edit, Objective, Cost, Monoid, Word, KeepsFold, PhaseOf, worded, Phases, IsBestBy}
+use Rattle.std.proofs.Common.{append_assoc, length-append}
 use Rattle.asg_model.specs.Shapes.{square_side}
 use Rattle.asg_proof.specs.KeptPhases.{AreKept}
 use Rattle.asg_proof.specs.PhaseProofs.{IsRaised}
@@ -63,4 +64,12 @@ more_words word_of old new most (more, is, few) = (
   map (worded word_of) more,
   ap (map (worded word_of)) is ∙ map-append (worded word_of) old more,
   let size = length-map more (worded word_of) in omega (arith, size, few),
+)
+
+-- phases that were added, and then more, so that as many fewer may still be
+pub joined_more : {V : Type 0} (first second third : List (PhaseOf V)) (left most : ℕ) → (more : List (PhaseOf V)) × (second ≡ first ++ more) × (length more + left ≤ most) → (more : List (PhaseOf V)) × (third ≡ second ++ more) × (length more ≤ left) → (more : List (PhaseOf V)) × (third ≡ first ++ more) × (length more ≤ most)
+joined_more first second third left most a b = (
+  a.0 ++ b.0,
+  b.1 ∙ ap (λ phases. phases ++ b.0) a.1 ∙ append_assoc first a.0 b.0,
+  omega (arith, length-append a.0 b.0, a.2, b.2),
 )

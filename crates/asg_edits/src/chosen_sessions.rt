@@ -10,10 +10,12 @@ ghost use Rattle.asg_edits.specs.Editors.{GoesTo, editor_of, has_phases};
 
 use crate::NoMemory;
 use crate::choice_copies::copied;
+use crate::prepared_sessions::prepared_answer;
 use crate::sessions::Sessions;
 use asg_model::Choice;
 use asg_order::Kind;
 use asg_repair::{Answered, Session};
+use asg_roots::RootGuess;
 use std::alloc::Global;
 
 // The best choice that a session has answered. The error is want of memory.
@@ -36,6 +38,8 @@ fn choose_session<K: Kind + Drop>(
     alloc: Global,
     session: &mut Session<K>,
 ) -> Result<Option<Choice>, NoMemory>
+where
+    K::M: RootGuess,
     ensures kind { session.new.kind ≡ session.old.kind }
     ensures instance { session.new.instance ≡ session.old.instance }
     ensures more { let m = K.monoid session.old.kind in (more : List (PhaseOf Word))
@@ -47,7 +51,7 @@ fn choose_session<K: Kind + Drop>(
         (K.entered session.new.kind) session.new.instance
         (map (worded (K.M.word_of m)) session.new.phases)) }
 {
-    match session.answer() {
+    match prepared_answer(alloc, session) {
         Answered::Best => last_choice(alloc, session),
         Answered::Nothing => Ok(None),
     }

@@ -11,6 +11,7 @@ mod choice_copies;
 mod chosen_sessions;
 mod dual_sessions;
 mod editors;
+mod prepared_sessions;
 mod session_answers;
 mod session_edits;
 mod sessions;

@@ -9,9 +9,11 @@ ghost use Rattle.asg_edits.specs.EditOutcomes.{IsAnswerIn};
 
 use crate::NoMemory;
 use crate::choice_copies::copied;
+use crate::prepared_sessions::prepared_answer;
 use asg_order::Kind;
 use asg_proof::{Ids, Outcome, Proof};
 use asg_repair::{Answered, Session};
+use asg_roots::RootGuess;
 use std::alloc::Global;
 
 // The best choice that a session has answered, with its phases. The error is want of memory.
@@ -50,6 +52,8 @@ pub(crate) fn answer_session<K: Kind + Drop>(
     alloc: Global,
     session: &mut Session<K>,
 ) -> Result<Outcome, NoMemory>
+where
+    K::M: RootGuess,
     ensures kind { session.new.kind ≡ session.old.kind }
     ensures instance { session.new.instance ≡ session.old.instance }
     ensures more { let m = K.monoid session.old.kind in (more : List (PhaseOf Word))
@@ -61,7 +65,7 @@ pub(crate) fn answer_session<K: Kind + Drop>(
         (K.entered session.new.kind) session.new.instance
         (map (worded (K.M.word_of m)) session.new.phases) (unmatched session.new.columns)) }
 {
-    match session.answer() {
+    match prepared_answer(alloc, session) {
         Answered::Best => best_outcome(alloc, session),
         Answered::Nothing => none_outcome(alloc, session),
     }

@@ -7,10 +7,10 @@ ghost use Rattle.asg_proof.specs.Phases.{worded};
 ghost use Rattle.asg_edits.specs.Edited.{KeepsIn};
 
 use crate::NoMemory;
-use asg_edited::laws::edited_law;
 use asg_model::Edit;
 use asg_order::Kind;
 use asg_repair::Session;
+use asg_values::edits::edited_law;
 use std::alloc::AllocError;
 
 // Edits a session by an edit that isn't refused. The error is want of memory, and then all is as it

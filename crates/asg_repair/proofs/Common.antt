@@ -5,8 +5,8 @@ pub use Rattle.asg_admit.specs.declared.reduced.Reduced.{Reduced}
 pub use Rattle.asg_admit.specs.laws.KeptPhases.{after_phases-cell, kept_all, kept_once}
 pub use Rattle.asg_algebra.specs.Ended.{EndsIn, last_of}
 pub use Rattle.asg_algebra.specs.Solved.{ArePushed, HasSolved, IsPush, LeadTo, unmatched}
-pub use Rattle.asg_edited.specs.laws.EditedShapes.{edited_rows, edited_side}
-pub use Rattle.asg_edited.specs.laws.LiveCosts.{PassesNegative-edited, edited_costs, given_passes}
+pub use Rattle.asg_values.specs.laws.EditedShapes.{edited_rows, edited_side}
+pub use Rattle.asg_values.specs.laws.LiveCosts.{PassesNegative-edited, edited_costs, given_passes}
 pub use Rattle.asg_growth.specs.Growing.{IsAbsorbed}
 pub use Rattle.asg_kept_phases.specs.Chains.{IsChain}
 pub use Rattle.asg_kept_phases.specs.Edited.{NamesPlaces, Touches}

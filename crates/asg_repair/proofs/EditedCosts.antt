@@ -1,6 +1,6 @@
 -- The live costs of an edited instance enter as values.
 use Rattle.asg_repair.proofs.Common.{◌≡◌, ℕ, ◌≤◌, true, false, not, nat_le, unsigned_abs, Some, None, Option, subst, arith, leb-true, and_parts, not-false, option_map_or, edited_costs, given_passes, edited, given_cost, is_cost_in_range, refusal_of, IsInstance, most_cost, Problem, Edit, Objective, Cost, MayEnter, Monoid, IsValue, EntersValues}
-use Rattle.asg_edited.specs.laws.Passed.{none_applies}
+use Rattle.asg_values.specs.laws.Passed.{none_applies}
 use Rattle.asg_model.specs.declared.edits.EditRefusal.TheVariants.{NoMemory}
 
 module _ (objective : Objective) (X : Problem) (edit : Edit) (passes : refusal_of objective X edit ≡ None) where

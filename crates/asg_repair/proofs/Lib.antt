@@ -13,3 +13,4 @@ mod EditedSessions
 mod RaisedEdits
 mod OpenedLemmas
 mod OpenedSessions
+mod LeadsOnLemmas

@@ -2,4 +2,5 @@ pub mod Answers
 pub mod ClearedRows
 pub mod Opening
 pub mod Sessions
+pub mod LeadsOn
 pub mod laws

@@ -64,6 +64,12 @@ AreAbsorbedAfter M difference enter X phases matching =
     (IsAbsorbed M (index_of M phases) (after_phases M difference phases (square_cell X M.unit enter)))
     matching
 
+-- phases are admitted in turn from the square of an instance
+abbrev pub AreAdmittedOn : {V : Type 0} → Monoid V → (V → V → V) → (Cost → V) → Problem
+    → List (PhaseOf V) → Type 0
+AreAdmittedOn M difference enter X phases =
+    AreAdmittedPhases M difference (square_side X) phases (square_cell X M.unit enter)
+
 -- a choice is valid, phases prove its fold, and every row has a column
 pub record IsBestBy {V : Type 0} (M : Monoid V) (difference : V → V → V) (enter : Cost → V)
     (X : Problem) (phases : List (PhaseOf V)) (columns choice : List (Option ℕ)) : Type 0 where

@@ -8,7 +8,8 @@
 //! cell is absorbed then. Where all phases are kept through an edit that names a column, the cells
 //! that it touches are written into the reduced square at once, so that the next answer begins with
 //! it; after other edits that square is made anew then. A session is opened by few phases that are
-//! guessed (`asg_roots`), and goes on by those of the engine (`asg_algebra`).
+//! guessed (`asg_roots`). Where two rows or more lost their columns, it goes on by few that are
+//! guessed again, where an answer is prepared, and else by those of the engine (`asg_algebra`).
 //! Contracts see a session as its kind, its instance, its phases, the columns that rows are sure to
 //! keep, and what was answered last.
 #![tactic(auto)]
@@ -18,8 +19,10 @@ mod answers;
 mod applied_edits;
 mod cleared_rows;
 mod free_rows;
+mod guessed_ends;
 pub mod laws;
 mod opening;
+mod prepared_answers;
 mod present_cells;
 mod refilled_squares;
 mod session_answers;

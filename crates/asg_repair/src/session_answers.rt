@@ -8,7 +8,7 @@ ghost use Rattle.asg_model.specs.Instances.{IsInstance};
 ghost use Rattle.asg_model.specs.Shapes.{square_side};
 ghost use Rattle.asg_proof.specs.Phases.{PhaseOf, worded};
 ghost use Rattle.asg_proof.specs.PromisedProofs.{IsPhaseOver};
-ghost use Rattle.asg_repair.specs.Sessions.{IsBestBy, given_of};
+ghost use Rattle.asg_repair.specs.Sessions.{AreAdmittedOn, IsBestBy, given_of};
 ghost use Rattle.asg_repair.specs.declared.answers.Answered.TheVariants.{Best, Nothing};
 ghost use Rattle.asg_repair.specs.declared.answers.Given.TheVariants.{Chosen, Open, Stuck};
 
@@ -26,7 +26,8 @@ use std::alloc::Global;
 impl<K: Kind + Drop> Session<K> {
     /// Answers the instance as edited: by a best choice, whose fold the phases prove, or by a Hall
     /// set of the whole instance. The phases are those that were kept and then at most one for each
-    /// row that isn't sure to keep its column. Where it was answered since the last edit, nothing
+    /// row that isn't sure to keep its column, of the engine ([`prepare`](Session::prepare) may find
+    /// fewer). They are admitted in turn from the instance's square, whatever is answered. Where it was answered since the last edit, nothing
     /// changes. It takes no memory. The time grows with the cube of the side at most, and where all
     /// rows but one keep their columns with its square and the steps of the phases.
     pub fn answer(&mut self) -> Answered
@@ -37,6 +38,8 @@ impl<K: Kind + Drop> Session<K> {
             × (length more ≤ unmatched self.old.columns) }
         ensures again { self.old.given ≢ Open → self.new ≡ self.old }
         ensures given { self.new.given ≡ given_of result }
+        ensures admitted { let m = K.monoid self.new.kind in AreAdmittedOn (K.M.monoid_of m)
+            (K.M.difference m) (K.entered self.new.kind) self.new.instance self.new.phases }
         ensures best { let m = K.monoid self.new.kind in result ≡ Best
             → IsBestBy (K.M.monoid_of m) (K.M.difference m) (K.entered self.new.kind)
             self.new.instance self.new.phases self.new.columns self.new.choice }
@@ -45,7 +48,17 @@ impl<K: Kind + Drop> Session<K> {
         if self.room.given == Given::Open {
             self.find();
         }
+        self.tell_admitted();
         self.last_answer()
+    }
+
+    // Tells the proof that the phases are admitted from the instance's square, as a session keeps
+    // it.
+    pub(crate) fn tell_admitted(&self)
+        ensures { let m = K.monoid self.now.kind in AreAdmittedOn (K.M.monoid_of m)
+            (K.M.difference m) (K.entered self.now.kind) self.now.instance self.now.phases }
+    {
+        let _given = self.room.given;
     }
 
     // Finds the answer: leads the square, solves on, and writes down what the solver came to.

@@ -11,6 +11,7 @@ ghost use Rattle.asg_model.specs.Shapes.{square_side};
 ghost use Rattle.asg_proof.specs.PhaseProofs.{IsRaised};
 ghost use Rattle.asg_kept_phases.specs.Edited.{Touches};
 ghost use Rattle.asg_proof.specs.KeptPhases.{AreKept};
+ghost use Rattle.asg_repair.specs.Sessions.{AreAdmittedOn};
 ghost use Rattle.asg_repair.specs.declared.answers.Given.TheVariants.{Open};
 ghost use Rattle.asg_square.specs.Cells.{square_cell};
 
@@ -75,6 +76,9 @@ impl<K: Kind + Drop> Session<K> {
         ensures instance { IfOk result (λ s. s.instance ≡ inst) }
         ensures few { IfOk result (λ s. length s.phases ≤ square_side inst) }
         ensures open { IfOk result (λ s. s.given ≡ Open) }
+        ensures admitted { let m = K.monoid kind in
+            IfOk result (λ s. AreAdmittedOn (K.M.monoid_of m) (K.M.difference m)
+            (K.entered kind) inst s.phases) }
     {
         let _rows = inst.rows();
         let room = AnswerRoom::make(alloc, &inst)?;

@@ -45,14 +45,30 @@ fn add_one(session: &mut Session<SumKind>) -> bool {
     session.answer() == Answered::Best && session.length() == before
 }
 
+// Whether an answer that is prepared, after a cell was lowered so far that no phase is kept, has the
+// phases that were guessed alone, of which each row is sure of its column.
+fn is_prepared(alloc: Global, session: &mut Session<SumKind>) -> bool {
+    if !takes(session, &[Step::Put(1, 1, -1_000_000_000, 0)]) || session.unplaced() != 3 {
+        return false;
+    }
+    session.prepare(alloc);
+    let count = session.length();
+    session.unplaced() == 0 && session.answer() == Answered::Best && session.length() == count
+}
+
 // Whether as many phases are told as there are.
 fn are_told(alloc: Global, session: &Session<SumKind>) -> Result<bool, NoMemory> {
     Ok(session.phases(alloc)?.len() == session.length() as usize)
 }
 
-// Whether the phases of a session are few at first, are kept, and are told.
+// Whether the phases of a session are few at first, are kept, are told, and few again.
 fn keeps(alloc: Global, session: &mut Session<SumKind>) -> Result<bool, NoMemory> {
-    Ok(session.length() <= 3 && add_one(session) && are_told(alloc, session)?)
+    Ok(
+        session.length() <= 3
+            && add_one(session)
+            && are_told(alloc, session)?
+            && is_prepared(alloc, session),
+    )
 }
 
 // Whether the session of the plain square does so.

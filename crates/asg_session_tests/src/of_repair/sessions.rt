@@ -74,13 +74,18 @@ fn is_stuck<K: Kind + Drop>(session: &Session<K>) -> bool
     is_hall(session.instance(), Band::Whole, session.hall())
 }
 
-/// Whether the next answer is a best choice of this value, or where there is none a Hall set.
+/// Whether the next answer, which is prepared, is a best choice of this value, or where there is
+/// none a Hall set.
 pub(crate) fn answers<K: Kind + Drop>(
     alloc: Global,
     objective: Objective,
     session: &mut Session<K>,
     want: Option<(i128, Option<i128>)>,
-) -> Result<bool, NoMemory> {
+) -> Result<bool, NoMemory>
+where
+    K::M: RootGuess,
+{
+    session.prepare(alloc);
     match (session.answer(), want) {
         (Answered::Best, Some(want)) => chose(alloc, objective, session, want),
         (Answered::Nothing, None) => Ok(is_stuck(session)),

@@ -6,8 +6,7 @@ ghost use Rattle.asg_model.specs.Limits.{most_cost};
 use crate::of_repair::samples::{Case, Turn, cases};
 use crate::of_repair::sessions::{answers, session_of, takes};
 use asg_model::{Instance, Objective};
-use asg_monoids::{PeakKind, SumKind, TimeKind};
-use asg_narrow_kinds::NarrowKind;
+use asg_monoids::{NarrowKind, PeakKind, SumKind, TimeKind};
 use asg_order::Kind;
 use asg_repair::{NoMemory, Session};
 use asg_roots::RootGuess;
@@ -20,7 +19,10 @@ fn goes<K: Kind + Drop>(
     objective: Objective,
     session: &mut Session<K>,
     turns: &[Turn],
-) -> Result<bool, NoMemory> {
+) -> Result<bool, NoMemory>
+where
+    K::M: RootGuess,
+{
     for (steps, want) in turns {
         if !takes(session, steps) || !answers(alloc, objective, session, *want)? {
             return Ok(false);

@@ -1,4 +1,4 @@
-use Rattle.asg_algebra.proofs.Common.{IfSome, IsTrue, None, sym, ap, ◌∙◌, subst, IsReduced, AreAdmittedPhases, cell_at}
+use Rattle.asg_algebra.proofs.Common.{IfSome, IsTrue, sym, ap, ◌∙◌, subst, IsReduced, AreAdmittedPhases, cell_at}
 use Rattle.asg_algebra.specs.Assigned.{IsAssigned}
 use Rattle.asg_algebra.proofs.given.assign_given.Goals as goal
 

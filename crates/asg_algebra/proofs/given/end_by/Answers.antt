@@ -1,4 +1,5 @@
-use Rattle.asg_algebra.proofs.Common.{sym, ◌∙◌}
+use Rattle.asg_algebra.proofs.Common.{None, sym, ◌∙◌}
+use Rattle.asg_algebra.proofs.SolvedLaws.{ArePushed-list}
 use Rattle.asg_algebra.proofs.TakenLaws.{HasSolved-led, KeepsRows-perfect}
 use Rattle.asg_algebra.proofs.given.end_by.Goals as goal
 
@@ -25,3 +26,8 @@ match_columns-requires-clause-side g c =
 
 pub match_columns-requires-clause-absorbed : goal.match_columns-requires-clause-absorbed
 match_columns-requires-clause-absorbed g c = λ r k matched. absurd (c.requires.empty r k matched)
+
+pub returns-clause-list : goal.returns-clause-list
+returns-clause-list g c =
+    let lead = c.take_phases.ensures c.if-not-take_phases.false in
+    ArePushed-list c.args.given.now c.args.region.now c.take_phases.new.region None c.take_phases.new.last lead.pushed

@@ -1,4 +1,4 @@
-use Rattle.asg_algebra.proofs.Common.{sym, ap, ◌∙◌, subst, arith, IsBench, HasSolved}
+use Rattle.asg_algebra.proofs.Common.{sym, ◌∙◌, subst, arith, IsBench, HasSolved}
 use Rattle.asg_algebra.proofs.SolvingLaws.{IsReduced-rest, IsSolving-start, IsSolving-next, solving_spare, solving_live, solving_side, HasSolved-from}
 use Rattle.asg_algebra.proofs.solving.serve_all.Goals as goal
 

@@ -1,7 +1,7 @@
 use Rattle.asg_answers.proofs.Common.{◌≡◌, ◌+◌, drop, None, sym, ◌∙◌, subst, arith, Puts-nil, first_refused}
-use Rattle.asg_scripts.specs.Laws.{line_at_passes}
+use Rattle.asg_text.specs.SpelledLines.{line_at_passes}
 use Rattle.asg_answers.proofs.EditLines.{AreFollowed-more, AreFollowed-none, WritesAll-followed, WritesFront-halted}
-use Rattle.asg_page.specs.laws.Flows.{Rose-later}
+use Rattle.asg_doc.specs.laws.Flows.{Rose-later}
 use Rattle.asg_answers.proofs.edited.put_lines.Goals as goal
 
 pub lines-init : goal.lines-init

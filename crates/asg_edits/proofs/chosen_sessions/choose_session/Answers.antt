@@ -5,12 +5,12 @@ use Rattle.asg_edits.proofs.chosen_sessions.choose_session.Goals as goal
 pub returns-in-Best-clause-more : goal.returns-in-Best-clause-more
 returns-in-Best-clause-more g c =
     let s = c.args.session.now in
-    more_words (g.K.M.Written.word_of (g.K.Kind.monoid s.kind)) s.phases c.answer.new.self.phases (unmatched s.columns) c.answer.ensures.phases
+    more_words (g.K.M.Written.word_of (g.K.Kind.monoid s.kind)) s.phases c.prepared_answer.new.session.phases (unmatched s.columns) c.prepared_answer.ensures.phases
 
 pub returns-in-Nothing-clause-more : goal.returns-in-Nothing-clause-more
 returns-in-Nothing-clause-more g c =
     let s = c.args.session.now in
-    more_words (g.K.M.Written.word_of (g.K.Kind.monoid s.kind)) s.phases c.answer.new.self.phases (unmatched s.columns) c.answer.ensures.phases
+    more_words (g.K.M.Written.word_of (g.K.Kind.monoid s.kind)) s.phases c.prepared_answer.new.session.phases (unmatched s.columns) c.prepared_answer.ensures.phases
 
 pub returns-in-Nothing-clause-choice : goal.returns-in-Nothing-clause-choice
-returns-in-Nothing-clause-choice g c = (c.answer.new.self.hall, c.answer.ensures.nothing c.in-Nothing.is)
+returns-in-Nothing-clause-choice g c = (c.prepared_answer.new.session.hall, c.prepared_answer.ensures.nothing c.in-Nothing.is)

@@ -18,3 +18,6 @@ invariant_of-result g c =
       live = enters_values M enter (g.K.Kind.objective kind) (g.K.Kind.reach kind) X c.requires.reach c.rows-rows.ensures.instance c.requires.passes (g.met.K.Kind.enters_value kind);
     })
     c.in_ok-opened.ensures c.in_ok-room.ensures.room c.in_ok-room.ensures.given
+
+pub returns-clause-admitted : goal.returns-clause-admitted
+returns-clause-admitted g c = c.in_ok-opened.ensures.led.admitted

@@ -36,13 +36,48 @@ fn keep_memory(rt: &impl AllocGlobal) {
     }
 }
 
+// How many bytes of the stack a run is given before it begins: more than all its frames take.
+const STACK: usize = 5 << 16;
+
+// The size of a page of memory.
+const PAGE: usize = 4096;
+
+// Goes down the stack by so many pages, and tells a byte of the one that it began with, which isn't
+// 0. It writes that page before it goes on, and reads it by what the pages below told, so that no
+// compiler leaves one out.
+fn page_byte(pages: usize) -> u8 {
+    let mut page = [1u8; PAGE];
+    page[pages % PAGE] = 3;
+    if pages == 0 {
+        return page[0];
+    }
+    let below = page_byte(pages - 1);
+    page[(usize::from(below) * 16).wrapping_add(pages) % PAGE]
+}
+
+// Takes the stack of a run, and tells whether it could be had. A program ends by a signal where its
+// stack can't grow, so as much memory is taken first, and released untouched.
+fn has_stack(rt: &impl AllocGlobal) -> bool {
+    match Vec::<u8>::with_capacity(rt.alloc(), STACK) {
+        Ok(block) => {
+            drop(block);
+            page_byte(STACK / PAGE) != 0
+        }
+        Err(_) => false,
+    }
+}
+
 fn main(rt: HostRuntime) -> ExitCode {
     keep_memory(&rt);
     let status = match words_after_name(&rt) {
         Ok(words) => {
-            let mut shelf = RealShelf::new(rt.alloc(), &rt);
-            let mut out = RealSink::new(io::writer(&rt));
-            run(rt.alloc(), &words, &mut shelf, &mut out)
+            if has_stack(&rt) {
+                let mut shelf = RealShelf::new(rt.alloc(), &rt);
+                let mut out = RealSink::new(io::writer(&rt));
+                run(rt.alloc(), &words, &mut shelf, &mut out)
+            } else {
+                Status::NoMemory
+            }
         }
         Err(error) => untaken(&error),
     };

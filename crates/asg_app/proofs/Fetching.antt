@@ -2,7 +2,7 @@
 use Rattle.asg_app.proofs.Common.{◌≡◌, ℕ, zero, suc, ◌+◌, ◌<◌, ◌≤◌, ◌≢◌, ◌⊎◌, List, [], ◌∷◌, ◌++◌, length, get_or, take, replicate, IfSome, IfErr, slice_get, Some, None, Err, Option, Result, sym, refl, ap, ◌∙◌, subst, inl, inr, append_assoc, append-nil, arith, take_all, All-cons, All-nil, none-some, slice_get-get_or, slice_get_past, AreGiven, AsksOf, Fails, Gives, StopsAt, Rose, asked_after, FetchFault, longest_file, AreShort, MayHoldAll, content_at}
 use Rattle.std.proofs.Math.ListN.{length-replicate}
 use Rattle.asg_io.specs.declared.shelf.FetchFault.TheVariants.{Failed, TooLong, NoMemory}
-use Rattle.asg_page.specs.laws.Flows.{Rose-later}
+use Rattle.asg_doc.specs.laws.Flows.{Rose-later}
 
 -- one more name is taken
 taken : (names : List (List ℕ)) (count : ℕ) (name : List ℕ) → slice_get names count ≡ Some name → take (count + 1) names ≡ take count names ++ name ∷ []

@@ -1,10 +1,4 @@
 pub mod Common
-pub mod BriefReplies
 pub mod EditEnds
 pub mod Fetching
-pub mod InstanceLemmas
-pub mod JudgeLemmas
-pub mod JudgeStops
-pub mod ReasonPlaces
-pub mod ReplyLemmas
 pub mod RunLemmas

@@ -3,17 +3,16 @@
 ghost use Rattle.std.specs.Prelude.{◌≡◌, false, true, IfSome};
 ghost use Rattle.asg_promises.specs.Due.{DueForAsked, DueForPart};
 ghost use Rattle.asg_app.specs.Ends.{Ends};
-ghost use Rattle.asg_requests.specs.Bounds.{IsRequest};
+ghost use Rattle.asg_words.specs.Bounds.{IsRequest};
 ghost use Rattle.asg_promises.specs.Requests.{is_edit, is_streamed};
 
-use crate::commands::edit;
+use crate::edits;
 use crate::files::Asked;
-use crate::replies::put;
-use crate::stages::reply_to;
+use crate::replies::{put, reply_to};
 use asg_answers::Status;
 use asg_io::Sink;
 use asg_promises::laws::answer_law;
-use asg_requests::{Request, Task};
+use asg_words::{Request, Task};
 use std::alloc::Global;
 
 // Whether a task edits.
@@ -57,7 +56,7 @@ fn answer_streamed<K: Sink>(alloc: Global, asked: &mut Asked, out: &mut K) -> St
         (DueForPart asked.old.request asked.old.sources) result }
 {
     match &asked.request {
-        Some(Request::Work(job)) => edit::answer(alloc, job, &mut asked.sources, out),
+        Some(Request::Work(job)) => edits::answer(alloc, job, &mut asked.sources, out),
         Some(Request::Make { .. }) | None => unreachable!(),
     }
 }

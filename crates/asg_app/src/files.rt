@@ -2,18 +2,18 @@
 
 ghost use Rattle.std.specs.Prelude.{◌≡◌, ◌<◌, Some, IfOk, IfSome, length, map, string_bytes};
 ghost use Rattle.std.specs.Result.{IfErr};
-ghost use Rattle.asg_requests.specs.declared.requests.Request.TheVariants.{Work};
+ghost use Rattle.asg_words.specs.declared.requests.Request.TheVariants.{Work};
 ghost use Rattle.asg_app.specs.Fetches.{AreGiven, StopsAt, status_of};
 ghost use Rattle.asg_promises.specs.Requests.{asked_of, files_of};
-ghost use Rattle.asg_requests.specs.Bounds.{IsRequest};
+ghost use Rattle.asg_words.specs.Bounds.{IsRequest};
 ghost use Rattle.asg_promises.specs.Sources.{content_at};
 
 use crate::requests::asked;
-use crate::sources::Sources;
 use asg_answers::Status;
+use asg_commands::Sources;
 use asg_io::{FetchFault, Shelf};
 use asg_model::limits::LONGEST_FILE;
-use asg_requests::{Job, Request, Task};
+use asg_words::{Job, Request, Task};
 use std::alloc::Global;
 
 // The number of files that a job names.

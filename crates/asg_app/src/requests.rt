@@ -2,11 +2,10 @@
 
 ghost use Rattle.std.specs.Prelude.{◌≡◌, map, string_bytes, IfOk, IfSome};
 ghost use Rattle.asg_promises.specs.Requests.{asked_of};
-ghost use Rattle.asg_requests.specs.Bounds.{IsRequest};
+ghost use Rattle.asg_words.specs.Bounds.{IsRequest};
 
 use asg_model::NoMemory;
-use asg_requests::{Request, WordsRefusal};
-use asg_words::parse;
+use asg_words::{Request, WordsRefusal, parse};
 use std::alloc::{AllocError, Global};
 
 // What the words after the program's name ask for; `None` where they are no request. The error is

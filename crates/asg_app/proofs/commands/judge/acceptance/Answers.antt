@@ -1,5 +1,0 @@
-use Rattle.asg_app.proofs.Common.{sym, ◌∙◌}
-use Rattle.asg_app.proofs.commands.judge.acceptance.Goals as goal
-
-pub returns : goal.returns
-returns c = (c.made.ensures.0, sym c.in_ok-line.ensures.ok ∙ c.made.ensures.1)

@@ -1,5 +1,0 @@
-use Rattle.asg_app.proofs.Common.{refl, Solved}
-use Rattle.asg_app.proofs.commands.solve.best_reply.Goals as goal
-
-pub returns : goal.returns
-returns c = Solved c.requires.takes c.in_ok-text.ensures refl

@@ -1,5 +1,0 @@
-use Rattle.asg_app.proofs.Common.{refl, Unsolvable}
-use Rattle.asg_app.proofs.commands.solve.none_reply.Goals as goal
-
-pub returns : goal.returns
-returns c = Unsolvable c.requires.takes c.in_ok-text.ensures refl

@@ -1,0 +1,2 @@
+pub mod Overtime
+pub mod Rosters

@@ -25,13 +25,17 @@ def counted(found, more):
             f'{besides[0]} more in {besides[1]} lines')
 
 
-def page_rows(text):
-    """The names that the rows of a page's tables have, under the files or crates of their first cells."""
-    rows = {}
-    for where, rest in re.findall(r'^\| `(\w+/[\w/]+\.(?:antt|rt)|\w+)` \| (.*) \|$', text, re.M):
-        names = ' '.join(re.findall(r"(?:^|<br>)((?:`[\w']+`, )*`[\w']+`):", rest)) if '/' in where else rest
-        rows.setdefault(where, []).extend(re.findall(r'`([^`]+)`', names))
-    return rows
+def page_names(text):
+    """The names that a page's lists have under files and crates."""
+    named = {}
+    for where, rest in re.findall(r'^- `(\w+/[\w/]+\.(?:antt|rt)|\w+)`:?(.*\n(?: .*\n)*)', text, re.M):
+        if '/' in where:
+            items = re.sub(r'\n {4}', ' ', rest)
+            names = ' '.join(re.findall(r"^  - ((?:`[\w']+`, )*`[\w']+`):", items, re.M))
+        else:
+            names = rest
+        named.setdefault(where, []).extend(re.findall(r'`([^`]+)`', names))
+    return named
 
 
 def differences(wanted, named):
@@ -50,13 +54,14 @@ def differences(wanted, named):
 def check(page, wanted, counts):
     """Tells how a page differs from what it is to say, and gives how many tests passed and failed."""
     text, passed, failed = page.read_text(), 0, 0
-    rows = page_rows(text)
+    named = page_names(text)
     for ending in ('.antt', '.rt', ''):
         def of(files):
             return {where: names for where, names in files.items() if pathlib.Path(where).suffix == ending}
-        found = list(differences(of(wanted), of(rows)))
+        found = list(differences(of(wanted), of(named)))
         print(*found, sep='\n', end='\n' if found else '')
         passed, failed = passed + (not found), failed + bool(found)
-    missing = [count for count in counts if count not in text]
+    said = ' '.join(text.split())
+    missing = [count for count in counts if count not in said]
     print(*(f"the page doesn't say: {count}" for count in missing), sep='\n', end='\n' if missing else '')
     return passed + (not missing), failed + bool(missing)

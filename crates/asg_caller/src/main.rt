@@ -19,7 +19,7 @@ fn main(rt: HostRuntime) -> io::Result<()> {
         Some(roster) => {
             for crew in 0..roster.choice.len() {
                 if let Some(duty) = roster.choice.get(crew) {
-                    println!(rt; "crew {} takes duty {}", crew + 1, duty)?;
+                    println!(rt; "crew {} takes duty {}", crew + 1, u64::from(duty) + 1)?;
                 }
             }
             println!(rt; "the longest overtime is {} hours", roster.overtime)

@@ -3,6 +3,7 @@
 And programs that give what asg gives but for one thing: each of the runs that are tabled must fail there.
 """
 import os
+import shlex
 import shutil
 import subprocess
 import sys
@@ -65,25 +66,17 @@ FAULTS = (
 # how many random tables of each objective find a fault; of weeks there are a sixth as many
 COUNT, WEEKS = 12, 72
 
-PROGRAM = """import os, sys
-read, write = os.pipe()
-child = os.fork()
-if not child:
-    os.dup2(write, 1)
-    os.execv({asg!r}, ['asg', *sys.argv[1:]])
-os.close(write)
-with open(read, 'rb') as file:
-    wrote = file.read()
-status = os.waitstatus_to_exitcode(os.waitpid(child, 0)[1])
+PROGRAM = """told=$({asg} "$@"; echo " $?")
+status=${{told##* }}
+wrote=${{told% *}}
 {change}
-with open(1, 'wb') as file:
-    file.write(wrote)
-sys.exit(status)
+printf %s "$wrote"
+exit "$status"
 """
 PROGRAMS = (
-    ('a status that is one more', 'status += 1'),
-    ('another first byte', "wrote = bytes([wrote[0] ^ 1]) + wrote[1:] if wrote else b'1'"),
-    ('another last byte', "wrote = wrote[:-1] + b'1'"),
+    ('a status that is one more', 'status=$((status + 1))'),
+    ('another first byte', 'wrote="~${wrote#?}"'),
+    ('another last byte', 'wrote="${wrote%?}~"'),
 )
 
 
@@ -113,7 +106,7 @@ def tried(words, tools=os.path.join(TOP, 'tools')):
 def wrong_programs(bench):
     """Each of the runs that are tabled must fail over a program that does one thing wrongly."""
     for name, change in PROGRAMS:
-        program = bench.script('wrong-asg', PROGRAM.format(asg=bench.asg, change=change), by=f'{sys.executable} -SE')
+        program = bench.script('wrong-asg', PROGRAM.format(asg=shlex.quote(bench.asg), change=change), by='/bin/sh')
         done = tried(['--asg', program, 'runs'])
         is_caught = done.returncode == 1 and done.stdout.splitlines()[-1].startswith('0 passed, ')
         bench.holds(is_caught, f'wrong program: {name}', done.stdout[-2000:], done.stderr[-2000:])

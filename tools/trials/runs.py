@@ -1,13 +1,15 @@
 """Runs of the program asg, as the tables in trials/runs say: words, files, status and text, and what check says of it.
 
-    NAME = text              what a name in capitals stands for, in the cases and the names below it in its table
+    NAME = text              what a name in capitals stands for, in the cases and the names below it in its table;
+                             in a text NAME*9 is nine of them with blanks between
     asg word ..              a run: a word that is such a name, or a text in braces, is a file that holds the text
         STATUS text          how each of the runs above it ends, and what it writes; no text is nothing at all
         or text              what it may write instead
         and text             the next document, where a run writes more than one
 
 In a text '/' ends a line, and the blanks beside it don't count; '..' stands for whatever the program may choose there,
-and \\r, \\s and \\t for CR, blank and tab. A line that ends with '\\' goes on in the next one, and '#' begins a comment.
+and \\r, \\s, \\t and \\v for CR, blank, tab and VT; so too in a word, where \\e is an empty one. A line that ends with
+'\\' goes on in the next one, and '#' begins a comment.
 
 Each document that a run of solve, rank or edit writes must be found right by check, with the same options. And no case
 may accept a run that ends otherwise: with another status, or with other bytes in the documents.
@@ -19,9 +21,9 @@ import subprocess
 from dataclasses import dataclass, field
 
 TABLES = os.path.join(os.path.dirname(os.path.realpath(__file__)), 'runs')
-NAME = re.compile(r'\b[A-Z][A-Z0-9_]*\b')
+NAME = re.compile(r'\b([A-Z][A-Z0-9_]*)\b(?:\*([0-9]+))?')
 WORDS = re.compile(r'\{[^}]*\}|[^\s{}]+')
-ESCAPES = {'\\r': '\r', '\\s': ' ', '\\t': '\t'}
+ESCAPES = {'\\e': '', '\\r': '\r', '\\s': ' ', '\\t': '\t', '\\v': '\v'}
 BEGIN = b'assignment 1\n'
 
 
@@ -31,12 +33,25 @@ def square(side, cost):
     return f'{side}\n' + '\n'.join(rows) + '\n'
 
 
+def stairs(columns):
+    """The text of a rect file of 16 rows: each has the cost 2 in its own column and 1 in the next one, if they are there."""
+    rows = (' '.join({0: '2', 1: '1'}.get(column - row, '-') for column in range(columns)) for row in range(16))
+    return f'16 {columns}\n' + '\n'.join(rows) + '\n'
+
+
 # files that are too large to be written out
 MADE = {
     'COSTS_142': lambda: square(142, lambda row, column: 142 * (row - 1) + column - 1),
     'ZEROS_201': lambda: square(201, lambda row, column: 0),
+    'PRODUCTS_40': lambda: square(40, lambda row, column: row * column),
     'PRODUCTS_800': lambda: square(800, lambda row, column: row * column),
+    'STAIRS_15': lambda: stairs(15),
+    'STAIRS_16': lambda: stairs(16),
+    'STAIRS_17': lambda: stairs(17),
+    'SOLVES_9999': lambda: 'solve\n' * 9_999,
+    'SOLVES_10000': lambda: 'solve\n' * 10_000,
     'SOLVES_10001': lambda: 'solve\n' * 10_001,
+    'SOLVES_APART': lambda: '\nsolve\n' * 10_000,
 }
 
 
@@ -60,10 +75,14 @@ class Ran:
     wrote: bytes
 
 
+def escaped(text):
+    """A text with what its escapes stand for in their place."""
+    return re.sub(r'\\[erstv]', lambda found: ESCAPES[found[0]], text)
+
+
 def plain(text):
     """What a text of a table stands for."""
-    lines = '\n'.join(line.strip(' ') for line in text.split('/'))
-    return re.sub(r'\\[rst]', lambda found: ESCAPES[found[0]], lines)
+    return escaped('\n'.join(line.strip(' ') for line in text.split('/')))
 
 
 def pattern(text):
@@ -99,14 +118,15 @@ class Table:
 
     def named(self, text):
         """A text with what its names stand for in their place."""
-        return NAME.sub(lambda found: self.names.get(found[0], found[0]), text)
+        return NAME.sub(lambda found: ' '.join([self.meaning(found[1])] * int(found[2] or 1)), text)
+
+    def meaning(self, name):
+        """What a name stands for, or itself where it is none."""
+        return MADE[name]() if name in MADE else self.names.get(name, name)
 
     def word(self, word):
-        if word.startswith('{'):
-            return plain(self.named(word[1:-1])).encode()
-        if word in MADE:
-            return MADE[word]().encode()
-        return plain(self.names[word]).encode() if word in self.names else word
+        is_file = word.startswith('{') or word in MADE or word in self.names
+        return plain(self.named(word.strip('{}'))).encode() if is_file else escaped(word)
 
     def run(self, where, words):
         if self.open and self.open[-1].documents:

@@ -1,9 +1,21 @@
-//! Tests of the crates below.
+//! Tests of the crates below: what no run of the program shows.
 #![tactic(auto)]
 
 #[cfg(test)]
-mod of_make;
+mod documents;
 #[cfg(test)]
-mod of_model;
+mod edits;
 #[cfg(test)]
-mod of_samples;
+mod instances;
+#[cfg(test)]
+mod mapped;
+#[cfg(test)]
+mod pages;
+#[cfg(test)]
+mod rect_texts;
+#[cfg(test)]
+mod shelves;
+#[cfg(test)]
+mod sinks;
+#[cfg(test)]
+mod values;

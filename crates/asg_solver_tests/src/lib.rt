@@ -1,13 +1,15 @@
-//! Tests of the crates below.
+//! Tests of the crates that solve, rank, edit and judge: of what no run of the program shows.
 #![tactic(auto)]
 
 #[cfg(test)]
-mod of_grade_lists;
+mod guesses;
 #[cfg(test)]
-mod of_objectives;
+mod instances;
 #[cfg(test)]
-mod of_rank;
+mod outcomes;
 #[cfg(test)]
-mod of_table_phases;
+mod rankings;
 #[cfg(test)]
-mod of_table_sums;
+mod sessions;
+#[cfg(test)]
+mod sums;

@@ -1,3 +1,0 @@
-//! Tests of `asg_samples`.
-
-mod tests;

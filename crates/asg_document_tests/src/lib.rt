@@ -1,5 +1,0 @@
-//! Tests of the crates below.
-#![tactic(auto)]
-
-#[cfg(test)]
-mod of_doc;

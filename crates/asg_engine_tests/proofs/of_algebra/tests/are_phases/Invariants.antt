@@ -1,6 +1,0 @@
-use Rattle.asg_engine_tests.proofs.Common.{IfSome, IsLive}
-use Rattle.asg_engine_tests.proofs.of_algebra.tests.are_phases.Given as goal
-
--- the trail that is left is live
-abbrev pub invariant-loop-phase : goal.invariant-loop-phase
-invariant-loop-phase l = IfSome l.next (IsLive l.region)

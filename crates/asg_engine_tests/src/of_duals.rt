@@ -1,4 +1,0 @@
-//! Tests of `asg_duals`.
-
-mod guess_tests;
-mod tests;

@@ -1,4 +1,0 @@
-//! Tests of `asg_admit` and `asg_settling`.
-
-mod masked;
-mod tests;

@@ -1,3 +1,0 @@
-//! Tests of `asg_phase_totals`.
-
-mod tests;

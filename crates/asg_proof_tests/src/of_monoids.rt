@@ -1,4 +1,0 @@
-//! Tests of `asg_monoids`.
-
-mod kind_tests;
-mod tests;

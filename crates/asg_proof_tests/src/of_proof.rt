@@ -1,4 +1,0 @@
-//! Tests of `asg_proof`.
-
-mod rankings;
-mod tests;

@@ -1,3 +1,0 @@
-//! Tests of `asg_grammar`.
-
-mod tests;

@@ -1,4 +1,0 @@
-//! Tests of `asg_words`.
-
-mod lines;
-mod tests;

@@ -1,3 +1,0 @@
-//! Tests of `asg_sum_edits`.
-
-mod tests;

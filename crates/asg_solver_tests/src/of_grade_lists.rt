@@ -1,3 +1,0 @@
-//! Tests of `asg_grade_lists`.
-
-mod tests;

@@ -1,6 +1,0 @@
-//! Tests of `asg_rank`.
-
-mod rankers;
-mod refusals;
-mod samples;
-mod tests;

@@ -1,3 +1,0 @@
-//! Tests of `asg_table_sums`.
-
-mod tests;

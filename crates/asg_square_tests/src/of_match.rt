@@ -1,4 +1,0 @@
-//! Tests of `asg_match`.
-
-mod hall_tests;
-mod tests;

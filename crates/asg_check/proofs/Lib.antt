@@ -11,3 +11,6 @@ pub mod RankingTold
 pub mod RankedTold
 pub mod RankingStages
 pub mod Certified
+pub mod KnownWords
+pub mod KnownTold
+pub mod KeptEdits

@@ -6,6 +6,7 @@ ghost use Rattle.asg_model.specs.Refused.{PassesNegative};
 ghost use Rattle.asg_model.specs.Shapes.{square_side};
 ghost use Rattle.asg_check.specs.Certifies.{Certifies};
 ghost use Rattle.asg_check.specs.DocumentForm.{MayBeAsked};
+ghost use Rattle.asg_check.specs.KnownPhases.{AreKnown, phases_of_claim};
 ghost use Rattle.asg_verdicts.specs.Verdicts.{Tells, reasons_in_order};
 ghost use Rattle.asg_check.specs.Reasons.{IsFirstReason, Stands};
 ghost use Rattle.asg_check.specs.TrueClaim.{ClaimsTruly};
@@ -16,6 +17,7 @@ use crate::document_forms::{Form, has_form};
 use crate::laws::soundness_law;
 use asg_doc::Document;
 use asg_model::{Instance, Objective};
+use asg_proof::WrittenPhase;
 use asg_values::laws::decision_law;
 use asg_verdicts::{Reason, Verdict};
 use std::alloc::Global;
@@ -63,25 +65,58 @@ pub fn check(
     ensures sound { IfOk result (λ verdict. verdict ≡ Verdict.Yes →
         ClaimsTruly objective inst.now doc.now) }
 {
+    let verdict = check_known(alloc, objective, inst, form, doc, &[])?;
+    Ok(verdict)
+}
+
+/// The same, where phases are known to be admitted in turn from the square of the instance, as
+/// those of the document before often are: of a document with the same phases the choice, the value
+/// and the index alone are looked at. Where the document certifies, its own phases are known to be
+/// so. The error is want of memory.
+pub fn check_known(
+    alloc: Global,
+    objective: Objective,
+    inst: &Instance,
+    form: Form,
+    doc: &Document,
+    known: &[WrittenPhase],
+) -> Result<Verdict, NoMemory>
+    requires side { square_side inst.now ≤ most_side }
+    requires passes { PassesNegative objective inst.now }
+    requires asked { MayBeAsked form objective inst.now }
+    requires known { AreKnown objective inst.now known.now }
+    ensures exact { IfOk result (λ verdict. (verdict ≡ Verdict.Yes) ↔
+        Certifies objective inst.now form doc.now) }
+    ensures reason { IfOk result (λ verdict. (number : ℕ) (place : ℤ) →
+        (verdict ≡ Verdict.No number place) ↔
+        IsFirstReason objective inst.now form doc.now number place) }
+    ensures sound { IfOk result (λ verdict. verdict ≡ Verdict.Yes →
+        ClaimsTruly objective inst.now doc.now) }
+    ensures known { IfOk result (λ verdict. verdict ≡ Verdict.Yes →
+        AreKnown objective inst.now (phases_of_claim doc.now.claim)) }
+{
     // What each instance keeps, on which the laws rest, is told by a reader.
     let _ = inst.rows();
     soundness_law();
     decision_law();
-    let verdict = document_verdict(alloc, objective, inst, form, doc)?;
+    let verdict = document_verdict(alloc, objective, inst, form, doc, known)?;
     Ok(verdict)
 }
 
-// The verdict on a document, by its reasons in order. The error is want of memory.
+// The verdict on a document, by its reasons in order, where some phases are known to be admitted.
+// The error is want of memory.
 fn document_verdict(
     alloc: Global,
     objective: Objective,
     inst: &Instance,
     form: Form,
     doc: &Document,
+    known: &[WrittenPhase],
 ) -> Result<Verdict, NoMemory>
     requires side { square_side inst.now ≤ most_side }
     requires passes { PassesNegative objective inst.now }
     requires asked { MayBeAsked form objective inst.now }
+    requires known { AreKnown objective inst.now known.now }
     ensures { IfOk result (Tells (Stands objective inst.now form doc.now) reasons_in_order) }
 {
     if doc.objective != objective {
@@ -90,5 +125,5 @@ fn document_verdict(
     if !has_form(objective, form, doc) {
         return Ok(Reason::WrongForm.verdict());
     }
-    claim_verdict(alloc, objective, inst, form, &doc.claim)
+    claim_verdict(alloc, objective, inst, form, &doc.claim, known)
 }

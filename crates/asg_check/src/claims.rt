@@ -10,40 +10,46 @@ ghost use Rattle.asg_proof.specs.Proves.{takes};
 ghost use Rattle.asg_proof.specs.Threshold.{ProvesBelow};
 ghost use Rattle.asg_check.specs.DocumentForm.{MayBeAsked, answers_form, takes_claim};
 ghost use Rattle.asg_verdicts.specs.Verdicts.{Tells, claim_reasons, proof_reasons};
+ghost use Rattle.asg_check.specs.KnownPhases.{AreKnown};
 ghost use Rattle.asg_check.specs.Reasons.{StandsAgainst};
 ghost use Rattle.asg_check.specs.Written.{IsWrittenAs};
 
 use crate::NoMemory;
 use crate::document_forms::Form;
+use crate::known_phases::known_phases_verdict;
 use crate::ranking_verdicts::ranking_verdict;
 use crate::window_verdicts::windows_verdict;
 use crate::written_choices::written_choice;
 use crate::written_values::is_same_value;
 use asg_doc::{Answer, Claim};
 use asg_model::{Band, Choice, Instance, Objective, Value};
-use asg_proof::Proof;
+use asg_proof::{Proof, WrittenPhase};
 use asg_values::{is_hall, value};
-use asg_verdicts::{Reason, Verdict, levels_verdict, phases_verdict};
+use asg_verdicts::{Reason, Verdict, levels_verdict};
 use std::alloc::Global;
 
-// The verdict on a claim that answers what was asked, by its reasons in order. The error is want of
-// memory.
+// The verdict on a claim that answers what was asked, by its reasons in order, where some phases
+// are known to be admitted. The error is want of memory.
 pub(crate) fn claim_verdict(
     alloc: Global,
     objective: Objective,
     inst: &Instance,
     form: Form,
     claim: &Claim,
+    known: &[WrittenPhase],
 ) -> Result<Verdict, NoMemory>
     requires asked { MayBeAsked form objective inst.now }
     requires answers { IsTrue (answers_form form claim.now) }
     requires takes { IsTrue (takes_claim objective claim.now) }
     requires side { square_side inst.now ≤ most_side }
     requires passes { PassesNegative objective inst.now }
+    requires known { AreKnown objective inst.now known.now }
     ensures { IfOk result (Tells (StandsAgainst objective inst.now claim.now) claim_reasons) }
 {
     match claim {
-        Claim::Best { answer, proof } => answer_verdict(alloc, objective, inst, answer, proof),
+        Claim::Best { answer, proof } => {
+            answer_verdict(alloc, objective, inst, answer, proof, known)
+        }
         Claim::Nothing { rows } => {
             if is_hall(inst, Band::Whole, rows.as_slice()) {
                 Ok(Verdict::Yes)
@@ -73,10 +79,12 @@ fn answer_verdict(
     inst: &Instance,
     answer: &Answer,
     proof: &Proof,
+    known: &[WrittenPhase],
 ) -> Result<Verdict, NoMemory>
     requires takes { IsTrue (takes objective proof.now) }
     requires side { square_side inst.now ≤ most_side }
     requires passes { PassesNegative objective inst.now }
+    requires known { AreKnown objective inst.now known.now }
     ensures { IfOk result (Tells
         (StandsAgainst objective inst.now (Claim.Best answer.now proof.now)) claim_reasons) }
 {
@@ -87,7 +95,7 @@ fn answer_verdict(
     if !is_same_value(&answer.value, &right) {
         return Ok(Reason::WrongValue.verdict());
     }
-    proof_verdict(alloc, objective, inst, answer, &choice, proof)
+    proof_verdict(alloc, objective, inst, answer, &choice, proof, known)
 }
 
 // The verdict on the proof of an answer, whose choice this is, by its reasons in order. The error
@@ -99,10 +107,12 @@ fn proof_verdict(
     answer: &Answer,
     choice: &Choice,
     proof: &Proof,
+    known: &[WrittenPhase],
 ) -> Result<Verdict, NoMemory>
     requires takes { IsTrue (takes objective proof.now) }
     requires side { square_side inst.now ≤ most_side }
     requires passes { PassesNegative objective inst.now }
+    requires known { AreKnown objective inst.now known.now }
     requires instance { IsInstance inst.now }
     requires written { IsWrittenAs inst.now answer.now.cells choice.now }
     requires in_range { IsValueInRange objective answer.now.value }
@@ -111,7 +121,7 @@ fn proof_verdict(
 {
     match proof {
         Proof::Phases(phases) => {
-            phases_verdict(alloc, objective, inst, choice, phases.as_slice())
+            known_phases_verdict(alloc, objective, inst, choice, phases.as_slice(), known)
         }
         Proof::Below(rows) => {
             if proves_below(objective, inst, &answer.value, rows.as_slice()) {

@@ -8,9 +8,9 @@ returns-in-Phases c =
     let objective = c.args.objective in
     let X = c.args.inst.now in
     let f = c.args.choice.now in
-    let told = subst (λ words. IfOk c.phases_verdict.result (Tells (StandsFor objective X f words) phase_reasons)) c.as_slice.ensures.items c.phases_verdict.ensures in
-    subst (λ proof. IfOk c.phases_verdict.result (Tells (StandsAgainst objective X (Best c.args.answer.now proof)) proof_reasons)) (sym c.in-Phases.is)
-    (IfOk-weaker c.phases_verdict.result (Tells (StandsFor objective X f c.in-Phases.phases) phase_reasons) (Tells (StandsAgainst objective X (Best c.args.answer.now (Phases c.in-Phases.phases))) proof_reasons)
+    let told = subst (λ words. IfOk c.known_phases_verdict.result (Tells (StandsFor objective X f words) phase_reasons)) c.as_slice.ensures.items c.known_phases_verdict.ensures in
+    subst (λ proof. IfOk c.known_phases_verdict.result (Tells (StandsAgainst objective X (Best c.args.answer.now proof)) proof_reasons)) (sym c.in-Phases.is)
+    (IfOk-weaker c.known_phases_verdict.result (Tells (StandsFor objective X f c.in-Phases.phases) phase_reasons) (Tells (StandsAgainst objective X (Best c.args.answer.now (Phases c.in-Phases.phases))) proof_reasons)
     (λ verdict one. to_phases objective X c.requires.instance c.args.answer.now c.in-Phases.phases f verdict c.requires.written one) told)
 
 pub returns-in-Windows : goal.returns-in-Windows

@@ -2,7 +2,7 @@
 
 use crate::NoMemory;
 use crate::classes::Classes;
-use asg_dual_numbers::{NONE, Sums, amount, at, name};
+use asg_dual_numbers::{Lists, NONE, Sums, amount, at, name};
 use std::alloc::Global;
 
 // Of so many cells of the counted rows at most one is present, for lists of arcs to serve.
@@ -97,7 +97,7 @@ fn count_all(sums: &Sums<'_>, rows: &[u32]) -> usize {
 }
 
 // Lists the present cells of a row.
-fn list_row(arcs: &mut Arcs, sums: &Sums<'_>, row: u32) -> Result<(), NoMemory> {
+fn list_row(lists: &mut Lists, list: &mut Vec<Arc>, sums: &Sums<'_>, row: u32) {
     let values = sums.row_values(row);
     let words = sums.row_words(row);
     for number in 0..words.len() {
@@ -106,46 +106,34 @@ fn list_row(arcs: &mut Arcs, sums: &Sums<'_>, row: u32) -> Result<(), NoMemory> 
             if rest == 0 {
                 break;
             }
-            let column = number
+            let place = number
                 .wrapping_mul(64)
                 .wrapping_add(rest.trailing_zeros() as usize);
-            arcs.push(name(column), (amount(values, column) % (1 << 62)) as i64)?;
+            let cell = (amount(values, place) % (1 << 62)) as i64;
+            let column = name(place);
+            lists.push(list, Arc { column, cell });
             rest &= rest.wrapping_sub(1);
         }
     }
-    Ok(())
-}
-
-// Lists the present cells of rows.
-fn list_rows(arcs: &mut Arcs, sums: &Sums<'_>, rows: &[u32]) -> Result<(), NoMemory> {
-    for row in rows {
-        list_row(arcs, sums, *row)?;
-        arcs.end_row()?;
-    }
-    Ok(())
 }
 
 /// The present cells of the counted rows, where they are few and each column is a class of its own;
-/// `None` otherwise. The error is want of memory.
-pub fn arcs_of(
-    alloc: Global,
-    sums: &Sums<'_>,
-    classes: &Classes,
-) -> Result<Option<Arcs>, NoMemory> {
+/// `None` otherwise.
+pub fn arcs_of(lists: &mut Lists, sums: &Sums<'_>, classes: &Classes) -> Option<Arcs> {
     if !classes.is_plain || classes.outside > 0 {
-        return Ok(None);
+        return None;
     }
-    let rows = classes.rows.len();
-    let count = count_all(sums, classes.rows.as_slice());
-    if count > rows.saturating_mul(classes.firsts.len()) / SPARSE {
-        return Ok(None);
+    let rows = classes.rows.as_slice();
+    let count = count_all(sums, rows);
+    if count > rows.len().saturating_mul(classes.firsts.len()) / SPARSE {
+        return None;
     }
-    let mut arcs = Arcs::none(alloc, rows, count)?;
-    match list_rows(&mut arcs, sums, classes.rows.as_slice()) {
-        Ok(()) => Ok(Some(arcs)),
-        Err(want) => {
-            drop(arcs);
-            Err(want)
-        }
+    let mut starts = lists.room(rows.len().saturating_add(1));
+    let mut list = lists.room(count);
+    lists.push(&mut starts, 0);
+    for row in rows {
+        list_row(lists, &mut list, sums, *row);
+        lists.push(&mut starts, name(list.len()));
     }
+    Some(Arcs { starts, list })
 }

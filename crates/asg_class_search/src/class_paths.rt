@@ -1,160 +1,138 @@
-//! Shortest augmenting paths through classes: a class that is full leads on to all its rows.
+//! Shortest augmenting paths [Jonker and Volgenant 1987] through classes: a class that is full leads
+//! on to all its rows.
 
-use crate::class_bench::ClassBench;
-use asg_dual_numbers::{NONE, Number, Table, at, name, put, set, value};
+use crate::bench::Bench;
+use crate::rows::Rows;
+use crate::trees::Tree;
+use asg_dual_numbers::{NONE, Number, Table, at, is_marked, name, padded, put, set, value};
 
-// How a search ended: the class with room and its distance, and how many classes were done before
-// it.
+// How a search ended: the class with room and its distance, how many classes were done before it,
+// and how many rows were gone through.
 #[derive(Drop)]
 struct Reach<N: Number> {
     end: u32,
     distance: N,
     count: usize,
+    scans: u64,
 }
 
-// Takes a class out of a search.
-fn close<N: Number>(bench: &mut ClassBench<N>, class: usize) {
-    set(bench.keys.as_mut_slice(), class, N::done());
-    set(bench.limits.as_mut_slice(), class, N::done());
-    let block = N::block(bench.keys.as_slice(), class / 16);
-    set(bench.blocks.as_mut_slice(), class / 16, block);
-}
-
-// Takes a class as done, at its distance, and goes on to what its rows reach.
-fn settle<N: Number>(bench: &mut ClassBench<N>, table: &Table<N>, class: usize, distance: N) {
-    set(bench.reached.as_mut_slice(), class, distance);
-    close(bench, class);
-    let dual = value(bench.duals.as_slice(), class);
-    let mut row = at(bench.first_rows.as_slice(), class);
-    for _ in 0..bench.class_of.len() {
+// Takes a class as done, at its distance, and goes on to what its rows reach. How many they are.
+fn settle<N: Number>(
+    tree: &mut Tree<N>,
+    rows: &Rows,
+    duals: &[N],
+    table: &Table<N>,
+    wide: usize,
+    class: usize,
+    distance: N,
+) -> u64 {
+    set(tree.reached.as_mut_slice(), class, distance);
+    tree.close(class);
+    let less = value(duals, class).plus(distance);
+    let mut row = at(rows.first_of.as_slice(), class);
+    let mut scans = 0u64;
+    for _ in 0..rows.class_of.len() {
         if row == NONE {
             break;
         }
         let numbers = table.row(row);
-        N::relax(
-            numbers,
-            bench.duals.as_slice(),
-            bench.keys.as_mut_slice(),
-            bench.limits.as_mut_slice(),
-            bench.blocks.as_mut_slice(),
-            bench.came.as_mut_slice(),
-            table.wide,
-            value(numbers, class).minus(dual).minus(distance),
-            row,
-        );
-        row = at(bench.later.as_slice(), row as usize);
+        let base = value(numbers, class).minus(less);
+        tree.relax(numbers, duals, wide, base, row);
+        scans = scans.wrapping_add(1);
+        row = at(rows.later.as_slice(), row as usize);
     }
+    scans
 }
 
-// Grows a tree of shortest paths to a class with room.
-fn search<N: Number>(bench: &mut ClassBench<N>, table: &Table<N>) -> Reach<N> {
-    for class in table.side..table.wide {
-        close(bench, class);
-    }
-    let mut from = 0;
-    for count in 0..table.side {
-        let least = N::least(bench.blocks.as_slice());
-        let distance = least.plus(N::of(1));
-        let class = N::find(
-            bench.keys.as_slice(),
-            bench.blocks.as_slice(),
-            bench.free.as_slice(),
-            distance,
-            from,
-        );
-        if class >= table.side {
-            break;
-        }
-        if bench.has_room(class) {
-            return Reach {
-                end: name(class),
-                distance,
-                count,
-            };
-        }
-        put(bench.done.as_mut_slice(), count, name(class));
-        settle(bench, table, class, distance);
-        from = class.saturating_add(16);
-    }
-    Reach {
+// Grows a tree of shortest paths to one of the first classes that has room. Of classes that are
+// equally near one with room comes first, then those behind the class that was done last, first of
+// all those behind a place.
+fn search<N: Number>(
+    tree: &mut Tree<N>,
+    rows: &Rows,
+    duals: &[N],
+    table: &Table<N>,
+    side: usize,
+    from: usize,
+) -> Reach<N> {
+    let mut reach = Reach {
         end: NONE,
         distance: N::zero(),
         count: 0,
+        scans: 0,
+    };
+    let wide = padded(side).min(table.wide);
+    let mut from = from;
+    for count in 0..side {
+        let distance = tree.distance();
+        let class = tree.nearest(rows.free.as_slice(), distance, from);
+        if class >= side {
+            break;
+        }
+        if is_marked(rows.free.as_slice(), class) {
+            reach.end = name(class);
+            reach.distance = distance;
+            reach.count = count;
+            break;
+        }
+        put(tree.done.as_mut_slice(), count, name(class));
+        let scans = settle(tree, rows, duals, table, wide, class, distance);
+        reach.scans = reach.scans.wrapping_add(scans);
+        from = class.saturating_add(16);
     }
+    reach
 }
 
-// Gives the classes of the path that ends in a class to the rows that they are reached from. The
-// row that had none before.
-fn flip<N: Number>(bench: &mut ClassBench<N>, end: u32) -> u32 {
-    let mut class = end;
-    for _ in 0..bench.class_of.len() {
-        let row = at(bench.came.as_slice(), class as usize);
-        let former = at(bench.class_of.as_slice(), row as usize);
-        if former == NONE {
-            bench.join(row, class);
-            return row;
-        }
-        bench.leave(row);
-        bench.join(row, class);
-        class = former;
+// Lowers the dual variables of the classes that were done by what they are nearer than the end.
+fn lower<N: Number>(duals: &mut [N], tree: &Tree<N>, reach: &Reach<N>) {
+    for place in 0..reach.count {
+        let class = at(tree.done.as_slice(), place) as usize;
+        let by = value(tree.reached.as_slice(), class).minus(reach.distance);
+        set(duals, class, value(&*duals, class).plus(by));
     }
-    NONE
 }
 
 // Changes classes along a shortest path to a class with room, and the dual variables of the classes
 // that were done; that of the rows without a class is the distance. The row that had no class
 // before, none where there is no path.
-fn augment<N: Number>(bench: &mut ClassBench<N>, table: &Table<N>) -> u32 {
-    let reach = search(bench, table);
+fn augment<N: Number>(bench: &mut Bench<N>, table: &Table<N>, side: usize, from: usize) -> u32 {
+    let duals = bench.duals.as_slice();
+    let reach = search(&mut bench.tree, &bench.rows, duals, table, side, from);
+    bench.scans = bench.scans.wrapping_add(reach.scans);
     if reach.end == NONE {
         return NONE;
     }
-    for place in 0..reach.count {
-        let class = at(bench.done.as_slice(), place) as usize;
-        let dual = value(bench.duals.as_slice(), class);
-        let by = value(bench.reached.as_slice(), class).minus(reach.distance);
-        set(bench.duals.as_mut_slice(), class, dual.plus(by));
-    }
+    lower(bench.duals.as_mut_slice(), &bench.tree, &reach);
     bench.level = reach.distance;
-    bench.fill(reach.end);
-    flip(bench, reach.end)
+    bench.rows.flip(bench.tree.came.as_slice(), reach.end)
 }
 
-// Gives a row a class by a shortest path. Whether it found one.
-pub(crate) fn augment_from<N: Number>(
-    bench: &mut ClassBench<N>,
+/// Gives a row one of the first classes by a shortest path, and changes the dual variables of the
+/// classes that were done. Whether it found one. Of classes that are equally near those behind a
+/// place come first.
+pub fn augment_from<N: Number>(
+    bench: &mut Bench<N>,
     table: &Table<N>,
+    side: usize,
     root: u32,
+    from: usize,
 ) -> bool {
-    N::open(
-        table.row(root),
-        bench.duals.as_slice(),
-        bench.keys.as_mut_slice(),
-        bench.limits.as_mut_slice(),
-        bench.blocks.as_mut_slice(),
-        bench.came.as_mut_slice(),
-        table.wide,
-        root,
-    );
-    augment(bench, table) == root
+    let wide = padded(side).min(table.wide);
+    let duals = bench.duals.as_slice();
+    bench.tree.open(table.row(root), duals, side, wide, root);
+    augment(bench, table, side, from) == root
 }
 
 // Gives one of the rows without a class one by a path that is the shortest from any of them. The
 // row, none where there is no path.
-pub(crate) fn augment_from_any<N: Number>(bench: &mut ClassBench<N>, table: &Table<N>) -> u32 {
-    N::open(
-        bench.leasts.as_slice(),
-        bench.duals.as_slice(),
-        bench.keys.as_mut_slice(),
-        bench.limits.as_mut_slice(),
-        bench.blocks.as_mut_slice(),
-        bench.came.as_mut_slice(),
-        table.wide,
-        NONE,
-    );
-    for class in 0..table.side {
-        let row = at(bench.least_rows.as_slice(), class);
-        put(bench.came.as_mut_slice(), class, row);
+pub(crate) fn augment_from_any<N: Number>(bench: &mut Bench<N>, table: &Table<N>) -> u32 {
+    let side = table.side;
+    let numbers = bench.leasts.numbers.as_slice();
+    let duals = bench.duals.as_slice();
+    bench.tree.open(numbers, duals, side, table.wide, NONE);
+    for class in 0..side {
+        let row = at(bench.leasts.rows.as_slice(), class);
+        put(bench.tree.came.as_mut_slice(), class, row);
     }
-    augment(bench, table)
+    augment(bench, table, side, 0)
 }

@@ -1,12 +1,10 @@
 //! Tables of squares by classes: a row for each row that stands for one of the instance, a place
 //! for each class.
 
-use crate::NoMemory;
 use crate::classes::Classes;
 use crate::near_cells::{are_present, put_near};
 use crate::ranges::{Ranges, Spread, put_word, ranges_by, row_range};
 use asg_dual_numbers::{Lists, Number, Sums, Table, amount, at, padded, put_amount};
-use std::alloc::Global;
 
 /// Room for the cells of a row at the first columns of classes, with a bit for each that is present.
 #[derive(Drop)]
@@ -39,15 +37,13 @@ fn first_amounts(amounts: &[u64], count: usize) -> &[u64] {
 }
 
 impl ClassRow {
-    /// Room for the cells of a row. The error is want of memory.
-    pub fn make(alloc: Global, classes: &Classes) -> Result<ClassRow, NoMemory> {
+    /// Room for the cells of a row.
+    pub fn make(lists: &mut Lists, classes: &Classes) -> ClassRow {
         let count = classes.firsts.len();
-        let mut lists = Lists::new(alloc);
-        let row = ClassRow {
+        ClassRow {
             values: lists.of(0, count),
             words: lists.of(0, count / 64 + 1),
-        };
-        lists.whole(row)
+        }
     }
 
     // Reads a row, where its cells don't stand in their places.
@@ -95,15 +91,15 @@ impl ClassRow {
 }
 
 /// The ranges of the rows. Where rows may take columns that are copies of none, all rows have one
-/// range. The error is want of memory.
+/// range.
 pub fn class_ranges(
-    alloc: Global,
+    lists: &mut Lists,
     sums: &Sums<'_>,
     classes: &Classes,
     room: &mut ClassRow,
-) -> Result<Ranges, NoMemory> {
+) -> Ranges {
     let count = classes.rows.len();
-    let mut leasts = vec![in alloc; 0; count]?;
+    let mut leasts = lists.of(0, count);
     let mut spread = Spread::none();
     for place in 0..count {
         let row = at(classes.rows.as_slice(), place);
@@ -115,7 +111,7 @@ pub fn class_ranges(
         put_amount(leasts.as_mut_slice(), place, range.least);
         spread = spread.with(range);
     }
-    Ok(ranges_by(leasts, spread, classes.outside > 0))
+    ranges_by(leasts, spread, classes.outside > 0)
 }
 
 // Writes the cells of a row with so much less, and this number for those that are absent.
@@ -126,19 +122,18 @@ fn put_cells<N: Number>(numbers: &mut [N], values: &[u64], words: &[u64], least:
 }
 
 /// The table of the rows: each cell is what is taken away from its row less, and an absent one is
-/// this number. The error is want of memory.
+/// this number.
 pub fn class_table<N: Number>(
-    alloc: Global,
+    lists: &mut Lists,
     sums: &Sums<'_>,
     classes: &Classes,
     leasts: &[u64],
     absent: u64,
     room: &mut ClassRow,
-) -> Result<Table<N>, NoMemory> {
+) -> Table<N> {
     let side = classes.firsts.len();
     let wide = padded(side);
     let count = classes.rows.len();
-    let mut lists = Lists::new(alloc);
     let mut cells = lists.room(count.saturating_mul(wide));
     let mut numbers = lists.of(N::greatest(), wide);
     for place in 0..count {
@@ -154,22 +149,20 @@ pub fn class_table<N: Number>(
         lists.append(&mut cells, numbers.as_slice());
     }
     drop(numbers);
-    lists.whole(Table { side, wide, cells })
+    Table { side, wide, cells }
 }
 
-/// The table of the rows with so much less; `None` where a cell is absent, or not near. The error is
-/// want of memory.
+/// The table of the rows with so much less; `None` where a cell is absent, or not near.
 pub fn near_class_table<N: Number>(
-    alloc: Global,
+    lists: &mut Lists,
     sums: &Sums<'_>,
     classes: &Classes,
     base: u64,
     room: &mut ClassRow,
-) -> Result<Option<Table<N>>, NoMemory> {
+) -> Option<Table<N>> {
     let side = classes.firsts.len();
     let wide = padded(side);
     let count = classes.rows.len();
-    let mut lists = Lists::new(alloc);
     let mut cells = lists.room(count.saturating_mul(wide));
     let mut numbers = lists.of(N::greatest(), wide);
     let mut are_near = true;
@@ -185,6 +178,9 @@ pub fn near_class_table<N: Number>(
         lists.append(&mut cells, numbers.as_slice());
     }
     drop(numbers);
-    let table = lists.whole(Table { side, wide, cells })?;
-    Ok(if are_near { Some(table) } else { None })
+    if are_near {
+        Some(Table { side, wide, cells })
+    } else {
+        None
+    }
 }

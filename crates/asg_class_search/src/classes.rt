@@ -1,11 +1,9 @@
 //! Rows and columns of a square by what they stand for: columns that are copies of one column of
 //! the instance are alike, and so are all rows that stand for no row of it.
 
-use crate::NoMemory;
 use crate::near_cells::are_present;
-use asg_dual_numbers::{NONE, Sums, at, put};
+use asg_dual_numbers::{Lists, NONE, Sums, at, put};
 use asg_square::Square;
-use std::alloc::Global;
 
 /// The rows of a square that stand for rows of the instance, and its columns by classes of copies.
 #[derive(Drop)]
@@ -27,24 +25,22 @@ pub struct Classes {
 }
 
 impl Classes {
-    /// Of a square of this side each row and each column by itself. The error is want of memory.
-    pub fn apart(alloc: Global, side: u32) -> Result<Classes, NoMemory> {
+    /// Of a square of this side each row and each column by itself.
+    pub fn apart(lists: &mut Lists, side: u32) -> Classes {
         let count = side as usize;
-        let mut rows = Vec::with_capacity(alloc, count)?;
-        let mut firsts = Vec::with_capacity(alloc, count)?;
+        let mut rows = lists.room(count);
         for place in 0..side {
-            rows.push(place)?;
-            firsts.push(place)?;
+            lists.push(&mut rows, place);
         }
-        Ok(Classes {
+        Classes {
+            firsts: lists.copy_of(rows.as_slice()),
             rows,
-            firsts,
-            rooms: vec![in alloc; 1; count]?,
+            rooms: lists.of(1, count),
             extra: side,
             outside: 0,
             room: count,
             is_plain: true,
-        })
+        }
     }
 
     /// Whether some rows or columns of a square of this side are alike.
@@ -54,15 +50,15 @@ impl Classes {
 }
 
 // The rows of a square that stand for rows of the instance.
-fn counted_rows<V: Copy>(alloc: Global, square: &Square<V>) -> Result<Vec<u32>, NoMemory> {
+fn counted_rows<V: Copy>(lists: &mut Lists, square: &Square<V>) -> Vec<u32> {
     let side = square.side();
-    let mut rows = Vec::with_capacity(alloc, side as usize)?;
+    let mut rows = lists.room(side as usize);
     for row in 0..side {
         if square.row_label(row).is_some() {
-            rows.push(row)?;
+            lists.push(&mut rows, row);
         }
     }
-    Ok(rows)
+    rows
 }
 
 // One column more for the last class.
@@ -92,17 +88,12 @@ fn are_plain(firsts: &[u32], rooms: &[u32]) -> bool {
     true
 }
 
-/// The rows and columns of a square by what they stand for, where its cells are these sums. The
-/// error is want of memory.
-pub fn classes_of<V: Copy>(
-    alloc: Global,
-    square: &Square<V>,
-    sums: &Sums<'_>,
-) -> Result<Classes, NoMemory> {
+/// The rows and columns of a square by what they stand for, where its cells are these sums.
+pub fn classes_of<V: Copy>(lists: &mut Lists, square: &Square<V>, sums: &Sums<'_>) -> Classes {
     let side = square.side();
-    let rows = counted_rows(alloc, square)?;
-    let mut firsts = Vec::with_capacity(alloc, side as usize)?;
-    let mut rooms = Vec::with_capacity(alloc, side as usize)?;
+    let rows = counted_rows(lists, square);
+    let mut firsts = lists.room(side as usize);
+    let mut rooms = lists.room(side as usize);
     let mut last = NONE;
     let mut extra = side;
     let mut extras = 0usize;
@@ -114,15 +105,15 @@ pub fn classes_of<V: Copy>(
         } else if label == last {
             widen(&mut rooms);
         } else {
-            firsts.push(column)?;
-            rooms.push(1)?;
+            lists.push(&mut firsts, column);
+            lists.push(&mut rooms, 1);
             last = label;
         }
     }
     let outside = outside_of(sums, rows.as_slice(), extra, extras);
     let is_plain = are_plain(firsts.as_slice(), rooms.as_slice());
     let room = (side as usize).saturating_sub(extras);
-    Ok(Classes {
+    Classes {
         rows,
         firsts,
         rooms,
@@ -130,7 +121,7 @@ pub fn classes_of<V: Copy>(
         outside,
         room,
         is_plain,
-    })
+    }
 }
 
 // Whether a row may take each of the columns that are copies of none, or none of them, as told.

@@ -12,25 +12,29 @@ mod arc_duals;
 mod arc_paths;
 mod arc_starts;
 mod arcs;
-mod class_bench;
+mod bench;
 mod class_paths;
 mod class_solving;
 mod class_tables;
 mod classes;
-mod heaps;
 mod near_cells;
 mod placings;
 mod ranges;
+mod rows;
+mod trees;
 
 pub use arc_duals::{ArcLead, found_by_arcs, lead_by_arcs};
 pub use arcs::{Arcs, arcs_of};
-pub use class_bench::ClassBench;
+pub use bench::Bench;
+pub use class_paths::augment_from;
 pub use class_solving::place_rows;
 pub use class_tables::{ClassRow, class_ranges, class_table, near_class_table};
 pub use classes::{Classes, are_even, classes_of};
 pub use near_cells::near_base;
 pub use placings::{Placing, found_by};
 pub use ranges::Ranges;
+pub use rows::{Rows, list_waiting, wait_again};
+pub use trees::Tree;
 
 /// There was not enough memory.
 pub type NoMemory = std::alloc::AllocError;

@@ -1,9 +1,7 @@
 //! Dual variables of squares by those of classes of their columns.
 
-use crate::NoMemory;
 use crate::classes::Classes;
 use asg_dual_numbers::{Found, Lists, NONE, Number, amount, at, name, put, put_amount, value};
-use std::alloc::Global;
 
 /// The classes of the counted rows with their cells, which are 0 at rows without a class, with the
 /// dual variables of classes and a number that is no less, and by how much columns that are copies
@@ -91,16 +89,14 @@ fn lower(classes: &Classes, cells: &[u64], rises: &[u64], columns: &[u32], falls
     }
 }
 
-/// The assignment of a square of this side, and its dual variables, by those of its classes. The
-/// error is want of memory.
+/// The assignment of a square of this side, and its dual variables, by those of its classes.
 pub fn found_by<N: Number>(
-    alloc: Global,
+    lists: &mut Lists,
     side: u32,
     classes: &Classes,
     placing: &Placing<'_, N>,
-) -> Result<Found, NoMemory> {
+) -> Found {
     let side = side as usize;
-    let mut lists = Lists::new(alloc);
     let mut nexts = lists.copy_of(classes.firsts.as_slice());
     let mut columns = lists.of(NONE, side);
     let mut rows = lists.of(NONE, side);
@@ -118,10 +114,10 @@ pub fn found_by<N: Number>(
         &mut falls,
     );
     drop(nexts);
-    lists.whole(Found {
+    Found {
         columns,
         rows,
         falls,
         rises,
-    })
+    }
 }

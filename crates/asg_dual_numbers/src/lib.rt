@@ -8,6 +8,7 @@
 
 mod cell_numbers;
 mod found;
+mod heaps;
 mod lanes;
 mod lists;
 mod numbers;
@@ -19,9 +20,10 @@ mod wide_numbers;
 
 pub use cell_numbers::{NO_NUMBER, Numbers};
 pub use found::Found;
+pub use heaps::{Heap, Ranked, sink};
 pub use lists::Lists;
 pub use numbers::{Number, Two, fill, set, value};
-pub use places::{NONE, amount, at, mark, name, put, put_amount};
+pub use places::{NONE, amount, at, is_marked, mark, name, put, put_amount};
 pub use served::Served;
 pub use sums::Sums;
 pub use tables::{Table, padded};

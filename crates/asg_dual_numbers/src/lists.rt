@@ -8,7 +8,8 @@ use std::alloc::{AllocError, Global};
 #[derive(Drop)]
 pub struct Lists {
     alloc: Global,
-    is_short: bool,
+    /// Whether there was no memory for some list.
+    pub is_short: bool,
 }
 
 impl Lists {
@@ -53,6 +54,14 @@ impl Lists {
     pub fn append<T: Copy>(&mut self, list: &mut Vec<T>, numbers: &[T]) {
         if !self.is_short {
             self.is_short = list.extend_from_slice(numbers).is_err();
+        }
+    }
+
+    /// Appends a number to a list.
+    #[inline]
+    pub fn push<T: Copy>(&mut self, list: &mut Vec<T>, number: T) {
+        if !self.is_short {
+            self.is_short = list.push(number).is_err();
         }
     }
 

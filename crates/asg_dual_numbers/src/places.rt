@@ -71,10 +71,14 @@ pub fn mark(words: &mut [u64], column: usize, is: bool)
     }
 }
 
+/// Whether the bit of a column is set, in words of 64; it isn't past the last word.
+#[inline]
+pub fn is_marked(words: &[u64], column: usize) -> bool {
+    amount(words, column / 64) >> ((column % 64) as u32) & 1 == 1
+}
+
 // The bits of 16 columns, the first one's lowest.
 #[inline]
 pub(crate) fn sixteen(words: &[u64], number: usize) -> u64 {
-    let place = number / 4;
-    let word = if place < words.len() { words[place] } else { 0 };
-    word >> (16 * (number % 4) as u32)
+    amount(words, number / 4) >> (16 * (number % 4) as u32)
 }

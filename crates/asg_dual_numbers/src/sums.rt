@@ -1,9 +1,9 @@
 //! Squares of sums, as they are searched.
 
-use crate::NoMemory;
 use crate::cell_numbers::{NO_NUMBER, Numbers};
+use crate::lists::Lists;
+use crate::places::is_marked;
 use asg_square::Square;
-use std::alloc::Global;
 
 /// The cells of a square, row by row, and of each row the bits of those that are present, in so many
 /// words.
@@ -73,39 +73,39 @@ fn word_of(numbers: &[u64], number: usize) -> u64 {
 }
 
 impl<'a> Sums<'a> {
-    /// The sums of a square. The error is want of memory.
-    pub fn of_square(alloc: Global, square: &'a Square<u64>) -> Result<Sums<'a>, NoMemory> {
+    /// The sums of a square.
+    pub fn of_square(lists: &mut Lists, square: &'a Square<u64>) -> Sums<'a> {
         let side = square.side();
         let wide = (side as usize).saturating_add(63) / 64;
-        let mut words = Vec::with_capacity(alloc, wide.saturating_mul(side as usize))?;
+        let mut words = lists.room(wide.saturating_mul(side as usize));
         for row in 0..side {
-            words.extend_from_slice(square.row_words(row))?;
+            lists.append(&mut words, square.row_words(row));
         }
-        Ok(Sums {
+        Sums {
             side,
             values: square.values(),
             words,
             wide,
-        })
+        }
     }
 
-    /// Numbers as sums. The error is want of memory.
-    pub fn of_numbers(alloc: Global, numbers: &'a Numbers) -> Result<Sums<'a>, NoMemory> {
+    /// Numbers as sums.
+    pub fn of_numbers(lists: &mut Lists, numbers: &'a Numbers) -> Sums<'a> {
         let side = numbers.side;
         let wide = (side as usize).saturating_add(63) / 64;
-        let mut words = Vec::with_capacity(alloc, wide.saturating_mul(side as usize))?;
+        let mut words = lists.room(wide.saturating_mul(side as usize));
         for row in 0..side {
             let cells = numbers.row(row);
             for number in 0..wide {
-                words.push(word_of(cells, number))?;
+                lists.push(&mut words, word_of(cells, number));
             }
         }
-        Ok(Sums {
+        Sums {
             side,
             values: numbers.cells.as_slice(),
             words,
             wide,
-        })
+        }
     }
 
     /// The cells of a row, nothing where there is no such row.
@@ -122,8 +122,6 @@ impl<'a> Sums<'a> {
 
     /// Whether a cell is present.
     pub fn has(&self, row: u32, column: u32) -> bool {
-        let words = self.row_words(row);
-        let number = (column / 64) as usize;
-        column < self.side && number < words.len() && words[number] >> (column % 64) & 1 == 1
+        column < self.side && is_marked(self.row_words(row), column as usize)
     }
 }

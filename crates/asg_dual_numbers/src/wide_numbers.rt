@@ -3,13 +3,7 @@
 ghost use Rattle.std.specs.Prelude.{◌≡◌, length};
 
 use crate::numbers::{Number, Two};
-use crate::places::{name, sixteen};
-
-// Whether the bit of a column is set.
-#[inline]
-fn is_free(free: &[u64], column: usize) -> bool {
-    sixteen(free, column / 16) >> ((column % 16) as u32) & 1 == 1
-}
+use crate::places::{is_marked, name};
 
 impl Number for i64 {
     #[inline]
@@ -158,7 +152,7 @@ impl Number for i64 {
                 k - (count - start)
             };
             if keys[column] == key {
-                if is_free(free, column) {
+                if is_marked(free, column) {
                     return column;
                 }
                 if found == keys.len() {
@@ -199,7 +193,7 @@ impl Number for i64 {
         let mut found = wide;
         for column in 0..wide.min(row.len()).min(duals.len()) {
             if column != but && row[column].wrapping_sub(duals[column]) == level {
-                if is_free(free, column) {
+                if is_marked(free, column) {
                     return column;
                 }
                 if found == wide {

@@ -1,11 +1,8 @@
 //! Rows and columns that enter from coarse to fine, for tables on which the starts leave many rows
 //! free: first those at every 2^k-th place, then those halfway between them, and so on.
 
-use crate::NoMemory;
-use crate::bench::Bench;
-use crate::paths::augment;
+use asg_class_search::{Bench, Rows, Tree, augment_from};
 use asg_dual_numbers::{Lists, Number, Table, at, fill, name, put, set, value};
-use std::alloc::Global;
 
 // The most rows that enter first.
 const FIRST: usize = 32;
@@ -31,94 +28,81 @@ fn first_level(side: usize) -> u32 {
 }
 
 // The level of a place is the greatest k, up to the first level, of which 2^k divides it.
-fn levels_of(alloc: Global, side: usize) -> Result<Levels, NoMemory> {
-    let mut order = Vec::with_capacity(alloc, side)?;
-    let mut ends = Vec::with_capacity(alloc, 17)?;
+fn levels_of(lists: &mut Lists, side: usize) -> Levels {
+    let mut order = lists.room(side);
+    let mut ends = lists.room(17);
     let first = first_level(side);
     for level in (0..first.saturating_add(1)).rev() {
         for place in 0..side {
             if place.trailing_zeros().min(first) == level {
-                order.push(name(place))?;
+                lists.push(&mut order, name(place));
             }
         }
-        ends.push(order.len())?;
+        lists.push(&mut ends, order.len());
     }
-    Ok(Levels { order, ends })
+    Levels { order, ends }
 }
 
 // The table with its rows and columns in an order.
-fn ordered<N: Number>(
-    alloc: Global,
-    table: &Table<N>,
-    order: &[u32],
-) -> Result<Table<N>, NoMemory> {
-    let mut cells = Vec::with_capacity(alloc, table.cells.len())?;
+fn ordered<N: Number>(lists: &mut Lists, table: &Table<N>, order: &[u32]) -> Table<N> {
+    let mut cells = lists.room(table.cells.len());
+    let mut line = lists.of(N::greatest(), table.wide);
     for row in order {
         let numbers = table.row(*row);
-        for column in order {
-            cells.push(value(numbers, *column as usize))?;
+        for place in 0..order.len() {
+            let number = value(numbers, order[place] as usize);
+            set(line.as_mut_slice(), place, number);
         }
-        for _ in order.len()..table.wide {
-            cells.push(N::greatest())?;
-        }
+        lists.append(&mut cells, line.as_slice());
     }
-    Ok(Table {
+    drop(line);
+    Table {
         side: table.side,
         wide: table.wide,
         cells,
-    })
+    }
 }
 
 // Gives columns that enter the greatest dual variables under which no cell of the rows that have
 // columns is below 0; the least of each column where there are none.
-fn enter_columns<N: Number>(bench: &mut Bench<N>, table: &Table<N>, before: usize, after: usize) {
-    fill(bench.keys.as_mut_slice(), N::greatest());
+fn enter_columns<N: Number>(
+    duals: &mut [N],
+    tree: &mut Tree<N>,
+    class_of: &[u32],
+    table: &Table<N>,
+    before: usize,
+    after: usize,
+) {
+    fill(tree.keys.as_mut_slice(), N::greatest());
     for row in 0..if before == 0 { after } else { before } {
         let numbers = table.row(name(row));
         let mut base = N::zero();
         if before > 0 {
-            let column = at(bench.column_of.as_slice(), row) as usize;
-            base = value(numbers, column).minus(value(bench.duals.as_slice(), column));
+            let column = at(class_of, row) as usize;
+            base = value(numbers, column).minus(value(&*duals, column));
         }
-        N::lessen(
-            numbers,
-            bench.keys.as_mut_slice(),
-            bench.came.as_mut_slice(),
-            table.wide,
-            base,
-            0,
-        );
+        let keys = tree.keys.as_mut_slice();
+        N::lessen(numbers, keys, tree.came.as_mut_slice(), table.wide, base, 0);
     }
     for column in before..after {
-        let key = value(bench.keys.as_slice(), column);
-        set(bench.duals.as_mut_slice(), column, key);
+        set(duals, column, value(tree.keys.as_slice(), column));
     }
 }
 
 // Puts columns and dual variables back where the rows and columns stood before they were ordered.
-fn restore<N: Number>(bench: &mut Bench<N>, order: &[u32], column_of: &[u32], duals: &[N]) {
-    for place in 0..order.len() {
-        let own = order[place] as usize;
-        let former = at(order, at(column_of, place) as usize);
-        put(bench.column_of.as_mut_slice(), own, former);
-        put(bench.row_of.as_mut_slice(), former as usize, name(own));
-        set(bench.duals.as_mut_slice(), own, value(duals, place));
-    }
-}
-
-// The same by copies of both.
-fn restore_all<N: Number>(
-    alloc: Global,
-    bench: &mut Bench<N>,
+fn restore<N: Number>(
+    duals: &mut [N],
+    rows: &mut Rows,
     order: &[u32],
-) -> Result<(), NoMemory> {
-    let mut lists = Lists::new(alloc);
-    let column_of = lists.copy_of(bench.column_of.as_slice());
-    let duals = lists.copy_of(bench.duals.as_slice());
-    restore(bench, order, column_of.as_slice(), duals.as_slice());
-    drop(column_of);
-    lists.whole(duals)?;
-    Ok(())
+    class_of: &[u32],
+    ordered: &[N],
+) {
+    for place in 0..order.len() {
+        let own = order[place];
+        let former = at(order, at(class_of, place) as usize);
+        rows.pair(own, former);
+        set(duals, own as usize, value(ordered, place));
+    }
 }
 
 // Gives rows columns level by level, of an ordered table; whether each has one.
@@ -126,9 +110,11 @@ fn enter_all<N: Number>(bench: &mut Bench<N>, own: &Table<N>, ends: &[usize]) ->
     let mut before = 0;
     for level in 0..ends.len() {
         let after = ends[level];
-        enter_columns(bench, own, before, after);
+        let duals = bench.duals.as_mut_slice();
+        let class_of = bench.rows.class_of.as_slice();
+        enter_columns(duals, &mut bench.tree, class_of, own, before, after);
         for row in before..after {
-            if !augment(bench, own, after, name(row)) {
+            if !augment_from(bench, own, after, name(row), row) {
                 return false;
             }
         }
@@ -139,31 +125,35 @@ fn enter_all<N: Number>(bench: &mut Bench<N>, own: &Table<N>, ends: &[usize]) ->
 
 // Solves a table by its levels, and tells whether each row has a column.
 fn refine_by<N: Number>(
-    alloc: Global,
+    lists: &mut Lists,
     bench: &mut Bench<N>,
     table: &Table<N>,
     levels: &Levels,
-) -> Result<bool, NoMemory> {
+) -> bool {
     let order = levels.order.as_slice();
-    let own = ordered(alloc, table, order)?;
-    bench.release(table.side);
+    let own = ordered(lists, table, order);
+    bench.rows.release(table.side);
+    bench.tree.clear();
     let is_whole = enter_all(bench, &own, levels.ends.as_slice());
     drop(own);
-    if is_whole {
-        restore_all(alloc, bench, order)?;
-    }
-    Ok(is_whole)
+    let class_of = lists.copy_of(bench.rows.class_of.as_slice());
+    let ordered = lists.copy_of(bench.duals.as_slice());
+    restore(
+        bench.duals.as_mut_slice(),
+        &mut bench.rows,
+        order,
+        class_of.as_slice(),
+        ordered.as_slice(),
+    );
+    drop(class_of);
+    drop(ordered);
+    is_whole
 }
 
-// Solves a table from coarse to fine, and tells whether each row has a column. The error is want of
-// memory.
-pub(crate) fn refine<N: Number>(
-    alloc: Global,
-    bench: &mut Bench<N>,
-    table: &Table<N>,
-) -> Result<bool, NoMemory> {
-    let levels = levels_of(alloc, table.side)?;
-    let is_whole = refine_by(alloc, bench, table, &levels);
+// Solves a table from coarse to fine, and tells whether each row has a column.
+pub(crate) fn refine<N: Number>(lists: &mut Lists, bench: &mut Bench<N>, table: &Table<N>) -> bool {
+    let levels = levels_of(lists, table.side);
+    let is_whole = refine_by(lists, bench, table, &levels);
     drop(levels);
     is_whole
 }

@@ -1,11 +1,9 @@
 //! Tables of costs that are searched as they stand, without a square.
 
-ghost use Rattle.std.specs.Prelude.{◌≡◌, length};
-
 use crate::NoMemory;
-use crate::bench::Bench;
-use crate::solving::{solve, solve_few};
-use asg_class_search::{ClassBench, place_rows};
+use crate::costs::{end_of, put_numbers};
+use crate::solving::{Task, greatest_dual, solve};
+use asg_class_search::Bench;
 use asg_dual_numbers::{Lists, Number, Table, padded, value};
 use std::alloc::Global;
 
@@ -37,57 +35,6 @@ pub struct CostTable {
     is_max: bool,
 }
 
-// Writes by how much costs are above a base, and tells the bits that any of them has.
-fn put_above(numbers: &mut [i32], costs: &[i64], base: i64) -> u64
-    ensures { length numbers.new ≡ length numbers.old }
-{
-    let mut bits = 0;
-    for column in 0..costs.len().min(numbers.len()) {
-        let number = costs[column].wrapping_sub(base).cast_unsigned();
-        bits |= number;
-        numbers[column] = i32::of(number);
-    }
-    bits
-}
-
-// The same, by how much they are below it.
-fn put_below(numbers: &mut [i32], costs: &[i64], base: i64) -> u64
-    ensures { length numbers.new ≡ length numbers.old }
-{
-    let mut bits = 0;
-    for column in 0..costs.len().min(numbers.len()) {
-        let number = base.wrapping_sub(costs[column]).cast_unsigned();
-        bits |= number;
-        numbers[column] = i32::of(number);
-    }
-    bits
-}
-
-fn least_of(costs: &[i64]) -> i64 {
-    let mut least = i64::MAX;
-    for column in 0..costs.len() {
-        least = least.min(costs[column]);
-    }
-    least
-}
-
-fn greatest_of(costs: &[i64]) -> i64 {
-    let mut greatest = i64::MIN;
-    for column in 0..costs.len() {
-        greatest = greatest.max(costs[column]);
-    }
-    greatest
-}
-
-// The greatest dual variable of a column.
-fn greatest_dual(duals: &[i32], side: usize) -> i64 {
-    let mut greatest = i64::MIN;
-    for column in 0..side {
-        greatest = greatest.max(value(duals, column).to_wide());
-    }
-    greatest
-}
-
 // Lets each column rise by as much as its dual variable is below the greatest.
 fn raise(rises: &mut [u32], duals: &[i32], greatest: i64) {
     for column in 0..rises.len() {
@@ -105,26 +52,6 @@ fn are_single(rooms: &[u32]) -> bool {
         }
     }
     true
-}
-
-// The first names of a list, all where there are fewer.
-fn first_names(names: &[u32], count: usize) -> &[u32] {
-    &names[..count.min(names.len())]
-}
-
-// The lead of these columns of rows, with as much as each column may rise by.
-fn lead_by(
-    alloc: Global,
-    columns: &[u32],
-    duals: &[i32],
-    side: usize,
-    greatest: i64,
-) -> Result<Lead, NoMemory> {
-    let mut lists = Lists::new(alloc);
-    let columns = lists.copy_of(columns);
-    let mut rises = lists.of(0, side);
-    raise(&mut rises, duals, greatest);
-    lists.whole(Lead { columns, rises })
 }
 
 impl CostTable {
@@ -158,22 +85,18 @@ impl CostTable {
         }
         let first = self.first.unwrap_or(costs[0]);
         self.first = Some(first);
-        let line = self.line.as_mut_slice();
-        if self.is_max {
-            put_below(line, costs, first.wrapping_add(NEAR))
+        let base = if self.is_max {
+            first.wrapping_add(NEAR)
         } else {
-            put_above(line, costs, first.wrapping_sub(NEAR))
-        }
+            first.wrapping_sub(NEAR)
+        };
+        put_numbers(self.line.as_mut_slice(), costs, base, self.is_max)
     }
 
     // The same, where they begin at its least or its greatest cost.
     fn put_far(&mut self, costs: &[i64]) -> u64 {
-        let line = self.line.as_mut_slice();
-        if self.is_max {
-            put_below(line, costs, greatest_of(costs))
-        } else {
-            put_above(line, costs, least_of(costs))
-        }
+        let base = end_of(costs, self.is_max);
+        put_numbers(self.line.as_mut_slice(), costs, base, self.is_max)
     }
 
     /// Takes a further row of costs. Whether it could: there is one for each column, and they
@@ -193,35 +116,37 @@ impl CostTable {
         Ok(true)
     }
 
-    // What a bench came to. Where there are as many rows as columns, no dual variable need be 0.
-    fn lead_of(&self, alloc: Global, bench: &Bench<i32>) -> Result<Lead, NoMemory> {
+    // What a bench came to.
+    fn lead_on(&self, lists: &mut Lists, bench: &Bench<i32>, task: Task) -> Lead {
         let side = self.table.side;
+        let mut rises = lists.of(0, side);
         let duals = bench.duals.as_slice();
-        let greatest = if self.rows == side {
-            greatest_dual(duals, side)
+        raise(&mut rises, duals, greatest_dual(duals, side, task));
+        Lead {
+            columns: lists.copy_of(bench.rows.class_of.as_slice()),
+            rises,
+        }
+    }
+
+    // What a task comes to, where columns have these rooms.
+    fn search_by(&self, lists: &mut Lists, rooms: Vec<u32>, task: Task) -> Option<Lead> {
+        let mut bench = Bench::make(lists, &self.table, self.rows, rooms);
+        let lead = if solve(lists, &mut bench, &self.table, task) {
+            Some(self.lead_on(lists, &bench, task))
         } else {
-            0
+            None
         };
-        let columns = first_names(bench.column_of.as_slice(), self.rows);
-        lead_by(alloc, columns, duals, side, greatest)
+        drop(bench);
+        lead
     }
 
-    // Gives each row a column of its own. Whether each has one.
-    fn solve(&self, alloc: Global, bench: &mut Bench<i32>) -> Result<bool, NoMemory> {
+    // What is asked of all rows where each is to have a column of its own.
+    fn apart(&self) -> Task {
         if self.rows == self.table.side {
-            solve(alloc, bench, &self.table)
+            Task::Whole
         } else {
-            Ok(solve_few(bench, &self.table, self.rows))
+            Task::Few
         }
-    }
-
-    // Columns of their own for all rows, by a bench on which no row has one.
-    fn apart_on(&self, alloc: Global, bench: &mut Bench<i32>) -> Result<Option<Lead>, NoMemory> {
-        if !self.solve(alloc, bench)? {
-            return Ok(None);
-        }
-        let lead = self.lead_of(alloc, &*bench)?;
-        Ok(Some(lead))
     }
 
     /// Columns of their own for all rows, of least or greatest sum, and by how much columns may rise,
@@ -230,43 +155,10 @@ impl CostTable {
         if self.rows > self.table.side {
             return Ok(None);
         }
-        let mut bench = Bench::make(alloc, &self.table)?;
-        let lead = self.apart_on(alloc, &mut bench);
-        drop(bench);
-        lead
-    }
-
-    // What a bench of classes came to.
-    fn class_lead_of(&self, alloc: Global, bench: &ClassBench<i32>) -> Result<Lead, NoMemory> {
-        let columns = first_names(bench.class_of.as_slice(), self.rows);
-        lead_by(alloc, columns, bench.duals.as_slice(), self.table.side, 0)
-    }
-
-    // Columns for all rows but so many, by a bench on which no row has a class.
-    fn together_on(
-        &self,
-        alloc: Global,
-        outside: usize,
-        bench: &mut ClassBench<i32>,
-    ) -> Result<Option<Lead>, NoMemory> {
-        if !place_rows(alloc, bench, &self.table, outside)? {
-            return Ok(None);
-        }
-        let lead = self.class_lead_of(alloc, &*bench)?;
-        Ok(Some(lead))
-    }
-
-    // Columns for all rows but so many, where columns have rooms for several rows each.
-    fn together(
-        &self,
-        alloc: Global,
-        rooms: &[u32],
-        outside: usize,
-    ) -> Result<Option<Lead>, NoMemory> {
-        let mut bench = ClassBench::make(alloc, &self.table, self.rows, rooms)?;
-        let lead = self.together_on(alloc, outside, &mut bench);
-        drop(bench);
-        lead
+        let mut lists = Lists::new(alloc);
+        let rooms = lists.of(1, self.table.side);
+        let lead = self.search_by(&mut lists, rooms, self.apart());
+        lists.whole(lead)
     }
 
     /// Columns for all rows but so many, of which each takes at most as many rows as its room, of
@@ -289,9 +181,11 @@ impl CostTable {
             return Ok(None);
         }
         if outside == 0 && are_single(rooms) {
-            self.search_apart(alloc)
-        } else {
-            self.together(alloc, rooms, outside)
+            return self.search_apart(alloc);
         }
+        let mut lists = Lists::new(alloc);
+        let rooms = lists.copy_of(rooms);
+        let lead = self.search_by(&mut lists, rooms, Task::AllBut(outside));
+        lists.whole(lead)
     }
 }

@@ -2,19 +2,16 @@
 //!
 //! Nothing here is proved but that it is safe and ends: what is found is tested by the crates
 //! above. A square of sums, or a table of costs, is solved by the starts and shortest augmenting
-//! paths of Jonker and Volgenant, in numbers of 32 bits where they do. Where rows and columns are
-//! alike, or few cells are present, the search is that of `asg_class_search`.
+//! paths of Jonker and Volgenant, in numbers of 32 bits where they do. The paths are those of
+//! `asg_class_search`, and so is the search where rows and columns are alike, or few cells present.
 #![tactic(auto)]
 
-mod bench;
+mod bounds;
 mod coarse_to_fine;
 mod cost_tables;
-mod extents;
-mod first_bounds;
+mod costs;
 mod limit_paths;
 mod limit_tables;
-mod number_tables;
-mod paths;
 mod search;
 mod solving;
 mod starts;
@@ -22,8 +19,8 @@ mod table_duals;
 mod thresholds;
 mod widths;
 
+pub use bounds::Bound;
 pub use cost_tables::{CostTable, Lead};
-pub use first_bounds::Bound;
 pub use limit_tables::LimitTable;
 pub use search::Search;
 pub use thresholds::{Threshold, threshold_of};

@@ -1,9 +1,8 @@
 //! Augmenting paths along which the greatest cell is least.
 
-use crate::bench::Bench;
-use crate::first_bounds::Bound;
-use crate::paths::{close, open};
-use asg_dual_numbers::{NONE, Number, Table, at, name, put};
+use crate::bounds::Bound;
+use asg_class_search::{Bench, Rows, Tree};
+use asg_dual_numbers::{NONE, Number, Table, at, is_marked, name, put};
 
 // From where numbers are too great, and what stands for one that is missing.
 pub(crate) const MISSING: u64 = (1 << 31) - 3;
@@ -26,38 +25,28 @@ pub(crate) fn lift(table: &mut Table<i32>, limit: i32) {
 }
 
 // Gives rows columns at which their cell is the limit, where these are free.
-pub(crate) fn pair_at(bench: &mut Bench<i32>, table: &Table<i32>, limit: i32) {
+pub(crate) fn pair_at(rows: &mut Rows, duals: &[i32], table: &Table<i32>, limit: i32) {
     for row in 0..table.side {
         let cells = table.row(name(row));
-        let duals = bench.duals.as_slice();
-        let free = bench.free.as_slice();
-        let column = i32::find_tie(cells, duals, free, limit, table.wide, table.wide);
-        if column < table.side && at(bench.row_of.as_slice(), column) == NONE {
-            bench.pair(name(row), name(column));
+        let wide = table.wide;
+        let column = i32::find_tie(cells, duals, rows.free.as_slice(), limit, wide, wide);
+        if is_marked(rows.free.as_slice(), column) {
+            rows.pair(name(row), name(column));
         }
     }
 }
 
-// Takes a column as done, and goes on to what its row reaches.
-fn enter(bench: &mut Bench<i32>, table: &Table<i32>, column: usize, row: u32) {
-    close(bench, column);
-    i32::relax(
-        table.row(row),
-        bench.duals.as_slice(),
-        bench.keys.as_mut_slice(),
-        bench.limits.as_mut_slice(),
-        bench.blocks.as_mut_slice(),
-        bench.came.as_mut_slice(),
-        table.wide,
-        0,
-        row,
-    );
-}
-
 // Grows a tree of paths from a row, along which the greatest cell is least, to a free column. Of
 // columns that are equally near a free one comes first.
-fn search(bench: &mut Bench<i32>, table: &Table<i32>, root: u32, limit: i32) -> Climb {
-    open(bench, table, table.side, table.wide, root);
+fn search(
+    tree: &mut Tree<i32>,
+    rows: &Rows,
+    duals: &[i32],
+    table: &Table<i32>,
+    root: u32,
+    limit: i32,
+) -> Climb {
+    tree.open(table.row(root), duals, table.side, table.wide, root);
     let mut climb = Climb {
         end: NONE,
         limit,
@@ -65,29 +54,22 @@ fn search(bench: &mut Bench<i32>, table: &Table<i32>, root: u32, limit: i32) -> 
     };
     let mut from = root as usize;
     for count in 0..table.side {
-        let level = i32::least(bench.blocks.as_slice()).wrapping_add(1);
+        let level = tree.distance();
         if level > climb.limit {
             climb.limit = level;
             climb.closed = Some(count);
         }
-        let column = i32::find(
-            bench.keys.as_slice(),
-            bench.blocks.as_slice(),
-            bench.free.as_slice(),
-            level,
-            from,
-        );
-        let row = at(bench.row_of.as_slice(), column);
+        let column = tree.nearest(rows.free.as_slice(), level, from);
+        let row = at(rows.first_of.as_slice(), column);
         if row == NONE {
-            climb.end = if column < table.side {
-                name(column)
-            } else {
-                NONE
-            };
+            if column < table.side {
+                climb.end = name(column);
+            }
             return climb;
         }
-        put(bench.done.as_mut_slice(), count, name(column));
-        enter(bench, table, column, row);
+        put(tree.done.as_mut_slice(), count, name(column));
+        tree.close(column);
+        tree.relax(table.row(row), duals, table.wide, 0, row);
         from = column.saturating_add(16);
     }
     climb
@@ -95,29 +77,14 @@ fn search(bench: &mut Bench<i32>, table: &Table<i32>, root: u32, limit: i32) -> 
 
 // Marks the tree of a search as it was when the limit rose: its root, and the columns that were
 // done by then with their rows.
-fn mark_tree(bench: &Bench<i32>, bound: &mut Bound, root: u32, count: usize) {
+fn mark_tree(done: &[u32], row_of: &[u32], bound: &mut Bound, root: u32, count: usize) {
     bound.enters.as_mut_slice().fill(1);
     bound.leaves.as_mut_slice().fill(1);
     put(bound.enters.as_mut_slice(), root as usize, 0);
     for place in 0..count {
-        let column = at(bench.done.as_slice(), place) as usize;
-        let row = at(bench.row_of.as_slice(), column) as usize;
+        let column = at(done, place) as usize;
         put(bound.leaves.as_mut_slice(), column, 0);
-        put(bound.enters.as_mut_slice(), row, 0);
-    }
-}
-
-// Gives each row of the path that ends in a column the column that was reached from it.
-fn shift_path(bench: &mut Bench<i32>, side: usize, end: u32, root: u32) {
-    let mut column = end;
-    for _ in 0..side {
-        let row = at(bench.came.as_slice(), column as usize);
-        let next = at(bench.column_of.as_slice(), row as usize);
-        bench.pair(row, column);
-        if row == root {
-            return;
-        }
-        column = next;
+        put(bound.enters.as_mut_slice(), at(row_of, column) as usize, 0);
     }
 }
 
@@ -130,15 +97,16 @@ pub(crate) fn serve(
     root: u32,
 ) -> bool {
     let limit = i32::of(bound.limit);
-    let climb = search(bench, table, root, limit);
+    let duals = bench.duals.as_slice();
+    let climb = search(&mut bench.tree, &bench.rows, duals, &*table, root, limit);
     if climb.end == NONE || climb.limit >= i32::of(MISSING) {
         return false;
     }
     if let Some(count) = climb.closed {
-        mark_tree(bench, bound, root, count);
+        let done = bench.tree.done.as_slice();
+        mark_tree(done, bench.rows.first_of.as_slice(), bound, root, count);
         bound.limit = climb.limit.max(0) as u64;
         lift(table, climb.limit);
     }
-    shift_path(bench, table.side, climb.end, root);
-    true
+    bench.rows.flip(bench.tree.came.as_slice(), climb.end) == root
 }

@@ -1,10 +1,11 @@
-//! Tables of costs whose greatest is searched to be least, as they stand, without a square.
+//! Tables whose greatest chosen number is searched to be least, without a square.
 
 use crate::NoMemory;
-use crate::first_bounds::{Bound, bound_of};
+use crate::bounds::{Bound, bound_of};
+use crate::costs::put_numbers;
 use crate::limit_paths::MISSING;
-use crate::thresholds::{Threshold, columns_by};
-use asg_dual_numbers::{Lists, Number, Table, padded, put_amount};
+use crate::thresholds::{Threshold, threshold_by};
+use asg_dual_numbers::{Lists, NO_NUMBER, Number, Table, padded};
 use std::alloc::Global;
 
 /// A square table of costs, row by row, as numbers of 32 bits from a base on, with the least of
@@ -14,19 +15,8 @@ pub struct LimitTable {
     table: Table<i32>,
     line: Vec<i32>,
     base: i64,
-    row_leasts: Vec<u64>,
+    row_leasts: Vec<i32>,
     column_leasts: Vec<i32>,
-}
-
-// Writes by how much costs are above a base, and tells the bits that any of them has.
-fn put_above(numbers: &mut [i32], costs: &[i64], base: i64) -> u64 {
-    let mut bits = 0;
-    for column in 0..costs.len().min(numbers.len()) {
-        let number = costs[column].wrapping_sub(base).cast_unsigned();
-        bits |= number;
-        numbers[column] = i32::of(number);
-    }
-    bits
 }
 
 // The least of some numbers.
@@ -45,13 +35,17 @@ fn lower(leasts: &mut [i32], numbers: &[i32]) {
     }
 }
 
-// Numbers in 64 bits.
-fn widened(alloc: Global, numbers: &[i32]) -> Result<Vec<u64>, NoMemory> {
-    let mut wide = vec![in alloc; 0u64; numbers.len()]?;
-    for place in 0..numbers.len() {
-        put_amount(wide.as_mut_slice(), place, numbers[place].max(0) as u64);
+// Writes numbers, one that is too great for each that is missing, and tells the greatest that is
+// there.
+fn put_known(line: &mut [i32], numbers: &[u64]) -> u64 {
+    let mut greatest = 0u64;
+    for column in 0..numbers.len().min(line.len()) {
+        let number = numbers[column];
+        let is_there = number != NO_NUMBER;
+        greatest = greatest.max(if is_there { number } else { 0 });
+        line[column] = i32::of(if is_there { number } else { MISSING });
     }
-    Ok(wide)
+    greatest
 }
 
 impl LimitTable {
@@ -72,6 +66,14 @@ impl LimitTable {
         lists.whole(table)
     }
 
+    // Takes the row that was written. The error is want of memory.
+    fn take_line(&mut self) -> Result<(), NoMemory> {
+        let line = self.line.as_slice();
+        self.row_leasts.push(least_of(line))?;
+        lower(self.column_leasts.as_mut_slice(), line);
+        self.table.cells.extend_from_slice(line)
+    }
+
     /// Takes a further row of costs. Whether it could: there is one for each column, none is below
     /// the base or too great, and a row was missing. The error is want of memory.
     pub fn push(&mut self, costs: &[i64]) -> Result<bool, NoMemory> {
@@ -79,45 +81,41 @@ impl LimitTable {
         if costs.len() != side || self.row_leasts.len() >= side {
             return Ok(false);
         }
-        if put_above(self.line.as_mut_slice(), costs, self.base) >= MISSING {
+        if put_numbers(self.line.as_mut_slice(), costs, self.base, false) >= MISSING {
             return Ok(false);
         }
-        let line = self.line.as_slice();
-        self.row_leasts.push(least_of(line).max(0) as u64)?;
-        lower(self.column_leasts.as_mut_slice(), line);
-        self.table.cells.extend_from_slice(line)?;
+        self.take_line()?;
+        Ok(true)
+    }
+
+    // Takes a further row of numbers, of which some may be missing. Whether it could: none is too
+    // great. The error is want of memory.
+    pub(crate) fn push_known(&mut self, numbers: &[u64]) -> Result<bool, NoMemory> {
+        if put_known(self.line.as_mut_slice(), numbers) >= MISSING {
+            return Ok(false);
+        }
+        self.take_line()?;
         Ok(true)
     }
 
     /// The greatest of the rows' and the columns' least numbers, as a bound. The error is want of
     /// memory.
     pub fn first_bound(&self, alloc: Global) -> Result<Bound, NoMemory> {
-        let columns = widened(alloc, self.column_leasts.as_slice())?;
-        bound_of(alloc, self.row_leasts.as_slice(), columns.as_slice())
+        let mut lists = Lists::new(alloc);
+        let rows = self.row_leasts.as_slice();
+        let bound = bound_of(&mut lists, rows, self.column_leasts.as_slice());
+        lists.whole(bound)
     }
 
     /// The least limit within which each row has a column of its own, as in
     /// [`threshold_of`](crate::threshold_of); `None` where rows are missing, or none was found. The
     /// error is want of memory.
     pub fn threshold(self, alloc: Global) -> Result<Option<Threshold>, NoMemory> {
-        let mut bound = self.first_bound(alloc)?;
-        let LimitTable {
-            mut table,
-            row_leasts,
-            ..
-        } = self;
-        if row_leasts.len() < table.side {
+        let mut table = self;
+        if table.row_leasts.len() < table.table.side {
             return Ok(None);
         }
-        let found = columns_by(alloc, &mut table, &mut bound)?;
-        Ok(threshold_at(bound, found))
-    }
-}
-
-// A limit with its columns, where these were found.
-fn threshold_at(bound: Bound, found: Option<Vec<u32>>) -> Option<Threshold> {
-    match found {
-        Some(columns) => Some(Threshold { bound, columns }),
-        None => None,
+        let bound = table.first_bound(alloc)?;
+        threshold_by(alloc, &mut table.table, bound)
     }
 }

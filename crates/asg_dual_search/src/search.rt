@@ -7,7 +7,7 @@ use asg_class_search::{
     Arcs, ClassRow, Classes, Ranges, arcs_of, are_even, class_ranges, class_table, classes_of,
     found_by_arcs, near_base, near_class_table,
 };
-use asg_dual_numbers::{Found, Numbers, Sums, Table};
+use asg_dual_numbers::{Found, Lists, Number, Numbers, Sums, Table};
 use asg_square::Square;
 use std::alloc::Global;
 
@@ -51,45 +51,59 @@ pub struct Search<'a> {
 
 // The rows and columns of a square by what they stand for, where its cells are even, else each by
 // itself.
-fn even_classes_of<V: Copy>(
-    alloc: Global,
-    square: &Square<V>,
-    sums: &Sums<'_>,
-) -> Result<Classes, NoMemory> {
-    let classes = classes_of(alloc, square, sums)?;
+fn even_classes_of<V: Copy>(lists: &mut Lists, square: &Square<V>, sums: &Sums<'_>) -> Classes {
+    let classes = classes_of(lists, square, sums);
     if are_even(square, sums, &classes) {
-        return Ok(classes);
+        return classes;
     }
     drop(classes);
-    Classes::apart(alloc, sums.side)
+    Classes::apart(lists, sums.side)
+}
+
+// What comes of a table in numbers of a width by the ranges of the rows.
+fn found_in<N: Number>(
+    lists: &mut Lists,
+    sums: &Sums<'_>,
+    classes: &Classes,
+    room: &mut ClassRow,
+    ranges: &Ranges,
+    absent: u64,
+) -> Option<Found> {
+    let leasts = ranges.leasts.as_slice();
+    let table: Table<N> = class_table(lists, sums, classes, leasts, absent, room);
+    let found = found_by_table(lists, sums.side, classes, &table, leasts);
+    drop(table);
+    found
 }
 
 impl<'a> Search<'a> {
     // The search over sums by these classes.
-    fn by(alloc: Global, sums: Sums<'a>, classes: Classes) -> Result<Search<'a>, NoMemory> {
-        let arcs = arcs_of(alloc, &sums, &classes)?;
-        let room = ClassRow::make(alloc, &classes)?;
+    fn by(lists: &mut Lists, sums: Sums<'a>, classes: Classes) -> Search<'a> {
+        let arcs = arcs_of(lists, &sums, &classes);
+        let room = ClassRow::make(lists, &classes);
         let mut way = Way::Near;
         if arcs.is_some() {
             way = Way::Arcs;
         } else if classes.outside == 0 && classes.room < classes.rows.len() {
             way = Way::Nothing;
         }
-        Ok(Search {
+        Search {
             sums,
             classes,
             arcs,
             room,
             ranges: None,
             way,
-        })
+        }
     }
 
     /// The search over a square of sums. The error is want of memory.
     pub fn of_square(alloc: Global, square: &'a Square<u64>) -> Result<Search<'a>, NoMemory> {
-        let sums = Sums::of_square(alloc, square)?;
-        let classes = classes_of(alloc, square, &sums)?;
-        Search::by(alloc, sums, classes)
+        let mut lists = Lists::new(alloc);
+        let sums = Sums::of_square(&mut lists, square);
+        let classes = classes_of(&mut lists, square, &sums);
+        let search = Search::by(&mut lists, sums, classes);
+        lists.whole(search)
     }
 
     /// The search over numbers, as which the cells of a square were read. The error is want of
@@ -99,105 +113,85 @@ impl<'a> Search<'a> {
         square: &Square<V>,
         numbers: &'a Numbers,
     ) -> Result<Search<'a>, NoMemory> {
-        let sums = Sums::of_numbers(alloc, numbers)?;
-        let classes = even_classes_of(alloc, square, &sums)?;
-        Search::by(alloc, sums, classes)
+        let mut lists = Lists::new(alloc);
+        let sums = Sums::of_numbers(&mut lists, numbers);
+        let classes = even_classes_of(&mut lists, square, &sums);
+        let search = Search::by(&mut lists, sums, classes);
+        lists.whole(search)
     }
 
-    fn by_arcs(&self, alloc: Global) -> Result<Option<Found>, NoMemory> {
+    fn by_arcs(&self, lists: &mut Lists) -> Option<Found> {
         match &self.arcs {
-            Some(arcs) => found_by_arcs(alloc, self.sums.side, &self.classes, arcs),
-            None => Ok(None),
+            Some(arcs) => found_by_arcs(lists, self.sums.side, &self.classes, arcs),
+            None => None,
         }
     }
 
     // What a table of cells less a base comes to.
-    fn near_by(
-        &self,
-        alloc: Global,
-        base: u64,
-        table: &Table<i32>,
-    ) -> Result<Option<Found>, NoMemory> {
-        let leasts = vec![in alloc; base; self.classes.rows.len()]?;
+    fn near_by(&self, lists: &mut Lists, base: u64, table: &Table<i32>) -> Option<Found> {
+        let leasts = lists.of(base, self.classes.rows.len());
         let side = self.sums.side;
-        found_by_table(alloc, side, &self.classes, table, leasts.as_slice())
+        let found = found_by_table(lists, side, &self.classes, table, leasts.as_slice());
+        drop(leasts);
+        found
     }
 
-    fn near(&mut self, alloc: Global) -> Result<Option<Found>, NoMemory> {
+    fn near(&mut self, lists: &mut Lists) -> Option<Found> {
         let base = near_base(&self.sums);
-        let table: Option<Table<i32>> = near_class_table(
-            alloc,
+        let table: Table<i32> = near_class_table(
+            lists,
             &self.sums,
             &self.classes,
             base,
             &mut self.room,
         )?;
-        match table {
-            Some(table) => {
-                let found = self.near_by(alloc, base, &table);
-                drop(table);
-                found
-            }
-            None => Ok(None),
-        }
+        let found = self.near_by(lists, base, &table);
+        drop(table);
+        found
     }
 
-    // What comes of numbers of 32 bits by the ranges of the rows.
-    fn narrow_by(&mut self, alloc: Global, ranges: &Ranges) -> Result<Option<Found>, NoMemory> {
-        if !is_narrow(ranges) {
-            return Ok(None);
-        }
-        let leasts = ranges.leasts.as_slice();
-        let absent = narrow_absent(ranges);
-        let sums = &self.sums;
-        let table: Table<i32> = class_table(
-            alloc,
-            sums,
-            &self.classes,
-            leasts,
-            absent,
-            &mut self.room,
-        )?;
-        found_by_table(alloc, self.sums.side, &self.classes, &table, leasts)
-    }
-
-    fn narrow(&mut self, alloc: Global) -> Result<Option<Found>, NoMemory> {
-        let ranges = class_ranges(alloc, &self.sums, &self.classes, &mut self.room)?;
-        let found = self.narrow_by(alloc, &ranges);
+    fn narrow(&mut self, lists: &mut Lists) -> Option<Found> {
+        let ranges = class_ranges(lists, &self.sums, &self.classes, &mut self.room);
+        let absent = narrow_absent(&ranges);
+        let (sums, classes) = (&self.sums, &self.classes);
+        let found = if is_narrow(&ranges) {
+            found_in::<i32>(lists, sums, classes, &mut self.room, &ranges, absent)
+        } else {
+            None
+        };
         self.ranges = Some(ranges);
         found
     }
 
-    fn wide(&mut self, alloc: Global) -> Result<Option<Found>, NoMemory> {
+    fn wide(&mut self, lists: &mut Lists) -> Option<Found> {
         let Some(ranges) = &self.ranges else {
-            return Ok(None);
+            return None;
         };
         if is_settled_narrow(ranges) {
-            return Ok(None);
+            return None;
         }
-        let leasts = ranges.leasts.as_slice();
         let absent = wide_absent(ranges);
-        let sums = &self.sums;
-        let table: Table<i64> = class_table(
-            alloc,
-            sums,
-            &self.classes,
-            leasts,
-            absent,
-            &mut self.room,
-        )?;
-        found_by_table(alloc, self.sums.side, &self.classes, &table, leasts)
+        let (sums, classes) = (&self.sums, &self.classes);
+        found_in::<i64>(lists, sums, classes, &mut self.room, ranges, absent)
     }
 
-    // What comes of trying a way.
-    fn attempt(&mut self, alloc: Global, way: Way) -> Result<Option<Found>, NoMemory> {
-        match way {
-            Way::Arcs => self.by_arcs(alloc),
-            Way::Near => self.near(alloc),
-            Way::Narrow => self.narrow(alloc),
-            Way::Wide => self.wide(alloc),
-            Way::Nothing => Ok(None),
+    // What is found next, by one way after another.
+    fn found(&mut self, lists: &mut Lists) -> Option<Found> {
+        for _ in 0..MOST_WAYS {
+            let way = self.way;
+            self.way = way.next();
+            let found = match way {
+                Way::Arcs => self.by_arcs(lists),
+                Way::Near => self.near(lists),
+                Way::Narrow => self.narrow(lists),
+                Way::Wide => self.wide(lists),
+                Way::Nothing => None,
+            };
+            if found.is_some() || lists.is_short {
+                return found;
+            }
         }
+        None
     }
 
     /// What is found next; `None` where nothing more is. After at most three it is `None`. The
@@ -207,14 +201,8 @@ impl<'a> Search<'a> {
     /// reduction transfer and augmenting row reduction give most rows a column, shortest augmenting
     /// paths the others. It is done in numbers of 32 bits where these may do, and then in 64.
     pub fn next(&mut self, alloc: Global) -> Result<Option<Found>, NoMemory> {
-        for _ in 0..MOST_WAYS {
-            let way = self.way;
-            self.way = way.next();
-            match self.attempt(alloc, way)? {
-                Some(found) => return Ok(Some(found)),
-                None => {}
-            }
-        }
-        Ok(None)
+        let mut lists = Lists::new(alloc);
+        let found = self.found(&mut lists);
+        lists.whole(found)
     }
 }

@@ -1,53 +1,12 @@
 //! The least limit within which each row has a column of its own.
 
 use crate::NoMemory;
-use crate::bench::Bench;
-use crate::extents::extents_of;
-use crate::first_bounds::{Bound, first_bound};
+use crate::bounds::Bound;
 use crate::limit_paths::{MISSING, lift, pair_at, serve};
-use crate::number_tables::table_by;
-use asg_dual_numbers::{Number, Numbers, Table, at};
+use crate::limit_tables::LimitTable;
+use asg_class_search::{Bench, list_waiting};
+use asg_dual_numbers::{Lists, Number, Numbers, Table, at};
 use std::alloc::Global;
-
-// The columns of rows within the least limit, to which the bound rises, by a bench on which no row
-// has one; `None` where there is none. The error is want of memory.
-fn columns_on(
-    alloc: Global,
-    bench: &mut Bench<i32>,
-    table: &mut Table<i32>,
-    bound: &mut Bound,
-) -> Result<Option<Vec<u32>>, NoMemory> {
-    if !serve_all(bench, table, bound) {
-        return Ok(None);
-    }
-    let columns = Vec::from_slice(alloc, bench.column_of.as_slice())?;
-    Ok(Some(columns))
-}
-
-// The same by a bench of its own.
-pub(crate) fn columns_by(
-    alloc: Global,
-    table: &mut Table<i32>,
-    bound: &mut Bound,
-) -> Result<Option<Vec<u32>>, NoMemory> {
-    let mut bench = Bench::make(alloc, &*table)?;
-    let columns = columns_on(alloc, &mut bench, table, bound);
-    drop(bench);
-    columns
-}
-
-// The columns of rows within the least limit, to which the bound rises; `None` where there is none.
-// The error is want of memory.
-fn columns_within(
-    alloc: Global,
-    numbers: &Numbers,
-    bound: &mut Bound,
-) -> Result<Option<Vec<u32>>, NoMemory> {
-    let mut table: Table<i32> = table_by(alloc, numbers, MISSING)?;
-    let columns = columns_by(alloc, &mut table, bound);
-    drop(table);
-    columns
-}
 
 /// The least limit within which there is an assignment, and such an assignment, as a search found
 /// them: nothing of it is tested.
@@ -61,11 +20,15 @@ pub struct Threshold {
 
 // Gives each row a column within the least limit, to which the bound rises; whether each has one.
 fn serve_all(bench: &mut Bench<i32>, table: &mut Table<i32>, bound: &mut Bound) -> bool {
+    if bound.limit >= MISSING {
+        return false;
+    }
     let limit = i32::of(bound.limit);
     lift(table, limit);
-    bench.release(table.side);
-    pair_at(bench, table, limit);
-    let count = bench.list_waiting(table.side);
+    bench.rows.release(table.side);
+    pair_at(&mut bench.rows, bench.duals.as_slice(), &*table, limit);
+    let waiting = bench.waiting.as_mut_slice();
+    let count = list_waiting(waiting, bench.rows.class_of.as_slice(), table.side);
     for place in 0..count.min(table.side) {
         let root = at(bench.waiting.as_slice(), place);
         if !serve(bench, table, bound, root) {
@@ -73,6 +36,24 @@ fn serve_all(bench: &mut Bench<i32>, table: &mut Table<i32>, bound: &mut Bound) 
         }
     }
     true
+}
+
+// The columns of the rows of a table within the least limit, to which the bound rises; `None` where
+// there is none. The error is want of memory.
+pub(crate) fn threshold_by(
+    alloc: Global,
+    table: &mut Table<i32>,
+    bound: Bound,
+) -> Result<Option<Threshold>, NoMemory> {
+    let mut bound = bound;
+    let mut lists = Lists::new(alloc);
+    let rooms = lists.of(1, table.side);
+    let mut bench = Bench::make(&mut lists, &*table, table.side, rooms);
+    let is_found = serve_all(&mut bench, table, &mut bound);
+    let columns = lists.copy_of(bench.rows.class_of.as_slice());
+    drop(bench);
+    let threshold = lists.whole(Threshold { bound, columns })?;
+    Ok(if is_found { Some(threshold) } else { None })
 }
 
 /// The least limit within which each row of a square of numbers has a column of its own; `None`
@@ -83,13 +64,11 @@ fn serve_all(bench: &mut Bench<i32>, table: &mut Table<i32>, bound: &mut Bound) 
 /// augmenting paths [Jonker and Volgenant 1987] whose length is their greatest number, and the
 /// limit rises where a path needs more.
 pub fn threshold_of(alloc: Global, numbers: &Numbers) -> Result<Option<Threshold>, NoMemory> {
-    let extents = extents_of(alloc, numbers)?;
-    let mut bound = first_bound(alloc, numbers, extents.leasts.as_slice())?;
-    if extents.greatest.max(bound.limit) >= MISSING {
-        return Ok(None);
+    let mut table = LimitTable::make(alloc, numbers.side, 0)?;
+    for row in 0..numbers.side {
+        if !table.push_known(numbers.row(row))? {
+            return Ok(None);
+        }
     }
-    match columns_within(alloc, numbers, &mut bound)? {
-        Some(columns) => Ok(Some(Threshold { bound, columns })),
-        None => Ok(None),
-    }
+    table.threshold(alloc)
 }

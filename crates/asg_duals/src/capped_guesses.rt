@@ -1,6 +1,6 @@
 //! Guesses for sums that stop at a cap.
 
-ghost use Rattle.std.specs.Prelude.{◌≤◌};
+ghost use Rattle.std.specs.Prelude.{◌<◌, ◌≤◌};
 ghost use Rattle.std.specs.List.{sum};
 
 use crate::NoMemory;
@@ -23,6 +23,19 @@ fn sum_of(steps: &[u64]) -> u64
     total
 }
 
+// A phase with steps of 128 bits, those up to what is left.
+fn cut_phase(alloc: Global, phase: &Phase<u64>, left: u64) -> Result<Phase<u128>, NoMemory>
+    requires { 0 < left }
+{
+    let mut steps = Vec::from_slice(alloc, phase.steps())?;
+    if sum_of(steps.as_slice()) > left {
+        cut_steps(&mut steps, left);
+    }
+    let kept = multiplied(alloc, phase, steps.as_slice(), 1);
+    drop(steps);
+    kept
+}
+
 // The phases up to one in which their sum passes a cap; of that one the steps up to the cap.
 fn cut_phases(alloc: Global, plain: &[Phase<u64>], cap: u64) -> Result<Vec<Phase<u128>>, NoMemory> {
     let mut phases = Vec::with_capacity(alloc, plain.len())?;
@@ -32,16 +45,17 @@ fn cut_phases(alloc: Global, plain: &[Phase<u64>], cap: u64) -> Result<Vec<Phase
             break;
         }
         let phase = &plain[k];
-        let mut steps = Vec::from_slice(alloc, phase.steps())?;
-        let total = sum_of(steps.as_slice());
-        if total > left {
-            cut_steps(&mut steps, left);
-        }
-        left = left.saturating_sub(total);
-        let kept = multiplied(alloc, phase, steps.as_slice(), 1)?;
-        phases.push(kept)?;
+        phases.push(cut_phase(alloc, phase, left)?)?;
+        left = left.saturating_sub(sum_of(phase.steps()));
     }
     Ok(phases)
+}
+
+// The guess with the assignment of a plain one.
+fn cut_guess(alloc: Global, plain: &Guess<u64>, cap: u64) -> Result<Guess<u128>, NoMemory> {
+    let columns = Vec::from_slice(alloc, plain.columns())?;
+    let phases = cut_phases(alloc, plain.phases(), cap)?;
+    Ok(Guess::of(phases, columns))
 }
 
 /// Phases and an assignment of least sum for a square whose sums stop at a cap; `None` where none
@@ -55,10 +69,8 @@ pub fn capped_guess(
     square: &Square<u128>,
     cap: u128,
 ) -> Result<Option<Guess<u128>>, NoMemory> {
-    let Some(plain) = plain_guess(alloc, square, &Whole)? else {
-        return Ok(None);
-    };
-    let phases = cut_phases(alloc, plain.phases(), narrow(cap))?;
-    let columns = Vec::from_slice(alloc, plain.columns())?;
-    Ok(Some(Guess::of(phases, columns)))
+    match plain_guess(alloc, square, &Whole)? {
+        Some(plain) => Ok(Some(cut_guess(alloc, &plain, narrow(cap))?)),
+        None => Ok(None),
+    }
 }

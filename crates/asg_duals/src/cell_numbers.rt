@@ -2,7 +2,7 @@
 
 use crate::NoMemory;
 use crate::readings::Reading;
-use asg_dual_numbers::{NO_NUMBER, Numbers};
+use asg_dual_numbers::{Lists, NO_NUMBER, Numbers};
 use asg_square::Square;
 use std::alloc::Global;
 
@@ -77,8 +77,9 @@ pub(crate) fn numbers_of<R: Reading>(
 ) -> Result<Numbers, NoMemory> {
     let side = square.side();
     let wide = side as usize;
-    let mut cells = Vec::with_capacity(alloc, wide.saturating_mul(wide))?;
-    let mut numbers = vec![in alloc; NO_NUMBER; wide]?;
+    let mut lists = Lists::new(alloc);
+    let mut cells = lists.room(wide.saturating_mul(wide));
+    let mut numbers = lists.of(NO_NUMBER, wide);
     for row in 0..side {
         read_row(
             reading,
@@ -87,7 +88,8 @@ pub(crate) fn numbers_of<R: Reading>(
             square.row_words(row),
             numbers.as_mut_slice(),
         );
-        cells.extend_from_slice(numbers.as_slice())?;
+        lists.append(&mut cells, numbers.as_slice());
     }
-    Ok(Numbers { side, cells })
+    drop(numbers);
+    lists.whole(Numbers { side, cells })
 }

@@ -4,25 +4,21 @@ ghost use Rattle.std.specs.Prelude.{◌≡◌, ◌<◌, ◌≤◌, ◌^◌, ℕ,
 
 use crate::NoMemory;
 use crate::duals::Duals;
-use asg_dual_phases::Conversion;
+use crate::gradual::Conversion;
 use asg_proof::Phase;
 use std::alloc::Global;
 
 // The greatest power of 2 within the greatest side.
 const MOST_LIMIT: usize = 1024;
 
-/// Phases from dual variables that are tight on an assignment: at most as many as the side has
-/// binary digits, each in time side times its logarithm. They lead the square to cells that are 0
-/// on the assignment, and below 0 nowhere, but no clause says so: whoever takes them tests each.
-/// The first phase closes gaps between spans and cuts a chain of them, each further one halves what
-/// is left. The error is want of memory.
-pub fn short_phases(alloc: Global, duals: &Duals) -> Result<Vec<Phase<u64>>, NoMemory>
-    ensures few { IfOk result (λ phases. (k : ℕ) → k < length phases.items
-        → 2 ^ k ≤ length duals.now.columns) }
+// The phases that a conversion gives, one after the other, for so many rows.
+fn phases_of(
+    alloc: Global,
+    conversion: &mut Conversion,
+    side: usize,
+) -> Result<Vec<Phase<u64>>, NoMemory>
+    ensures few { IfOk result (λ phases. (k : ℕ) → k < length phases.items → 2 ^ k ≤ side) }
 {
-    let columns = duals.columns();
-    let side = columns.len();
-    let mut conversion = Conversion::of(alloc, columns, duals.falls(), duals.rises())?;
     let mut phases = Vec::new(alloc);
     let mut limit = 1;
     'phases: for _ in 0..12 {
@@ -36,4 +32,20 @@ pub fn short_phases(alloc: Global, duals: &Duals) -> Result<Vec<Phase<u64>>, NoM
         limit *= 2;
     }
     Ok(phases)
+}
+
+/// Phases from dual variables that are tight on an assignment: at most as many as the side has
+/// binary digits, each in time side times its logarithm. They lead the square to cells that are 0
+/// on the assignment, and below 0 nowhere, but no clause says so: whoever takes them tests each.
+/// The first phase closes gaps between spans and cuts a chain of them, each further one halves what
+/// is left. The error is want of memory.
+pub fn short_phases(alloc: Global, duals: &Duals) -> Result<Vec<Phase<u64>>, NoMemory>
+    ensures few { IfOk result (λ phases. (k : ℕ) → k < length phases.items
+        → 2 ^ k ≤ length duals.now.columns) }
+{
+    let columns = duals.columns();
+    let mut conversion = Conversion::of(alloc, columns, duals.falls(), duals.rises())?;
+    let phases = phases_of(alloc, &mut conversion, columns.len());
+    drop(conversion);
+    phases
 }

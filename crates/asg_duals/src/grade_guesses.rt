@@ -6,6 +6,7 @@ use crate::guesses::Guess;
 use crate::plain_guesses::plain_guess;
 use crate::readings::{AtGrade, Grades, Peaks};
 use crate::retold_phases::append_graded;
+use asg_dual_numbers::Lists;
 use asg_dual_search::{Bound, Threshold, threshold_of};
 use asg_proof::Phase;
 use asg_square::Square;
@@ -13,22 +14,26 @@ use std::alloc::Global;
 
 // The phase of one step, on the rows and columns that show a bound.
 fn bound_phase<V: Copy>(alloc: Global, step: V, bound: &Bound) -> Result<Phase<V>, NoMemory> {
-    let steps = vec![in alloc; step; 1]?;
-    let enters = Vec::from_slice(alloc, bound.enters.as_slice())?;
-    let leaves = Vec::from_slice(alloc, bound.leaves.as_slice())?;
-    Ok(Phase::of(steps, enters, leaves))
+    let mut lists = Lists::new(alloc);
+    let steps = lists.of(step, 1);
+    let enters = lists.copy_of(bound.enters.as_slice());
+    let leaves = lists.copy_of(bound.leaves.as_slice());
+    lists.whole(Phase::of(steps, enters, leaves))
 }
 
 // The least grade within which each row has a column of its own, as a bound that shows it. The
 // error is want of memory.
 fn grade_bound(alloc: Global, square: &Square<(u64, u128)>) -> Result<Option<Bound>, NoMemory> {
     let grades = numbers_of(alloc, square, &Grades)?;
-    let Some(threshold) = threshold_of(alloc, &grades)? else {
-        return Ok(None);
-    };
-    let Threshold { bound, columns } = threshold;
-    drop(columns);
-    Ok(Some(bound))
+    let threshold = threshold_of(alloc, &grades);
+    drop(grades);
+    match threshold? {
+        Some(Threshold { bound, columns }) => {
+            drop(columns);
+            Ok(Some(bound))
+        }
+        None => Ok(None),
+    }
 }
 
 // The phase to the grade of a bound, where it is above 0, and plain phases at this grade.
@@ -79,19 +84,31 @@ pub fn grade_guess(
     }
 }
 
+// The phase to a bound, where it is above 0.
+fn peak_phases(alloc: Global, bound: &Bound) -> Result<Vec<Phase<u64>>, NoMemory> {
+    let mut phases = Vec::new(alloc);
+    if bound.limit > 0 {
+        phases.push(bound_phase(alloc, bound.limit, bound)?)?;
+    }
+    Ok(phases)
+}
+
+// The phase to the bound of a threshold, with its assignment.
+fn guess_within(alloc: Global, threshold: &Threshold) -> Result<Guess<u64>, NoMemory> {
+    let columns = Vec::from_slice(alloc, threshold.columns.as_slice())?;
+    let phases = peak_phases(alloc, &threshold.bound)?;
+    Ok(Guess::of(phases, columns))
+}
+
 /// A phase of one step to the greatest number of an assignment, and an assignment by which it is
 /// least; no phase where it is 0, and `None` where none is guessed. The step is on rows that have
 /// fewer columns below that number than they are. The error is want of memory.
 pub fn peak_guess(alloc: Global, square: &Square<u64>) -> Result<Option<Guess<u64>>, NoMemory> {
     let peaks = numbers_of(alloc, square, &Peaks)?;
-    let Some(threshold) = threshold_of(alloc, &peaks)? else {
-        return Ok(None);
-    };
-    let peak = threshold.bound.limit;
-    let mut phases = Vec::new(alloc);
-    if peak > 0 {
-        phases.push(bound_phase(alloc, peak, &threshold.bound)?)?;
+    let threshold = threshold_of(alloc, &peaks);
+    drop(peaks);
+    match threshold? {
+        Some(threshold) => Ok(Some(guess_within(alloc, &threshold)?)),
+        None => Ok(None),
     }
-    let columns = Vec::from_slice(alloc, threshold.columns.as_slice())?;
-    Ok(Some(Guess::of(phases, columns)))
 }

@@ -9,7 +9,7 @@ use std::marker::Model;
 /// guessed for to one in which the cells of the assignment add nothing to their index, but no
 /// clause says so: whoever takes them tests them. Contracts see it as the record of these two
 /// lists.
-#[derive(Debug, Drop)]
+#[derive(Drop)]
 pub struct Guess<V: Copy> {
     phases: Vec<Phase<V>>,
     columns: Vec<u32>,

@@ -2,9 +2,10 @@
 //!
 //! Nothing here is proved to find what it looks for. What the searches of `asg_dual_search` find is
 //! tested, and the contract is what the test shows. Dual variables are turned into at most as many
-//! phases as the side has binary digits (`asg_dual_phases`), where the engine makes one for each
-//! row. Pairs of sums, sums that stop at a cap, graded sums and maxima are read as squares of sums,
-//! one or two. A caller tests each phase, and has another way where one isn't admitted.
+//! phases as the side has binary digits, where the engine makes one for each row: the first one
+//! closes gaps and cuts a chain of spans, each further one halves what is left. Pairs of sums, sums
+//! that stop at a cap, graded sums and maxima are read as squares of sums, one or two. A caller
+//! tests each phase, and has another way where one isn't admitted.
 #![tactic(auto)]
 
 mod assigning;
@@ -13,11 +14,16 @@ mod cell_numbers;
 mod conversion;
 mod duals;
 mod grade_guesses;
+mod gradual;
 mod guesses;
+mod merges;
 mod pair_guesses;
+mod phase_moves;
+mod phases;
 mod plain_guesses;
 mod readings;
 mod retold_phases;
+mod spans;
 mod sum_squares;
 mod tightness;
 

@@ -2,10 +2,11 @@
 
 use crate::NoMemory;
 use crate::guesses::Guess;
+use crate::phase_moves::moves_of;
 use crate::plain_guesses::plain_guess;
 use crate::readings::{FIRST_UNIT, Firsts, Seconds};
 use crate::retold_phases::append_multiplied;
-use asg_dual_phases::moves_of;
+use asg_proof::Phase;
 use asg_square::Square;
 use std::alloc::Global;
 
@@ -24,6 +25,29 @@ fn guess_seconds(
     plain_guess(alloc, square, &reading)
 }
 
+// The phases for first parts, with steps times 2^42, and then those for second ones.
+fn pair_phases(
+    alloc: Global,
+    firsts: &[Phase<u64>],
+    seconds: &[Phase<u64>],
+) -> Result<Vec<Phase<u128>>, NoMemory> {
+    let mut phases = Vec::new(alloc);
+    append_multiplied(alloc, &mut phases, firsts, FIRST_UNIT)?;
+    append_multiplied(alloc, &mut phases, seconds, 1)?;
+    Ok(phases)
+}
+
+// The guess of both, with the assignment of the second one.
+fn joined(
+    alloc: Global,
+    firsts: &Guess<u64>,
+    seconds: &Guess<u64>,
+) -> Result<Guess<u128>, NoMemory> {
+    let columns = Vec::from_slice(alloc, seconds.columns())?;
+    let phases = pair_phases(alloc, firsts.phases(), seconds.phases())?;
+    Ok(Guess::of(phases, columns))
+}
+
 /// Phases and an assignment of least sum for a square of pairs, each in one number: its first part
 /// times 2^42, and its second part. `None` where none is guessed.
 ///
@@ -36,12 +60,8 @@ pub fn pair_guess(alloc: Global, square: &Square<u128>) -> Result<Option<Guess<u
     let Some(firsts) = plain_guess(alloc, square, &Firsts)? else {
         return Ok(None);
     };
-    let Some(seconds) = guess_seconds(alloc, square, &firsts)? else {
-        return Ok(None);
-    };
-    let mut phases = Vec::new(alloc);
-    append_multiplied(alloc, &mut phases, firsts.phases(), FIRST_UNIT)?;
-    append_multiplied(alloc, &mut phases, seconds.phases(), 1)?;
-    let columns = Vec::from_slice(alloc, seconds.columns())?;
-    Ok(Some(Guess::of(phases, columns)))
+    match guess_seconds(alloc, square, &firsts)? {
+        Some(seconds) => Ok(Some(joined(alloc, &firsts, &seconds)?)),
+        None => Ok(None),
+    }
 }

@@ -75,20 +75,24 @@ fn tight_found(
     Ok(None)
 }
 
-// The phases and the assignment of what a search finds first that is tight on the numbers; `None`
-// where it finds nothing so.
-fn searched_guess(
+// The same of a search of the square whose cells were read as these numbers.
+fn found_in<V: Copy>(
     alloc: Global,
+    square: &Square<V>,
     numbers: &Numbers,
-    mut search: Search<'_>,
-) -> Result<Option<Guess<u64>>, NoMemory> {
-    match tight_found(alloc, numbers, &mut search)? {
-        Some(found) => {
-            let duals = Duals::of(found.columns, found.falls, found.rises);
-            Ok(Some(guess_of(alloc, &duals)?))
-        }
-        None => Ok(None),
-    }
+) -> Result<Option<Found>, NoMemory> {
+    let mut search = Search::of_numbers(alloc, square, numbers)?;
+    let found = tight_found(alloc, numbers, &mut search);
+    drop(search);
+    found
+}
+
+// The phases and the assignment of what was found.
+fn guess_found(alloc: Global, found: Found) -> Result<Guess<u64>, NoMemory> {
+    let duals = Duals::of(found.columns, found.falls, found.rises);
+    let guess = guess_of(alloc, &duals);
+    drop(duals);
+    guess
 }
 
 // Phases of plain sums and an assignment of least sum of the numbers as which cells are read;
@@ -99,6 +103,10 @@ pub(crate) fn plain_guess<R: Reading>(
     reading: &R,
 ) -> Result<Option<Guess<u64>>, NoMemory> {
     let numbers = numbers_of(alloc, square, reading)?;
-    let search = Search::of_numbers(alloc, square, &numbers)?;
-    searched_guess(alloc, &numbers, search)
+    let found = found_in(alloc, square, &numbers);
+    drop(numbers);
+    match found? {
+        Some(found) => Ok(Some(guess_found(alloc, found)?)),
+        None => Ok(None),
+    }
 }

@@ -1,6 +1,7 @@
 //! Phases of sums in 64 bits as phases of other values.
 
 use crate::NoMemory;
+use asg_dual_numbers::Lists;
 use asg_proof::Phase;
 use std::alloc::Global;
 
@@ -11,9 +12,10 @@ pub fn with_marks_of<V: Copy>(
     steps: Vec<V>,
     phase: &Phase<u64>,
 ) -> Result<Phase<V>, NoMemory> {
-    let enters = Vec::from_slice(alloc, phase.enters())?;
-    let leaves = Vec::from_slice(alloc, phase.leaves())?;
-    Ok(Phase::of(steps, enters, leaves))
+    let mut lists = Lists::new(alloc);
+    let enters = lists.copy_of(phase.enters());
+    let leaves = lists.copy_of(phase.leaves());
+    lists.whole(Phase::of(steps, enters, leaves))
 }
 
 // The phase of steps so many times as great as these, in which rows enter and columns leave as in

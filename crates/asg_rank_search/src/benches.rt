@@ -1,15 +1,13 @@
 //! A bench on which children are grown.
 
-use crate::NoMemory;
-use crate::children::{Child, EMPTY, FLOOR, Move};
+use crate::children::{Child, EMPTY, FLOOR};
 use crate::gaps::measure_in;
 use crate::numbers::{RankNumber, amount_of};
 use crate::paths::{End, Errand, Reach, search};
-use crate::rooms::Room;
+use crate::rooms::{Done, Room};
 use crate::shifts::shift_path;
 use crate::tables::Table;
-use asg_dual_numbers::{NONE, at, name};
-use std::alloc::Global;
+use asg_dual_numbers::{Lists, NONE, at, name, padded, value};
 
 /// A part of all answers, with an answer in it and dual variables at which it is tight.
 #[derive(Clone, Copy)]
@@ -43,34 +41,32 @@ pub enum Growth {
 /// numbers less the first dual variables.
 #[derive(Drop)]
 pub struct Bench<N: RankNumber> {
-    table: Table<N>,
+    /// The numbers.
+    pub table: Table<N>,
     room: Room<N>,
-    child: Child,
-    gaps: Vec<u64>,
+    /// The child that was grown last.
+    pub child: Child,
+    /// How far the child by each row is above the part that was measured, from the part's row on.
+    pub gaps: Vec<u64>,
 }
 
 // Notes what a search went through, which was to come to a distance.
-fn note<N: RankNumber>(
-    child: &mut Child,
-    room: &Room<N>,
-    table: &Table<N>,
-    reach: &Reach<N>,
-    to: u64,
-) {
-    let count = reach.count.min(room.done.len());
-    for place in 0..count {
-        let row = room.left_at(place);
+fn note<N: RankNumber>(child: &mut Child, done: &Done<N>, rows: usize, reach: &Reach<N>, to: u64) {
+    child.begin(to);
+    for place in 0..reach.count.min(done.columns.len()) {
+        let row = at(done.rows.as_slice(), place);
         let reached = if row == NONE {
-            name(table.rows.saturating_add(room.done_at(place)))
+            let column = at(done.columns.as_slice(), place) as usize;
+            name(rows.saturating_add(column))
         } else {
             row
         };
-        child.note(reached, amount_of(room.reached_at(place)));
+        let distance = value(done.distances.as_slice(), place);
+        child.note(reached, amount_of(distance));
     }
     if reach.spare != NONE {
         child.note(FLOOR, amount_of(reach.spare_distance));
     }
-    child.by = to;
 }
 
 // Whether what follows from a search may be too great for numbers of a width.
@@ -88,21 +84,18 @@ fn grow_in<N: RankNumber>(
     limit: u64,
 ) -> Growth {
     let reach = search(room, table, errand, limit);
-    child.begin();
+    let to = match reach.end {
+        End::Lost | End::Nothing => EMPTY,
+        End::Far => limit,
+        End::Reached => amount_of(reach.distance),
+    };
+    note(child, &room.done, table.rows, &reach, to);
     match reach.end {
         End::Lost => Growth::Lost,
-        End::Nothing => {
-            note(child, room, table, &reach, EMPTY);
-            Growth::Nothing
-        }
-        End::Far => {
-            note(child, room, table, &reach, limit);
-            Growth::Beyond
-        }
+        End::Nothing => Growth::Nothing,
+        End::Far => Growth::Beyond,
         End::Reached => {
-            note(child, room, table, &reach, amount_of(reach.distance));
-            let is_root = shift_path(child, room, table, errand, &reach);
-            if is_root && !is_lost(&reach) {
+            if shift_path(child, &*room, table, errand, &reach) && !is_lost(&reach) {
                 Growth::Reached
             } else {
                 Growth::Lost
@@ -113,29 +106,14 @@ fn grow_in<N: RankNumber>(
 
 impl<N: RankNumber> Bench<N> {
     /// A bench for a table of so many rows, and of a column for each of these rises, without a
-    /// number yet. A column that has no row rose by the floor, or more. The error is want of memory.
-    pub fn make(
-        alloc: Global,
-        rows: usize,
-        rises: &[u64],
-        floor: u64,
-    ) -> Result<Bench<N>, NoMemory> {
-        let table = Table::make(alloc, rows, rises, floor)?;
-        let room = Room::make(alloc, &table)?;
-        let child = Child::make(alloc, rows, rises.len())?;
-        let gaps = vec![in alloc; 0; rows]?;
-        Ok(Bench {
-            table,
-            room,
-            child,
-            gaps,
-        })
-    }
-
-    /// Enters the numbers of a row, and by how much it fell. A number from 2^61 on stands for a
-    /// cell that is absent.
-    pub fn enter(&mut self, row: usize, numbers: &[u64], fall: u64) {
-        self.table.enter(row, numbers, fall);
+    /// number yet. A column that has no row rose by the floor, or more.
+    pub fn make(lists: &mut Lists, rows: usize, rises: &[u64], floor: u64) -> Bench<N> {
+        Bench {
+            table: Table::make(lists, rows, rises, floor),
+            room: Room::make(lists, padded(rises.len())),
+            child: Child::make(lists, rows, rises.len()),
+            gaps: lists.of(0, rows),
+        }
     }
 
     /// Measures how far the children of a part are above it at least, where its row takes none of
@@ -146,11 +124,6 @@ impl<N: RankNumber> Bench<N> {
     pub fn measure(&mut self, parent: Parent<'_>, banned: &[u32]) {
         let gaps = self.gaps.as_mut_slice();
         measure_in(gaps, &mut self.room, &self.table, &parent, banned);
-    }
-
-    /// How far the child by each row is above the part that was measured, from the part's row on.
-    pub fn gaps(&self) -> &[u64] {
-        self.gaps.as_slice()
     }
 
     /// Grows the child of a part in which the rows before one keep their columns, and that row
@@ -168,29 +141,5 @@ impl<N: RankNumber> Bench<N> {
             spare_fall: parent.floor.saturating_sub(self.table.floor),
         };
         grow_in(&mut self.child, &mut self.room, &self.table, &errand, limit)
-    }
-
-    /// The rows that have other columns in the child's answer than in the part's.
-    pub fn moves(&self) -> &[Move] {
-        self.child.moves()
-    }
-
-    /// What was reached on the way: a row, with its column in the part's answer; behind the rows a
-    /// column that no row has; or the floor.
-    ///
-    /// Where the child's row falls further by some amount, up to that by which the bound rose, each
-    /// of these rises or falls further by what its distance leaves of it.
-    pub fn places(&self) -> &[u32] {
-        self.child.places()
-    }
-
-    /// The distance of each of these.
-    pub fn distances(&self) -> &[u64] {
-        self.child.distances()
-    }
-
-    /// By how much the bound of the child is above that of the part.
-    pub fn by(&self) -> u64 {
-        self.child.by
     }
 }

@@ -1,8 +1,6 @@
 //! Children: by what their answers and dual variables differ from those of their part.
 
-use crate::NoMemory;
-use asg_dual_numbers::{NONE, put, put_amount};
-use std::alloc::Global;
+use asg_dual_numbers::{Lists, NONE};
 
 /// By how much a row that a child fixes falls further, and its column rises: by more than any other
 /// row falls.
@@ -23,75 +21,51 @@ pub struct Move {
     pub column: u32,
 }
 
-// What was found of a child.
+/// What was found of a child.
 #[derive(Drop)]
-pub(crate) struct Child {
-    // By how much the bound rose.
+pub struct Child {
+    /// By how much its bound is above that of the part.
     pub by: u64,
-    // What was reached on the way, and how far each is.
-    places: Vec<u32>,
-    distances: Vec<u64>,
-    count: usize,
-    // The rows that have other columns.
-    moves: Vec<Move>,
-    moved: usize,
+    /// What was reached on the way: a row, with its column in the part's answer; behind the rows a
+    /// column that no row has; or the floor.
+    ///
+    /// Where the child's row falls further by some amount, up to that by which the bound rose, each
+    /// of these rises or falls further by what its distance leaves of it.
+    pub places: Vec<u32>,
+    /// The distance of each of these.
+    pub distances: Vec<u64>,
+    /// The rows that have other columns in the child's answer than in the part's.
+    pub moves: Vec<Move>,
 }
 
 impl Child {
-    // Room for a child over so many rows and columns. The error is want of memory.
-    pub(crate) fn make(alloc: Global, rows: usize, columns: usize) -> Result<Child, NoMemory> {
+    // Room for a child over so many rows and columns.
+    pub(crate) fn make(lists: &mut Lists, rows: usize, columns: usize) -> Child {
         let most = columns.saturating_add(1);
-        let nowhere = Move {
-            row: NONE,
-            column: NONE,
-        };
-        Ok(Child {
+        Child {
             by: 0,
-            places: vec![in alloc; NONE; most]?,
-            distances: vec![in alloc; 0; most]?,
-            count: 0,
-            moves: vec![in alloc; nowhere; rows.saturating_add(1)]?,
-            moved: 0,
-        })
+            places: lists.room(most),
+            distances: lists.room(most),
+            moves: lists.room(rows.saturating_add(1)),
+        }
     }
 
-    // Begins with what the part has.
-    pub(crate) fn begin(&mut self) {
-        self.by = 0;
-        self.count = 0;
-        self.moved = 0;
+    // Begins with what the part has, and rises by so much.
+    pub(crate) fn begin(&mut self, by: u64) {
+        self.by = by;
+        self.places.clear();
+        self.distances.clear();
+        self.moves.clear();
     }
 
     // Notes what was reached, and how far it is.
     pub(crate) fn note(&mut self, place: u32, distance: u64) {
-        put(self.places.as_mut_slice(), self.count, place);
-        put_amount(self.distances.as_mut_slice(), self.count, distance);
-        self.count = self.count.saturating_add(1);
+        let _has_room = self.places.push(place).is_ok();
+        let _has_room = self.distances.push(distance).is_ok();
     }
 
     // Gives a row another column.
     pub(crate) fn shift(&mut self, row: u32, column: u32) {
-        if self.moved < self.moves.len() {
-            self.moves[self.moved] = Move { row, column };
-            self.moved += 1;
-        }
-    }
-
-    // What was reached.
-    pub(crate) fn places(&self) -> &[u32] {
-        let places = self.places.as_slice();
-        &places[..self.count.min(places.len())]
-    }
-
-    // How far each of these is.
-    pub(crate) fn distances(&self) -> &[u64] {
-        let distances = self.distances.as_slice();
-        &distances[..self.count.min(distances.len())]
-    }
-
-    // The rows that have other columns.
-    pub(crate) fn moves(&self) -> &[Move] {
-        let moves = self.moves.as_slice();
-        &moves[..self.moved.min(moves.len())]
+        let _has_room = self.moves.push(Move { row, column }).is_ok();
     }
 }

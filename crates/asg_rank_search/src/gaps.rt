@@ -4,7 +4,7 @@ ghost use Rattle.std.specs.Prelude.{◌≡◌, length};
 
 use crate::benches::Parent;
 use crate::numbers::{RankNumber, amount_of, capped, open};
-use crate::rooms::Room;
+use crate::rooms::{Room, number};
 use crate::tables::Table;
 use asg_dual_numbers::{set, value};
 
@@ -33,7 +33,7 @@ fn begin<N: RankNumber>(room: &mut Room<N>, table: &Table<N>, parent: &Parent<'_
 // Goes through a row with this column, which it loses: how far another column of the rows behind it
 // is for it at least, and how far it is for the column to go to one of them.
 fn pass<N: RankNumber>(room: &mut Room<N>, numbers: &[N], own: usize) -> u64 {
-    let fall = room.number(numbers, own);
+    let fall = number(numbers, room.raised.as_slice(), own);
     let of_column = value(room.keys.as_slice(), own);
     let of_row = N::lessen_row(
         numbers,

@@ -11,16 +11,14 @@ mod gaps;
 mod limits;
 mod numbers;
 mod paths;
-mod queues;
 mod rooms;
 mod shifts;
 mod tables;
+mod waiting;
 
 pub use benches::{Bench, Growth, Parent};
-pub use children::{FIXED, FLOOR, Move};
+pub use children::{Child, FIXED, FLOOR, Move};
 pub use limits::Limit;
 pub use numbers::RankNumber;
-pub use queues::{Queue, Waiting};
-
-/// There was not enough memory.
-pub type NoMemory = std::alloc::AllocError;
+pub use tables::Table;
+pub use waiting::Waiting;

@@ -2,12 +2,12 @@
 
 use crate::benches::Parent;
 use crate::numbers::{RankNumber, capped, open};
-use crate::rooms::Room;
+use crate::rooms::{Done, Room, number};
 use crate::tables::Table;
-use asg_dual_numbers::{NONE, name, value};
+use asg_dual_numbers::{NONE, at, name, set, value};
 
 // How a search ended, and at which distance.
-#[derive(Clone, Copy)]
+#[derive(Drop)]
 pub(crate) struct Reach<N: RankNumber> {
     pub end: End,
     pub distance: N,
@@ -48,44 +48,49 @@ pub(crate) struct Errand<'a> {
     pub spare_fall: u64,
 }
 
+// Lets the columns of a list have a key.
+fn put_keys<N: RankNumber>(keys: &mut [N], columns: &[u32], key: N) {
+    for place in 0..columns.len() {
+        set(keys, columns[place] as usize, key);
+    }
+}
+
 // Opens a search; how much its row fell since first.
 fn begin<N: RankNumber>(room: &mut Room<N>, table: &Table<N>, errand: &Errand<'_>) -> N {
-    let columns = errand.parent.columns;
     room.take(table, &errand.parent);
     let numbers = table.row(errand.root);
-    let fall = room.number(numbers, errand.target);
-    open(
-        numbers,
-        room.raised.as_slice(),
-        room.keys.as_mut_slice(),
-        fall,
-    );
-    room.shut(&columns[..errand.root.min(columns.len())]);
-    room.shut_rest(table.columns);
-    for place in 0..errand.banned.len() {
-        room.bar(errand.banned[place] as usize);
+    let raised = room.raised.as_slice();
+    let fall = number(numbers, raised, errand.target);
+    let keys = room.keys.as_mut_slice();
+    open(numbers, raised, keys, fall);
+    let columns = errand.parent.columns;
+    put_keys(keys, &columns[..errand.root.min(columns.len())], N::done());
+    for column in table.columns..table.wide {
+        set(keys, column, N::done());
     }
-    room.bar(errand.target);
+    put_keys(keys, errand.banned, N::greatest());
+    set(keys, errand.target, N::greatest());
     fall
 }
 
-// Takes all columns that no row has as done, at a distance, and goes on to those that may take
-// their place. Gives the least key, less one.
-fn enter_spare<N: RankNumber>(
-    room: &mut Room<N>,
-    table: &Table<N>,
-    fall: N,
+// Takes all columns that no row has as done, at a distance, behind so many. How many are done then.
+fn note_spare<N: RankNumber>(
+    done: &mut Done<N>,
+    keys: &mut [N],
+    row_of: &[u32],
+    columns: usize,
     distance: N,
-    reach: &mut Reach<N>,
-) -> N {
-    for column in 0..table.columns {
-        if room.row_at(column) == NONE && N::done().is_less(value(room.keys.as_slice(), column)) {
-            room.note(reach.count, column, distance);
-            room.note_row(reach.count, NONE, distance);
-            reach.count = reach.count.saturating_add(1);
+    count: usize,
+) -> usize {
+    let mut count = count;
+    for column in 0..columns {
+        if at(row_of, column) == NONE && N::done().is_less(value(&*keys, column)) {
+            done.note(count, column, distance, NONE, distance);
+            set(keys, column, N::done());
+            count = count.saturating_add(1);
         }
     }
-    room.relax(table.row(table.rows), fall.minus(distance))
+    count
 }
 
 // Why a search ends at which all that is left is as far as the limit, or further.
@@ -102,6 +107,28 @@ fn end_at<N: RankNumber>(table: &Table<N>, least: N, limit: u64) -> End {
     }
 }
 
+// Takes the columns that no row has as done, with the nearest of these, and goes on to those that may
+// take their place. Gives the least key, less one.
+fn step_spare<N: RankNumber>(
+    room: &mut Room<N>,
+    table: &Table<N>,
+    spare_fall: u64,
+    reach: &mut Reach<N>,
+    column: usize,
+    distance: N,
+) -> N {
+    reach.spare = name(column);
+    reach.spare_distance = distance;
+    reach.spare_place = reach.count;
+    let keys = room.keys.as_mut_slice();
+    let row_of = room.row_of.as_slice();
+    let columns = table.columns;
+    reach.count = note_spare(&mut room.done, keys, row_of, columns, distance, reach.count);
+    let fall: N = capped(spare_fall);
+    let base = fall.minus(distance);
+    N::relax_row(table.row(table.rows), room.raised.as_slice(), keys, base)
+}
+
 // Takes the nearest column as done, and goes on to what its row reaches. Gives the least key, less
 // one.
 fn step<N: RankNumber>(
@@ -112,24 +139,22 @@ fn step<N: RankNumber>(
     distance: N,
 ) -> N {
     let column = N::find_key(room.keys.as_slice(), distance);
-    let row = room.row_at(column);
+    let row = at(room.row_of.as_slice(), column);
     if row == NONE {
-        reach.spare = name(column);
-        reach.spare_distance = distance;
-        reach.spare_place = reach.count;
-        let fall = capped(errand.spare_fall);
-        return enter_spare(room, table, fall, distance, reach);
+        return step_spare(room, table, errand.spare_fall, reach, column, distance);
     }
-    room.note(reach.count, column, distance);
     let numbers = table.row(row as usize);
-    let fall = room.number(numbers, column);
+    let raised = room.raised.as_slice();
+    let fall = number(numbers, raised, column);
     if reach.fall.is_less(fall) {
         reach.fall = fall;
     }
     let less = fall.minus(distance);
-    room.note_row(reach.count, row, less);
+    room.done.note(reach.count, column, distance, row, less);
     reach.count = reach.count.saturating_add(1);
-    room.relax(numbers, less)
+    let keys = room.keys.as_mut_slice();
+    set(keys, column, N::done());
+    N::relax_row(numbers, raised, keys, less)
 }
 
 // A search before its first step, within a limit.

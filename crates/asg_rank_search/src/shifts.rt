@@ -3,12 +3,12 @@
 use crate::children::Child;
 use crate::numbers::{RankNumber, capped};
 use crate::paths::{Errand, Reach};
-use crate::rooms::Room;
+use crate::rooms::{Done, Room, number};
 use crate::tables::Table;
-use asg_dual_numbers::{NONE, name, value};
+use asg_dual_numbers::{NONE, at, name, value};
 
 // A column of a path: its distance, and how many columns were done before it.
-#[derive(Clone, Copy)]
+#[derive(Drop)]
 struct Stop<N: RankNumber> {
     column: usize,
     distance: N,
@@ -31,10 +31,10 @@ fn is_from_root<N: RankNumber>(
     table: &Table<N>,
     errand: &Errand<'_>,
     reach: &Reach<N>,
-    stop: Stop<N>,
+    stop: &Stop<N>,
 ) -> bool {
-    let number = room.number(table.row(errand.root), stop.column);
-    let distance = number.minus(reach.root_fall);
+    let numbers = table.row(errand.root);
+    let distance = number(numbers, room.raised.as_slice(), stop.column).minus(reach.root_fall);
     !stop.distance.is_less(distance)
         && stop.column != errand.target
         && !is_among(errand.banned, stop.column)
@@ -47,42 +47,44 @@ fn is_within<N: RankNumber>(number: N, less: N, rest: N) -> bool {
     !rest.is_less(number.minus(less))
 }
 
-// The row from which a column is reached, with its own column; the row behind the last one stands
-// for the columns that no row has.
+// The row from which a column is reached, with its own column, `None` where there is none; the row
+// behind the last one stands for the columns that no row has.
 fn row_before<N: RankNumber>(
     room: &Room<N>,
     table: &Table<N>,
     errand: &Errand<'_>,
     reach: &Reach<N>,
-    stop: Stop<N>,
-) -> (u32, Stop<N>) {
+    stop: &Stop<N>,
+) -> Option<(u32, Stop<N>)> {
     let rest = stop
         .distance
         .minus(value(room.raised.as_slice(), stop.column));
-    for place in 0..stop.before.min(room.done.len()) {
-        let row = room.left_at(place);
+    let done = &room.done;
+    for place in 0..stop.before.min(done.columns.len()) {
+        let row = at(done.rows.as_slice(), place);
         if row != NONE {
             let number = table.number(row as usize, stop.column);
-            if is_within(number, room.less_at(place), rest) {
-                return (row, stop_at(room, place, place));
+            if is_within(number, value(done.less.as_slice(), place), rest) {
+                return Some((row, stop_at(done, place, place)));
             }
-        } else if room.done_at(place) == reach.spare as usize {
+        } else if at(done.columns.as_slice(), place) == reach.spare {
             let number = table.number(table.rows, stop.column);
             let fall: N = capped(errand.spare_fall);
-            let less = fall.minus(room.reached_at(place));
+            let less = fall.minus(value(done.distances.as_slice(), place));
             if is_within(number, less, rest) {
-                return (name(table.rows), stop_at(room, place, reach.spare_place));
+                let before = reach.spare_place;
+                return Some((name(table.rows), stop_at(done, place, before)));
             }
         }
     }
-    (NONE, stop)
+    None
 }
 
 // The column that was done at a place, so many before it.
-fn stop_at<N: RankNumber>(room: &Room<N>, place: usize, before: usize) -> Stop<N> {
+fn stop_at<N: RankNumber>(done: &Done<N>, place: usize, before: usize) -> Stop<N> {
     Stop {
-        column: room.done_at(place),
-        distance: room.reached_at(place),
+        column: at(done.columns.as_slice(), place) as usize,
+        distance: value(done.distances.as_slice(), place),
         before,
     }
 }
@@ -102,14 +104,13 @@ pub(crate) fn shift_path<N: RankNumber>(
         before: reach.count,
     };
     for _ in 0..table.rows.saturating_add(1) {
-        if is_from_root(room, table, errand, reach, stop) {
+        if is_from_root(room, table, errand, reach, &stop) {
             child.shift(name(errand.root), name(stop.column));
             return true;
         }
-        let (row, next) = row_before(room, table, errand, reach, stop);
-        if row == NONE {
+        let Some((row, next)) = row_before(room, table, errand, reach, &stop) else {
             return false;
-        }
+        };
         child.shift(row, name(stop.column));
         stop = next;
     }

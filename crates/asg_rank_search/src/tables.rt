@@ -1,27 +1,25 @@
 //! Tables of numbers less the first dual variables.
 
-use crate::NoMemory;
 use crate::numbers::{RankNumber, capped};
-use asg_dual_numbers::{padded, set, value};
-use std::alloc::Global;
+use asg_dual_numbers::{Lists, padded, set, value};
 
 // From where a number stands for a cell that is absent.
 const ABSENT: u64 = 1 << 61;
 
-// A table, row by row; each row has `wide` places, of which the first `columns` are cells: numbers
-// with what their column rose and less what their row fell at first. Behind the last row stands the
-// row of the columns that no row has.
+/// A table, row by row; each row has so many places, of which the first ones are cells: numbers with
+/// what their column rose and less what their row fell at first. Behind the last row stands the row
+/// of the columns that no row has.
 #[derive(Drop)]
-pub(crate) struct Table<N: RankNumber> {
+pub struct Table<N: RankNumber> {
     // How many rows there are, but for the last one.
-    pub rows: usize,
-    pub columns: usize,
-    pub wide: usize,
+    pub(crate) rows: usize,
+    pub(crate) columns: usize,
+    pub(crate) wide: usize,
     // Whether each number that was entered is less than what stands for an absent one.
-    pub is_exact: bool,
+    pub(crate) is_exact: bool,
     // What each column rose at first, and those without a row.
-    pub bases: Vec<u64>,
-    pub floor: u64,
+    pub(crate) bases: Vec<u64>,
+    pub(crate) floor: u64,
     cells: Vec<N>,
 }
 
@@ -43,23 +41,18 @@ fn write_cells<N: RankNumber>(cells: &mut [N], numbers: &[u64], rises: &[u64], f
 
 impl<N: RankNumber> Table<N> {
     // A table of so many rows, and of a column for each of these rises, without a number yet but
-    // for those of the last row: 0 everywhere. The error is want of memory.
-    pub(crate) fn make(
-        alloc: Global,
-        rows: usize,
-        rises: &[u64],
-        floor: u64,
-    ) -> Result<Table<N>, NoMemory> {
+    // for those of the last row: 0 everywhere.
+    pub(crate) fn make(lists: &mut Lists, rows: usize, rises: &[u64], floor: u64) -> Table<N> {
         let columns = rises.len();
         let wide = padded(columns);
         let last = rows.saturating_mul(wide);
-        let bases = Vec::from_slice(alloc, rises)?;
-        let mut cells = vec![in alloc; N::far(); last.saturating_add(wide)]?;
+        let bases = lists.copy_of(rises);
+        let mut cells = lists.of(N::far(), last.saturating_add(wide));
         for column in 0..columns {
             let rest = capped(rises[column].saturating_sub(floor));
             set(cells.as_mut_slice(), last.wrapping_add(column), rest);
         }
-        Ok(Table {
+        Table {
             rows,
             columns,
             wide,
@@ -67,7 +60,7 @@ impl<N: RankNumber> Table<N> {
             bases,
             floor,
             cells,
-        })
+        }
     }
 
     // The numbers of a row, nothing where there is no such row.
@@ -89,8 +82,9 @@ impl<N: RankNumber> Table<N> {
         value(self.cells.as_slice(), place)
     }
 
-    // Enters a row.
-    pub(crate) fn enter(&mut self, row: usize, numbers: &[u64], fall: u64) {
+    /// Enters the numbers of a row, and by how much it fell. A number from 2^61 on stands for a cell
+    /// that is absent.
+    pub fn enter(&mut self, row: usize, numbers: &[u64], fall: u64) {
         let first = row.wrapping_mul(self.wide);
         let end = first.wrapping_add(self.wide);
         if first <= end && end <= self.cells.len() {

@@ -1,9 +1,9 @@
 //! What a search found: answers that were given, and children that were grown.
 
-use crate::NoMemory;
-use crate::kept_children::Kept;
+use crate::kept_children::{Kept, Seed};
 use crate::settled::Settled;
-use asg_rank_search::{Bench, RankNumber};
+use asg_dual_numbers::{Lists, at};
+use asg_rank_search::Child;
 use std::alloc::Global;
 
 /// The answers that were given, each with its sum, and the children that were grown.
@@ -35,58 +35,58 @@ pub(crate) fn begin_anew(found: &mut Found) {
     }
 }
 
-/// Keeps a child that a bench has grown from an answer by a row. Gives its place. The error is want
-/// of memory.
-pub(crate) fn keep<N: RankNumber>(
+/// Keeps a child that was grown from an answer by a row. Gives its place.
+pub(crate) fn keep(
+    lists: &mut Lists,
     found: &mut Found,
-    bench: &Bench<N>,
+    grown: &Child,
     sum: u64,
     parent: usize,
     row: usize,
-) -> Result<usize, NoMemory> {
+) -> usize {
     let place = found.kept.count();
-    found.kept.push(bench, sum, parent, row)?;
+    found.kept.push(lists, grown, sum, parent, row);
     if let Some(branch) = found.branches.get_mut(parent) {
         branch.note_shown(row, place.saturating_add(1));
     }
-    Ok(place)
+    place
 }
 
 // What the child by a row of an answer's part bans for that row.
-fn banned_of(alloc: Global, branch: &Settled, row: usize) -> Result<Vec<u32>, NoMemory> {
-    let mut banned = Vec::new(alloc);
-    if let Some(column) = branch.columns().get(row) {
-        banned.push(*column)?;
-    }
+fn banned_of(lists: &mut Lists, branch: &Settled, row: usize) -> Vec<u32> {
+    let own = at(branch.columns(), row);
+    let mut banned = lists.of(own, 1);
     if row == branch.row() {
-        banned.extend_from_slice(branch.banned())?;
+        lists.append(&mut banned, branch.banned());
     }
-    Ok(banned)
+    banned
 }
 
-/// Gives the answer of a child. Gives its place; `None` where there is none. The error is want of
-/// memory.
-pub(crate) fn give(
-    alloc: Global,
-    found: &mut Found,
+// The answer of a child with its part.
+fn settled_of(
+    lists: &mut Lists,
+    kept: &Kept,
+    before: &Settled,
     child: usize,
-) -> Result<Option<usize>, NoMemory> {
+    seed: Seed,
+) -> Settled {
+    let row = seed.row as usize;
+    let mut columns = lists.copy_of(before.columns());
+    kept.shift(child, columns.as_mut_slice());
+    let mut amounts = before.amounts().again(lists);
+    kept.write(child, before, seed.bound, &mut amounts);
+    let banned = banned_of(lists, before, row);
+    Settled::of(lists, columns, seed.parent as usize, row, banned, amounts)
+}
+
+/// Gives the answer of a child. Gives its place; `None` where there is none.
+pub(crate) fn give(lists: &mut Lists, found: &mut Found, child: usize) -> Option<usize> {
     let place = found.branches.len();
-    let Some(seed) = found.kept.get(child) else {
-        return Ok(None);
-    };
-    let (parent, row) = (seed.parent as usize, seed.row as usize);
-    let Some(before) = found.branches.get_mut(parent) else {
-        return Ok(None);
-    };
-    let mut columns = Vec::from_slice(alloc, before.columns())?;
-    found.kept.shift(child, columns.as_mut_slice());
-    let mut amounts = before.amounts().again(alloc)?;
-    found.kept.write(child, before, seed.bound, &mut amounts);
-    let banned = banned_of(alloc, before, row)?;
-    before.note_child(row, place);
-    let settled = Settled::of(alloc, columns, parent, row, banned, amounts)?;
-    found.branches.push(settled)?;
-    found.sums.push(seed.bound)?;
-    Ok(Some(place))
+    let seed = found.kept.get(child)?;
+    let before = found.branches.get_mut(seed.parent as usize)?;
+    before.note_child(seed.row as usize, place);
+    let settled = settled_of(lists, &found.kept, &*before, child, seed);
+    lists.is_short |= found.branches.push(settled).is_err();
+    lists.push(&mut found.sums, seed.bound);
+    Some(place)
 }

@@ -2,10 +2,9 @@
 
 ghost use Rattle.std.specs.Prelude.{◌≡◌, length};
 
-use crate::NoMemory;
 use crate::settled::{Amounts, Settled};
-use asg_dual_numbers::{at, name, put};
-use asg_rank_search::{Bench, FLOOR, Move, RankNumber};
+use asg_dual_numbers::{Lists, at, name, put};
+use asg_rank_search::{Child, FLOOR, Move};
 use std::alloc::Global;
 
 /// A child by a row of the part of an answer.
@@ -65,28 +64,27 @@ impl Kept {
         self.seeds.get(child).copied()
     }
 
-    /// Keeps a child that a bench has grown from the answer at a place by a row. The error is want
-    /// of memory.
-    pub(crate) fn push<N: RankNumber>(
+    /// Keeps a child that was grown from the answer at a place by a row.
+    pub(crate) fn push(
         &mut self,
-        bench: &Bench<N>,
+        lists: &mut Lists,
+        child: &Child,
         sum: u64,
         parent: usize,
         row: usize,
-    ) -> Result<(), NoMemory> {
+    ) {
         let seed = Seed {
-            bound: sum.saturating_add(bench.by()),
-            by: bench.by(),
+            bound: sum.saturating_add(child.by),
+            by: child.by,
             parent: name(parent),
             row: name(row),
             reached: name(self.places.len()),
             moved: name(self.moves.len()),
         };
-        self.seeds.push(seed)?;
-        self.places.extend_from_slice(bench.places())?;
-        self.distances.extend_from_slice(bench.distances())?;
-        self.moves.extend_from_slice(bench.moves())?;
-        Ok(())
+        lists.push(&mut self.seeds, seed);
+        lists.append(&mut self.places, child.places.as_slice());
+        lists.append(&mut self.distances, child.distances.as_slice());
+        lists.append(&mut self.moves, child.moves.as_slice());
     }
 
     // Where what was reached from a child on ends in the lists.

@@ -13,17 +13,19 @@ ghost use Rattle.asg_sum_ranks.specs.RankedSums.{AreEnds};
 use crate::NoMemory;
 use crate::found::Found;
 use crate::grounds::Ground;
+use crate::kept_children::Kept;
 use crate::ranking_tests::is_ranking;
 use crate::roots::root;
 use crate::searches::search;
 use crate::settled::{Settled, at};
 use asg_dual_bounds::laws::listed_law;
 use asg_dual_bounds::sum_of;
+use asg_dual_numbers::Lists;
 use asg_model::{Choice, Instance, Objective};
-use std::alloc::Global;
+use std::alloc::{AllocError, Global};
 
 /// The first and the last answer of a ranking.
-#[derive(Debug, Drop)]
+#[derive(Drop)]
 pub struct RankedSums {
     /// The first answer, one of the least sum.
     pub first: Choice,
@@ -64,6 +66,43 @@ fn ends_of(
     Ok(RankedSums { first, last })
 }
 
+// Whether answers with the children that were kept are a ranking. The error is want of memory.
+fn are_ranked(
+    alloc: Global,
+    ground: &Ground<'_>,
+    branches: &[Settled],
+    kept: &Kept,
+    count: usize,
+) -> Result<bool, NoMemory>
+    requires { 1 ≤ length branches.now }
+    ensures { IfOk result (λ are. IsTrue are → IsSumRanking ground.now.objective
+        ground.now.inst.now count (answers_of branches.now)) }
+{
+    let mut lists = Lists::new(alloc);
+    let mut marks = lists.of(0, ground.table.columns());
+    let mut leasts = lists.of(0, ground.table.columns());
+    let mut gaps = lists.of(0, ground.table.rows());
+    let mut room = at(branches, 0).amounts().again(&mut lists);
+    let are = is_ranking(
+        ground,
+        branches,
+        kept,
+        &mut room,
+        count,
+        marks.as_mut_slice(),
+        leasts.as_mut_slice(),
+        gaps.as_mut_slice(),
+    );
+    drop(room);
+    drop(gaps);
+    drop(leasts);
+    drop(marks);
+    if lists.is_short {
+        return Err(AllocError);
+    }
+    Ok(are)
+}
+
 // What was found, where it is a ranking. The error is want of memory.
 fn tested(
     alloc: Global,
@@ -75,45 +114,37 @@ fn tested(
     ensures { IfOk result (λ found. IfSome found (λ ends. AreEnds ground.now.objective
         ground.now.inst.now count ends.first ends.last)) }
 {
-    let mut marks = vec![in alloc; 0; ground.table.columns()]?;
-    let mut leasts = vec![in alloc; 0; ground.table.columns()]?;
-    let mut gaps = vec![in alloc; 0; ground.table.rows()]?;
     let branches = found.branches.as_slice();
     if branches.len() != count || count == 0 {
         return Ok(None);
     }
-    let mut room = at(branches, 0).amounts().again(alloc)?;
-    if !is_ranking(
-        ground,
-        branches,
-        &found.kept,
-        &mut room,
-        count,
-        marks.as_mut_slice(),
-        leasts.as_mut_slice(),
-        gaps.as_mut_slice(),
-    ) {
+    if !are_ranked(alloc, ground, branches, &found.kept, count)? {
         return Ok(None);
     }
     let ends = ends_of(alloc, ground, branches, count)?;
     Ok(Some(ends))
 }
 
-// What a search finds from the first answer on. The error is want of memory.
-fn searched(alloc: Global, ground: &Ground<'_>, count: usize) -> Result<Option<Found>, NoMemory>
+// Searches from the first answer on. Gives whether as many were found. The error is want of memory.
+fn is_searched(
+    alloc: Global,
+    ground: &Ground<'_>,
+    found: &mut Found,
+    count: usize,
+) -> Result<bool, NoMemory>
     requires objective { IsTrue (is_narrow_objective ground.now.objective) }
     requires side { square_side ground.now.inst.now ≤ most_side }
     requires passes { PassesNegative ground.now.objective ground.now.inst.now }
 {
     let (rows, columns) = (ground.table.rows(), ground.table.columns());
     let Some(root) = root(alloc, ground.objective, ground.inst, rows, columns)? else {
-        return Ok(None);
+        return Ok(false);
     };
     if root.columns().len() != rows {
-        return Ok(None);
+        return Ok(false);
     }
     let sum = sum_of(&ground.table, root.columns());
-    search(alloc, ground, root, sum, count)
+    search(alloc, ground, found, root, sum, count)
 }
 
 /// The first and the last answer of a ranking of so many choices by `sum` or `sum-max`; `None`
@@ -139,8 +170,9 @@ pub fn ranked_sums(
     let Some(ground) = Ground::of(alloc, objective, inst)? else {
         return Ok(None);
     };
-    let Some(found) = searched(alloc, &ground, count as usize)? else {
+    let mut found = Found::make(alloc);
+    if !is_searched(alloc, &ground, &mut found, count as usize)? {
         return Ok(None);
-    };
+    }
     tested(alloc, &ground, &found, count as usize)
 }

@@ -39,7 +39,9 @@ fn last_sum(ground: &Ground<'_>, branches: &[Settled]) -> Option<u64>
     Some(last)
 }
 
-/// Whether the answers are a ranking of so many by their sums.
+/// Whether the answers are a ranking of so many by their sums. It stands by itself in the program, where
+/// its lists are known to lie apart: written into its caller it takes three times as long.
+#[inline(never)]
 pub(crate) fn is_ranking(
     ground: &Ground<'_>,
     branches: &[Settled],

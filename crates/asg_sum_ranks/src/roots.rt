@@ -6,6 +6,7 @@ ghost use Rattle.asg_model.specs.Shapes.{square_side};
 
 use crate::NoMemory;
 use crate::settled::{Amounts, Settled};
+use asg_dual_numbers::Lists;
 use asg_duals::{Duals, sum_square, tight_duals};
 use asg_model::{Instance, Objective};
 use std::alloc::Global;
@@ -22,16 +23,9 @@ fn square_duals(
     requires { square_side inst.now ≤ most_side }
 {
     let square = sum_square(alloc, objective, inst)?;
-    tight_duals(alloc, &square)
-}
-
-// A list, each with so much more.
-fn raised(alloc: Global, amounts: &[u64], more: u64) -> Result<Vec<u64>, NoMemory> {
-    let mut raised = Vec::from_slice(alloc, amounts)?;
-    for amount in raised.iter_mut() {
-        *amount = (*amount).wrapping_add(more);
-    }
-    Ok(raised)
+    let duals = tight_duals(alloc, &square);
+    drop(square);
+    duals
 }
 
 // What columns may rise by more where each has a row, so that none is near the floor: half of what
@@ -41,16 +35,17 @@ fn above_floor(rises: &[u64]) -> u64 {
     QUICK_RISE.saturating_sub(most) / 2
 }
 
-// The amounts of so many rows and columns, of those of their square.
-fn amounts_of(
+// The first answer of so many rows and columns, by dual variables of their square.
+fn root_of(
     alloc: Global,
     duals: &Duals,
     rows: usize,
     columns: usize,
-) -> Result<Option<Amounts>, NoMemory> {
+) -> Result<Option<Settled>, NoMemory> {
+    let own = duals.columns();
     let falls = duals.falls();
     let rises = duals.rises();
-    if rises.len() != columns || falls.len() < rows || columns < rows {
+    if rises.len() != columns || columns < rows || falls.len() < rows || own.len() < rows {
         return Ok(None);
     }
     let (more, floor) = if rows < columns && rows < falls.len() {
@@ -58,10 +53,12 @@ fn amounts_of(
     } else {
         (above_floor(rises), 0)
     };
-    let falls = raised(alloc, &falls[..rows], more)?;
-    let rises = raised(alloc, rises, more)?;
-    let amounts = Amounts::of(alloc, falls.as_slice(), rises.as_slice(), floor)?;
-    Ok(Some(amounts))
+    let mut lists = Lists::new(alloc);
+    let mut amounts = Amounts::of(&mut lists, &falls[..rows], rises, floor);
+    amounts.raise_all(more);
+    let own = lists.copy_of(&own[..rows]);
+    let root = Settled::of(&mut lists, own, 0, 0, Vec::new(alloc), amounts);
+    Ok(Some(lists.whole(root)?))
 }
 
 /// The first answer of an instance of so many rows and columns, guessed with amounts; `None` where
@@ -75,16 +72,8 @@ pub(crate) fn root(
 ) -> Result<Option<Settled>, NoMemory>
     requires { square_side inst.now ≤ most_side }
 {
-    let Some(duals) = square_duals(alloc, objective, inst)? else {
-        return Ok(None);
-    };
-    let Some(amounts) = amounts_of(alloc, &duals, rows, columns)? else {
-        return Ok(None);
-    };
-    if duals.columns().len() < rows {
-        return Ok(None);
+    match square_duals(alloc, objective, inst)? {
+        Some(duals) => root_of(alloc, &duals, rows, columns),
+        None => Ok(None),
     }
-    let columns = Vec::from_slice(alloc, &duals.columns()[..rows])?;
-    let root = Settled::of(alloc, columns, 0, 0, Vec::new(alloc), amounts)?;
-    Ok(Some(root))
 }

@@ -5,8 +5,8 @@ use crate::found::{Found, begin_anew, give, keep};
 use crate::grounds::Ground;
 use crate::settled::Settled;
 use asg_dual_bounds::ABSENT;
-use asg_dual_numbers::name;
-use asg_rank_search::{Bench, Growth, Limit, Parent, Queue, RankNumber, Waiting};
+use asg_dual_numbers::{Heap, Lists, amount, name};
+use asg_rank_search::{Bench, Growth, Limit, Parent, RankNumber, Table, Waiting};
 use std::alloc::Global;
 
 // Names of children that were grown, in the queue, are their places and this.
@@ -20,7 +20,7 @@ const MOST_GAP: u64 = 1 << 28;
 #[derive(Drop)]
 struct Tools<N: RankNumber> {
     bench: Bench<N>,
-    queue: Queue,
+    queue: Heap<Waiting>,
     limit: Limit,
 }
 
@@ -46,6 +46,19 @@ fn widen(numbers: &mut [u64], row: &[u32]) {
     }
 }
 
+// Enters the numbers of a ground, less what rows fall at first.
+fn enter_all<N: RankNumber>(
+    table: &mut Table<N>,
+    numbers: &mut [u64],
+    ground: &Ground<'_>,
+    falls: &[u64],
+) {
+    for row in 0..ground.table.rows() {
+        widen(numbers, ground.table.row(row));
+        table.enter(row, &*numbers, amount(falls, row));
+    }
+}
+
 // The tools for answers of a ground from the first one on. The error is want of memory.
 fn tools_of<N: RankNumber>(
     alloc: Global,
@@ -55,19 +68,17 @@ fn tools_of<N: RankNumber>(
 ) -> Result<Tools<N>, NoMemory> {
     let amounts = root.amounts();
     let rows = ground.table.rows();
-    let mut bench = Bench::make(alloc, rows, amounts.rises(), amounts.floor())?;
-    let mut numbers = vec![in alloc; 0; ground.table.columns()]?;
-    for row in 0..rows {
-        let fall = amounts.falls().get(row).copied().unwrap_or(0);
-        widen(numbers.as_mut_slice(), ground.table.row(row));
-        bench.enter(row, numbers.as_slice(), fall);
-    }
-    let limit = Limit::make(alloc, count)?;
-    Ok(Tools {
-        bench,
-        queue: Queue::make(alloc),
-        limit,
-    })
+    let mut lists = Lists::new(alloc);
+    let mut tools = Tools {
+        bench: Bench::make(&mut lists, rows, amounts.rises(), amounts.floor()),
+        queue: Heap::of(Vec::new(alloc)),
+        limit: Limit::make(&mut lists, count),
+    };
+    let mut numbers = lists.of(0, ground.table.columns());
+    let table = &mut tools.bench.table;
+    enter_all(table, numbers.as_mut_slice(), ground, amounts.falls());
+    drop(numbers);
+    lists.whole(tools)
 }
 
 // An answer's part, as benches take it.
@@ -81,37 +92,43 @@ fn parent_of(branch: &Settled, place: usize) -> Parent<'_> {
     }
 }
 
+// Has something wait that is kept under a name, where there is room for that.
+fn wait<N: RankNumber>(lists: &mut Lists, tools: &mut Tools<N>, bound: u64, name: usize) {
+    let name = name as u64;
+    if name < 1 << 32 {
+        let name = name as u32;
+        lists.is_short |= tools.queue.push(Waiting { bound, name }).is_err();
+    }
+}
+
 // Has the children of an answer that was given wait, each with its bound, where that is below the
-// limit. The error is want of memory.
+// limit.
 fn wait_children<N: RankNumber>(
+    lists: &mut Lists,
     branches: &[Settled],
     place: usize,
     sum: u64,
     tools: &mut Tools<N>,
-) -> Result<(), NoMemory> {
+) {
     let Some(branch) = branches.get(place) else {
-        return Ok(());
+        return;
     };
-    if tools.limit.limit() <= sum {
-        return Ok(());
+    let limit = tools.limit.limit();
+    if limit <= sum {
+        return;
     }
     tools
         .bench
         .measure(parent_of(branch, place), branch.banned());
     let rows = branch.columns().len();
-    let limit = tools.limit.limit();
     for row in branch.row()..rows {
-        let gap = tools.bench.gaps().get(row).copied().unwrap_or(0);
+        let gap = amount(tools.bench.gaps.as_slice(), row);
         let bound = sum.saturating_add(gap.min(MOST_GAP));
         let name = place.saturating_mul(rows).saturating_add(row);
         if bound < limit && name < GROWN as usize {
-            tools.queue.push(Waiting {
-                bound,
-                name: name as u32,
-            })?;
+            wait(lists, tools, bound, name);
         }
     }
-    Ok(())
 }
 
 // Grows the child by a row of an answer's part.
@@ -137,62 +154,59 @@ fn grow<N: RankNumber>(
     tools.bench.grow(parent, row, banned, room)
 }
 
-// Keeps a child that was grown to its best answer, and has it wait. The error is want of memory.
+// Keeps a child that was grown to its best answer, and has it wait.
 fn keep_reached<N: RankNumber>(
+    lists: &mut Lists,
     found: &mut Found,
     tools: &mut Tools<N>,
     sum: u64,
     place: usize,
     row: usize,
-) -> Result<(), NoMemory> {
-    let seed = keep(found, &tools.bench, sum, place, row)?;
-    let sum = sum.saturating_add(tools.bench.by());
+) {
+    let seed = keep(lists, found, &tools.bench.child, sum, place, row);
+    let sum = sum.saturating_add(tools.bench.child.by);
     tools.limit.put(sum);
     if seed < GROWN as usize {
-        tools.queue.push(Waiting {
-            bound: sum,
-            name: seed as u32 + GROWN,
-        })?;
+        wait(lists, tools, sum, seed.saturating_add(GROWN as usize));
     }
-    Ok(())
 }
 
 // Grows the child by a row of the part of the answer at a place, and keeps it. Gives whether its
-// numbers did. The error is want of memory.
+// numbers did.
 fn visit<N: RankNumber>(
+    lists: &mut Lists,
     found: &mut Found,
     tools: &mut Tools<N>,
     place: usize,
     row: usize,
-) -> Result<bool, NoMemory> {
-    let sum = found.sums.get(place).copied().unwrap_or(0);
+) -> bool {
+    let sum = amount(found.sums.as_slice(), place);
     let Some(branch) = found.branches.get(place) else {
-        return Ok(false);
+        return false;
     };
     match grow(branch, place, sum, row, tools) {
-        Growth::Reached => keep_reached(found, tools, sum, place, row)?,
+        Growth::Reached => keep_reached(lists, found, tools, sum, place, row),
         Growth::Beyond | Growth::Nothing => {
-            keep(found, &tools.bench, sum, place, row)?;
+            keep(lists, found, &tools.bench.child, sum, place, row);
         }
-        Growth::Lost => return Ok(false),
+        Growth::Lost => return false,
     }
-    Ok(true)
+    true
 }
 
-// Gives the answer of a child that was grown, whose own children then wait. The error is want of
-// memory.
+// Gives the answer of a child that was grown, whose own children then wait. Whether there is one.
 fn give_next<N: RankNumber>(
-    alloc: Global,
+    lists: &mut Lists,
     found: &mut Found,
     tools: &mut Tools<N>,
     seed: usize,
-) -> Result<bool, NoMemory> {
-    let Some(place) = give(alloc, found, seed)? else {
-        return Ok(false);
+) -> bool {
+    let Some(place) = give(lists, found, seed) else {
+        return false;
     };
-    let sum = found.sums.get(place).copied().unwrap_or(0);
-    wait_children(found.branches.as_slice(), place, sum, tools)?;
-    Ok(true)
+    let sum = amount(found.sums.as_slice(), place);
+    wait_children(lists, found.branches.as_slice(), place, sum, tools);
+    true
 }
 
 // How often a search for so many answers over so many rows takes something that waits: each answer
@@ -204,34 +218,34 @@ fn most_turns(count: usize, rows: usize) -> usize {
         .saturating_add(1)
 }
 
-// Takes what waits with the least bound, until as many answers were given as were asked for. The
-// error is want of memory.
+// Takes what waits with the least bound, until as many answers were given as were asked for, or
+// memory is wanting.
 fn run<N: RankNumber>(
-    alloc: Global,
+    lists: &mut Lists,
     found: &mut Found,
     tools: &mut Tools<N>,
     count: usize,
-) -> Result<End, NoMemory> {
+) -> End {
     let rows = found.branches.get(0).map_or(1, |root| root.columns().len());
     let rows = rows.max(1);
     'turns: for _ in 0..most_turns(count, rows) {
-        if count <= found.branches.len() {
-            return Ok(End::Full);
+        if count <= found.branches.len() || lists.is_short {
+            return End::Full;
         }
         let Some(next) = tools.queue.pop() else {
-            return Ok(End::Spent);
+            return End::Spent;
         };
         let good = if next.name >= GROWN {
-            give_next(alloc, found, tools, (next.name - GROWN) as usize)?
+            give_next(lists, found, tools, (next.name - GROWN) as usize)
         } else {
             let name = next.name as usize;
-            visit(found, tools, name / rows, name % rows)?
+            visit(lists, found, tools, name / rows, name % rows)
         };
         if !good {
-            return Ok(End::Lost);
+            return End::Lost;
         }
     }
-    Ok(End::Spent)
+    End::Spent
 }
 
 // The answers from the first one on, in numbers of a width. The error is want of memory.
@@ -246,33 +260,30 @@ fn found_in<N: RankNumber>(
         return Ok(End::Spent);
     };
     let mut tools: Tools<N> = tools_of(alloc, ground, root, count)?;
+    let mut lists = Lists::new(alloc);
     tools.limit.put(sum);
-    wait_children(found.branches.as_slice(), 0, sum, &mut tools)?;
-    let end = run(alloc, found, &mut tools, count);
+    wait_children(&mut lists, found.branches.as_slice(), 0, sum, &mut tools);
+    let end = run(&mut lists, found, &mut tools, count);
     drop(tools);
-    end
+    lists.whole(end)
 }
 
-/// So many answers from the first one on, with its sum, each of the least sum that is left; `None`
-/// where they weren't found. The error is want of memory.
+/// So many answers from the first one on, with its sum, each of the least sum that is left. Gives
+/// whether they were found. The error is want of memory.
 pub(crate) fn search(
     alloc: Global,
     ground: &Ground<'_>,
+    found: &mut Found,
     root: Settled,
     sum: u64,
     count: usize,
-) -> Result<Option<Found>, NoMemory> {
-    let mut found = Found::make(alloc);
+) -> Result<bool, NoMemory> {
     found.branches.push(root)?;
     found.sums.push(sum)?;
-    let mut end = found_in::<i32>(alloc, ground, &mut found, sum, count)?;
+    let mut end = found_in::<i32>(alloc, ground, found, sum, count)?;
     if matches!(end, End::Lost) {
-        begin_anew(&mut found);
-        end = found_in::<i64>(alloc, ground, &mut found, sum, count)?;
+        begin_anew(found);
+        end = found_in::<i64>(alloc, ground, found, sum, count)?;
     }
-    if matches!(end, End::Full) {
-        Ok(Some(found))
-    } else {
-        Ok(None)
-    }
+    Ok(matches!(end, End::Full))
 }

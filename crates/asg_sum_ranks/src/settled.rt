@@ -4,10 +4,9 @@ ghost use Rattle.std.specs.Prelude.{◌≡◌, ◌<◌, length, slice_index};
 ghost use Rattle.asg_dual_bounds.specs.Views.{duals_of};
 ghost use Rattle.asg_sum_ranks.specs.Branches.{branch_at};
 
-use crate::NoMemory;
 use asg_dual_bounds::Duals;
+use asg_dual_numbers::Lists;
 use asg_rank_search::FIXED;
-use std::alloc::Global;
 use std::marker::Model;
 
 /// How much rows fall and columns rise.
@@ -31,23 +30,24 @@ impl Model for Amounts {
 }
 
 impl Amounts {
-    /// These amounts. The error is want of memory.
-    pub(crate) fn of(
-        alloc: Global,
-        falls: &[u64],
-        rises: &[u64],
-        floor: u64,
-    ) -> Result<Amounts, NoMemory> {
-        Ok(Amounts {
-            falls: Vec::from_slice(alloc, falls)?,
-            rises: Vec::from_slice(alloc, rises)?,
+    /// These amounts.
+    pub(crate) fn of(lists: &mut Lists, falls: &[u64], rises: &[u64], floor: u64) -> Amounts {
+        Amounts {
+            falls: lists.copy_of(falls),
+            rises: lists.copy_of(rises),
             floor,
-        })
+        }
     }
 
-    /// The same amounts. The error is want of memory.
-    pub(crate) fn again(&self, alloc: Global) -> Result<Amounts, NoMemory> {
-        Amounts::of(alloc, self.falls(), self.rises(), self.floor)
+    /// The same amounts.
+    pub(crate) fn again(&self, lists: &mut Lists) -> Amounts {
+        Amounts::of(lists, self.falls(), self.rises(), self.floor)
+    }
+
+    /// Lets each row fall and each column rise further.
+    pub(crate) fn raise_all(&mut self, more: u64) {
+        add_all(self.falls.as_mut_slice(), more);
+        add_all(self.rises.as_mut_slice(), more);
     }
 
     /// Takes the amounts of another list of as many.
@@ -127,6 +127,13 @@ fn add(amounts: &mut [u64], place: usize, more: u64) {
     }
 }
 
+// Adds to all amounts.
+fn add_all(amounts: &mut [u64], more: u64) {
+    for place in 0..amounts.len() {
+        amounts[place] = amounts[place].wrapping_add(more);
+    }
+}
+
 // Writes the first entries of a list into another.
 fn write_all(from: &[u64], to: &mut [u64]) {
     let count = from.len().min(to.len());
@@ -166,26 +173,25 @@ impl Model for Settled {
 }
 
 impl Settled {
-    /// An answer with its part; no child of that is known yet. The error is want of memory.
+    /// An answer with its part; no child of that is known yet.
     pub(crate) fn of(
-        alloc: Global,
+        lists: &mut Lists,
         columns: Vec<u32>,
         parent: usize,
         row: usize,
         banned: Vec<u32>,
         amounts: Amounts,
-    ) -> Result<Settled, NoMemory> {
-        let children = vec![in alloc; 0; columns.len()]?;
-        let shown = vec![in alloc; 0; columns.len()]?;
-        Ok(Settled {
+    ) -> Settled {
+        let rows = columns.len();
+        Settled {
             columns,
             parent,
             row,
             banned,
             amounts,
-            children,
-            shown,
-        })
+            children: lists.of(0, rows),
+            shown: lists.of(0, rows),
+        }
     }
 
     /// The column of each row.

@@ -1,8 +1,6 @@
 //! Lower bounds of the greatest number of an assignment, from rows and from columns.
 
-use crate::NoMemory;
-use asg_dual_numbers::{Lists, NO_NUMBER, Numbers, put};
-use std::alloc::Global;
+use asg_dual_numbers::{Lists, put};
 
 /// A limit below which there is no assignment, with the marks that show it. The rows that enter at
 /// 0 have, below the limit, columns alone that leave at 0, and are one more than these; each other
@@ -21,10 +19,10 @@ pub struct Bound {
 #[derive(Clone, Copy)]
 struct Greatest {
     place: usize,
-    number: u64,
+    number: i32,
 }
 
-fn greatest_of(numbers: &[u64]) -> Greatest {
+fn greatest_of(numbers: &[i32]) -> Greatest {
     let mut greatest = Greatest {
         place: 0,
         number: 0,
@@ -38,37 +36,14 @@ fn greatest_of(numbers: &[u64]) -> Greatest {
     greatest
 }
 
-// Lowers each number to that of another list.
-#[inline]
-fn lower(leasts: &mut [u64], numbers: &[u64]) {
-    for place in 0..leasts.len().min(numbers.len()) {
-        leasts[place] = leasts[place].min(numbers[place]);
-    }
-}
-
-// The least number of each column.
-fn column_leasts(alloc: Global, numbers: &Numbers) -> Result<Vec<u64>, NoMemory> {
-    let mut leasts = vec![in alloc; NO_NUMBER; numbers.side as usize]?;
-    for row in 0..numbers.side {
-        lower(leasts.as_mut_slice(), numbers.row(row));
-    }
-    Ok(leasts)
-}
-
 // The greatest of the rows' least numbers and of the columns', where there are as many. A row shows
-// it by itself; a column by all rows, which have no more than the other columns below it. The error
-// is want of memory.
-pub(crate) fn bound_of(
-    alloc: Global,
-    row_leasts: &[u64],
-    column_leasts: &[u64],
-) -> Result<Bound, NoMemory> {
+// it by itself; a column by all rows, which have no more than the other columns below it.
+pub(crate) fn bound_of(lists: &mut Lists, row_leasts: &[i32], column_leasts: &[i32]) -> Bound {
     let side = column_leasts.len();
     let row = greatest_of(row_leasts);
     let column = greatest_of(column_leasts);
     let is_row = row.number >= column.number;
     let mark: u32 = if is_row { 1 } else { 0 };
-    let mut lists = Lists::new(alloc);
     let mut enters = lists.of(mark, side);
     let mut leaves = lists.of(mark, side);
     if is_row {
@@ -76,19 +51,9 @@ pub(crate) fn bound_of(
     } else {
         put(leaves.as_mut_slice(), column.place, 1);
     }
-    lists.whole(Bound {
-        limit: row.number.max(column.number),
+    Bound {
+        limit: row.number.max(column.number).max(0) as u64,
         enters,
         leaves,
-    })
-}
-
-// The same of a square of numbers with these least numbers of its rows.
-pub(crate) fn first_bound(
-    alloc: Global,
-    numbers: &Numbers,
-    row_leasts: &[u64],
-) -> Result<Bound, NoMemory> {
-    let columns = column_leasts(alloc, numbers)?;
-    bound_of(alloc, row_leasts, columns.as_slice())
+    }
 }

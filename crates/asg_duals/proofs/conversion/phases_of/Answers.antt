@@ -1,5 +1,5 @@
 use Rattle.asg_duals.proofs.Common.{◌≡◌, ℕ, suc, ◌*◌, ◌^◌, ◌<◌, ◌≤◌, length, sym, ap, ◌∙◌, subst, ⊎_elim, pow-suc, arith, cases_eq}
-use Rattle.asg_duals.proofs.conversion.short_phases.Goals as goal
+use Rattle.asg_duals.proofs.conversion.phases_of.Goals as goal
 
 doubled : (n m limit : ℕ) → limit ≡ 2 ^ n → m ≡ suc n → limit * 2 ≡ 2 ^ m
 doubled n m limit e more = ap (λ x. x * 2) e ∙ sym (pow-suc 2 n) ∙ ap (λ k. 2 ^ k) (sym more)
@@ -16,9 +16,8 @@ phases-preserved c =
     let n = length c.phases.phases.items in
     let m = length c.push.new.self.items in
     let more : m ≡ suc n = omega (arith, c.in_ok-push.ensures.len) in
-    let same : c.columns-columns.result.now ≡ c.args.duals.now.columns = c.columns-columns.ensures in
-    let within : c.phases.limit ≤ length c.args.duals.now.columns = subst (λ xs. c.phases.limit ≤ length xs) same (omega (arith, c.if-limit-side.false)) in
+    let within : c.phases.limit ≤ c.args.side = omega (arith, c.if-limit-side.false) in
     record {
       limit = doubled n m c.phases.limit c.phases.invariant.limit more;
-      few = few_more n m c.phases.limit (length c.args.duals.now.columns) c.phases.invariant.limit more within c.phases.invariant.few;
+      few = few_more n m c.phases.limit c.args.side c.phases.invariant.limit more within c.phases.invariant.few;
     }

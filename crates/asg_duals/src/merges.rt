@@ -137,12 +137,8 @@ fn hand_columns(
 
 // Sets all amounts to one.
 fn fill(amounts: &mut Amounts, shift: u64) {
-    for row in 0..amounts.falls.len() {
-        put_amount(amounts.falls.as_mut_slice(), row, shift);
-    }
-    for row in 0..amounts.rises.len() {
-        put_amount(amounts.rises.as_mut_slice(), row, shift);
-    }
+    amounts.falls.as_mut_slice().fill(shift);
+    amounts.rises.as_mut_slice().fill(shift);
 }
 
 // Lets the row and the column with the most left fall and not rise, so that they have nothing.

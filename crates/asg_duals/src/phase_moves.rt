@@ -7,7 +7,7 @@ use std::alloc::Global;
 
 /// By how much each row falls and each column rises.
 #[derive(Drop)]
-pub struct Moves {
+pub(crate) struct Moves {
     /// By how much each row falls.
     pub falls: Vec<u64>,
     /// By how much each column rises.
@@ -36,7 +36,11 @@ fn add_from(amounts: &mut [u64], marks: &[u32], sums: &[u64]) {
 
 /// By how much each row falls, and each column rises, by all of these phases of a square of this
 /// side. The error is want of memory.
-pub fn moves_of(alloc: Global, phases: &[Phase<u64>], side: usize) -> Result<Moves, NoMemory> {
+pub(crate) fn moves_of(
+    alloc: Global,
+    phases: &[Phase<u64>],
+    side: usize,
+) -> Result<Moves, NoMemory> {
     let mut moves = Moves {
         falls: vec![in alloc; 0; side]?,
         rises: vec![in alloc; 0; side]?,

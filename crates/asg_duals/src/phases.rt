@@ -1,7 +1,7 @@
 //! Phases by what rows fall and columns rise in all.
 
 use crate::NoMemory;
-use asg_dual_numbers::{name, put};
+use asg_dual_numbers::{Lists, name, put};
 use asg_proof::Phase;
 use std::alloc::Global;
 
@@ -70,8 +70,9 @@ pub(crate) fn phase_of(
 ) -> Result<Phase<u64>, NoMemory> {
     let levels = levels_of(alloc, falls)?;
     let steps = steps_of(alloc, levels.as_slice())?;
-    let mut enters = vec![in alloc; 0; columns.len()]?;
-    let mut leaves = vec![in alloc; 0; columns.len()]?;
+    let mut lists = Lists::new(alloc);
+    let mut enters = lists.of(0, columns.len());
+    let mut leaves = lists.of(0, columns.len());
     let mut fall = (0, name(levels.len()));
     let mut rise = fall;
     for row in 0..columns.len().min(falls.len()).min(rises.len()) {
@@ -80,5 +81,6 @@ pub(crate) fn phase_of(
         put(enters.as_mut_slice(), row, enter);
         put(leaves.as_mut_slice(), columns[row] as usize, leave);
     }
-    Ok(Phase::of(steps, enters, leaves))
+    drop(levels);
+    lists.whole(Phase::of(steps, enters, leaves))
 }

@@ -7,3 +7,4 @@ pub mod Continued
 pub mod Assigned
 pub mod Branches
 pub mod LineSteps
+pub mod Workplaces

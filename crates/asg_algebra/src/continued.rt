@@ -1,6 +1,6 @@
 //! Reduced squares that are solved on by phases and columns that are given, from wherever they come.
 
-ghost use Rattle.std.specs.Prelude.{◌≡◌, ◌+◌, ◌≤◌, All, length, IfOk, IfSome};
+ghost use Rattle.std.specs.Prelude.{◌≡◌, ◌+◌, ◌≤◌, None, All, length, replicate, IfOk, IfSome};
 ghost use Rattle.asg_admit.specs.Reduced.{IsReduced};
 ghost use Rattle.asg_growth.specs.Growing.{IsAbsorbed};
 ghost use Rattle.asg_match.specs.Matching.{IsPerfect};
@@ -12,6 +12,7 @@ ghost use Rattle.asg_algebra.specs.Solved.{ArePushed, HasSolved, unmatched};
 
 use crate::NoMemory;
 use crate::given::solve_given;
+use crate::workplaces::spare_region;
 use asg_admit::Reduced;
 use asg_kept::Keeps;
 use asg_match::Matching;
@@ -28,16 +29,6 @@ pub struct Taken<V: Copy> {
     pub(crate) matching: Matching,
 }
 
-// A region without trails, with so many records spare. The error is want of memory.
-fn region_for<V: Copy>(alloc: Global, side: u32, count: u32) -> Result<Region<V>, NoMemory>
-    ensures side { IfOk result (λ region. region.side ≡ side) }
-    ensures spare { IfOk result (λ region. count ≤ region.spare) }
-{
-    let mut region = Region::make(alloc, side)?;
-    region.reserve(count)?;
-    Ok(region)
-}
-
 // An equal reduced square. The error is want of memory.
 fn copied<V: Copy>(alloc: Global, reduced: &Reduced<V>) -> Result<Reduced<V>, NoMemory>
     ensures { IfOk result (λ copy. copy ≡ reduced.entry.now) }
@@ -45,6 +36,42 @@ fn copied<V: Copy>(alloc: Global, reduced: &Reduced<V>) -> Result<Reduced<V>, No
     let now = reduced.now.copy(alloc)?;
     let index = reduced.index;
     Ok(Reduced { now, index })
+}
+
+// Solves a copy of a reduced square by phases and columns that are given, in a region of its own;
+// `None` where they don't solve it. The error is want of memory.
+fn led_copy<M: Keeps>(
+    alloc: Global,
+    m: &M,
+    reduced: &Reduced<M::Value>,
+    matching: &mut Matching,
+    given: &[Phase<M::Value>],
+    columns: &[u32],
+) -> Result<Option<Reduced<M::Value>>, NoMemory>
+    requires reduced { IsReduced (M.monoid_of m.now) reduced.now }
+    requires few { length given.now ≤ reduced.now.now.side }
+    requires none { matching.old ≡ replicate reduced.now.now.side None }
+    ensures { IfOk result (λ found. IfSome found (λ after. IsTaken (M.monoid_of m.now)
+        (M.difference m.now) given.now reduced.entry.now
+        (record { reduced = after; matching = matching.new }))) }
+{
+    let side = reduced.now.side();
+    let mut region = spare_region(alloc, side, given.len() as u32)?;
+    let copy = copied(alloc, reduced)?;
+    match solve_given(alloc, m, copy, matching, &mut region, given, columns) {
+        Ok(Some(solved)) => {
+            drop(region);
+            Ok(Some(solved.reduced))
+        }
+        Ok(None) => {
+            drop(region);
+            Ok(None)
+        }
+        Err(error) => {
+            drop(region);
+            Err(error)
+        }
+    }
 }
 
 /// What phases and columns that are given, from wherever they come, come to on a reduced square,
@@ -63,18 +90,21 @@ pub fn take_given<M: Keeps>(
     ensures { IfOk result (λ found. IfSome found
         (IsTaken (M.monoid_of m.now) (M.difference m.now) given.now reduced.entry.now)) }
 {
-    let side = reduced.now.side();
-    let copy = copied(alloc, reduced)?;
-    let mut matching = Matching::make(alloc, side)?;
-    let mut region = region_for(alloc, side, given.len() as u32)?;
-    let found = solve_given(alloc, m, copy, &mut matching, &mut region, given, columns)?;
-    let Some(solved) = found else {
-        return Ok(None);
-    };
-    Ok(Some(Taken {
-        reduced: solved.reduced,
-        matching,
-    }))
+    let mut matching = Matching::make(alloc, reduced.now.side())?;
+    match led_copy(alloc, m, reduced, &mut matching, given, columns) {
+        Ok(Some(after)) => Ok(Some(Taken {
+            reduced: after,
+            matching,
+        })),
+        Ok(None) => {
+            drop(matching);
+            Ok(None)
+        }
+        Err(error) => {
+            drop(matching);
+            Err(error)
+        }
+    }
 }
 
 // Pushes phases in turn on a trail, or on none; the last trail. It takes no memory.

@@ -77,8 +77,9 @@ fn end_by<M: DMonoid, S: KeptSquare<M>>(
     Some(Solved::Perfect(last))
 }
 
-// Solves a square as it is kept by phases and columns that are given, in a room for a phase.
-fn solve_in_room<M: DMonoid, S: KeptSquare<M> + Drop>(
+// Applies phases and gives columns that are given to a square as it is kept, in a room for a phase:
+// the square as they lead to it and the end, where every row has a column.
+fn end_in_room<M: DMonoid, S: KeptSquare<M> + Drop>(
     m: &M,
     square: S,
     matching: &mut Matching,
@@ -87,7 +88,7 @@ fn solve_in_room<M: DMonoid, S: KeptSquare<M> + Drop>(
     columns: &[u32],
     room: &mut [M::Value],
     are_known: bool,
-) -> Option<SolvedSquare<M::Value>>
+) -> Option<(S, Solved)>
     requires reduced { IsReduced (M.monoid_of m.now) (S.as_reduced square) }
     requires matching_side { length matching.old ≡ (S.as_reduced square).now.side }
     requires empty { (r c : ℕ) → Matches matching.old r c → ⊥ }
@@ -98,13 +99,13 @@ fn solve_in_room<M: DMonoid, S: KeptSquare<M> + Drop>(
     requires known { let reduced = S.as_reduced square in IsTrue are_known → AreAdmittedPhases
         (M.monoid_of m.now) (M.difference m.now) reduced.now.side given.now
         (cell_at reduced.now) }
-    ensures solved { IfSome result (λ s. HasSolved (M.monoid_of m.now) (M.difference m.now)
-        (S.as_reduced square) s.reduced matching.old matching.new region.old region.new None
-        (last_of s.ended)) }
-    ensures ends { (rows : List ℕ) → IfSome result (λ s. EndsIn (M.monoid_of m.now) s.reduced
-        matching.new rows s.ended) }
-    ensures list { IfSome result (λ s. phases_to region.new (last_of s.ended) ≡ given.now) }
-    ensures perfect { IfSome result (λ s. IsPerfectEnd s.ended) }
+    ensures solved { IfSome result (λ e. HasSolved (M.monoid_of m.now) (M.difference m.now)
+        (S.as_reduced square) (S.as_reduced e.0) matching.old matching.new region.old region.new None
+        (last_of e.1)) }
+    ensures ends { (rows : List ℕ) → IfSome result (λ e. EndsIn (M.monoid_of m.now)
+        (S.as_reduced e.0) matching.new rows e.1) }
+    ensures list { IfSome result (λ e. phases_to region.new (last_of e.1) ≡ given.now) }
+    ensures perfect { IfSome result (λ e. IsPerfectEnd e.1) }
 {
     let mut square = square;
     let ended = end_by(
@@ -117,51 +118,43 @@ fn solve_in_room<M: DMonoid, S: KeptSquare<M> + Drop>(
         room,
         are_known,
     )?;
-    Some(SolvedSquare {
-        reduced: square.into_reduced(),
-        ended,
-    })
+    Some((square, ended))
 }
 
-// The same where the values of the reduced square aren't asked for.
-fn assign_in_room<M: DMonoid, S: KeptSquare<M> + Drop>(
+// Keeps a reduced square, and applies phases and gives columns that are given to it: the square as
+// they lead to it and the end, where every row has a column. The error is want of memory.
+fn kept_end<M: Keeps>(
+    alloc: Global,
     m: &M,
-    square: S,
+    reduced: Reduced<M::Value>,
     matching: &mut Matching,
     region: &mut Region<M::Value>,
     given: &[Phase<M::Value>],
     columns: &[u32],
-    room: &mut [M::Value],
-    are_known: bool,
-) -> Option<AssignedSquare<M::Value>>
-    requires reduced { IsReduced (M.monoid_of m.now) (S.as_reduced square) }
-    requires matching_side { length matching.old ≡ (S.as_reduced square).now.side }
+) -> Result<Option<(M::Square, Solved)>, NoMemory>
+    requires reduced { IsReduced (M.monoid_of m.now) reduced }
+    requires matching_side { length matching.old ≡ reduced.now.side }
     requires empty { (r c : ℕ) → Matches matching.old r c → ⊥ }
     requires few { length given.now ≤ unmatched matching.old }
     requires spare { length given.now ≤ region.old.spare }
-    requires region_side { region.old.side ≡ (S.as_reduced square).now.side }
-    requires room { (S.as_reduced square).now.side < length room.old }
-    requires known { let reduced = S.as_reduced square in IsTrue are_known → AreAdmittedPhases
-        (M.monoid_of m.now) (M.difference m.now) reduced.now.side given.now
-        (cell_at reduced.now) }
-    ensures { IfSome result (IsAssigned (M.monoid_of m.now) (M.difference m.now)
-        (S.as_reduced square) matching.old matching.new region.old region.new) }
+    requires region_side { region.old.side ≡ reduced.now.side }
+    ensures solved { IfOk result (λ found. IfSome found (λ e. HasSolved (M.monoid_of m.now)
+        (M.difference m.now) reduced (M.Square.as_reduced e.0) matching.old matching.new region.old
+        region.new None (last_of e.1))) }
+    ensures ends { (rows : List ℕ) → IfOk result (λ found. IfSome found (λ e.
+        EndsIn (M.monoid_of m.now) (M.Square.as_reduced e.0) matching.new rows e.1)) }
+    ensures list { IfOk result (λ found. IfSome found (λ e.
+        phases_to region.new (last_of e.1) ≡ given.now)) }
+    ensures perfect { IfOk result (λ found. IfSome found (λ e. IsPerfectEnd e.1)) }
+    ensures kept_matching { OnErr result (matching.new ≡ matching.old) }
+    ensures kept_region { OnErr result (region.new ≡ region.old) }
 {
-    let mut square = square;
-    let ended = end_by(
-        m,
-        &mut square,
-        matching,
-        region,
-        given,
-        columns,
-        room,
-        are_known,
-    )?;
-    Some(AssignedSquare {
-        square: square.into_square(),
-        ended,
-    })
+    let are_known = m.knows_admitted(alloc, &reduced.now, given)?;
+    let square = m.keep(alloc, reduced)?;
+    let places = square.side() as usize + 1;
+    let mut room = vec![in alloc; m.unit(); places]?;
+    let room = room.as_mut_slice();
+    Ok(end_in_room(m, square, matching, region, given, columns, room, are_known))
 }
 
 /// Solves a reduced square by phases and columns that are given, from wherever they come: what
@@ -202,12 +195,14 @@ pub fn solve_given<M: Keeps>(
     ensures kept_matching { OnErr result (matching.new ≡ matching.old) }
     ensures kept_region { OnErr result (region.new ≡ region.old) }
 {
-    let are_known = m.knows_admitted(alloc, &reduced.now, given)?;
-    let square = m.keep(alloc, reduced)?;
-    let places = square.side() as usize + 1;
-    let mut room = vec![in alloc; m.unit(); places]?;
-    let room = room.as_mut_slice();
-    Ok(solve_in_room(m, square, matching, region, given, columns, room, are_known))
+    match kept_end(alloc, m, reduced, matching, region, given, columns) {
+        Ok(Some((square, ended))) => Ok(Some(SolvedSquare {
+            reduced: square.into_reduced(),
+            ended,
+        })),
+        Ok(None) => Ok(None),
+        Err(error) => Err(error),
+    }
 }
 
 /// Does what [`solve_given`] does, under the same conditions, where the values of the reduced cells
@@ -232,10 +227,12 @@ pub fn assign_given<M: Keeps>(
     ensures kept_matching { OnErr result (matching.new ≡ matching.old) }
     ensures kept_region { OnErr result (region.new ≡ region.old) }
 {
-    let are_known = m.knows_admitted(alloc, &reduced.now, given)?;
-    let square = m.keep(alloc, reduced)?;
-    let places = square.side() as usize + 1;
-    let mut room = vec![in alloc; m.unit(); places]?;
-    let room = room.as_mut_slice();
-    Ok(assign_in_room(m, square, matching, region, given, columns, room, are_known))
+    match kept_end(alloc, m, reduced, matching, region, given, columns) {
+        Ok(Some((square, ended))) => Ok(Some(AssignedSquare {
+            square: square.into_square(),
+            ended,
+        })),
+        Ok(None) => Ok(None),
+        Err(error) => Err(error),
+    }
 }

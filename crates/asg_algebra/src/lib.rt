@@ -21,6 +21,7 @@ mod phases;
 mod solving;
 mod square_solvers;
 mod taken;
+mod workplaces;
 
 pub use bench::Bench;
 pub use branching::{Branch, branch_from};
@@ -29,6 +30,7 @@ pub use entered_squares::entered_square;
 pub use given::{assign_given, solve_given};
 pub use solving::{Solved, solve};
 pub use square_solvers::{AssignedSquare, SolvedSquare, solve_square};
+pub use workplaces::Workplace;
 
 /// There was not enough memory.
 pub type NoMemory = std::alloc::AllocError;

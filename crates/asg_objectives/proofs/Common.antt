@@ -27,7 +27,7 @@ pub use Rattle.asg_monoids.specs.Maxima.{maxima, maxima_difference}
 pub use Rattle.asg_objectives.specs.FoldOutcomes.{IsFoldOutcome}
 pub use Rattle.asg_objectives.specs.SolvedFrom.{IsAssignedFrom, IsSolvedFrom}
 pub use Rattle.asg_objectives.specs.SolvedSquares.{IsBestBy, IsChoiceBy, IsNothingBy, IsSquareOutcome}
-pub use Rattle.asg_objectives.specs.declared.workspaces.Workspace.{Workspace}
+pub use Rattle.asg_algebra.specs.declared.workplaces.Workplace.{Workplace}
 pub use Rattle.asg_order.specs.Bridge.{choice_fold, costs_fold}
 pub use Rattle.asg_order.specs.Entering.{MayEnter}
 pub use Rattle.asg_order.specs.Monoid.{IsOrderedMonoid, IsValue, Monoid, fold_of}

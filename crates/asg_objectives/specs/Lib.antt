@@ -1,4 +1,3 @@
 pub mod FoldOutcomes
 pub mod SolvedSquares
-pub mod Workspaces
 pub mod SolvedFrom

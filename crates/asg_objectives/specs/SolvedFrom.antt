@@ -9,11 +9,11 @@ use Rattle.asg_algebra.specs.Solved.{HasSolved}
 use Rattle.asg_order.specs.Monoid.{Monoid}
 use Rattle.asg_pool.specs.Forest.{Forest}
 use Rattle.asg_square.specs.Grid.{Grid}
-use Rattle.asg_objectives.specs.declared.workspaces.Workspace.{Workspace}
+use Rattle.asg_algebra.specs.declared.workplaces.Workplace.{Workplace}
 
--- a square was solved in a workspace, from the unit on and without an earlier trail
+-- a square was solved in a workplace, from the unit on and without an earlier trail
 pub record IsSolvedFrom {V : Type 0} (M : Monoid V) (difference : V → V → V) (Q : Grid V)
-    (found : SolvedSquare V) (memory : Workspace V) : Type 0 where
+    (found : SolvedSquare V) (memory : Workplace V) : Type 0 where
   pub before : Reduced V
   pub start : before.now ≡ Q
   pub at_unit : before.index ≡ M.unit
@@ -26,7 +26,7 @@ pub record IsSolvedFrom {V : Type 0} (M : Monoid V) (difference : V → V → V)
 
 -- the same where a square with the labels and the present cells of the reduced one is left
 pub record IsAssignedFrom {V : Type 0} (M : Monoid V) (difference : V → V → V) (Q : Grid V)
-    (found : AssignedSquare V) (memory : Workspace V) : Type 0 where
+    (found : AssignedSquare V) (memory : Workplace V) : Type 0 where
   pub after : Reduced V
   pub from : IsSolvedFrom M difference Q (record { reduced = after; ended = found.ended }) memory
   pub presence : KeepsPresence after.now found.square

@@ -109,8 +109,13 @@ fn by_maxima(alloc: Global, objective: Objective, inst: &Instance) -> Result<Out
 {
     let kind = PeakKind::of(objective);
     let square = entered_square(alloc, &kind, inst)?;
-    let guess = peak_guess(alloc, &square)?;
-    guessed_algebraic(alloc, &kind, inst, square, guess)
+    match peak_guess(alloc, &square) {
+        Ok(guess) => guessed_algebraic(alloc, &kind, inst, square, guess),
+        Err(error) => {
+            drop(square);
+            Err(error)
+        }
+    }
 }
 
 // The outcome of `time-cost` by its square.
@@ -122,12 +127,25 @@ fn by_graded_square(alloc: Global, inst: &Instance) -> Result<Outcome, NoMemory>
 {
     let kind = TimeKind::new();
     let square = entered_square(alloc, &kind, inst)?;
-    let guess = grade_guess(alloc, &square)?;
-    let listed = listed_outcome(alloc, inst, &square, &guess)?;
-    if let Some(outcome) = listed {
-        return Ok(outcome);
+    match grade_guess(alloc, &square) {
+        Ok(guess) => match listed_outcome(alloc, inst, &square, &guess) {
+            Ok(None) => guessed_algebraic(alloc, &kind, inst, square, guess),
+            Ok(Some(outcome)) => {
+                drop(square);
+                drop(guess);
+                Ok(outcome)
+            }
+            Err(error) => {
+                drop(square);
+                drop(guess);
+                Err(error)
+            }
+        },
+        Err(error) => {
+            drop(square);
+            Err(error)
+        }
     }
-    guessed_algebraic(alloc, &kind, inst, square, guess)
 }
 
 // The outcome of `time-cost`: by its table of costs where this serves.

@@ -118,8 +118,18 @@ where
     let Some(guess) = guess else {
         return entered_outcome(alloc, kind, inst, square);
     };
-    if let Some(found) = guessed_entered_outcome(alloc, kind, inst, square, &guess)? {
-        return Ok(found);
+    match guessed_entered_outcome(alloc, kind, inst, square, &guess) {
+        Ok(Some(found)) => {
+            drop(guess);
+            Ok(found)
+        }
+        Ok(None) => {
+            drop(guess);
+            algebraic(alloc, kind, inst)
+        }
+        Err(error) => {
+            drop(guess);
+            Err(error)
+        }
     }
-    algebraic(alloc, kind, inst)
 }

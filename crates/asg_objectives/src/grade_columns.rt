@@ -1,6 +1,7 @@
 //! Columns of least sum of amounts at a grade, from the table of costs. Nothing here is tested.
 
 use crate::NoMemory;
+use crate::rises::{rises_of, widened};
 use asg_class_search::{ArcLead, Arcs, lead_by_arcs};
 use asg_dual_numbers::name;
 use asg_dual_search::CostTable;
@@ -106,15 +107,6 @@ fn arcs_within(alloc: Global, inst: &Instance, limit: i64) -> Result<Option<Arcs
     Ok(Some(arcs))
 }
 
-// By how much columns may rise: by what their dual variables are below 0.
-fn rises_of(alloc: Global, duals: &[i64]) -> Result<Vec<u64>, NoMemory> {
-    let mut rises = Vec::with_capacity(alloc, duals.len())?;
-    for column in 0..duals.len() {
-        rises.push(duals[column].min(0).unsigned_abs())?;
-    }
-    Ok(rises)
-}
-
 // Columns by lists of the costs within a limit.
 fn by_arcs(alloc: Global, inst: &Instance, arcs: Arcs) -> Result<Option<Rising>, NoMemory> {
     match lead_by_arcs(alloc, &arcs, inst.columns().len())? {
@@ -154,15 +146,6 @@ fn table_at(alloc: Global, inst: &Instance, limit: i64) -> Result<Option<CostTab
         }
     }
     Ok(Some(table))
-}
-
-// Numbers in 64 bits.
-fn widened(alloc: Global, numbers: &[u32]) -> Result<Vec<u64>, NoMemory> {
-    let mut wide = Vec::with_capacity(alloc, numbers.len())?;
-    for number in numbers {
-        wide.push(u64::from(*number))?;
-    }
-    Ok(wide)
 }
 
 // Columns by a table of all amounts.

@@ -17,6 +17,7 @@ mod guessed_squares;
 mod listed_grades;
 mod narrow_squares;
 mod present_cells;
+mod rises;
 mod solved_squares;
 mod sparse_leads;
 mod sparse_outcomes;
@@ -25,7 +26,6 @@ mod table_grades;
 mod table_outcomes;
 mod table_pairs;
 mod trail_phases;
-mod workspaces;
 
 pub use algebraic_objectives::algebraic_assignment;
 pub use entered_squares::algebraic;

@@ -90,8 +90,8 @@ fn all_written(alloc: Global, phases: &[Phase<(u64, u128)>]) -> Result<Phases, N
     Phases::from_vec(list)
 }
 
-/// Whether two values are the same.
-pub(crate) fn are_same(a: (u64, u128), b: (u64, u128)) -> bool
+// Whether two values are the same.
+fn are_same(a: (u64, u128), b: (u64, u128)) -> bool
     ensures grade { IsTrue result → a.0 ≡ b.0 }
     ensures amount { IsTrue result → a.1 ≡ b.1 }
 {
@@ -101,30 +101,20 @@ pub(crate) fn are_same(a: (u64, u128), b: (u64, u128)) -> bool
     a.1 == b.1
 }
 
-// The choice of these columns for the rows of the square of the instance, where it is valid and its
-// fold for `time-cost` is this index. The error is want of memory.
-fn choice_of_fold(
-    alloc: Global,
-    inst: &Instance,
-    square: &Square<(u64, u128)>,
-    columns: &[u32],
-    index: (u64, u128),
-) -> Result<Option<Choice>, NoMemory>
+/// Whether a choice is valid, and its fold for `time-cost` is this index.
+pub(crate) fn has_fold(inst: &Instance, choice: &Choice, index: (u64, u128)) -> bool
     requires { PassesNegative TimeCost inst.now }
-    ensures { IfOk result (λ found. IfSome found (λ choice. IsValid inst.now choice
-        × (choice_fold (graded (bounded_sums (2 ^ 120))) time_entered inst.now choice ≡ index))) }
+    ensures valid { IsTrue result → IsValid inst.now choice.now }
+    ensures fold { IsTrue result
+        → choice_fold (graded (bounded_sums (2 ^ 120))) time_entered inst.now choice.now ≡ index }
 {
     let _rows = inst.rows();
-    let choice = choice_by_columns(alloc, square, columns)?;
-    if !is_valid(inst, &choice) {
-        return Ok(None);
+    if !is_valid(inst, choice) {
+        return false;
     }
     let kind = TimeKind::new();
-    let fold = chosen_fold(&kind, inst, &choice);
-    if !are_same(fold, index) {
-        return Ok(None);
-    }
-    Ok(Some(choice))
+    let fold = chosen_fold(&kind, inst, choice);
+    are_same(fold, index)
 }
 
 // The outcome by phases and columns for the square of the instance, where they pass the tests.
@@ -147,10 +137,10 @@ fn tested_outcome(
     let Some(index) = listed else {
         return Ok(None);
     };
-    let found = choice_of_fold(alloc, inst, square, columns, index)?;
-    let Some(choice) = found else {
+    let choice = choice_by_columns(alloc, square, columns)?;
+    if !has_fold(inst, &choice, index) {
         return Ok(None);
-    };
+    }
     Ok(Some(Outcome::Best {
         choice,
         proof: Proof::Phases(phases),

@@ -7,6 +7,7 @@ ghost use Rattle.asg_model.specs.Shapes.{square_side};
 ghost use Rattle.asg_monoids.specs.Entered.{is_sum_objective};
 ghost use Rattle.asg_proof.specs.Outcomes.{IsOutcome};
 ghost use Rattle.asg_proof.specs.PromisedProofs.{GivesFewPhases};
+ghost use Rattle.asg_square.specs.Grid.{HasLabelsOf, HasPresenceOf};
 
 use crate::NoMemory;
 use crate::listed_grades::choice_by_columns;
@@ -40,8 +41,33 @@ fn dual_outcome(
     proved_outcome(alloc, objective, inst, choice, phases)
 }
 
-// The outcome by a square: a Hall set where some rows have too few present cells, else by dual
-// variables that are tight on it. `None` where none are found that lead to phases that prove it.
+// The outcome by a square of the instance: a Hall set where some rows have too few present cells,
+// else by dual variables that are tight on it. `None` where none are found that lead to phases that
+// prove it.
+fn outcome_on(
+    alloc: Global,
+    objective: Objective,
+    inst: &Instance,
+    square: &Square<u64>,
+) -> Result<Option<Outcome>, NoMemory>
+    requires objective { IsTrue (is_sum_objective objective) }
+    requires side { square_side inst.now ≤ most_side }
+    requires passes { PassesNegative objective inst.now }
+    requires labels { HasLabelsOf inst.now square.now }
+    requires present { HasPresenceOf inst.now square.now }
+    ensures outcome { IfOk result (λ found. IfSome found (IsOutcome objective inst.now)) }
+    ensures phases { IfOk result (λ found. IfSome found (GivesFewPhases (square_side inst.now))) }
+{
+    if let Some(found) = shortage(alloc, inst, square)? {
+        return Ok(Some(found));
+    }
+    let Some(duals) = tight_duals(alloc, square)? else {
+        return Ok(None);
+    };
+    dual_outcome(alloc, objective, inst, square, &duals)
+}
+
+// The same by a square that is made for it.
 fn outcome_by_square(
     alloc: Global,
     objective: Objective,
@@ -54,13 +80,9 @@ fn outcome_by_square(
     ensures phases { IfOk result (λ found. IfSome found (GivesFewPhases (square_side inst.now))) }
 {
     let square = sum_square(alloc, objective, inst)?;
-    if let Some(found) = shortage(alloc, inst, &square)? {
-        return Ok(Some(found));
-    }
-    let Some(duals) = tight_duals(alloc, &square)? else {
-        return Ok(None);
-    };
-    dual_outcome(alloc, objective, inst, &square, &duals)
+    let outcome = outcome_on(alloc, objective, inst, &square);
+    drop(square);
+    outcome
 }
 
 /// The outcome of `sum`, `sum-max` or `capped`: by phases of sums in 64 bits that are guessed and

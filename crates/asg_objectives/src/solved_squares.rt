@@ -14,15 +14,14 @@ ghost use Rattle.asg_admit.specs.PhaseValues.{AreOfValues};
 ghost use Rattle.asg_objectives.specs.SolvedSquares.{IsChoiceBy, IsBestBy};
 ghost use Rattle.asg_objectives.specs.SolvedSquares.{IsNothingBy, IsSquareOutcome};
 ghost use Rattle.asg_objectives.specs.SolvedFrom.{IsSolvedFrom};
-ghost use Rattle.asg_objectives.specs.Workspaces.{IsReady};
+ghost use Rattle.asg_algebra.specs.Workplaces.{IsFresh};
 
 use crate::NoMemory;
 use crate::present_cells::PresentCells;
 use crate::trail_phases::trail_phases;
-use crate::workspaces::Workspace;
 use asg_admit::Reduced;
 use asg_algebra::laws::fold_law;
-use asg_algebra::{Solved, SolvedSquare, solve_square};
+use asg_algebra::{Solved, SolvedSquare, Workplace, solve_square};
 use asg_kept::Keeps;
 use asg_match::{Matching, Pairing, hall_list, perfect_or_hall};
 use asg_model::{Choice, Instance};
@@ -89,34 +88,42 @@ fn best_by<M: Written>(
     ensures { let words = map (worded (M.word_of m.now)) (phases_to region last) in
         IfOk result (IsBestBy square matching.now words) }
 {
-    let choice = choice_by(alloc, square, matching)?;
-    let phases = trail_phases(alloc, m, region, last)?;
-    Ok(Outcome::Best {
-        choice,
-        proof: Proof::Phases(phases),
-    })
+    match choice_by(alloc, square, matching) {
+        Ok(choice) => {
+            let phases = trail_phases(alloc, m, region, last)?;
+            let proof = Proof::Phases(phases);
+            Ok(Outcome::Best { choice, proof })
+        }
+        Err(error) => {
+            drop(region);
+            Err(error)
+        }
+    }
 }
 
-/// The same of a workspace.
+/// The same of a workplace.
 pub(crate) fn best<M: Written>(
     alloc: Global,
     m: &M,
     square: Square<M::Value>,
-    workspace: Workspace<M::Value>,
+    workplace: Workplace<M::Value>,
     last: Option<Trail>,
 ) -> Result<Outcome, NoMemory>
-    requires perfect { IsPerfect (IsPresent (cell_at square)) square.side workspace.matching }
-    requires live { IfSome last (IsLive workspace.region) }
-    requires values { AreOfValues (M.monoid_of m.now) (phases_to workspace.region last) }
-    ensures { let words = map (worded (M.word_of m.now)) (phases_to workspace.region last) in
-        IfOk result (IsBestBy square workspace.matching words) }
+    requires perfect { IsPerfect (IsPresent (cell_at square)) square.side workplace.matching }
+    requires live { IfSome last (IsLive workplace.region) }
+    requires values { AreOfValues (M.monoid_of m.now) (phases_to workplace.region last) }
+    ensures { let words = map (worded (M.word_of m.now)) (phases_to workplace.region last) in
+        IfOk result (IsBestBy square workplace.matching words) }
 {
-    let Workspace {
+    let Workplace {
         matching,
-        bench: _bench,
+        bench,
         region,
-    } = workspace;
-    best_by(alloc, m, square, &matching, region, last)
+    } = workplace;
+    drop(bench);
+    let outcome = best_by(alloc, m, square, &matching, region, last);
+    drop(matching);
+    outcome
 }
 
 // The Hall set of rows that have fewer present cells than they are.
@@ -155,17 +162,18 @@ pub(crate) fn shortage<V: Copy>(
     }
 }
 
-// Solves a square in a workspace. It has the square from then on.
+// Solves a square in a workplace. It has the square from then on.
 fn solve_in<M: Keeps>(
     alloc: Global,
     m: &M,
     square: Square<M::Value>,
-    workspace: &mut Workspace<M::Value>,
+    workplace: &mut Workplace<M::Value>,
 ) -> Result<SolvedSquare<M::Value>, NoMemory>
     requires values { HasValues (M.monoid_of m.now) square.side (cell_at square) }
-    requires ready { IsReady square.side square.side workspace.old }
+    requires fresh { IsFresh square.side workplace.old }
+    requires spare { workplace.old.region.spare ≡ square.side }
     ensures { IfOk result (λ found. IsSolvedFrom (M.monoid_of m.now) (M.difference m.now) square
-        found workspace.new) }
+        found workplace.new) }
 {
     let reduced = Reduced {
         now: square,
@@ -175,29 +183,29 @@ fn solve_in<M: Keeps>(
         alloc,
         m,
         reduced,
-        &mut workspace.matching,
-        &mut workspace.bench,
-        &mut workspace.region,
+        &mut workplace.matching,
+        &mut workplace.bench,
+        &mut workplace.region,
         None,
     )
 }
 
-/// The outcome of the square of an instance that was solved in a workspace.
+/// The outcome of the square of an instance that was solved in a workplace.
 pub(crate) fn outcome_of<M: Keeps>(
     alloc: Global,
     m: &M,
     inst: &Instance,
     found: SolvedSquare<M::Value>,
-    workspace: Workspace<M::Value>,
+    workplace: Workplace<M::Value>,
 ) -> Result<Outcome, NoMemory>
     requires { (Q : Grid M.Value) × HasLabelsOf inst.now Q
-        × IsSolvedFrom (M.monoid_of m.now) (M.difference m.now) Q found workspace }
+        × IsSolvedFrom (M.monoid_of m.now) (M.difference m.now) Q found workplace }
     ensures outcome { (Q : Grid M.Value)
-        → IsSolvedFrom (M.monoid_of m.now) (M.difference m.now) Q found workspace
+        → IsSolvedFrom (M.monoid_of m.now) (M.difference m.now) Q found workplace
         → IfOk result (IsSquareOutcome (M.monoid_of m.now) (M.difference m.now) (M.word_of m.now)
         inst.now Q) }
     ensures phases { (Q : Grid M.Value)
-        → IsSolvedFrom (M.monoid_of m.now) (M.difference m.now) Q found workspace
+        → IsSolvedFrom (M.monoid_of m.now) (M.difference m.now) Q found workplace
         → IfOk result (GivesFewPhases Q.side) }
 {
     fold_law(m);
@@ -206,29 +214,40 @@ pub(crate) fn outcome_of<M: Keeps>(
     let _rows = inst.rows();
     let SolvedSquare { reduced, ended } = found;
     match ended {
-        Solved::Perfect(last) => best(alloc, m, reduced.now, workspace, last),
-        Solved::Short(_) => nothing(alloc, inst, &reduced.now, workspace.bench.violator()),
+        Solved::Perfect(last) => best(alloc, m, reduced.now, workplace, last),
+        Solved::Short(_) => {
+            let outcome = nothing(alloc, inst, &reduced.now, workplace.bench.violator());
+            drop(reduced);
+            drop(workplace);
+            outcome
+        }
     }
 }
 
-// The outcome of the square of an instance that is solved in a workspace.
+// The outcome of the square of an instance that is solved in a workplace.
 fn outcome_in<M: Keeps>(
     alloc: Global,
     m: &M,
     inst: &Instance,
     square: Square<M::Value>,
-    workspace: Workspace<M::Value>,
+    workplace: Workplace<M::Value>,
 ) -> Result<Outcome, NoMemory>
     requires labels { HasLabelsOf inst.now square }
     requires values { HasValues (M.monoid_of m.now) square.side (cell_at square) }
-    requires ready { IsReady square.side square.side workspace }
+    requires fresh { IsFresh square.side workplace }
+    requires spare { workplace.region.spare ≡ square.side }
     ensures outcome { IfOk result (IsSquareOutcome (M.monoid_of m.now) (M.difference m.now)
         (M.word_of m.now) inst.now square) }
     ensures phases { IfOk result (GivesFewPhases square.side) }
 {
-    let mut workspace = workspace;
-    let found = solve_in(alloc, m, square, &mut workspace)?;
-    outcome_of(alloc, m, inst, found, workspace)
+    let mut workplace = workplace;
+    match solve_in(alloc, m, square, &mut workplace) {
+        Ok(found) => outcome_of(alloc, m, inst, found, workplace),
+        Err(error) => {
+            drop(workplace);
+            Err(error)
+        }
+    }
 }
 
 /// Solves the square of an instance, whose present cells are values and whose free cells are units:
@@ -247,10 +266,24 @@ pub(crate) fn outcome<M: Keeps>(
     ensures phases { IfOk result (GivesFewPhases square.side) }
 {
     square_law::<M::Value>();
-    if let Some(found) = shortage(alloc, inst, &square)? {
-        return Ok(found);
+    match shortage(alloc, inst, &square) {
+        Ok(None) => {
+            let side = square.side();
+            match Workplace::make(alloc, side, side) {
+                Ok(workplace) => outcome_in(alloc, m, inst, square, workplace),
+                Err(error) => {
+                    drop(square);
+                    Err(error)
+                }
+            }
+        }
+        Ok(Some(found)) => {
+            drop(square);
+            Ok(found)
+        }
+        Err(error) => {
+            drop(square);
+            Err(error)
+        }
     }
-    let side = square.side();
-    let workspace = Workspace::make(alloc, side, side)?;
-    outcome_in(alloc, m, inst, square, workspace)
 }

@@ -24,7 +24,7 @@ const PART: usize = 4;
 /// Whether all rows are placed and active, and each column is open and holds one row.
 pub(crate) fn is_plain(inst: &Instance) -> bool {
     matches!(inst.place(), Place::All)
-        && inst.rows().iter().all(|row| row.active)
+        && inst.placed() as usize == inst.rows().len()
         && inst
             .columns()
             .iter()
@@ -106,7 +106,30 @@ impl SparseCells {
     }
 }
 
-// The live cells of an instance, row by row; `None` where they are many.
+// Takes the live cells of so many rows of an instance, row by row; whether they are at most so many.
+fn push_rows(
+    inst: &Instance,
+    rows: u32,
+    most: usize,
+    cells: &mut SparseCells,
+) -> Result<bool, NoMemory> {
+    let mut room = RowRoom::new();
+    for row in 0..rows {
+        if let Some(list) = inst.row_cells(row) {
+            cells.push_cells(row, list)?;
+        } else if let Some(parts) = inst.row_parts(row, &mut room) {
+            cells.push_row(row, parts.firsts)?;
+        } else {
+            return Ok(false);
+        }
+        if cells.count > most {
+            return Ok(false);
+        }
+    }
+    Ok(true)
+}
+
+// The live cells of an instance; `None` where they are many.
 fn live_cells(
     alloc: Global,
     objective: Objective,
@@ -115,26 +138,25 @@ fn live_cells(
     let rows = inst.rows().len().min(MOST_ROWS);
     let columns = inst.columns().len().min(MOST_COLUMNS);
     let most = rows.saturating_mul(columns) / SPARSE;
+    let bits = BitRows::make(alloc, rows as u32, columns as u32)?;
+    let arcs = Arcs::none(alloc, rows, most)?;
     let mut cells = SparseCells {
         objective,
-        arcs: Arcs::none(alloc, rows, most)?,
-        bits: BitRows::make(alloc, rows as u32, columns as u32)?,
+        arcs,
+        bits,
         count: 0,
     };
-    let mut room = RowRoom::new();
-    for row in 0..rows as u32 {
-        if let Some(list) = inst.row_cells(row) {
-            cells.push_cells(row, list)?;
-        } else if let Some(parts) = inst.row_parts(row, &mut room) {
-            cells.push_row(row, parts.firsts)?;
-        } else {
-            return Ok(None);
+    match push_rows(inst, rows as u32, most, &mut cells) {
+        Ok(true) => Ok(Some(cells)),
+        Ok(false) => {
+            drop(cells);
+            Ok(None)
         }
-        if cells.count > most {
-            return Ok(None);
+        Err(error) => {
+            drop(cells);
+            Err(error)
         }
     }
-    Ok(Some(cells))
 }
 
 // Rows that have fewer cells by these bits than they are, where there are as many columns as rows.

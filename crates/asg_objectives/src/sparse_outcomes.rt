@@ -9,6 +9,7 @@ ghost use Rattle.asg_proof.specs.Outcomes.{IsOutcome};
 ghost use Rattle.asg_proof.specs.PromisedProofs.{GivesFewPhases};
 
 use crate::NoMemory;
+use crate::rises::rises_of;
 use crate::sparse_leads::sparse_lead;
 use crate::table_outcomes::led_outcome;
 use asg_class_search::ArcLead;
@@ -45,15 +46,6 @@ fn hall_outcome(
     }
     let rows = Ids::from_vec(ids);
     Ok(Some(Outcome::Nothing { rows }))
-}
-
-// By how much columns may rise: by what their dual variables are below 0.
-fn rises_of(alloc: Global, duals: &[i64]) -> Result<Vec<u64>, NoMemory> {
-    let mut rises = Vec::with_capacity(alloc, duals.len())?;
-    for column in 0..duals.len() {
-        rises.push(duals[column].min(0).unsigned_abs())?;
-    }
-    Ok(rises)
 }
 
 /// The outcome of `sum`, `sum-max` or `capped` where few cells are live, each column holds one row,

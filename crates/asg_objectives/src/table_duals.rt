@@ -2,27 +2,10 @@
 //! is tested.
 
 use crate::NoMemory;
+use asg_dual_numbers::{amount, at};
 use asg_duals::{Duals, entered};
 use asg_model::{Instance, Objective};
 use std::alloc::Global;
-
-// The number at a place, 0 outside.
-fn number_at(numbers: &[u32], place: usize) -> u32 {
-    if place < numbers.len() {
-        numbers[place]
-    } else {
-        0
-    }
-}
-
-// The same of numbers in 64 bits.
-fn amount_at(amounts: &[u64], place: usize) -> u64 {
-    if place < amounts.len() {
-        amounts[place]
-    } else {
-        0
-    }
-}
 
 // By how much a row may fall that has its cell in a column: by what the cost enters as, with what
 // the column rises by.
@@ -30,7 +13,7 @@ fn fall_of(objective: Objective, inst: &Instance, rises: &[u64], row: u32, colum
     let Some(cost) = inst.live(row, column) else {
         return 0;
     };
-    let rise = amount_at(rises, column as usize);
+    let rise = amount(rises, column as usize);
     entered(objective, cost.a).wrapping_add(rise)
 }
 
@@ -45,7 +28,7 @@ fn row_falls(
     let count = inst.rows().len() as u32;
     let mut falls = Vec::with_capacity(alloc, count as usize)?;
     for row in 0..count {
-        let column = number_at(columns, row as usize);
+        let column = at(columns, row as usize);
         falls.push(fall_of(objective, inst, rises, row, column))?;
     }
     Ok(falls)
@@ -71,7 +54,7 @@ fn square_rises(
     let columns = inst.columns();
     let mut wide = Vec::with_capacity(alloc, side)?;
     for column in 0..columns.len() {
-        let rise = amount_at(rises, column);
+        let rise = amount(rises, column);
         for _ in 0..columns[column].cap {
             wide.push(rise)?;
         }
@@ -126,7 +109,7 @@ impl FreeColumns {
     // Gives rows behind the others the copies that are left, up to so many rows in all.
     fn share(&self, columns: &mut Vec<u32>, side: usize) -> Result<(), NoMemory> {
         for column in 0..self.next.len() {
-            for copy in self.next[column]..number_at(self.ends.as_slice(), column) {
+            for copy in self.next[column]..at(self.ends.as_slice(), column) {
                 if columns.len() < side {
                     columns.push(copy)?;
                 }
@@ -163,8 +146,8 @@ fn square_falls(
 ) -> Result<Vec<u64>, NoMemory> {
     let mut all = Vec::with_capacity(alloc, columns.len())?;
     for row in 0..columns.len() {
-        let fall = amount_at(falls, row);
-        let rise = amount_at(rises, columns[row] as usize);
+        let fall = amount(falls, row);
+        let rise = amount(rises, columns[row] as usize);
         all.push(fall.max(rise))?;
     }
     Ok(all)

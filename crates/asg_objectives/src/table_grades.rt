@@ -1,46 +1,24 @@
 //! The outcome of `time-cost` by the table of costs, without a square.
 
-ghost use Rattle.std.specs.Prelude.{◌≡◌, ◌≤◌, ◌^◌, All, IfOk, IfSome, IsTrue};
+ghost use Rattle.std.specs.Prelude.{◌≤◌, IfOk, IfSome};
 ghost use Rattle.asg_model.specs.declared.objectives.Objective.TheVariants.{TimeCost};
 ghost use Rattle.asg_model.specs.Limits.{most_side};
 ghost use Rattle.asg_model.specs.Refused.{PassesNegative};
 ghost use Rattle.asg_model.specs.Shapes.{square_side};
-ghost use Rattle.asg_model.specs.ValidChoice.{IsValid};
-ghost use Rattle.asg_monoids.specs.BoundedSums.{bounded_sums};
-ghost use Rattle.asg_monoids.specs.Entered.{time_entered};
-ghost use Rattle.asg_monoids.specs.Grades.{graded};
-ghost use Rattle.asg_order.specs.Bridge.{choice_fold};
 ghost use Rattle.asg_proof.specs.Outcomes.{IsOutcome};
 ghost use Rattle.asg_proof.specs.Phases.{IsPhase};
 ghost use Rattle.asg_proof.specs.PromisedProofs.{GivesFewPhases};
 
 use crate::NoMemory;
 use crate::grade_leads::{GradeLead, grade_lead};
-use crate::listed_grades::are_same;
+use crate::listed_grades::has_fold;
 use asg_dual_search::Bound;
 use asg_model::{Choice, Instance};
-use asg_monoids::TimeKind;
 use asg_order::Word;
 use asg_proof::{Outcome, Phase, Phases, Proof, StepWords, WrittenPhase};
-use asg_replays::chosen_fold;
 use asg_table_phases::graded_index;
 use asg_table_sums::choice_of;
-use asg_values::is_valid;
 use std::alloc::Global;
-
-// The phase of one step to a grade, on the rows and columns that show a bound.
-fn bound_phase(alloc: Global, bound: &Bound) -> Result<WrittenPhase, NoMemory>
-    ensures { IfOk result IsPhase }
-{
-    let mut words = StepWords::none(alloc);
-    words.push(Word {
-        grade: bound.limit,
-        amount: 0,
-    })?;
-    let enters = Vec::from_slice(alloc, bound.enters.as_slice())?;
-    let leaves = Vec::from_slice(alloc, bound.leaves.as_slice())?;
-    WrittenPhase::of(words, enters, leaves)
-}
 
 // Amounts as words at a grade.
 fn words_at(alloc: Global, grade: u64, steps: &[u64]) -> Result<StepWords, NoMemory> {
@@ -54,42 +32,35 @@ fn words_at(alloc: Global, grade: u64, steps: &[u64]) -> Result<StepWords, NoMem
     Ok(words)
 }
 
-// A phase of amounts as one at a grade.
-fn phase_at(alloc: Global, grade: u64, phase: &Phase<u64>) -> Result<WrittenPhase, NoMemory>
+// The phase of steps of these amounts at a grade, with these marks.
+fn phase_at(
+    alloc: Global,
+    grade: u64,
+    steps: &[u64],
+    enters: &[u32],
+    leaves: &[u32],
+) -> Result<WrittenPhase, NoMemory>
     ensures { IfOk result IsPhase }
 {
-    let words = words_at(alloc, grade, phase.steps())?;
-    let enters = Vec::from_slice(alloc, phase.enters())?;
-    let leaves = Vec::from_slice(alloc, phase.leaves())?;
+    let words = words_at(alloc, grade, steps)?;
+    let enters = Vec::from_slice(alloc, enters)?;
+    let leaves = Vec::from_slice(alloc, leaves)?;
     WrittenPhase::of(words, enters, leaves)
 }
 
 // The phase to a grade, and phases of amounts at it. No clause says that they are these.
 fn phases_of(alloc: Global, bound: &Bound, amounts: &[Phase<u64>]) -> Result<Phases, NoMemory> {
-    let first = bound_phase(alloc, bound)?;
+    let grade = bound.limit;
+    let (enters, leaves) = (bound.enters.as_slice(), bound.leaves.as_slice());
+    let first = phase_at(alloc, grade, &[0], enters, leaves)?;
     let mut list = Vec::with_capacity(alloc, amounts.len().saturating_add(1))?;
     list.push(first)?;
     'phases: for k in 0..amounts.len() {
-        let phase = phase_at(alloc, bound.limit, &amounts[k])?;
+        let it = &amounts[k];
+        let phase = phase_at(alloc, grade, it.steps(), it.enters(), it.leaves())?;
         list.push(phase)?;
     }
     Phases::from_vec(list)
-}
-
-// Whether a choice is valid, and its fold for `time-cost` is this index.
-fn has_fold(inst: &Instance, choice: &Choice, index: (u64, u128)) -> bool
-    requires { PassesNegative TimeCost inst.now }
-    ensures valid { IsTrue result → IsValid inst.now choice.now }
-    ensures fold { IsTrue result
-        → choice_fold (graded (bounded_sums (2 ^ 120))) time_entered inst.now choice.now ≡ index }
-{
-    let _rows = inst.rows();
-    if !is_valid(inst, choice) {
-        return false;
-    }
-    let kind = TimeKind::new();
-    let fold = chosen_fold(&kind, inst, choice);
-    are_same(fold, index)
 }
 
 // The outcome of a choice with phases, where these prove it.

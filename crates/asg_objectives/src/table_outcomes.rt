@@ -9,6 +9,7 @@ ghost use Rattle.asg_proof.specs.Outcomes.{IsOutcome};
 ghost use Rattle.asg_proof.specs.PromisedProofs.{GivesFewPhases};
 
 use crate::NoMemory;
+use crate::rises::widened;
 use crate::table_duals::duals_of;
 use crate::trail_phases::words_of;
 use asg_duals::{short_phases, wide_phases};
@@ -68,15 +69,6 @@ pub(crate) fn led_outcome(
     let plain = short_phases(alloc, &duals)?;
     let phases = wide_phases(alloc, plain.as_slice())?;
     proved_outcome(alloc, objective, inst, choice, phases)
-}
-
-// Numbers in 64 bits.
-fn widened(alloc: Global, numbers: &[u32]) -> Result<Vec<u64>, NoMemory> {
-    let mut wide = Vec::with_capacity(alloc, numbers.len())?;
-    for number in numbers {
-        wide.push(u64::from(*number))?;
-    }
-    Ok(wide)
 }
 
 /// The outcome of `sum`, `sum-max` or `capped`, by phases of plain sums that are guessed and tested

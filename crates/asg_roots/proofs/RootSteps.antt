@@ -13,8 +13,8 @@ use Rattle.asg_algebra.specs.declared.square_solvers.SolvedSquare.{SolvedSquare}
 use Rattle.asg_algebra.specs.Ended.{EndsIn, last_of}
 use Rattle.asg_algebra.specs.Solved.{ArePushed, LeadTo, HasSolved, unmatched}
 use Rattle.asg_roots.specs.declared.roots.Root.{Root}
-use Rattle.asg_roots.specs.declared.workplaces.Workplace.{Workplace}
-use Rattle.asg_roots.specs.Workplaces.{IsFresh}
+use Rattle.asg_algebra.specs.declared.workplaces.Workplace.{Workplace}
+use Rattle.asg_algebra.specs.Workplaces.{IsFresh}
 
 -- phases that are pushed keep the side of the region
 pub pushed_side : {V : Type 0} (phases : List (PhaseOf V)) (before after : Forest V) (trail last : Option ℕ) → ArePushed phases before after trail last → after.side ≡ before.side

@@ -10,7 +10,7 @@ use Rattle.asg_order.specs.Monoid.{Monoid}
 use Rattle.asg_pool.specs.Forest.{Forest, IsLive, phases_to}
 use Rattle.asg_square.specs.Grid.{Grid, IsSquareOf}
 use Rattle.asg_roots.specs.declared.roots.Root.{Root}
-use Rattle.asg_roots.specs.declared.workplaces.Workplace.{Workplace}
+use Rattle.asg_algebra.specs.declared.workplaces.Workplace.{Workplace}
 
 -- the root of what was solved in a workplace
 abbrev pub root_of : {V : Type 0} → SolvedSquare V → Workplace V → Root V

@@ -11,7 +11,6 @@
 mod guesses;
 mod instance_roots;
 mod roots;
-mod workplaces;
 
 pub use guesses::RootGuess;
 pub use instance_roots::instance_root;

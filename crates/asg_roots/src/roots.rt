@@ -4,12 +4,11 @@ ghost use Rattle.std.specs.Prelude.{◌≡◌, ◌≤◌, IfOk, IfSome, length};
 ghost use Rattle.asg_proof.specs.Steps.{HasValues};
 ghost use Rattle.asg_square.specs.Grid.{cell_at};
 ghost use Rattle.asg_roots.specs.Roots.{IsSolvedRoot, root_of};
-ghost use Rattle.asg_roots.specs.Workplaces.{IsFresh};
+ghost use Rattle.asg_algebra.specs.Workplaces.{IsFresh};
 
 use crate::NoMemory;
-use crate::workplaces::{Workplace, fresh_workplace};
 use asg_admit::Reduced;
-use asg_algebra::{Bench, Solved, SolvedSquare, solve_given, solve_square};
+use asg_algebra::{Bench, Solved, SolvedSquare, Workplace, solve_given, solve_square};
 use asg_duals::Guess;
 use asg_kept::Keeps;
 use asg_match::Matching;
@@ -123,7 +122,7 @@ pub(crate) fn solve_root<M: Keeps>(
     requires records { square.side ≤ records }
     ensures { IfOk result (IsSolvedRoot (M.monoid_of m.now) (M.difference m.now) square records) }
 {
-    let mut place = fresh_workplace(alloc, square.side(), records)?;
+    let mut place = Workplace::make(alloc, square.side(), records)?;
     match solve_in(alloc, m, square, &mut place) {
         Ok(solved) => Ok(rooted(solved, place)),
         Err(error) => {
@@ -149,7 +148,7 @@ fn given_root<M: Keeps>(
     ensures { IfOk result (λ found. IfSome found
         (IsSolvedRoot (M.monoid_of m.now) (M.difference m.now) square records)) }
 {
-    let mut place = fresh_workplace(alloc, square.side(), records)?;
+    let mut place = Workplace::make(alloc, square.side(), records)?;
     match solve_given_in(alloc, m, square, &mut place, phases, columns) {
         Ok(Some(solved)) => Ok(Some(rooted(solved, place))),
         Ok(None) => {

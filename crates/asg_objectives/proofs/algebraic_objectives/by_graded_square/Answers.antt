@@ -2,8 +2,8 @@ use Rattle.asg_objectives.proofs.Common.{IfOk-weaker, TimeCost, bounded_sums, bo
 use Rattle.asg_objectives.proofs.KindOutcomes.{IsOutcome-grades}
 use Rattle.asg_objectives.proofs.algebraic_objectives.by_graded_square.Goals as goal
 
-pub returns-clause-outcome : goal.returns-clause-outcome
-returns-clause-outcome c =
+pub returns-in-Ok-None-clause-outcome : goal.returns-in-Ok-None-clause-outcome
+returns-in-Ok-None-clause-outcome c =
     let X = c.args.inst.now in
     let top = c.new-kind.result.monoid.inner.top in
     IfOk-weaker c.guessed_algebraic.result
@@ -11,9 +11,3 @@ returns-clause-outcome c =
     (IsOutcome TimeCost X)
     (λ outcome by. IsOutcome-grades top c.new-kind.ensures X outcome by)
     c.guessed_algebraic.ensures.outcome
-
-pub returns-in-Some-clause-outcome : goal.returns-in-Some-clause-outcome
-returns-in-Some-clause-outcome c = rw c.in-Some.is at c.in_ok-listed.ensures.outcome
-
-pub returns-in-Some-clause-phases : goal.returns-in-Some-clause-phases
-returns-in-Some-clause-phases c = rw c.in-Some.is at c.in_ok-listed.ensures.phases

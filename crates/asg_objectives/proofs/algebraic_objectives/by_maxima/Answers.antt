@@ -8,8 +8,8 @@ entered_square-requires-clause-passes c = subst (λ o. PassesNegative o c.args.i
 pub guessed_algebraic-requires-clause-passes : goal.guessed_algebraic-requires-clause-passes
 guessed_algebraic-requires-clause-passes c = subst (λ o. PassesNegative o c.args.inst.now) (sym c.of-kind.ensures) c.requires.passes
 
-pub returns-clause-outcome : goal.returns-clause-outcome
-returns-clause-outcome c =
+pub returns-in-Ok-clause-outcome : goal.returns-in-Ok-clause-outcome
+returns-in-Ok-clause-outcome c =
     let X = c.args.inst.now in
     let kind = c.of-kind.result in
     IfOk-weaker c.guessed_algebraic.result

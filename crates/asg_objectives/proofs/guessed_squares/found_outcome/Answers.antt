@@ -8,14 +8,14 @@ best-requires-clause-perfect g c =
     let M = g.M.Ordered.monoid_of c.args.m.now in
     let a = c.requires.1 in
     let after = a.after in
-    let memory = c.args.workspace in
+    let memory = c.args.workplace in
     IsPerfect-kept after.now c.args.solved.square a.presence memory.matching
     (IsPerfect-present M after.index (cell_at after.now) after.now.side memory.matching
     (subst (EndsIn M after memory.matching memory.bench.rows) c.in-Perfect.is a.from.ends))
 
 pub best-requires-clause-live : goal.best-requires-clause-live
 best-requires-clause-live g c =
-    subst (λ o. IfSome (last_of o) (IsLive c.args.workspace.region)) c.in-Perfect.is c.requires.1.from.solved.live
+    subst (λ o. IfSome (last_of o) (IsLive c.args.workplace.region)) c.in-Perfect.is c.requires.1.from.solved.live
 
 pub best-requires-clause-values : goal.best-requires-clause-values
 best-requires-clause-values g c =
@@ -23,7 +23,7 @@ best-requires-clause-values g c =
     let M = g.M.Ordered.monoid_of m in
     let s = c.requires.1.from in
     let solved = s.solved in
-    subst (λ o. AreOfValues M (phases_to c.args.workspace.region (last_of o))) c.in-Perfect.is
+    subst (λ o. AreOfValues M (phases_to c.args.workplace.region (last_of o))) c.in-Perfect.is
     (subst (AreOfValues M) (sym solved.list) (admitted_values M (g.M.DMonoid.difference m) s.before.now.side solved.phases (cell_at s.before.now) solved.lead.admitted))
 
 pub returns-in_ok-found-in-Perfect-clause-outcome : goal.returns-in_ok-found-in-Perfect-clause-outcome
@@ -34,7 +34,7 @@ returns-in_ok-found-in-Perfect-clause-outcome g c Q a = λ enter square live.
     let w = worded (g.M.Written.word_of m) in
     let s = a.from in
     let after = a.after in
-    let memory = c.args.workspace in
+    let memory = c.args.workplace in
     let outcome = c.in_ok-found-in-Perfect.found in
     let solved = s.solved in
     let phases = solved.phases in
@@ -51,7 +51,7 @@ returns-in_ok-found-in-Perfect-clause-phases g c Q a =
     let m = c.args.m.now in
     let w = worded (g.M.Written.word_of m) in
     let s = a.from in
-    let memory = c.args.workspace in
+    let memory = c.args.workplace in
     let solved = s.solved in
     let phases = solved.phases in
     let words = map w (phases_to memory.region c.in-Perfect.last) in

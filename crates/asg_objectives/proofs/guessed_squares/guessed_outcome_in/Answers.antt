@@ -1,10 +1,10 @@
 use Rattle.asg_objectives.proofs.guessed_squares.guessed_outcome_in.Goals as goal
 
-pub outcome_if_solved-requires : goal.outcome_if_solved-requires
-outcome_if_solved-requires g c = (c.args.square, c.in_ok-found.ensures)
+pub found_outcome-requires : goal.found_outcome-requires
+found_outcome-requires g c = (c.args.square, (rw c.in-Ok-Some.field-0-is at c.in-Ok-Some.ensures))
 
-pub returns-clause-outcome : goal.returns-clause-outcome
-returns-clause-outcome g c = c.outcome_if_solved.ensures.outcome c.args.square c.in_ok-found.ensures
+pub returns-in-Ok-Some-clause-outcome : goal.returns-in-Ok-Some-clause-outcome
+returns-in-Ok-Some-clause-outcome g c = c.found_outcome.ensures.outcome c.args.square (rw c.in-Ok-Some.field-0-is at c.in-Ok-Some.ensures)
 
-pub returns-clause-phases : goal.returns-clause-phases
-returns-clause-phases g c = c.outcome_if_solved.ensures.phases c.args.square c.in_ok-found.ensures
+pub returns-in-Ok-Some-clause-phases : goal.returns-in-Ok-Some-clause-phases
+returns-in-Ok-Some-clause-phases g c = c.found_outcome.ensures.phases c.args.square (rw c.in-Ok-Some.field-0-is at c.in-Ok-Some.ensures)

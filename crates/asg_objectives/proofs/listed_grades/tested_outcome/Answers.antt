@@ -6,11 +6,11 @@ pub returns-clause-outcome : goal.returns-clause-outcome
 returns-clause-outcome c =
     let Q = c.args.square.now in
     let listed = rw c.in-Some.is at c.in_ok-listed.ensures in
-    let found = rw c.in-Some-found.is at c.in_ok-found.ensures in
     let lead = subst (λ ws. LeadTo (2 ^ 120) Q.side (cell_at Q) ws c.in-Some.index) c.as_slice.ensures.items (listed (2 ^ 120) (omega arith)) in
+    let yes = c.if-not-has_fold.false in
     record {
-      valid = found.0;
-      proved = list_proves c.args.inst.now Q c.requires.square c.args.phases c.in-Some.index lead c.in-Some-found.choice found.1;
+      valid = c.has_fold.ensures.valid yes;
+      proved = list_proves c.args.inst.now Q c.requires.square c.args.phases c.in-Some.index lead c.in_ok-choice.choice (c.has_fold.ensures.fold yes);
     }
 
 pub returns-clause-phases : goal.returns-clause-phases

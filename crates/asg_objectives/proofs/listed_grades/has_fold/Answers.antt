@@ -1,5 +1,5 @@
 use Rattle.asg_objectives.proofs.Common.{◌≡◌, ℕ, sym, ◌∙◌, subst, arith, bounded_sums, cost_reach, time_entered, graded, choice_fold, lies_within}
-use Rattle.asg_objectives.proofs.table_grades.has_fold.Goals as goal
+use Rattle.asg_objectives.proofs.listed_grades.has_fold.Goals as goal
 
 pub chosen_fold-fold-requires-clause-near : goal.chosen_fold-fold-requires-clause-near
 chosen_fold-fold-requires-clause-near c = lies_within cost_reach c.args.inst.now (omega arith) c.rows-rows.ensures.instance

@@ -20,7 +20,7 @@ use std::marker::Model;
 pub const ABSENT: u32 = 1 << 31;
 
 /// The numbers of an instance, row by row.
-#[derive(Debug, Drop)]
+#[derive(Drop)]
 pub struct NumberTable {
     rows: usize,
     columns: usize,

@@ -2,7 +2,7 @@
 
 /// A part of the answers: the rows before `row` have their columns, `row` takes none of the banned
 /// ones, and later rows are free.
-#[derive(Clone, Copy, Debug)]
+#[derive(Clone, Copy)]
 pub struct Part<'a> {
     pub columns: &'a [u32],
     pub row: usize,
@@ -11,7 +11,7 @@ pub struct Part<'a> {
 
 /// Dual variables: by how much each row falls and each column rises, and how much each column rises
 /// at least.
-#[derive(Clone, Copy, Debug)]
+#[derive(Clone, Copy)]
 pub struct Duals<'a> {
     pub falls: &'a [u64],
     pub rises: &'a [u64],

@@ -12,3 +12,4 @@ pub mod RetainedStores
 pub mod RetainedLists
 mod EditedTables
 mod EditedInstances
+mod ReadItems

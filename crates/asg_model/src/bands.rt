@@ -5,7 +5,7 @@ ghost use Rattle.asg_model.specs.Bands.{in_band};
 
 /// A band of costs: any cost, the costs below or above a bound, or those between two, both
 /// included.
-#[derive(Clone, Copy, Debug, PartialEq, Eq)]
+#[derive(Clone, Copy, PartialEq, Eq)]
 pub enum Band {
     Whole,
     Under(i64),

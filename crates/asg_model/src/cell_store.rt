@@ -11,7 +11,7 @@ use std::collections::BTreeMap;
 
 // The costs of cells: in a map by their places, in a list by their places, or in a table row by row,
 // the first parts apart from the second. Past the end of the second parts a second part is 0.
-#[derive(Debug, Drop)]
+#[derive(Drop)]
 pub(crate) enum CellStore {
     Map(BTreeMap<(u32, u32), Cost>),
     Listed(Vec<((u32, u32), Cost)>),

@@ -7,7 +7,7 @@ use std::alloc::Global;
 use std::marker::Model;
 
 /// A choice: for each row, in order, the place of the column that it chooses, or none.
-#[derive(Debug, Drop)]
+#[derive(Drop)]
 pub struct Choice {
     columns: Vec<Option<u32>>,
 }

@@ -7,7 +7,7 @@ use std::alloc::AllocError;
 use std::fmt;
 
 /// One edit of an instance. Rows and columns are named by their ids.
-#[derive(Clone, Copy, Debug, PartialEq, Eq)]
+#[derive(Clone, Copy, PartialEq, Eq)]
 pub enum Edit {
     /// The cell gets this cost, whether or not it had one.
     Cost { row: u32, col: u32, cost: Cost },
@@ -21,7 +21,7 @@ pub enum Edit {
 
 /// Why an edit was refused. The variants before `NoMemory` have the numbers 1 to 7, in this order,
 /// and are tested in it.
-#[derive(Clone, Copy, Debug, PartialEq, Eq)]
+#[derive(Clone, Copy, PartialEq, Eq)]
 pub enum EditRefusal {
     /// No row has the id.
     NoSuchRow,

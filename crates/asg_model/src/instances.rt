@@ -14,7 +14,7 @@ use std::marker::Model;
 
 /// An instance: rows, columns, the costs of cells by the places of their row and column, and a
 /// place rule. A place counts from 0.
-#[derive(Debug, Drop)]
+#[derive(Drop)]
 pub struct Instance {
     pub(crate) rows: Vec<Row>,
     pub(crate) columns: Vec<Column>,

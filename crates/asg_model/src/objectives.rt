@@ -45,7 +45,7 @@ impl Objective {
 }
 
 /// A list of costs.
-#[derive(Debug, Drop)]
+#[derive(Drop)]
 pub struct Costs {
     items: Vec<i64>,
 }
@@ -83,7 +83,7 @@ impl Costs {
 }
 
 /// The value of a choice: one number, two, or a list, by the objective.
-#[derive(Debug, Drop)]
+#[derive(Drop)]
 pub enum Value {
     One(i128),
     Two(i128, i128),

@@ -10,14 +10,14 @@ use std::fmt;
 pub const ABSENT: i64 = i64::MIN;
 
 /// What a cell costs, in two parts. Each part lies between -10^9 and 10^9 in an instance.
-#[derive(Clone, Copy, Debug, PartialEq, Eq)]
+#[derive(Clone, Copy, PartialEq, Eq)]
 pub struct Cost {
     pub a: i64,
     pub b: i64,
 }
 
 /// The costs of the cells of a row of a table, column by column.
-#[derive(Clone, Copy, Debug)]
+#[derive(Clone, Copy)]
 pub struct RowParts<'a> {
     /// The first parts, one for each column, [`ABSENT`] exactly where there is no cell.
     pub firsts: &'a [i64],
@@ -71,7 +71,7 @@ impl RowParts<'_> {
 }
 
 /// A row: the number by which files name it, and whether it is active or dropped.
-#[derive(Clone, Copy, Debug, PartialEq, Eq)]
+#[derive(Clone, Copy, PartialEq, Eq)]
 pub struct Row {
     pub id: u32,
     pub active: bool,
@@ -79,7 +79,7 @@ pub struct Row {
 
 /// A column: the number by which files name it, how many rows may choose it (1 to 1,000 in an
 /// instance), and whether it is open.
-#[derive(Clone, Copy, Debug, PartialEq, Eq)]
+#[derive(Clone, Copy, PartialEq, Eq)]
 pub struct Column {
     pub id: u32,
     pub cap: u32,

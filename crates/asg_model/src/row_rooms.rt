@@ -10,7 +10,7 @@ use crate::limits::MOST_COLUMNS;
 use crate::parts::{ABSENT, Cost, RowParts};
 
 /// Room for both parts of the costs of a row, of as many columns as an instance may have.
-#[derive(Debug, Drop)]
+#[derive(Drop)]
 pub struct RowRoom {
     pub(crate) firsts: [i64; MOST_COLUMNS],
     pub(crate) seconds: [i64; MOST_COLUMNS],

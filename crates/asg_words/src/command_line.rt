@@ -35,16 +35,28 @@ fn words_alone<'a>(alloc: Global) -> Result<Command<'a>, AllocError>
         .arg(positional(alloc, "words", ArgAction::Append))
 }
 
+// The command with one more option or flag. The error is want of memory.
+fn with_option<'a>(
+    alloc: Global,
+    command: Command<'a>,
+    name: &'a str,
+    action: ArgAction,
+) -> Result<Command<'a>, AllocError>
+    ensures { IfOk result (λ more.
+        app_of more ≡ with_rule (app_of command.entry) (option name.entry.now action)) }
+{
+    command.arg(option(alloc, name, action))
+}
+
 // The command with the options that say how an instance is read besides. The error is want of
 // memory.
 fn with_reading<'a>(alloc: Global, command: Command<'a>) -> Result<Command<'a>, AllocError>
     ensures { IfOk result (λ more.
         app_of more ≡ fold with_rule (app_of command.entry) reading_options) }
 {
-    command
-        .arg(option(alloc, "format", ArgAction::Set))?
-        .arg(option(alloc, "place", ArgAction::Set))?
-        .arg(option(alloc, "each", ArgAction::Set))
+    let format = with_option(alloc, command, "format", ArgAction::Set)?;
+    let place = with_option(alloc, format, "place", ArgAction::Set)?;
+    with_option(alloc, place, "each", ArgAction::Set)
 }
 
 // The command with the options that say what is to be done besides, and the flag. The error is want
@@ -53,10 +65,9 @@ fn with_doing<'a>(alloc: Global, command: Command<'a>) -> Result<Command<'a>, Al
     ensures { IfOk result (λ more.
         app_of more ≡ fold with_rule (app_of command.entry) doing_options) }
 {
-    command
-        .arg(option(alloc, "count", ArgAction::Set))?
-        .arg(option(alloc, "script", ArgAction::Set))?
-        .arg(option(alloc, "brief", ArgAction::SetTrue))
+    let count = with_option(alloc, command, "count", ArgAction::Set)?;
+    let script = with_option(alloc, count, "script", ArgAction::Set)?;
+    with_option(alloc, script, "brief", ArgAction::SetTrue)
 }
 
 // The command: a name, the words after it, five options that take a value each, and a flag. The

@@ -54,8 +54,8 @@ fn rank(found: &FoundWords<'_, '_>) -> Option<Task>
 fn check(alloc: Global, found: &FoundWords<'_, '_>) -> Result<Task, WordsRefusal>
     ensures { Answers (task_of Command.Check found.now) result }
 {
-    let answer = file(alloc, found, 2)?;
     let count = count(found).ok_or(WordsRefusal::Usage)?;
+    let answer = file(alloc, found, 2)?;
     let script = script(alloc, found)?;
     Ok(Task::Check {
         answer,
@@ -82,10 +82,10 @@ pub fn job(alloc: Global, command: Command, found: &FoundWords<'_, '_>) -> Resul
     ensures { Answers (job_of command found.now) result }
 {
     let objective = objective(command, found).ok_or(WordsRefusal::Usage)?;
-    let instance = file(alloc, found, 1)?;
     let format = format(found).ok_or(WordsRefusal::Usage)?;
     let place = place(found).ok_or(WordsRefusal::Usage)?;
     let each = each(found).ok_or(WordsRefusal::Usage)?;
+    let instance = file(alloc, found, 1)?;
     let task = task(alloc, command, found)?;
     Ok(Job {
         task,

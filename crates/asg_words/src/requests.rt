@@ -10,7 +10,7 @@ use std::alloc::AllocError;
 use std::fmt;
 
 /// What is to be done with an instance.
-#[derive(Debug, Drop)]
+#[derive(Drop)]
 pub enum Task {
     /// The best choice.
     Solve,
@@ -28,7 +28,7 @@ pub enum Task {
 }
 
 /// A task over an instance, and how the instance is read.
-#[derive(Debug, Drop)]
+#[derive(Drop)]
 pub struct Job {
     pub task: Task,
     pub objective: Objective,
@@ -43,7 +43,7 @@ pub struct Job {
 }
 
 /// What a command line asks for.
-#[derive(Debug, Drop)]
+#[derive(Drop)]
 pub enum Request {
     Work(Job),
     /// A generated instance: the seed is at most 1,000,000, the side 1 to 1,000.
@@ -51,7 +51,7 @@ pub enum Request {
 }
 
 /// Why words give no request.
-#[derive(Clone, Copy, Debug, PartialEq, Eq)]
+#[derive(Clone, Copy, PartialEq, Eq)]
 pub enum WordsRefusal {
     /// The words aren't those of a request.
     Usage,

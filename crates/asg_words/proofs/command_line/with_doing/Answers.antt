@@ -1,11 +1,11 @@
 -- Each argument is added at the end of those before.
-use Rattle.asg_words.proofs.Common.{ap, ◌∙◌, ap₂, IfOk-weaker, app_of, with_rule, Rule}
+use Rattle.asg_words.proofs.Common.{◌∙◌, ap₂, refl, IfOk-weaker, with_rule}
 use Rattle.asg_words.specs.CommandLine.{doing_options}
 use Rattle.asg_words.proofs.command_line.with_doing.Goals as goal
 
 pub returns : goal.returns
 unfolding doing_options
 returns c =
-    let first = c.in_ok-arg.ensures.shape c.option.ensures.local ∙ ap (λ (rule : Rule). with_rule (app_of c.args.command) rule) c.option.ensures.rule in
-    let second = c.in_ok-arg-2.ensures.shape c.option-2.ensures.local ∙ ap₂ with_rule first c.option-2.ensures.rule in
-    IfOk-weaker c.arg-3.result _ _ (λ command adds. adds.shape c.option-3.ensures.local ∙ ap₂ with_rule second c.option-3.ensures.rule) c.arg-3.ensures
+    let first = c.in_ok-count.ensures in
+    let second = c.in_ok-script.ensures ∙ ap₂ with_rule first refl in
+    IfOk-weaker c.with_option-3.result _ _ (λ command is. is ∙ ap₂ with_rule second refl) c.with_option-3.ensures

@@ -34,7 +34,7 @@ use asg_values::edits::edited_law;
 use std::alloc::Global;
 
 /// What halts the writing for a script.
-#[derive(Clone, Copy, PartialEq, Eq, Debug)]
+#[derive(Clone, Copy, PartialEq, Eq)]
 pub enum Halt {
     /// The sink had a fault.
     WriteFault,

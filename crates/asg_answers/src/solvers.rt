@@ -20,7 +20,7 @@ use asg_window::{BalancedRefusal, balanced};
 use std::alloc::Global;
 
 /// Why the solver of an objective gives no outcome.
-#[derive(Clone, Copy, PartialEq, Eq, Debug)]
+#[derive(Clone, Copy, PartialEq, Eq)]
 pub enum SolverRefusal {
     /// The instance is too large: it has so many different costs for `balanced`, or so many rows
     /// for `lex`.

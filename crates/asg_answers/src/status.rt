@@ -6,7 +6,7 @@ ghost use Rattle.asg_answers.specs.Statuses.{code_of};
 use std::fmt;
 
 /// How a run of the program ends.
-#[derive(Debug, Clone, Copy, PartialEq, Eq)]
+#[derive(Clone, Copy, PartialEq, Eq)]
 pub enum Status {
     /// The request was answered.
     Done,

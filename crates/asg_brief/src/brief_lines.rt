@@ -5,7 +5,7 @@ ghost use Rattle.std.specs.Prelude.{◌≡◌};
 use std::marker::Model;
 
 /// A brief line, with its end.
-#[derive(Debug, Drop)]
+#[derive(Drop)]
 pub struct BriefLine {
     bytes: Vec<u8>,
 }

@@ -27,7 +27,7 @@ use asg_values::value;
 use std::alloc::Global;
 
 /// What a ranking comes to, as a line.
-#[derive(Debug, Drop)]
+#[derive(Drop)]
 pub enum BriefRanking {
     /// How many answers it has, how many were asked for, and the values of the first and the last.
     Ranked(BriefLine),

@@ -14,7 +14,7 @@ use asg_values::value;
 use std::alloc::Global;
 
 /// Who takes which duty, and the longest overtime in hours that this asks of a crew.
-#[derive(Debug, Drop)]
+#[derive(Drop)]
 pub struct Roster {
     pub choice: Choice,
     pub overtime: i128,

@@ -9,7 +9,7 @@ use std::marker::Model;
 const FEW: usize = 3;
 
 // Few cells, with their number, or more in a piece of memory.
-#[derive(Debug, Drop)]
+#[derive(Drop)]
 enum CellRoom {
     Few { count: u8, cells: [(u32, u32); FEW] },
     Many(Vec<(u32, u32)>),
@@ -27,7 +27,7 @@ fn few(cells: &[(u32, u32)]) -> [(u32, u32); FEW]
 
 /// Chosen cells: the ids of their row and of their column, in the order of the rows. Up to three
 /// take no memory beside the list's own 32 bytes.
-#[derive(Debug, Drop)]
+#[derive(Drop)]
 pub struct Cells {
     room: CellRoom,
 }

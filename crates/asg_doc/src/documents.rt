@@ -9,7 +9,7 @@ use asg_rankings::Nodes;
 use std::marker::Model;
 
 /// The command that a document answers.
-#[derive(Clone, Copy, Debug, PartialEq, Eq)]
+#[derive(Clone, Copy, PartialEq, Eq)]
 pub enum Command {
     /// One best choice of an instance.
     Solve,
@@ -20,14 +20,14 @@ pub enum Command {
 }
 
 /// A choice with its value.
-#[derive(Debug, Drop)]
+#[derive(Drop)]
 pub struct Answer {
     pub value: Value,
     pub cells: Cells,
 }
 
 /// Answers in the order in which a document lists them.
-#[derive(Debug, Drop)]
+#[derive(Drop)]
 pub struct Answers {
     items: Vec<Answer>,
 }
@@ -80,7 +80,7 @@ impl Answers {
 }
 
 /// What a document claims of its instance.
-#[derive(Debug, Drop)]
+#[derive(Drop)]
 pub enum Claim {
     /// The answer is a best choice, as the proof shows.
     Best {
@@ -101,7 +101,7 @@ pub enum Claim {
 }
 
 /// A document: what was asked, and what is claimed.
-#[derive(Debug, Drop)]
+#[derive(Drop)]
 pub struct Document {
     pub command: Command,
     pub objective: Objective,
@@ -109,7 +109,7 @@ pub struct Document {
 }
 
 /// The form that the values of an objective have in a document.
-#[derive(Clone, Copy, Debug, PartialEq, Eq)]
+#[derive(Clone, Copy, PartialEq, Eq)]
 pub enum ValueForm {
     /// One signed number of 128 bits.
     One,

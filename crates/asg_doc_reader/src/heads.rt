@@ -11,7 +11,7 @@ pub(crate) enum Status {
 }
 
 // What the first line of a proof says.
-#[derive(Debug, Drop)]
+#[derive(Drop)]
 pub(crate) enum ProofHead {
     Phases(u32),
     Below(Ids),

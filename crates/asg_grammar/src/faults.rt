@@ -7,7 +7,7 @@ use std::alloc::{AllocError, AllocFailed};
 use std::fmt;
 
 /// What stands next is none of the part's texts: the one error of readers that take no memory.
-#[derive(Clone, Copy, Debug, PartialEq, Eq)]
+#[derive(Clone, Copy, PartialEq, Eq)]
 pub struct Refusal;
 
 impl fmt::Display for Refusal {
@@ -17,7 +17,7 @@ impl fmt::Display for Refusal {
 }
 
 /// Why a part isn't read by a reader that takes memory.
-#[derive(Clone, Copy, Debug, PartialEq, Eq)]
+#[derive(Clone, Copy, PartialEq, Eq)]
 pub enum Fault {
     /// What stands next is none of the part's texts.
     Refused,

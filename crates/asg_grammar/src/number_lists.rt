@@ -6,7 +6,7 @@ ghost use Rattle.asg_grammar.specs.NumberLists.{AreNumbers};
 use std::marker::Model;
 
 /// A list of numbers of 32 bits.
-#[derive(Debug, Drop)]
+#[derive(Drop)]
 pub struct Numbers {
     items: Vec<u32>,
 }

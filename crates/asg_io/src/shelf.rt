@@ -9,7 +9,7 @@ use std::alloc::{AllocError, AllocFailed, Global};
 use std::fmt;
 
 /// Why a fetch gave no contents.
-#[derive(Debug, Clone, Copy, PartialEq, Eq)]
+#[derive(Clone, Copy, PartialEq, Eq)]
 pub enum FetchFault {
     /// Memory was wanting; nothing was asked.
     NoMemory,

@@ -7,7 +7,7 @@ ghost use Rattle.asg_io.specs.Sink.{Puts, PutsPrefix};
 use std::fmt;
 
 /// A put failed: the sink had a fault, which is counted.
-#[derive(Debug, Clone, Copy, PartialEq, Eq)]
+#[derive(Clone, Copy, PartialEq, Eq)]
 pub struct PutFault;
 
 impl fmt::Display for PutFault {

@@ -39,7 +39,7 @@ use std::alloc::Global;
 pub const MOST_ROWS: u32 = 200;
 
 /// Why no outcome is given.
-#[derive(Clone, Copy, PartialEq, Eq, Debug)]
+#[derive(Clone, Copy, PartialEq, Eq)]
 pub enum LexRefusal {
     /// The instance has so many rows, more than 200.
     LexTooLarge(u32),

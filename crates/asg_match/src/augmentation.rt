@@ -10,7 +10,7 @@ use crate::search::{grow, start};
 use crate::{Allowed, Matching, Tree};
 
 /// What [`augment`] did.
-#[derive(Clone, Copy, PartialEq, Eq, Debug)]
+#[derive(Clone, Copy, PartialEq, Eq)]
 pub enum Grown {
     /// The root has a column now.
     Longer,

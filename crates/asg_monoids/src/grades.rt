@@ -6,7 +6,7 @@ use asg_order::{DMonoid, Ordered, Word, Written};
 /// Pairs of a grade below 2^64 and a value of a d-monoid. The greater grade wins, and equal grades
 /// combine their values. The order compares the grades first. The unit is the grade 0 with the
 /// unit.
-#[derive(Clone, Copy, Debug)]
+#[derive(Clone, Copy)]
 pub struct Graded<B: DMonoid> {
     pub inner: B,
 }

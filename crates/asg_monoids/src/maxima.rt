@@ -3,7 +3,7 @@
 use asg_order::{DMonoid, Ordered, Word, Written};
 
 /// The numbers below 2^64 with the greater of two. The unit is 0.
-#[derive(Clone, Copy, Debug)]
+#[derive(Clone, Copy)]
 pub struct Greatest;
 
 impl Ordered for Greatest {

@@ -10,7 +10,7 @@ use asg_order::Kind;
 /// The kind of `sum` and `sum-max` in 64 bits: each cost enters a sum that stops at 2^62, which no
 /// sum of an instance reaches. The numbers are those that enter the sums of
 /// [`SumKind`](crate::SumKind).
-#[derive(Clone, Copy, Debug)]
+#[derive(Clone, Copy)]
 pub struct NarrowKind {
     objective: Objective,
     monoid: NarrowSums,

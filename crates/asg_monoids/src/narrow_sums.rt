@@ -8,7 +8,7 @@ const TOP: u64 = 1 << 62;
 /// The numbers from 0 to 2^62 with sums that stop there: those of [`Bounded`](crate::Bounded) with
 /// that top, in half as many bits. They serve where sums stay far below it, as those of `sum` and
 /// `sum-max` do. The unit is 0.
-#[derive(Clone, Copy, Debug)]
+#[derive(Clone, Copy)]
 pub struct NarrowSums;
 
 impl Ordered for NarrowSums {

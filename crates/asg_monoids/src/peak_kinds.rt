@@ -9,7 +9,7 @@ use asg_model::{Cost, Objective};
 use asg_order::Kind;
 
 /// The kind of `bottleneck` and `bottleneck-max`: each cost enters a maximum.
-#[derive(Clone, Copy, Debug)]
+#[derive(Clone, Copy)]
 pub struct PeakKind {
     objective: Objective,
     monoid: Greatest,

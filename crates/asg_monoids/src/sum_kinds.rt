@@ -14,7 +14,7 @@ use asg_model::{Cost, Objective};
 use asg_order::Kind;
 
 /// The kind of `sum`, `sum-max`, `pair` and `capped`: each cost enters a bounded sum.
-#[derive(Clone, Copy, Debug)]
+#[derive(Clone, Copy)]
 pub struct SumKind {
     objective: Objective,
     monoid: Bounded,

@@ -5,7 +5,7 @@ ghost use Rattle.std.specs.Prelude.{◌≡◌, ◌≤◌, ◌^◌};
 use asg_order::{DMonoid, Ordered, Word, Written};
 
 /// The numbers from 0 to a top, at most 2^120, with sums that stop at the top. The unit is 0.
-#[derive(Clone, Copy, Debug)]
+#[derive(Clone, Copy)]
 pub struct Bounded {
     pub top: u128,
     pub ghost small: { top ≤ 2 ^ 120 },

@@ -10,7 +10,7 @@ use asg_order::Kind;
 
 /// The kind of `time-cost`: the first part of each cost enters as the grade, the second as an
 /// amount.
-#[derive(Clone, Copy, Debug)]
+#[derive(Clone, Copy)]
 pub struct TimeKind {
     monoid: Graded<Bounded>,
     ghost stops: { monoid.inner.top ≡ 2 ^ 120 },

@@ -7,14 +7,14 @@ ghost use Rattle.asg_tokens.specs.Pieces.{fields};
 use asg_tokens::{Separators, first_piece, integer, is_at_end, is_word, size};
 
 /// The sizes that a problem line states.
-#[derive(Clone, Copy, Debug, PartialEq, Eq)]
+#[derive(Clone, Copy, PartialEq, Eq)]
 pub(crate) struct Sizes {
     pub(crate) nodes: u32,
     pub(crate) arcs: u32,
 }
 
 /// An arc, with its cost where that is in range.
-#[derive(Clone, Copy, Debug, PartialEq, Eq)]
+#[derive(Clone, Copy, PartialEq, Eq)]
 pub(crate) struct Arc {
     pub(crate) source: u32,
     pub(crate) target: u32,
@@ -22,7 +22,7 @@ pub(crate) struct Arc {
 }
 
 /// What a line says; `None` where its first field is that of the form, and the others aren't.
-#[derive(Clone, Copy, Debug, PartialEq, Eq)]
+#[derive(Clone, Copy, PartialEq, Eq)]
 pub(crate) enum Line {
     /// Nothing: it has no field, or is a comment.
     Empty,

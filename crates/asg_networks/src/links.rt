@@ -17,7 +17,7 @@ use std::alloc::{AllocError, Global};
 const WORD: u128 = 0x1_0000_0000;
 
 /// An arc that is kept, with the number of its line.
-#[derive(Clone, Copy, Debug, PartialEq, Eq)]
+#[derive(Clone, Copy, PartialEq, Eq)]
 pub(crate) struct Link {
     pub(crate) source: u32,
     pub(crate) target: u32,

@@ -7,7 +7,7 @@ ghost use Rattle.asg_order.specs.Monoid.{IsValue};
 use crate::ordered::DMonoid;
 
 /// The written form of a value: a grade and an amount. A value that has no grade is written with 0.
-#[derive(Clone, Copy, Debug, PartialEq, Eq)]
+#[derive(Clone, Copy, PartialEq, Eq)]
 pub struct Word {
     pub grade: u64,
     pub amount: u128,

@@ -6,7 +6,7 @@ use std::marker::Model;
 
 /// A list of phases of a region, by its number there. A trail that was released is no trail of its
 /// region any more, and its number may be given to another one.
-#[derive(Clone, Copy, PartialEq, Eq, Debug)]
+#[derive(Clone, Copy, PartialEq, Eq)]
 pub struct Trail {
     number: u32,
 }

@@ -8,7 +8,7 @@ use crate::windows::Windows;
 use asg_model::Choice;
 
 /// What shows that a choice is best.
-#[derive(Debug, Drop)]
+#[derive(Drop)]
 pub enum Proof {
     /// For the algebraic objectives: phases that are admitted in turn from the square of the
     /// instance, and whose index is the product of the choice's entered costs.
@@ -26,7 +26,7 @@ pub enum Proof {
 }
 
 /// What a solving call gives.
-#[derive(Debug, Drop)]
+#[derive(Drop)]
 pub enum Outcome {
     /// A best choice, and what shows that it is best.
     Best { choice: Choice, proof: Proof },

@@ -15,7 +15,7 @@ use std::marker::Model;
 
 // A word whose grade is below 2^32 - 1 and whose amount is below 2^32; or, with the grade 2^32 - 1,
 // the place of a long word.
-#[derive(Clone, Copy, Debug, PartialEq, Eq)]
+#[derive(Clone, Copy, PartialEq, Eq)]
 pub(crate) struct ShortWord {
     grade: u32,
     amount: u32,
@@ -140,7 +140,7 @@ pub(crate) fn told(long: &[Word], short: ShortWord) -> Word
 
 /// Steps as words, in order, while they are made. Each takes 8 bytes; one with a grade of 2^32 - 1
 /// or more, or an amount of 2^32 or more, those of a [`Word`] besides.
-#[derive(Debug, Drop)]
+#[derive(Drop)]
 pub struct StepWords {
     // Of each step the grade and the amount of its short word.
     numbers: Vec<u32>,

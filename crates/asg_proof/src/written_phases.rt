@@ -13,7 +13,7 @@ use std::marker::Model;
 /// A [`Phase`](crate::Phase) with each step as its word, as documents have it. A document may have
 /// very many phases, or very many steps in one, so the lists are kept in few bytes: but for steps
 /// that need long words as one list, of 8 bytes a step and 4 a row and a column.
-#[derive(Debug, Drop)]
+#[derive(Drop)]
 pub struct WrittenPhase {
     steps: u32,
     rows: u32,

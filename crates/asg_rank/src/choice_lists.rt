@@ -6,7 +6,7 @@ use asg_model::Choice;
 use std::marker::Model;
 
 /// Choices in order, the first one first.
-#[derive(Debug, Drop)]
+#[derive(Drop)]
 pub struct Choices {
     items: Vec<Choice>,
 }

@@ -23,7 +23,7 @@ use asg_roots::RootGuess;
 use std::alloc::Global;
 
 /// What a ranking gives.
-#[derive(Debug, Drop)]
+#[derive(Drop)]
 pub enum RankOutcome {
     /// The best choices in order, and what shows that nothing better was left out.
     Listed { answers: Choices, nodes: Nodes },

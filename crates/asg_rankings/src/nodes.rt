@@ -7,7 +7,7 @@ use asg_proof::{Ids, Phases};
 use std::marker::Model;
 
 /// What became of a node of a search tree.
-#[derive(Debug, Drop)]
+#[derive(Drop)]
 pub enum Mark {
     /// The node's instance gave the answer of this number, counted from 1.
     Answered(u32),
@@ -19,7 +19,7 @@ pub enum Mark {
 
 /// A node of a search tree: the number of its parent and its branch, both 0 at the root, what
 /// became of it, and the phases that its trail has beyond its parent's.
-#[derive(Debug, Drop)]
+#[derive(Drop)]
 pub struct Node {
     pub parent: u32,
     pub branch: u32,
@@ -29,7 +29,7 @@ pub struct Node {
 
 /// The nodes of a search tree in the order of their numbers, which count from 1: the root first,
 /// and each parent before its children.
-#[derive(Debug, Drop)]
+#[derive(Drop)]
 pub struct Nodes {
     items: Vec<Node>,
 }

@@ -9,7 +9,7 @@ use asg_model::{Cost, Edit};
 use asg_tokens::{Separators, first_piece, is_at_end, is_word, size};
 
 /// A line of a script that isn't blank.
-#[derive(Clone, Copy, Debug, PartialEq, Eq)]
+#[derive(Clone, Copy, PartialEq, Eq)]
 pub enum Line {
     /// The instance is edited.
     Edit(Edit),

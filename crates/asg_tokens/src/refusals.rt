@@ -7,7 +7,7 @@ use std::fmt;
 
 /// Why a text isn't read. Lines and tokens count from 1. The variants before `NoMemory` have the
 /// numbers 1 to 12, in this order.
-#[derive(Clone, Copy, Debug, PartialEq, Eq)]
+#[derive(Clone, Copy, PartialEq, Eq)]
 pub enum TextRefusal {
     /// An asn file has no problem line.
     NoProblemLine,

@@ -35,7 +35,7 @@ use std::alloc::Global;
 pub const MOST_COSTS: u32 = 20_000;
 
 /// Why no outcome is given.
-#[derive(Clone, Copy, PartialEq, Eq, Debug)]
+#[derive(Clone, Copy, PartialEq, Eq)]
 pub enum BalancedRefusal {
     /// The live cells have so many different costs, more than 20,000.
     TooManyCosts(u32),
